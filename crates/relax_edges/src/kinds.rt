@@ -1,0 +1,94 @@
+/// What an access does: it reads or it writes.
+#[derive(Clone, Copy, Debug, Default, PartialEq, Eq)]
+pub enum Dir {
+    #[default]
+    R,
+    W,
+}
+
+/// Whether two accesses are at the same location or at different ones.
+#[derive(Clone, Copy, Debug, Default, PartialEq, Eq)]
+pub enum Sd {
+    #[default]
+    Same,
+    Diff,
+}
+
+/// Whether an edge stays in one thread or leads to another.
+#[derive(Clone, Copy, Debug, Default, PartialEq, Eq)]
+pub enum Reach {
+    #[default]
+    Internal,
+    External,
+}
+
+/// The architectures that tests are made for.
+#[derive(Clone, Copy, Debug, Default, PartialEq, Eq)]
+pub enum ArchName {
+    #[default]
+    X86,
+    PPC,
+    AArch64,
+    RISCV,
+}
+
+/// The communications between accesses to one location: reads-from, from-read, and write
+/// serialization (the coherence order).
+#[derive(Clone, Copy, Debug, Default, PartialEq, Eq)]
+pub enum Com {
+    #[default]
+    Rf,
+    Fr,
+    Ws,
+}
+
+/// The accesses that one side of a RISC-V fence orders.
+#[derive(Clone, Copy, Debug, Default, PartialEq, Eq)]
+pub enum Pick {
+    #[default]
+    R,
+    W,
+    RW,
+}
+
+/// The fences of the four architectures.
+#[derive(Clone, Copy, Debug, Default, PartialEq, Eq)]
+pub enum FenceKind {
+    #[default]
+    MFence,
+    Sync,
+    LwSync,
+    Eieio,
+    ISync,
+    DmbSy,
+    DmbLd,
+    DmbSt,
+    Fence { pred: Pick, succ: Pick },
+}
+
+/// The syntactic dependencies on a load, but for those through data, which lead to stores alone.
+#[derive(Clone, Copy, Debug, Default, PartialEq, Eq)]
+pub enum DepKind {
+    #[default]
+    Addr,
+    Ctrl,
+    CtrlIsync,
+    CtrlIsb,
+}
+
+/// What a register or a location holds: a number, or the address of the place with this number.
+#[derive(Clone, Copy, Debug, PartialEq, Eq)]
+pub enum Value {
+    Num(u32),
+    Place(u8),
+}
+
+/// Which locations get an observer: `Accept`, those whose order of writes would else stay open;
+/// `Avoid`, none, and a cycle that needs one is refused; `Force`, each with two writes or more.
+#[derive(Clone, Copy, Debug, Default, PartialEq, Eq)]
+pub enum ObsMode {
+    #[default]
+    Accept,
+    Avoid,
+    Force,
+}
