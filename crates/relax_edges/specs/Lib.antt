@@ -1,1 +1,2 @@
 pub mod EdgeTable
+pub mod Order
