@@ -1,0 +1,7 @@
+use Rattle.std.proofs.Common.{◌≡◌, ◌<◌, ◌∷◌, ◌++◌, [], length, List, None, rules, arith, sym}
+use Rattle.walk_laws.specs.Composable.{IsCycle, first_break}
+use Rattle.walk_laws.proofs.Composing.{unbroken_cycle}
+use Rattle.edge_algebra.proofs.compose.cycle.Goals as goal
+
+pub of-requires : goal.of-requires
+of-requires c = unbroken_cycle c.args.edges.now c.in-Some.first.now (sym c.in-Some.ensures.value) (omega arith) (search rules)

@@ -1,0 +1,18 @@
+-- What a list of edges makes: a cycle, or the first thing that is wrong with it.
+use Rattle.std.specs.Prelude.{ℕ, cond, List, [], ◌∷◌, ◌++◌, length, Option, Some, None, Result, Ok, Err, nat_lt}
+use Rattle.relax_edges.specs.declared.TheConstants.{MAX_EDGES}
+use Rattle.relax_edges.specs.declared.edge.Edge.{Edge}
+use Rattle.edge_algebra.specs.declared.errors.CycleError.{CycleError}
+use Rattle.edge_algebra.specs.declared.errors.CycleError.TheVariants.{Empty, TooLong, DoesNotCompose}
+use Rattle.walk_laws.specs.Composable.{first_break}
+
+-- the list itself where no edge breaks the cycle, and else the first place that does
+abbrev pub unbroken : List Edge → Option ℕ → Result (List Edge) CycleError
+unbroken u None = Ok u
+unbroken u (Some at) = Err (DoesNotCompose at)
+
+-- the cycle that a list of edges makes
+abbrev pub composed : List Edge → Result (List Edge) CycleError
+composed [] = Err Empty
+composed (e ∷ u) =
+    cond (nat_lt MAX_EDGES (length (e ∷ u))) (Err TooLong) (unbroken (e ∷ u) (first_break ((e ∷ u) ++ e ∷ [])))

@@ -1,0 +1,88 @@
+ghost use Rattle.std.specs.Prelude.{◌≡◌, ◌+◌, ◌<◌, ◌≤◌, List, [], ◌∷◌, ◌++◌, length, IfOk, IfSome, Option, slice_get, slice_index_or};
+ghost use Rattle.walk_laws.specs.Composable.{IsCycle, first_break};
+ghost use Rattle.walk_laws.specs.Rotation.{rotated};
+ghost use Rattle.edge_algebra.specs.Compose.{composed};
+
+use arrayvec::ArrayVec;
+use relax_edges::{Edge, MAX_EDGES};
+use std::marker::Model;
+
+/// A cycle of edges: at least one and at most `MAX_EDGES`, of which each joins the next and the
+/// last the first.
+///
+/// Contracts see the list of its edges.
+#[derive(Drop)]
+pub struct Cycle {
+    edges: ArrayVec<Edge, MAX_EDGES>,
+}
+
+impl Model for Cycle {
+    ghost use Rattle.std.specs.Prelude.{List};
+    ghost use Rattle.relax_edges.specs.declared.edge.Edge.{Edge};
+    ghost use Rattle.walk_laws.specs.Composable.{IsCycle};
+
+    ghost Value = { List Edge };
+
+    ghost view = { λ c. c.edges.items };
+
+    ghost invariant = { λ c. IsCycle c.edges.items };
+}
+
+fn copied(edges: &[Edge]) -> ArrayVec<Edge, MAX_EDGES>
+    requires { length edges.now ≤ MAX_EDGES }
+    ensures { result.items ≡ edges.now }
+{
+    let mut list = ArrayVec::new();
+    match list.try_extend_from_slice(edges) {
+        Ok(()) => list,
+        Err(_) => unreachable!(),
+    }
+}
+
+impl Cycle {
+    pub(crate) fn of(edges: &[Edge]) -> Cycle
+        requires { IsCycle edges.now }
+        ensures { result ≡ edges.now }
+    {
+        Cycle {
+            edges: copied(edges),
+        }
+    }
+
+    /// How many edges the cycle has.
+    pub fn len(&self) -> u8
+        ensures { result ≡ length self.now }
+    {
+        self.edges.len() as u8
+    }
+
+    /// The edges, in order.
+    pub fn edges(&self) -> &[Edge]
+        ensures value { result.now ≡ self.now }
+        ensures composable { IsCycle self.now }
+    {
+        self.edges.as_slice()
+    }
+
+    /// The edge at place `i`, which is below the length.
+    pub fn edge(&self, i: u8) -> Edge
+        requires { i < length self.now }
+        ensures { slice_get self.now i ≡ Some result }
+    {
+        self.edges[usize::from(i)]
+    }
+
+    /// The cycle from place `k` on, which is below the length: its edge `i` is the old edge
+    /// `i + k`, cyclically.
+    pub fn rotate(&self, k: u8) -> Cycle
+        requires { k < length self.now }
+        ensures { result ≡ rotated k self.now }
+    {
+        let (front, back) = self.edges.as_slice().split_at(usize::from(k));
+        let mut edges = copied(back);
+        match edges.try_extend_from_slice(front) {
+            Ok(()) => Cycle { edges },
+            Err(_) => unreachable!(),
+        }
+    }
+}

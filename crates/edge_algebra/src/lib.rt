@@ -1,0 +1,10 @@
+//! Paths and cycles of edges: how they compose, their rotations, and the one normal form of a cycle.
+#![tactic(auto)]
+
+mod compose;
+mod cycles;
+mod errors;
+
+pub use compose::cycle;
+pub use cycles::Cycle;
+pub use errors::CycleError;

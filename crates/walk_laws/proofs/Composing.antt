@@ -1,0 +1,105 @@
+-- Laws of composable lists: parts, rotations, the first break.
+use Rattle.std.proofs.Common.{◌≡◌, ℕ, ◌+◌, ◌<◌, ◌≤◌, Bool, true, false, ◌&&◌, cond, List, [], ◌∷◌, ◌++◌, length, take, drop, Option, Some, None, refl, sym, ◌∙◌, ap, arith, append_assoc, length-append, slice_get}
+use Rattle.std.proofs.lemmas.List.{append-nil, take-append-drop}
+use Rattle.std.proofs.lemmas.Bool.{and_parts, and_from}
+use Rattle.relax_edges.specs.declared.TheConstants.{MAX_EDGES}
+use Rattle.relax_edges.specs.declared.edge.Edge.{Edge}
+use Rattle.relax_edges.specs.EdgeTable.{joins_to}
+use Rattle.walk_laws.specs.Composable.{joins_first, is_joined, is_closed, IsPath, IsCycle, first_break, one_later}
+use Rattle.walk_laws.specs.Rotation.{IsRotation, rotated}
+
+and_assoc : (x y z : Bool) → ((x && y) && z) ≡ (x && (y && z))
+and_assoc true y z = refl
+and_assoc false y z = refl
+
+and_comm : (x y : Bool) → (x && y) ≡ (y && x)
+and_comm true true = refl
+and_comm true false = refl
+and_comm false true = refl
+and_comm false false = refl
+
+joins_first_front : (e m : Edge) (a b : List Edge) → joins_first e (a ++ m ∷ b) ≡ joins_first e (a ++ m ∷ [])
+joins_first_front e m [] b = refl
+joins_first_front e m (f ∷ a) b = refl
+
+-- a list is joined where it is joined up to an edge and from that edge on
+pub joined_at : (a : List Edge) (m : Edge) (b : List Edge) → is_joined (a ++ m ∷ b) ≡ (is_joined (a ++ m ∷ []) && is_joined (m ∷ b))
+joined_at [] m b = refl
+joined_at (e ∷ a) m b =
+    ap (λ x. x && is_joined (a ++ m ∷ b)) (joins_first_front e m a b)
+        ∙ ap (λ x. joins_first e (a ++ m ∷ []) && x) (joined_at a m b)
+        ∙ sym (and_assoc (joins_first e (a ++ m ∷ [])) (is_joined (a ++ m ∷ [])) (is_joined (m ∷ b)))
+
+-- whether a list closes is the same for the list with two parts exchanged
+pub closed_turned : (front back : List Edge) → is_closed (front ++ back) ≡ is_closed (back ++ front)
+closed_turned [] back = ap is_closed (sym (append-nil back))
+closed_turned (f ∷ fs) [] = ap is_closed (append-nil (f ∷ fs))
+closed_turned (f ∷ fs) (g ∷ gs) =
+    let one : is_joined (((f ∷ fs) ++ g ∷ gs) ++ f ∷ []) ≡ (is_joined ((f ∷ fs) ++ g ∷ []) && is_joined ((g ∷ gs) ++ f ∷ [])) =
+        ap is_joined (append_assoc (f ∷ fs) (g ∷ gs) (f ∷ [])) ∙ joined_at (f ∷ fs) g (gs ++ f ∷ []) in
+    let two : is_joined (((g ∷ gs) ++ f ∷ fs) ++ g ∷ []) ≡ (is_joined ((g ∷ gs) ++ f ∷ []) && is_joined ((f ∷ fs) ++ g ∷ [])) =
+        ap is_joined (append_assoc (g ∷ gs) (f ∷ fs) (g ∷ [])) ∙ joined_at (g ∷ gs) f (fs ++ g ∷ []) in
+    one ∙ and_comm (is_joined ((f ∷ fs) ++ g ∷ [])) (is_joined ((g ∷ gs) ++ f ∷ [])) ∙ sym two
+
+-- a list with two parts exchanged is a cycle where the list is
+pub turned_cycle : (front back : List Edge) → IsCycle (front ++ back) → IsCycle (back ++ front)
+turned_cycle front back c = record {
+  some = omega (arith, c.some, length-append front back, length-append back front);
+  few = omega (arith, c.few, length-append front back, length-append back front);
+  closed = sym (closed_turned front back) ∙ c.closed
+}
+
+-- a rotation of a cycle is a cycle
+pub rotated_cycle : (k : ℕ) (u : List Edge) → IsCycle u → IsCycle (rotated k u)
+rotated_cycle k u c = turned_cycle (take k u) (drop k u) (rw take-append-drop c)
+
+-- a front part of a joined list is joined
+pub joined_front : (u v : List Edge) → is_joined (u ++ v) ≡ true → is_joined u ≡ true
+joined_front [] v h = refl
+joined_front (e ∷ []) v h = refl
+joined_front (e ∷ f ∷ u) v h =
+    let both = and_parts (joins_to e f) (is_joined ((f ∷ u) ++ v)) h in
+    and_from (joins_to e f) (is_joined (f ∷ u)) both.0 (joined_front (f ∷ u) v both.1)
+
+-- a list is joined where it has no break
+pub joined_unbroken : (u : List Edge) → first_break u ≡ None → is_joined u ≡ true
+joined_unbroken [] h = refl
+joined_unbroken (e ∷ u) h =
+    elim (joins_first e u) as (λ b. cond b (one_later (first_break u)) (Some 0) ≡ None → (b && is_joined u) ≡ true) [
+      true ↦ λ t. joined_unbroken u (unmoved (first_break u) t)
+      | false ↦ λ t. cc
+    ] h
+  where
+    unmoved : (at : Option ℕ) → one_later at ≡ None → at ≡ None
+    unmoved None t = refl
+    unmoved (Some i) t = cc
+
+-- a joined list has no break
+pub unbroken_joined : (u : List Edge) → is_joined u ≡ true → first_break u ≡ None
+unbroken_joined [] h = refl
+unbroken_joined (e ∷ u) h =
+    let both = and_parts (joins_first e u) (is_joined u) h in
+    rw (both.0, unbroken_joined u both.1) refl
+
+later_within : (at : Option ℕ) (i n : ℕ) → ((j : ℕ) → at ≡ Some j → j + 1 < n) → one_later at ≡ Some i → i + 1 < n + 1
+later_within None i n h t = cc
+later_within (Some j) i n h t = let z : j + 1 ≡ i = cc in omega (arith, h j refl)
+
+-- a break is at a place of the list before its last one
+pub break_within : (u : List Edge) (i : ℕ) → first_break u ≡ Some i → i + 1 < length u
+break_within [] i h = cc
+break_within (e ∷ []) i h = cc
+break_within (e ∷ f ∷ u) i h =
+    elim (joins_to e f) as (λ b. cond b (one_later (first_break (f ∷ u))) (Some 0) ≡ Some i → i + 1 < length (e ∷ f ∷ u)) [
+      true ↦ λ t. omega (arith, later_within (first_break (f ∷ u)) i (length (f ∷ u)) (break_within (f ∷ u)) t)
+      | false ↦ λ t. let z : 0 ≡ i = cc in omega arith
+    ] h
+
+-- edges that no break keeps from closing are a cycle
+pub unbroken_cycle : (u : List Edge) (e : Edge) → slice_get u 0 ≡ Some e → length u ≤ MAX_EDGES → first_break (u ++ e ∷ []) ≡ None → IsCycle u
+unbroken_cycle [] e s l h = cc
+unbroken_cycle (f ∷ u) e s l h = record {
+  some = omega arith;
+  few = l;
+  closed = let z : e ≡ f = cc in joined_unbroken ((f ∷ u) ++ f ∷ []) (rw z at h)
+}

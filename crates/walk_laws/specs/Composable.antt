@@ -1,0 +1,42 @@
+-- When edges compose, as a path and as a cycle.
+-- Source: the diy part of the herdtools manual, "Candidate relaxations".
+use Rattle.std.specs.Prelude.{◌≡◌, ℕ, ◌+◌, ◌<◌, ◌≤◌, Bool, true, ◌&&◌, cond, List, [], ◌∷◌, ◌++◌, length, take, Option, Some, None}
+use Rattle.relax_edges.specs.declared.TheConstants.{MAX_EDGES}
+use Rattle.relax_edges.specs.declared.edge.Edge.{Edge}
+use Rattle.relax_edges.specs.EdgeTable.{joins_to}
+
+-- an edge joins the first of a list, if there is one
+abbrev pub joins_first : Edge → List Edge → Bool
+joins_first _ [] = true
+joins_first e (f ∷ _) = joins_to e f
+
+-- each edge of a list joins the next one
+abbrev pub is_joined : List Edge → Bool
+is_joined [] = true
+is_joined (e ∷ u) = joins_first e u && is_joined u
+
+-- each edge of a list joins the next one, and the last one the first
+abbrev pub is_closed : List Edge → Bool
+is_closed u = is_joined (u ++ take 1 u)
+
+-- a composable path: some edges, not too many, of which each joins the next
+pub record IsPath (u : List Edge) : Type 0 where
+  pub some : 0 < length u
+  pub few : length u ≤ MAX_EDGES
+  pub joined : is_joined u ≡ true
+
+-- a composable cycle: some edges, not too many, of which each joins the next, and the last the first
+pub record IsCycle (u : List Edge) : Type 0 where
+  pub some : 0 < length u
+  pub few : length u ≤ MAX_EDGES
+  pub closed : is_closed u ≡ true
+
+-- a place of the list behind the first one
+abbrev pub one_later : Option ℕ → Option ℕ
+one_later None = None
+one_later (Some i) = Some (i + 1)
+
+-- the first place of a list whose edge doesn't join the next one
+abbrev pub first_break : List Edge → Option ℕ
+first_break [] = None
+first_break (e ∷ u) = cond (joins_first e u) (one_later (first_break u)) (Some 0)

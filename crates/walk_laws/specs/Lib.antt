@@ -1,0 +1,2 @@
+pub mod Composable
+pub mod Rotation

@@ -1,0 +1,14 @@
+-- Rotations of a list, by which two lists are the same cycle.
+use Rattle.std.specs.Prelude.{◌≡◌, ℕ, List, ◌++◌, take, drop}
+use Rattle.relax_edges.specs.declared.edge.Edge.{Edge}
+
+-- v is a rotation of u: a front and a back part of u are exchanged in it
+pub record IsRotation (u v : List Edge) : Type 0 where
+  pub front : List Edge
+  pub back : List Edge
+  pub from : u ≡ front ++ back
+  pub to : v ≡ back ++ front
+
+-- the rotation of u that begins at place k
+abbrev pub rotated : ℕ → List Edge → List Edge
+rotated k u = drop k u ++ take k u
