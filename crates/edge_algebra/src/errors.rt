@@ -9,7 +9,5 @@ pub enum CycleError {
     TooLong,
     /// The edge at this place, the first such, doesn't join the next one, cyclically.
     #[error("edge {at} doesn't join the next one")]
-    DoesNotCompose {
-        at: u8,
-    },
+    DoesNotCompose { at: u8 },
 }

@@ -5,8 +5,8 @@ use Rattle.std.proofs.lemmas.Bool.{and_parts, and_from}
 use Rattle.relax_edges.specs.declared.TheConstants.{MAX_EDGES}
 use Rattle.relax_edges.specs.declared.edge.Edge.{Edge}
 use Rattle.relax_edges.specs.EdgeTable.{joins_to}
-use Rattle.walk_laws.specs.Composable.{joins_first, is_joined, is_closed, IsPath, IsCycle, first_break, one_later}
-use Rattle.walk_laws.specs.Rotation.{IsRotation, rotated}
+use Rattle.walk_laws.specs.Composable.{joins_first, is_joined, is_closed, IsCycle, first_break, one_later}
+use Rattle.walk_laws.specs.Rotation.{rotated}
 
 and_assoc : (x y z : Bool) → ((x && y) && z) ≡ (x && (y && z))
 and_assoc true y z = refl
@@ -27,8 +27,8 @@ pub joined_at : (a : List Edge) (m : Edge) (b : List Edge) → is_joined (a ++ m
 joined_at [] m b = refl
 joined_at (e ∷ a) m b =
     ap (λ x. x && is_joined (a ++ m ∷ b)) (joins_first_front e m a b)
-        ∙ ap (λ x. joins_first e (a ++ m ∷ []) && x) (joined_at a m b)
-        ∙ sym (and_assoc (joins_first e (a ++ m ∷ [])) (is_joined (a ++ m ∷ [])) (is_joined (m ∷ b)))
+    ∙ ap (λ x. joins_first e (a ++ m ∷ []) && x) (joined_at a m b)
+    ∙ sym (and_assoc (joins_first e (a ++ m ∷ [])) (is_joined (a ++ m ∷ [])) (is_joined (m ∷ b)))
 
 -- whether a list closes is the same for the list with two parts exchanged
 pub closed_turned : (front back : List Edge) → is_closed (front ++ back) ≡ is_closed (back ++ front)
@@ -36,9 +36,9 @@ closed_turned [] back = ap is_closed (sym (append-nil back))
 closed_turned (f ∷ fs) [] = ap is_closed (append-nil (f ∷ fs))
 closed_turned (f ∷ fs) (g ∷ gs) =
     let one : is_joined (((f ∷ fs) ++ g ∷ gs) ++ f ∷ []) ≡ (is_joined ((f ∷ fs) ++ g ∷ []) && is_joined ((g ∷ gs) ++ f ∷ [])) =
-        ap is_joined (append_assoc (f ∷ fs) (g ∷ gs) (f ∷ [])) ∙ joined_at (f ∷ fs) g (gs ++ f ∷ []) in
+    ap is_joined (append_assoc (f ∷ fs) (g ∷ gs) (f ∷ [])) ∙ joined_at (f ∷ fs) g (gs ++ f ∷ []) in
     let two : is_joined (((g ∷ gs) ++ f ∷ fs) ++ g ∷ []) ≡ (is_joined ((g ∷ gs) ++ f ∷ []) && is_joined ((f ∷ fs) ++ g ∷ [])) =
-        ap is_joined (append_assoc (g ∷ gs) (f ∷ fs) (g ∷ [])) ∙ joined_at (g ∷ gs) f (fs ++ g ∷ []) in
+    ap is_joined (append_assoc (g ∷ gs) (f ∷ fs) (g ∷ [])) ∙ joined_at (g ∷ gs) f (fs ++ g ∷ []) in
     one ∙ and_comm (is_joined ((f ∷ fs) ++ g ∷ [])) (is_joined ((g ∷ gs) ++ f ∷ [])) ∙ sym two
 
 -- a list with two parts exchanged is a cycle where the list is
@@ -46,7 +46,7 @@ pub turned_cycle : (front back : List Edge) → IsCycle (front ++ back) → IsCy
 turned_cycle front back c = record {
   some = omega (arith, c.some, length-append front back, length-append back front);
   few = omega (arith, c.few, length-append front back, length-append back front);
-  closed = sym (closed_turned front back) ∙ c.closed
+  closed = sym (closed_turned front back) ∙ c.closed;
 }
 
 -- a rotation of a cycle is a cycle
@@ -66,7 +66,7 @@ pub joined_unbroken : (u : List Edge) → first_break u ≡ None → is_joined u
 joined_unbroken [] h = refl
 joined_unbroken (e ∷ u) h =
     elim (joins_first e u) as (λ b. cond b (one_later (first_break u)) (Some 0) ≡ None → (b && is_joined u) ≡ true) [
-      true ↦ λ t. joined_unbroken u (unmoved (first_break u) t)
+      | true ↦ λ t. joined_unbroken u (unmoved (first_break u) t)
       | false ↦ λ t. cc
     ] h
   where
@@ -91,7 +91,7 @@ break_within [] i h = cc
 break_within (e ∷ []) i h = cc
 break_within (e ∷ f ∷ u) i h =
     elim (joins_to e f) as (λ b. cond b (one_later (first_break (f ∷ u))) (Some 0) ≡ Some i → i + 1 < length (e ∷ f ∷ u)) [
-      true ↦ λ t. omega (arith, later_within (first_break (f ∷ u)) i (length (f ∷ u)) (break_within (f ∷ u)) t)
+      | true ↦ λ t. omega (arith, later_within (first_break (f ∷ u)) i (length (f ∷ u)) (break_within (f ∷ u)) t)
       | false ↦ λ t. let z : 0 ≡ i = cc in omega arith
     ] h
 
@@ -101,5 +101,5 @@ unbroken_cycle [] e s l h = cc
 unbroken_cycle (f ∷ u) e s l h = record {
   some = omega arith;
   few = l;
-  closed = let z : e ≡ f = cc in joined_unbroken ((f ∷ u) ++ f ∷ []) (rw z at h)
+  closed = let z : e ≡ f = cc in joined_unbroken ((f ∷ u) ++ f ∷ []) (rw z at h);
 }

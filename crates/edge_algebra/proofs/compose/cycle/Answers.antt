@@ -1,5 +1,4 @@
-use Rattle.std.proofs.Common.{◌≡◌, ◌<◌, ◌∷◌, ◌++◌, [], length, List, None, rules, arith, sym}
-use Rattle.walk_laws.specs.Composable.{IsCycle, first_break}
+use Rattle.std.proofs.Common.{rules, arith, sym}
 use Rattle.walk_laws.proofs.Composing.{unbroken_cycle}
 use Rattle.edge_algebra.proofs.compose.cycle.Goals as goal
 

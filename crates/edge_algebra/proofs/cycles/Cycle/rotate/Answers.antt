@@ -1,5 +1,4 @@
-use Rattle.std.proofs.Common.{◌≡◌, List, ◌++◌, take, drop, rules}
-use Rattle.walk_laws.specs.Composable.{IsCycle}
+use Rattle.std.proofs.Common.{◌≡◌, rules}
 use Rattle.walk_laws.specs.Rotation.{rotated}
 use Rattle.walk_laws.proofs.Composing.{rotated_cycle}
 use Rattle.edge_algebra.proofs.cycles.Cycle.rotate.Goals as goal
