@@ -1,2 +1,4 @@
 pub mod EdgeTable
 pub mod Order
+pub mod Words
+pub mod AllEdges

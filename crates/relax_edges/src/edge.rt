@@ -6,7 +6,7 @@ use crate::kinds::{ArchName, Com, DepKind, Dir, FenceKind, Reach, Sd};
 /// An edge of a cycle, from one access to the next.
 ///
 /// The rules are those of the diy part of the herdtools manual, "Candidate relaxations".
-#[derive(Clone, Copy, Debug, PartialEq, Eq)]
+#[derive(Clone, Copy, Debug)]
 pub enum Edge {
     /// A communication between two accesses to one location.
     Com {

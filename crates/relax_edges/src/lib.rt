@@ -3,9 +3,11 @@
 
 mod edge;
 mod kinds;
+mod order;
 
 pub use edge::Edge;
 pub use kinds::{ArchName, Com, DepKind, Dir, FenceKind, ObsMode, Pick, Reach, Sd, Value};
+pub use order::EDGES;
 
 /// The most edges that a cycle has.
 pub const MAX_EDGES: usize = 24;

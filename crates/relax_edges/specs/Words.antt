@@ -1,0 +1,73 @@
+-- The printed word of each edge, as bytes.
+-- Source: the diy part of the herdtools manual, "Candidate relaxations"; the words of `DpCtrlIsb`, `ISync` and `Fence.p.s` are own.
+use Rattle.std.specs.Prelude.{ℕ, List, ◌++◌, codes}
+use Rattle.relax_edges.specs.declared.kinds.Dir.{Dir}
+use Rattle.relax_edges.specs.declared.kinds.Dir.TheVariants as dirs
+use Rattle.relax_edges.specs.declared.kinds.Sd.{Sd}
+use Rattle.relax_edges.specs.declared.kinds.Sd.TheVariants.{Same, Diff}
+use Rattle.relax_edges.specs.declared.kinds.Reach.{Reach}
+use Rattle.relax_edges.specs.declared.kinds.Reach.TheVariants.{Internal, External}
+use Rattle.relax_edges.specs.declared.kinds.Com.{Com}
+use Rattle.relax_edges.specs.declared.kinds.Com.TheVariants as coms
+use Rattle.relax_edges.specs.declared.kinds.Pick.{Pick}
+use Rattle.relax_edges.specs.declared.kinds.Pick.TheVariants as picks
+use Rattle.relax_edges.specs.declared.kinds.FenceKind.{FenceKind}
+use Rattle.relax_edges.specs.declared.kinds.FenceKind.TheVariants as fences
+use Rattle.relax_edges.specs.declared.kinds.DepKind.{DepKind}
+use Rattle.relax_edges.specs.declared.kinds.DepKind.TheVariants as deps
+use Rattle.relax_edges.specs.declared.edge.Edge.{Edge}
+use Rattle.relax_edges.specs.declared.edge.Edge.TheVariants as edges
+
+-- `R` or `W`
+abbrev pub dir_word : Dir → List ℕ
+dir_word dirs.R = codes "R"
+dir_word dirs.W = codes "W"
+
+-- `s` or `d`
+abbrev pub sd_word : Sd → List ℕ
+sd_word Same = codes "s"
+sd_word Diff = codes "d"
+
+-- `i` or `e`
+abbrev pub reach_word : Reach → List ℕ
+reach_word Internal = codes "i"
+reach_word External = codes "e"
+
+-- `r`, `w` or `rw`
+abbrev pub pick_word : Pick → List ℕ
+pick_word picks.R = codes "r"
+pick_word picks.W = codes "w"
+pick_word picks.RW = codes "rw"
+
+-- `Rf`, `Fr` or `Ws`
+abbrev pub com_word : Com → List ℕ
+com_word coms.Rf = codes "Rf"
+com_word coms.Fr = codes "Fr"
+com_word coms.Ws = codes "Ws"
+
+-- the word of a fence
+abbrev pub fence_word : FenceKind → List ℕ
+fence_word fences.MFence = codes "MFence"
+fence_word fences.Sync = codes "Sync"
+fence_word fences.LwSync = codes "LwSync"
+fence_word fences.Eieio = codes "Eieio"
+fence_word fences.ISync = codes "ISync"
+fence_word fences.DmbSy = codes "DMB.SY"
+fence_word fences.DmbLd = codes "DMB.LD"
+fence_word fences.DmbSt = codes "DMB.ST"
+fence_word (fences.Fence pred succ) = codes "Fence." ++ pick_word pred ++ codes "." ++ pick_word succ
+
+-- the word of a dependency
+abbrev pub dependency_word : DepKind → List ℕ
+dependency_word deps.Addr = codes "DpAddr"
+dependency_word deps.Ctrl = codes "DpCtrl"
+dependency_word deps.CtrlIsync = codes "DpCtrlIsync"
+dependency_word deps.CtrlIsb = codes "DpCtrlIsb"
+
+-- the printed word of an edge
+abbrev pub word_of : Edge → List ℕ
+word_of (edges.Com kind reach) = com_word kind ++ reach_word reach
+word_of (edges.Po sd from to) = codes "Po" ++ sd_word sd ++ dir_word from ++ dir_word to
+word_of (edges.Fenced kind sd from to) = fence_word kind ++ sd_word sd ++ dir_word from ++ dir_word to
+word_of (edges.Dep kind sd to) = dependency_word kind ++ sd_word sd ++ dir_word to
+word_of (edges.Data sd) = codes "DpData" ++ sd_word sd ++ codes "W"
