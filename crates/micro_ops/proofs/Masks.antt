@@ -1,0 +1,13 @@
+-- Masks, joined with one that is empty or the same.
+use Rattle.std.proofs.Common.{ℕ, ◌≡◌, ◌∙◌, sym, ap, max, bit_or, arith}
+use Rattle.std.specs.Int.{bit_at}
+use Rattle.std.proofs.lemmas.Nat.Bits.{bit_at_or, bit_at-zero, same_from_bits}
+
+pub or_zero : (m : ℕ) → bit_or m 0 ≡ m
+or_zero m = same_from_bits (bit_or m 0) m (λ i. omega (arith, bit_at_or m 0 i, bit_at-zero i))
+
+pub zero_or : (m : ℕ) → bit_or 0 m ≡ m
+zero_or m = same_from_bits (bit_or 0 m) m (λ i. omega (arith, bit_at_or 0 m i, bit_at-zero i))
+
+pub or_same : (m : ℕ) → bit_or m m ≡ m
+or_same m = same_from_bits (bit_or m m) m (λ i. omega (arith, bit_at_or m m i))

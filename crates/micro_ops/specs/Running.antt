@@ -1,0 +1,140 @@
+-- The run of a thread: a list of operations, on the numbers that its loads read.
+-- Source: own.
+use Rattle.std.specs.Prelude.{ℕ, ◌==◌, Bool, true, false, cond, ◌||◌, ◌&&◌, List, [], ◌∷◌, ◌++◌, Option, Some, None, ◌≡◌}
+use Rattle.relax_edges.specs.declared.kinds.Value.{Value}
+use Rattle.relax_edges.specs.declared.kinds.Value.TheVariants.{Num, Place}
+use Rattle.micro_ops.specs.declared.held.Held.{Held}
+use Rattle.micro_ops.specs.declared.operation.Micro.{Micro}
+use Rattle.micro_ops.specs.declared.operation.Micro.TheVariants as ops
+use Rattle.micro_ops.specs.declared.operation.Item.{Item}
+use Rattle.micro_ops.specs.Machine.{State, Told, step, num}
+
+-- a run as far as it has come: the state, the numbers that are left to read, the items made
+pub record Run : Type 0 where
+  pub state : State
+  pub reads : List ℕ
+  pub made : List Item
+
+-- where a run is between two operations: before the next; passing over operations until a label
+-- stands; at a load that only lacks a number to read; or at an operation that no rule fits
+pub data Point : Type 0 where
+  At : Run → Point
+  Past : ℕ → Run → Point
+  Wants : Run → Point
+  Stuck : Point
+
+-- an operation reads
+abbrev pub is_load : Micro → Bool
+is_load (ops.Load _ _ _) = true
+is_load (ops.LoadAt _ _) = true
+is_load _ = false
+
+-- an operation is this label
+abbrev pub is_label : ℕ → Micro → Bool
+is_label label (ops.Label k) = k == label
+is_label _ _ = false
+
+-- the items made, and one more if there is one
+abbrev pub add_item : List Item → Option Item → List Item
+add_item made (Some item) = made ++ item ∷ []
+add_item made None = made
+
+-- before the next operation, or on the way to a label
+abbrev pub landing : Option ℕ → Run → Point
+landing None r = At r
+landing (Some label) r = Past label r
+
+-- where a rule leads
+abbrev pub led : Option Told → List ℕ → List Item → Point
+led (Some told) reads made =
+    landing told.jump
+    (record { state = told.state; reads = reads; made = add_item made told.item })
+led None _ _ = Stuck
+
+-- a load with nothing left to read wants a number if any would do
+abbrev pub wanting : Option Told → Run → Point
+wanting (Some _) r = Wants r
+wanting None _ = Stuck
+
+-- an operation, which takes the next number if it reads
+abbrev pub taken : Micro → Run → Bool → List ℕ → Point
+taken op r false reads = led (step op r.state None) reads r.made
+taken op r true (n ∷ reads) = led (step op r.state (Some n)) reads r.made
+taken op r true [] = wanting (step op r.state (Some 0)) r
+
+-- one operation of a run: a jump passes over operations up to its label
+abbrev pub go : Micro → Point → Point
+go op (At r) = taken op r (is_load op) r.reads
+go op (Past label r) = cond (is_label label op) (At r) (Past label r)
+go _ (Wants r) = Wants r
+go _ Stuck = Stuck
+
+-- the run of a list of operations
+abbrev pub exec : List Micro → Point → Point
+exec [] p = p
+exec (op ∷ code) p = exec code (go op p)
+
+-- a label stands in a list of operations
+abbrev pub stands : ℕ → List Micro → Bool
+stands _ [] = false
+stands label (op ∷ code) = is_label label op || stands label code
+
+-- the label that an operation may jump to
+abbrev pub target : Micro → Option ℕ
+target (ops.BranchEq label) = Some label
+target (ops.BranchNz _ label) = Some label
+target _ = None
+
+-- a label, if there is one, stands in a list of operations
+abbrev pub stands_if : Option ℕ → List Micro → Bool
+stands_if None _ = true
+stands_if (Some label) code = stands label code
+
+-- each branch's label stands later
+abbrev pub lands : List Micro → Bool
+lands [] = true
+lands (op ∷ code) = stands_if (target op) code && lands code
+
+-- the labels that stand in a list of operations, in order
+abbrev pub labels_of : List Micro → List ℕ
+labels_of [] = []
+labels_of (ops.Label label ∷ code) = label ∷ labels_of code
+labels_of (_ ∷ code) = labels_of code
+
+-- the registers as a thread begins: those that the list names, the number 0 in the others
+abbrev pub starting : List (ℕ × Value) → ℕ → Held
+starting [] _ = num 0 0
+starting (named ∷ init) r =
+    cond (r == named.0) (record { value = named.1; mask = 0 }) (starting init r)
+
+-- a thread before its first operation
+abbrev pub beginning : List (ℕ × Value) → List ℕ → Run
+beginning init reads = record {
+  state = record { regs = starting init; flag = false; flag_mask = 0; control = 0; loads = 0 };
+  reads = reads;
+  made = [];
+}
+
+-- how a run ends: with its items and the values of its registers, all reads used; at its end with
+-- reads left; at a load that lacks a read; or where no rule fits, or a label is missing
+pub data Outcome : Type 0 where
+  Ended : List Item → (ℕ → Value) → Outcome
+  ReadsLeft : Outcome
+  ReadsShort : Outcome
+  NoRule : Outcome
+
+-- the end of a run whose code is over
+abbrev pub ended : Run → List ℕ → Outcome
+ended r [] = Ended r.made (λ q. (r.state.regs q).value)
+ended _ (_ ∷ _) = ReadsLeft
+
+-- how a run ends that has come to a point, where its code is over
+abbrev pub outcome : Point → Outcome
+outcome (At r) = ended r r.reads
+outcome (Past _ _) = NoRule
+outcome (Wants _) = ReadsShort
+outcome Stuck = NoRule
+
+-- the run of a thread: its code, from its initial registers, on the numbers that its loads read
+abbrev pub runs : List Micro → List (ℕ × Value) → List ℕ → Outcome
+runs code init reads = outcome (exec code (At (beginning init reads)))

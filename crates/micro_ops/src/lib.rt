@@ -1,0 +1,8 @@
+//! The machine of one thread: what each operation does to registers, and the run of a list of operations.
+#![tactic(auto)]
+
+mod held;
+mod operation;
+
+pub use held::Held;
+pub use operation::{Barrier, Item, Micro};

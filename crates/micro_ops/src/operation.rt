@@ -1,0 +1,115 @@
+use relax_edges::{Dir, FenceKind};
+
+/// An instruction that orders accesses and makes none.
+#[derive(Clone, Copy, Debug, PartialEq, Eq)]
+pub enum Barrier {
+    Fence(FenceKind),
+    /// The instruction synchronization barrier of AArch64.
+    Isb,
+}
+
+/// What one instruction of a thread does. Registers, places and labels are numbers; registers are
+/// below 32.
+#[derive(Clone, Copy, Debug, PartialEq, Eq)]
+pub enum Micro {
+    /// `dst` becomes the number `n`.
+    Imm {
+        dst: u8,
+        n: u32,
+    },
+    /// `dst` becomes the bitwise exclusive or of `a` and `b`; of a register with itself, 0.
+    Xor {
+        dst: u8,
+        a: u8,
+        b: u8,
+    },
+    /// `dst` becomes `a` plus `n`.
+    AddImm {
+        dst: u8,
+        a: u8,
+        n: u32,
+    },
+    /// `dst` becomes the bitwise or of `a` and `n`.
+    OrImm {
+        dst: u8,
+        a: u8,
+        n: u32,
+    },
+    /// `dst` becomes the sum of `a` and `b`; of an address and 0, the address.
+    Add {
+        dst: u8,
+        a: u8,
+        b: u8,
+    },
+    /// `dst` becomes what is read at the address `base`, or `base` plus `index`.
+    Load {
+        dst: u8,
+        base: u8,
+        index: Option<u8>,
+    },
+    /// `dst` becomes what is read at the place.
+    LoadAt {
+        dst: u8,
+        place: u8,
+    },
+    /// The number in `src` is written at the address `base`, or `base` plus `index`.
+    Store {
+        src: u8,
+        base: u8,
+        index: Option<u8>,
+    },
+    /// The number `n` is written at the place.
+    StoreAt {
+        place: u8,
+        n: u32,
+    },
+    /// The flag becomes whether `a` equals `b`.
+    Cmp {
+        a: u8,
+        b: u8,
+    },
+    /// Jumps to the label if the flag is true.
+    BranchEq {
+        label: u8,
+    },
+    /// Jumps to the label if `a` isn't 0.
+    BranchNz {
+        a: u8,
+        label: u8,
+    },
+    /// Does nothing; where a jump to the label goes on.
+    Label {
+        label: u8,
+    },
+    /// Orders accesses.
+    Barrier {
+        kind: Barrier,
+    },
+}
+
+impl Default for Micro {
+    fn default() -> Micro {
+        Micro::Imm { dst: 0, n: 0 }
+    }
+}
+
+/// What a thread does that other threads can tell: an access or a barrier, with the loads that it
+/// depends on. Bit `k` of a mask names load number `k` of the thread, from 0.
+#[derive(Clone, Copy, Debug, PartialEq, Eq)]
+pub enum Item {
+    /// A read of the value at the place, or a write of it. The masks name the loads that its
+    /// address, its value and the branches before it depend on.
+    Access {
+        dir: Dir,
+        place: u8,
+        value: u32,
+        addr_mask: u64,
+        data_mask: u64,
+        ctrl_mask: u64,
+    },
+    /// A barrier, with the loads that the branches before it depend on.
+    Barrier {
+        kind: Barrier,
+        ctrl_mask: u64,
+    },
+}
