@@ -1,0 +1,48 @@
+use relax_edges::{DepKind, Edge, FenceKind};
+
+/// How an access is tied to the one before it in its thread.
+#[derive(Clone, Copy, Debug, Default, PartialEq, Eq)]
+pub enum Link {
+    /// By program order alone.
+    #[default]
+    Plain,
+    /// By a fence between them.
+    Fence(FenceKind),
+    /// The address of the access depends on the load before it.
+    Addr,
+    /// The value that the access stores depends on the load before it.
+    Data,
+    /// A branch on the load before stands between them.
+    Ctrl,
+    /// The same, with an `isync` behind the branch.
+    CtrlIsync,
+    /// The same, with an `ISB` behind the branch.
+    CtrlIsb,
+}
+
+/// The link that an internal edge asks for.
+pub fn link_of(edge: Edge) -> Link {
+    match edge {
+        Edge::Com { .. } | Edge::Po { .. } => Link::Plain,
+        Edge::Fenced { fence, .. } => Link::Fence(fence),
+        Edge::Data { .. } => Link::Data,
+        Edge::Dep { dep, .. } => match dep {
+            DepKind::Addr => Link::Addr,
+            DepKind::Ctrl => Link::Ctrl,
+            DepKind::CtrlIsync => Link::CtrlIsync,
+            DepKind::CtrlIsb => Link::CtrlIsb,
+        },
+    }
+}
+
+impl Link {
+    /// Whether the access depends on the load before it.
+    pub fn is_dependency(self) -> bool {
+        !matches!(self, Link::Plain | Link::Fence(_))
+    }
+
+    /// Whether a branch stands before the access.
+    pub fn branches(self) -> bool {
+        matches!(self, Link::Ctrl | Link::CtrlIsync | Link::CtrlIsb)
+    }
+}

@@ -1,0 +1,6 @@
+//! Which value each event of a cycle writes or reads, and which locations need an observer.
+#![tactic(auto)]
+
+mod valued;
+
+pub use valued::{NeedsObserver, Valued, value};

@@ -1,0 +1,36 @@
+//! The program: its words, standard output and standard error, handed to `run`.
+#![tactic(auto)]
+
+use diy_io::{NoMemory, StdSink, Words};
+use diy_tools::run;
+use std::env;
+use std::io;
+use std::io::Write;
+use std::process::ExitCode;
+
+/// The words that the program was called with, or the status that their want ends it with.
+fn words_of(rt: &HostRuntime) -> Result<Words, ExitCode> {
+    let Ok(args) = env::args(rt) else {
+        let _ = rt.eprintln("diy: read fault: words");
+        return Err(ExitCode::from(3));
+    };
+    let mut words = Words::new(rt.alloc());
+    for word in args.skip(1) {
+        if let Err(NoMemory) = words.push(word.as_str()) {
+            let _ = rt.eprintln("diy: no memory");
+            return Err(ExitCode::from(4));
+        }
+    }
+    Ok(words)
+}
+
+fn main(rt: HostRuntime) -> ExitCode {
+    match words_of(&rt) {
+        Err(code) => code,
+        Ok(words) => {
+            let mut out = StdSink::new(rt.stdout());
+            let mut err = StdSink::new(rt.stderr());
+            ExitCode::from(run(rt.alloc(), &words, &mut out, &mut err).exit())
+        }
+    }
+}

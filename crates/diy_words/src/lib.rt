@@ -1,0 +1,10 @@
+//! From the words of a call to the request that they make, or the first fault among them.
+#![tactic(auto)]
+
+mod read;
+mod request;
+mod usage;
+
+pub use read::read_request;
+pub use request::{DiyOne, EdgeList, MAX_NAME, TestName};
+pub use usage::{Usage, UsageKind};

@@ -1,0 +1,48 @@
+use arrayvec::{ArrayString, ArrayVec};
+
+/// The name of a register, of 1 to 16 bytes.
+pub type RegName = ArrayString<16>;
+
+/// The name of a place, of 1 to 16 bytes.
+pub type PlaceName = ArrayString<16>;
+
+/// The most terms that a condition has.
+pub const MAX_TERMS: usize = 128;
+
+/// Which executions a condition speaks of.
+#[derive(Clone, Copy, Debug, Default, PartialEq, Eq)]
+pub enum Quantifier {
+    #[default]
+    Exists,
+    NotExists,
+    Forall,
+}
+
+/// What a term looks at: a register of a thread at its end, or a place.
+#[derive(Debug, Drop)]
+pub enum Left {
+    Register { thread: u8, name: RegName },
+    Place { name: PlaceName },
+}
+
+impl Default for Left {
+    fn default() -> Left {
+        Left::Place {
+            name: PlaceName::new(),
+        }
+    }
+}
+
+/// A register or place, and the value that it is to have.
+#[derive(Debug, Default, Drop)]
+pub struct Term {
+    pub left: Left,
+    pub value: u32,
+}
+
+/// A conjunction of terms, under a quantifier.
+#[derive(Debug, Default, Drop)]
+pub struct Cond {
+    pub quantifier: Quantifier,
+    pub terms: ArrayVec<Term, MAX_TERMS>,
+}

@@ -1,0 +1,27 @@
+use arch_trait::{Code, Places};
+use arrayvec::ArrayVec;
+use final_cond::Cond;
+use relax_edges::{Edge, MAX_EDGES};
+
+/// A litmus test: the cycle that it is made from, the names of its places, the code of its
+/// threads, and its condition.
+#[derive(Debug, Drop)]
+pub struct Test {
+    /// The edges of the resolved cycle.
+    pub edges: ArrayVec<Edge, MAX_EDGES>,
+    pub places: Places,
+    pub threads: ArrayVec<Code, MAX_EDGES>,
+    pub cond: Cond,
+}
+
+impl Test {
+    /// A test without edges, places, threads and terms.
+    pub fn new() -> Test {
+        Test {
+            edges: ArrayVec::new(),
+            places: Places::new(),
+            threads: ArrayVec::new(),
+            cond: Cond::default(),
+        }
+    }
+}
