@@ -4,6 +4,7 @@
 mod edge;
 mod kinds;
 mod order;
+mod word;
 
 pub use edge::Edge;
 pub use kinds::{ArchName, Com, DepKind, Dir, FenceKind, ObsMode, Pick, Reach, Sd, Value};
