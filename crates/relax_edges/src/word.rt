@@ -1,10 +1,9 @@
 ghost use Rattle.std.specs.Prelude.{◌≡◌, ℕ, ◌≤◌, ◌++◌, length};
 ghost use Rattle.relax_edges.specs.Words.{word_of, com_word, reach_word, sd_word, dir_word, fence_word, dependency_word};
 
-use arrayvec::ArrayString;
-
 use crate::edge::Edge;
 use crate::kinds::{Com, DepKind, Dir, FenceKind, Pick, Reach, Sd};
+use arrayvec::ArrayString;
 
 impl Dir {
     fn word(self) -> &'static str
