@@ -1,2 +1,3 @@
 pub mod Composable
+pub mod Order
 pub mod Rotation
