@@ -4,6 +4,7 @@
 mod compose;
 mod cycles;
 mod errors;
+mod normal;
 
 pub use compose::cycle;
 pub use cycles::Cycle;

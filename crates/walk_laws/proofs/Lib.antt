@@ -1,1 +1,5 @@
+pub mod Beginnings
 pub mod Composing
+pub mod Ordering
+pub mod Places
+pub mod Rotating

@@ -1,2 +1,4 @@
+pub mod Beginning
 pub mod Composable
+pub mod Order
 pub mod Rotation

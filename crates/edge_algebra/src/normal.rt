@@ -1,0 +1,82 @@
+ghost use Rattle.std.specs.Prelude.{◌≡◌, ℕ, ◌+◌, ◌<◌, ◌≤◌, ◌↔◌, ◌++◌, length, map, IsTrue};
+ghost use Rattle.relax_edges.specs.Order.{rank_of};
+ghost use Rattle.walk_laws.specs.Order.{IsLeast, IsNormal, ranks_below};
+ghost use Rattle.walk_laws.specs.Rotation.{IsRotation, rotated};
+
+use crate::Cycle;
+use arrayvec::ArrayVec;
+use relax_edges::{Edge, MAX_EDGES};
+
+const TWICE: usize = 2 * MAX_EDGES;
+
+impl Cycle {
+    /// The normal form of the cycle: its least rotation, lists of edges compared edge by edge in
+    /// the byte order of their printed words.
+    pub fn least(&self) -> Cycle
+        ensures { IsLeast self.now result }
+    {
+        let place = least_place(self.edges());
+        self.rotate(place)
+    }
+
+    /// Whether the other cycle is the same: a rotation of this one.
+    pub fn same(&self, other: &Cycle) -> bool
+        ensures { IsTrue result ↔ IsRotation self.now other.now }
+    {
+        self.least() == other.least()
+    }
+}
+
+/// The first place at which a least rotation begins.
+fn least_place(edges: &[Edge]) -> u8
+    requires some { 0 < length edges.now }
+    requires few { length edges.now ≤ MAX_EDGES }
+    ensures within { result < length edges.now }
+    ensures least { IsNormal (rotated result edges.now) }
+{
+    let ranks = ranks_twice(edges);
+    let ranks = ranks.as_slice();
+    let len = edges.len();
+    let mut least = 0;
+    for place in 1..len {
+        if is_below(&ranks[place..place + len], &ranks[least..least + len]) {
+            least = place;
+        }
+    }
+    least as u8
+}
+
+/// The ranks of the edges, twice over: each rotation is a part of it.
+fn ranks_twice(edges: &[Edge]) -> ArrayVec<u8, TWICE>
+    requires { length edges.now ≤ MAX_EDGES }
+    ensures { result.items ≡ map rank_of edges.now ++ map rank_of edges.now }
+{
+    let mut ranks = ArrayVec::new();
+    push_ranks(&mut ranks, edges);
+    push_ranks(&mut ranks, edges);
+    ranks
+}
+
+fn push_ranks(ranks: &mut ArrayVec<u8, TWICE>, edges: &[Edge])
+    requires { length ranks.old.items + length edges.now ≤ TWICE }
+    ensures { ranks.new.items ≡ ranks.old.items ++ map rank_of edges.now }
+{
+    for edge in edges {
+        ranks.push(edge.rank());
+    }
+}
+
+/// Whether the first list of ranks is less at the first place where they differ, which both have.
+fn is_below(ranks: &[u8], others: &[u8]) -> bool
+    ensures { result ≡ ranks_below ranks.now others.now }
+{
+    match ranks {
+        [] => false,
+        [rank, ranks_left @ ..] => match others {
+            [] => false,
+            [other, others_left @ ..] => {
+                rank < other || rank == other && is_below(ranks_left, others_left)
+            }
+        },
+    }
+}
