@@ -1,2 +1,4 @@
 pub mod Ranks
 pub mod Spellings
+pub mod Architectures
+pub mod WordBounds

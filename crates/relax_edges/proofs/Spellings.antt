@@ -56,7 +56,7 @@ find_none test edge none =
     (λ f. f)
 
 -- what is named so has this word
-named_is : {K : Type 0} (word : K → List ℕ) (kinds : List K) (text : List ℕ) (kind : K) → named word kinds text ≡ Some kind → text ≡ word kind
+pub named_is : {K : Type 0} (word : K → List ℕ) (kinds : List K) (text : List ℕ) (kind : K) → named word kinds text ≡ Some kind → text ≡ word kind
 named_is word kinds text kind found = (bytes_eq-Decides text (word kind)).0 (find_passes (λ k. bytes_eq text (word k)) kinds kind found)
 
 named_in_one : {K : Type 0} (word : K → List ℕ) (one : K) (text : List ℕ) (kind : K) → named word (one ∷ []) text ≡ Some kind → one ≡ kind

@@ -4,3 +4,4 @@ pub mod Words
 pub mod AllEdges
 pub mod Spelling
 pub mod Reading
+pub mod Architectures

@@ -1,12 +1,14 @@
 //! The edges of a cycle: what each one joins, its printed word, and the order of the words.
 #![tactic(auto)]
 
+mod arch;
 mod edge;
 mod kinds;
 mod order;
 mod read;
 mod word;
 
+pub use arch::read_arch;
 pub use edge::Edge;
 pub use kinds::{ArchName, Com, DepKind, Dir, FenceKind, ObsMode, Pick, Reach, Sd, Value};
 pub use order::EDGES;
