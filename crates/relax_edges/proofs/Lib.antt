@@ -2,3 +2,4 @@ pub mod Ranks
 pub mod Spellings
 pub mod Architectures
 pub mod WordBounds
+mod RelaxExamples

@@ -5,3 +5,5 @@ pub mod AllEdges
 pub mod Spelling
 pub mod Reading
 pub mod Architectures
+pub mod RelaxText
+pub mod Relaxations

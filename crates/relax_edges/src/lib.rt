@@ -6,6 +6,8 @@ mod edge;
 mod kinds;
 mod order;
 mod read;
+mod relax;
+mod relax_error;
 mod word;
 
 pub use arch::read_arch;
@@ -13,6 +15,8 @@ pub use edge::Edge;
 pub use kinds::{ArchName, Com, DepKind, Dir, FenceKind, ObsMode, Pick, Reach, Sd, Value};
 pub use order::EDGES;
 pub use read::{UnknownEdge, read_edge, read_edge_bytes};
+pub use relax::{Relax, Relaxes};
+pub use relax_error::{RelaxError, RelaxKind};
 
 /// The most edges that a cycle has.
 pub const MAX_EDGES: usize = 24;
