@@ -3,3 +3,4 @@ pub mod Spellings
 pub mod Architectures
 pub mod WordBounds
 mod RelaxExamples
+pub mod Paths

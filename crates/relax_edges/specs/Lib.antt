@@ -7,3 +7,4 @@ pub mod Reading
 pub mod Architectures
 pub mod RelaxText
 pub mod Relaxations
+pub mod RelaxSearch
