@@ -4,3 +4,4 @@ pub mod Architectures
 pub mod WordBounds
 mod RelaxExamples
 pub mod Paths
+pub mod RelaxWords
