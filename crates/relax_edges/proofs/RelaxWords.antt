@@ -1,7 +1,10 @@
 -- The first word of a text without brackets, and a text that is one word.
 use Rattle.std.specs.Prelude.{ℕ, ◌≡◌, ◌<◌, ◌≤◌, ◌+◌, ◌&&◌, ◌||◌, ◌==◌, Bool, true, false, not, cond, List, [], ◌∷◌, ◌++◌, length, filter, take, drop}
-use Rattle.std.specs.List.{before_first, position_or_len, slice_split, onto_first, list_all}
-use Rattle.std.proofs.Common.{suc, refl, arith, ap, subst, sym, ◌∙◌}
+use Rattle.std.specs.List.{before_first, position, position_or_len, slice_split, onto_first, list_all}
+use Rattle.std.specs.Option.{unwrap_or}
+use Rattle.std.proofs.lemmas.Bool.{ltb-false}
+use Rattle.std.proofs.lemmas.List.Sums.{prefix_len-le-length}
+use Rattle.std.proofs.Common.{suc, nat_lt, refl, arith, ap, subst, sym, ◌∙◌}
 use Rattle.relax_edges.specs.RelaxText.{is_separator, is_bracket, ends_word, is_empty, words_of}
 
 by_test : {G : Type 0} (b : Bool) → (b ≡ true → G) → (b ≡ false → G) → G
@@ -69,17 +72,17 @@ words_by-no test byte behind n =
     ∙ ap (λ words. first ∷ words) p.words
 
 -- a separator before a text adds no word
-pub words_of-separator : (byte : ℕ) (behind : List ℕ) → is_separator byte ≡ true → words_of (byte ∷ behind) ≡ words_of behind
-words_of-separator byte behind s = words_by-yes is_separator byte behind s
+pub words_of_separator : (byte : ℕ) (behind : List ℕ) → is_separator byte ≡ true → words_of (byte ∷ behind) ≡ words_of behind
+words_of_separator byte behind s = words_by-yes is_separator byte behind s
 
 -- the first word of a text that begins with one
-pub words_of-word : (byte : ℕ) (behind : List ℕ) → is_separator byte ≡ false
+pub words_of_word : (byte : ℕ) (behind : List ℕ) → is_separator byte ≡ false
     → words_of (byte ∷ behind) ≡ before_first is_separator (byte ∷ behind) ∷ words_of (drop (position_or_len is_separator (byte ∷ behind)) (byte ∷ behind))
-words_of-word byte behind n = words_by-no is_separator byte behind n
+words_of_word byte behind n = words_by-no is_separator byte behind n
 
 -- the first word has a byte at least
-pub word_len-some : (byte : ℕ) (behind : List ℕ) → is_separator byte ≡ false → 0 < position_or_len is_separator (byte ∷ behind)
-word_len-some byte behind n = rw n (omega arith)
+pub word_len_some : (byte : ℕ) (behind : List ℕ) → is_separator byte ≡ false → 0 < position_or_len is_separator (byte ∷ behind)
+word_len_some byte behind n = rw n (omega arith)
 
 -- what stands before the end of a word holds no separator
 none_before : (test : ℕ → Bool) (behind : List ℕ) → ((byte : ℕ) → ends_word byte ≡ false → test byte ≡ false)
@@ -103,8 +106,15 @@ not_separator byte n = first_false (is_separator byte) (is_bracket byte) n
     first_false false b f = refl
 
 -- a word that ends where a word ends is the one word of its text
-pub words_of-run : (byte : ℕ) (behind : List ℕ) → is_separator byte ≡ false
+pub words_of_run : (byte : ℕ) (behind : List ℕ) → is_separator byte ≡ false
     → words_of (byte ∷ before_first ends_word behind) ≡ (byte ∷ before_first ends_word behind) ∷ []
-words_of-run byte behind n =
+words_of_run byte behind n =
     ap (filter (λ word. not (is_empty word)))
         (one_part is_separator (byte ∷ before_first ends_word behind) (rw n (none_before is_separator behind not_separator)))
+
+-- the place of the first byte that passes, or the length
+pub position_unwrapped : (test : ℕ → Bool) (text : List ℕ) → unwrap_or (position test text) (length text) ≡ position_or_len test text
+position_unwrapped test text =
+    by_test (nat_lt (position_or_len test text) (length text))
+        (λ t. rw t refl)
+        (λ f. rw f (omega (arith, ltb-false (position_or_len test text) (length text) f, prefix_len-le-length (λ x. not (test x)) text)))
