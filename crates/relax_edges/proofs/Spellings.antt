@@ -56,7 +56,7 @@ find_none test edge none =
     (λ f. f)
 
 -- what is named so has this word
-named_is : {K : Type 0} (word : K → List ℕ) (kinds : List K) (text : List ℕ) (kind : K) → named word kinds text ≡ Some kind → text ≡ word kind
+pub named_is : {K : Type 0} (word : K → List ℕ) (kinds : List K) (text : List ℕ) (kind : K) → named word kinds text ≡ Some kind → text ≡ word kind
 named_is word kinds text kind found = (bytes_eq-Decides text (word kind)).0 (find_passes (λ k. bytes_eq text (word k)) kinds kind found)
 
 named_in_one : {K : Type 0} (word : K → List ℕ) (one : K) (text : List ℕ) (kind : K) → named word (one ∷ []) text ≡ Some kind → one ≡ kind
@@ -65,29 +65,29 @@ named_in_one word one text kind found =
     (λ t. let e : Some one ≡ Some kind = rw t at found in cc)
     (λ f. let e : None ≡ Some kind = rw f at found in cc)
 
--- the end of a text that is read backwards
-pub two_sided_end : (front : List ℕ) (sd from to : ℕ) → read_back_two_sided (reverse (front ++ sd ∷ from ∷ to ∷ [])) ≡ two_sided_of front sd from to
-two_sided_end front sd from to = rw (reverse-append front (sd ∷ from ∷ to ∷ [])) (ap (λ f. two_sided_of f sd from to) (reverse-reverse front))
+-- a text of another length than three bytes is no communication
+pub communication_bare : (front : List ℕ) (before last : ℕ) → length front < 1 → read_as_communication (front ++ before ∷ last ∷ []) ≡ None
+communication_bare [] before last bare = refl
+communication_bare (a ∷ front) before last bare = absurd (omega arith)
 
-pub one_sided_end : (front : List ℕ) (sd to : ℕ) → read_back_one_sided (reverse (front ++ sd ∷ to ∷ [])) ≡ one_sided_of front sd to
+pub communication_long : (front : List ℕ) (before last : ℕ) → 1 < length front → read_as_communication (front ++ before ∷ last ∷ []) ≡ None
+communication_long [] before last long = absurd (omega arith)
+communication_long (a ∷ []) before last long = absurd (omega arith)
+communication_long (a ∷ b ∷ []) before last long = refl
+communication_long (a ∷ b ∷ d ∷ []) before last long = refl
+communication_long (a ∷ b ∷ d ∷ e ∷ front) before last long = refl
+
+-- the end of a text that is read backwards
+pub two_sided_end : (front : List ℕ) (sd from to : ℕ) → read_back_two_sided (reverse ((front ++ sd ∷ []) ++ from ∷ to ∷ [])) ≡ two_sided_of front sd from to
+two_sided_end front sd from to =
+    rw (reverse-append (front ++ sd ∷ []) (from ∷ to ∷ []), reverse-append front (sd ∷ [])) (ap (λ f. two_sided_of f sd from to) (reverse-reverse front))
+
+one_sided_end : (front : List ℕ) (sd to : ℕ) → read_back_one_sided (reverse (front ++ sd ∷ to ∷ [])) ≡ one_sided_of front sd to
 one_sided_end front sd to = rw (reverse-append front (sd ∷ to ∷ [])) (ap (λ f. one_sided_of f sd to) (reverse-reverse front))
 
-two_sided_short : (back : List ℕ) → length back < 3 → read_back_two_sided back ≡ None
-two_sided_short [] short = refl
-two_sided_short (a ∷ []) short = refl
-two_sided_short (a ∷ b ∷ []) short = refl
-two_sided_short (a ∷ b ∷ d ∷ rest) short = absurd (omega arith)
-
-pub two_sided_none : (text : List ℕ) → length text < 3 → read_back_two_sided (reverse text) ≡ None
-two_sided_none text short = two_sided_short (reverse text) (rw (length-reverse text) short)
-
-one_sided_short : (back : List ℕ) → length back < 2 → read_back_one_sided back ≡ None
-one_sided_short [] short = refl
-one_sided_short (a ∷ []) short = refl
-one_sided_short (a ∷ b ∷ rest) short = absurd (omega arith)
-
-pub one_sided_none : (text : List ℕ) → length text < 2 → read_back_one_sided (reverse text) ≡ None
-one_sided_none text short = one_sided_short (reverse text) (rw (length-reverse text) short)
+pub two_sided_none : (front : List ℕ) (from to : ℕ) → length front < 1 → read_back_two_sided (reverse (front ++ from ∷ to ∷ [])) ≡ None
+two_sided_none [] from to none = refl
+two_sided_none (a ∷ front) from to none = absurd (omega arith)
 
 -- whether an edge was read
 is_read : Option Edge → Edge → Bool
@@ -310,3 +310,24 @@ read_is text (Some x) found r f = sym (edge_of-spelling x text (read_sound text 
 -- a text is read as the edge that it spells
 pub read_is_edge_of : (text : List ℕ) → read_of text ≡ edge_of text
 read_is_edge_of text = read_is text (read_of text) (edge_of text) refl refl
+
+-- a text with these last two bytes is read by its end
+pub ending_is_edge_of : (front : List ℕ) (before last : ℕ)
+    → edge_of (front ++ before ∷ last ∷ [])
+    ≡ option_or (option_or (read_as_communication (front ++ before ∷ last ∷ [])) (read_back_two_sided (reverse (front ++ before ∷ last ∷ [])))) (one_sided_of front before last)
+unfolding read_of
+ending_is_edge_of front before last =
+    let text = front ++ before ∷ last ∷ [] in
+    sym (read_is_edge_of text) ∙ ap (λ o. option_or (read_as_communication text) (option_or (read_back_two_sided (reverse text)) o)) (one_sided_end front before last)
+    ∙ grouped (read_as_communication text) (read_back_two_sided (reverse text)) (one_sided_of front before last)
+  where
+    grouped : (a b d : Option Edge) → option_or a (option_or b d) ≡ option_or (option_or a b) d
+    grouped None b d = refl
+    grouped (Some x) b d = refl
+
+-- a text of fewer than two bytes spells no edge
+pub edge_of_short : (text : List ℕ) → length text < 2 → edge_of text ≡ None
+unfolding read_of
+edge_of_short [] short = sym (read_is_edge_of [])
+edge_of_short (a ∷ []) short = sym (read_is_edge_of (a ∷ []))
+edge_of_short (a ∷ b ∷ rest) short = absurd (omega arith)

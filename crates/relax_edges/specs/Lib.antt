@@ -4,3 +4,7 @@ pub mod Words
 pub mod AllEdges
 pub mod Spelling
 pub mod Reading
+pub mod Architectures
+pub mod RelaxText
+pub mod Relaxations
+pub mod RelaxSearch

@@ -1,4 +1,4 @@
-ghost use Rattle.std.specs.Prelude.{◌≡◌, ℕ, ◌∷◌, [], reverse};
+ghost use Rattle.std.specs.Prelude.{◌≡◌, ℕ, ◌∷◌, [], ◌++◌, reverse};
 ghost use Rattle.relax_edges.specs.Reading.{dir_named, sd_named, reach_named, com_named, dependency_named, riscv_fence_named, plain_fence_named, fence_named, communication_of, two_sided_of, one_sided_of, read_as_communication, read_back_two_sided, read_back_one_sided, read_of};
 ghost use Rattle.relax_edges.specs.Spelling.{edge_of};
 ghost use Rattle.std.specs.Result.{result_ok};
@@ -177,42 +177,34 @@ fn read_one_sided(front: &[u8], sd: u8, to: u8) -> Option<Edge>
     Some(Edge::Dep { dep, sd, to })
 }
 
-fn read_as_communication(text: &[u8]) -> Option<Edge>
-    ensures { result ≡ read_as_communication text.now }
+#[tactic(auto, using(crate::proofs::Spellings::communication_bare, crate::proofs::Spellings::communication_long))]
+fn end_communication(front: &[u8], before: u8, last: u8) -> Option<Edge>
+    ensures { result ≡ read_as_communication (front.now ++ before ∷ last ∷ []) }
 {
-    match text {
-        [first, second, reach] => read_communication(*first, *second, *reach),
+    match front {
+        [first] => read_communication(*first, before, last),
         _ => None,
     }
 }
 
 #[tactic(auto, using(crate::proofs::Spellings::two_sided_end, crate::proofs::Spellings::two_sided_none))]
-fn read_as_two_sided(text: &[u8]) -> Option<Edge>
-    ensures { result ≡ read_back_two_sided (reverse text.now) }
+fn end_two_sided(front: &[u8], from: u8, to: u8) -> Option<Edge>
+    ensures { result ≡ read_back_two_sided (reverse (front.now ++ from ∷ to ∷ [])) }
 {
-    match text {
-        [front @ .., sd, from, to] => read_two_sided(front, *sd, *from, *to),
+    match front {
+        [front @ .., sd] => read_two_sided(front, *sd, from, to),
         _ => None,
     }
 }
 
-#[tactic(auto, using(crate::proofs::Spellings::one_sided_end, crate::proofs::Spellings::one_sided_none))]
-fn read_as_one_sided(text: &[u8]) -> Option<Edge>
-    ensures { result ≡ read_back_one_sided (reverse text.now) }
+/// The edge that a text spells that ends with these two bytes.
+#[tactic(auto, using(crate::proofs::Spellings::ending_is_edge_of))]
+pub(crate) fn read_ending(front: &[u8], before: u8, last: u8) -> Option<Edge>
+    ensures { result ≡ edge_of (front.now ++ before ∷ last ∷ []) }
 {
-    match text {
-        [front @ .., sd, to] => read_one_sided(front, *sd, *to),
-        _ => None,
-    }
-}
-
-#[tactic(auto, unfolding(crate::specs::Reading::read_of))]
-fn read_spelling(text: &[u8]) -> Option<Edge>
-    ensures { result ≡ read_of text.now }
-{
-    read_as_communication(text)
-        .or_else(|| read_as_two_sided(text))
-        .or_else(|| read_as_one_sided(text))
+    end_communication(front, before, last)
+        .or_else(|| end_two_sided(front, before, last))
+        .or_else(|| read_one_sided(front, before, last))
 }
 
 /// No edge has this spelling.
@@ -221,11 +213,14 @@ fn read_spelling(text: &[u8]) -> Option<Edge>
 pub struct UnknownEdge;
 
 /// The edge that these bytes spell, as `read_edge` reads a text.
-#[tactic(auto, using(crate::proofs::Spellings::read_is_edge_of))]
+#[tactic(auto, using(crate::proofs::Spellings::edge_of_short))]
 pub fn read_edge_bytes(text: &[u8]) -> Result<Edge, UnknownEdge>
     ensures { result_ok result ≡ edge_of text.now }
 {
-    read_spelling(text).ok_or(UnknownEdge)
+    match text {
+        [front @ .., before, last] => read_ending(front, *before, *last).ok_or(UnknownEdge),
+        _ => Err(UnknownEdge),
+    }
 }
 
 /// The edge that a text spells: an edge is spelled as it is printed, and `Wsi` and `Wse` are

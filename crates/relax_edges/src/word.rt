@@ -1,4 +1,5 @@
-ghost use Rattle.std.specs.Prelude.{◌≡◌, ℕ, ◌≤◌, ◌++◌, length};
+ghost use Rattle.std.specs.Prelude.{◌≡◌, ℕ, ◌≤◌, ◌++◌, length, []};
+ghost use Rattle.std.specs.Str.{IsAscii};
 ghost use Rattle.relax_edges.specs.Words.{word_of, com_word, reach_word, sd_word, dir_word, fence_word, dependency_word};
 
 use crate::edge::Edge;
@@ -102,10 +103,21 @@ impl Edge {
     /// bytes.
     ///
     /// The words are those of the diy part of the herdtools manual, "Candidate relaxations".
+    #[tactic(auto, using(crate::proofs::WordBounds::word_not_short, crate::proofs::WordBounds::word_short, crate::proofs::WordBounds::word_ascii))]
     pub fn word(self, out: &mut ArrayString<16>)
-        ensures { out.new.bytes ≡ word_of self }
+        ensures word { out.new.bytes ≡ word_of self }
+        ensures not_short { 3 ≤ length out.new.bytes }
+        ensures short { length out.new.bytes ≤ 14 }
+        ensures ascii { IsAscii out.new.bytes }
     {
         out.clear();
+        self.push_word(out);
+    }
+
+    fn push_word(self, out: &mut ArrayString<16>)
+        requires { out.old.bytes ≡ [] }
+        ensures { out.new.bytes ≡ word_of self }
+    {
         match self {
             Edge::Com { com, reach } => {
                 out.push_str(com.word());
