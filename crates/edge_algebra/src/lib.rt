@@ -5,7 +5,9 @@ mod compose;
 mod cycles;
 mod errors;
 mod normal;
+mod paths;
 
 pub use compose::cycle;
 pub use cycles::Cycle;
-pub use errors::CycleError;
+pub use errors::{CycleError, JoinError, NotClosed};
+pub use paths::Path;

@@ -40,3 +40,9 @@ one_later (Some i) = Some (i + 1)
 abbrev pub first_break : List Edge → Option ℕ
 first_break [] = None
 first_break (e ∷ u) = cond (joins_first e u) (one_later (first_break u)) (Some 0)
+
+-- the last edge of a list joins the first of another, where each has one
+abbrev pub last_joins : List Edge → List Edge → Bool
+last_joins [] _ = true
+last_joins (e ∷ []) v = joins_first e v
+last_joins (_ ∷ f ∷ u) v = last_joins (f ∷ u) v
