@@ -97,3 +97,30 @@ ranks_of_above (x ∷ u) (y ∷ v) h =
         or_right (nat_lt (rank_of x) (rank_of y)) (nat_eq (rank_of x) (rank_of y) && ranks_below (map rank_of u) (map rank_of v))
             (rw (eq-eqb (rank_of x) (rank_of y) (ap rank_of both.0)) (ranks_of_above u v both.1))
     ]
+
+-- no list follows itself
+pub follows_irreflexive : (u : List Edge) → Follows u u → ⊥
+follows_irreflexive u h = elim h [ inl less ↦ absurd (omega arith) | inr both ↦ above_irreflexive u both.1 ]
+
+-- what follows a list that follows another follows that one
+pub follows_transitive : (u v w : List Edge) → Follows u v → Follows v w → Follows u w
+follows_transitive u v w a b =
+    elim a [
+      inl uv ↦ elim b [ inl vw ↦ inl (omega arith) | inr q ↦ inl (let e = q.0 in omega arith) ]
+      | inr p ↦ elim b [
+        inl vw ↦ inl (let e = p.0 in omega arith)
+        | inr q ↦ inr (p.0 ∙ q.0, above_transitive u v w p.1 q.1)
+      ]
+    ]
+
+-- of two lists one follows the other, or they are one
+pub follows_or_same : (u v : List Edge) → (Follows u v) ⊎ ((Follows v u) ⊎ (u ≡ v))
+follows_or_same u v =
+    elim (cases_order (length u) (length v)) [
+      inl same ↦ elim (above_or_same u v same) [
+        inl h ↦ inl (inr (same, h))
+        | inr other ↦ elim other [ inl h ↦ inr (inl (inr (sym same, h))) | inr e ↦ inr (inr e) ]
+      ]
+      | inr other ↦ elim other [ inl less ↦ inl (inl less) | inr more ↦ inr (inl (inl more)) ]
+    ]
+

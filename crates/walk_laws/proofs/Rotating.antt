@@ -4,6 +4,7 @@ use Rattle.std.proofs.lemmas.List.{append-nil, take-append-drop, take_at, drop_a
 use Rattle.std.proofs.lemmas.Bool.{cases_lt}
 use Rattle.relax_edges.specs.declared.edge.Edge.{Edge}
 use Rattle.walk_laws.specs.Rotation.{IsRotation, rotated}
+use Rattle.walk_laws.specs.Laws.{Place}
 use Rattle.walk_laws.specs.Order.{Above, IsNormal, IsLeast}
 use Rattle.walk_laws.proofs.Ordering.{same_if_not_above}
 
@@ -60,11 +61,6 @@ pub rotation_of_place : (k : ℕ) (u : List Edge) → IsRotation u (rotated k u)
 rotation_of_place k u = record { front = take k u; back = drop k u; from = sym (take-append-drop k u); to = refl }
 
 -- each rotation of a list begins at a place of it
-pub record Place (u v : List Edge) : Type 0 where
-  pub place : ℕ
-  pub within : place < length u
-  pub is : v ≡ rotated place u
-
 pub place_of_rotation : (u v : List Edge) → 0 < length u → IsRotation u v → Place u v
 place_of_rotation u v some r =
     elim (cases_lt (length r.front) (length u)) [
