@@ -4,10 +4,12 @@
 mod compose;
 mod cycles;
 mod errors;
+mod laws;
 mod normal;
 mod paths;
 
 pub use compose::cycle;
 pub use cycles::Cycle;
 pub use errors::{CycleError, JoinError, NotClosed};
+pub use laws::{composes_exactly, joining_is_associative};
 pub use paths::Path;
