@@ -4,10 +4,13 @@
 mod edge;
 mod kinds;
 mod order;
+mod read;
+mod word;
 
 pub use edge::Edge;
 pub use kinds::{ArchName, Com, DepKind, Dir, FenceKind, ObsMode, Pick, Reach, Sd, Value};
 pub use order::EDGES;
+pub use read::{UnknownEdge, read_edge, read_edge_bytes};
 
 /// The most edges that a cycle has.
 pub const MAX_EDGES: usize = 24;
