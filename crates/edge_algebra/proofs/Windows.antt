@@ -24,8 +24,8 @@ pub compared : (u : List Edge) (ranks : List ℕ) (k l : ℕ) → ranks ≡ map 
     ranks_below (take ((k + length u) - k) (drop k ranks)) (take ((l + length u) - l) (drop l ranks)) ≡ ranks_below (rotated k (map rank_of u)) (rotated l (map rank_of u))
 compared u ranks k l e hk hl =
     let part : (i : ℕ) → i ≤ length u → take ((i + length u) - i) (drop i ranks) ≡ rotated i (map rank_of u) = λ i h.
-        let n : (i + length u) - i ≡ length (map rank_of u) = omega (arith, length-map u rank_of) in
-        rw (n, e) (window i (map rank_of u) (omega (arith, length-map u rank_of))) in
+    let n : (i + length u) - i ≡ length (map rank_of u) = omega (arith, length-map u rank_of) in
+    rw (n, e) (window i (map rank_of u) (omega (arith, length-map u rank_of))) in
     rw (part k hk, part l hl) refl
 
 -- of the rotations from the places below k none is less than the one from `least`, which is the first if none at all is less than that
@@ -38,17 +38,17 @@ pub first : (u : List Edge) → 0 < length u → LeastUpTo u 1 0
 first u h = record {
   within = h;
   none = λ j l a. above_irreflexive (rotated 0 u) (let z : j ≡ 0 = omega arith in rw z at a);
-  stays = λ n. refl
+  stays = λ n. refl;
 }
 
 pub kept : (u : List Edge) (k least : ℕ) → LeastUpTo u k least → ranks_below (rotated k (map rank_of u)) (rotated least (map rank_of u)) ≡ false → LeastUpTo u (k + 1) least
 kept u k least h test = record {
   within = h.within;
   none = below_more (λ j. Above (rotated j u) (rotated least u) → ⊥) k h.none (λ a.
-    let t : ranks_below (rotated k (map rank_of u)) (rotated least (map rank_of u)) ≡ true =
-        rw (← ranks_rotated k u, ← ranks_rotated least u) (ranks_of_above (rotated k u) (rotated least u) a) in
-    cc);
-  stays = h.stays
+      let t : ranks_below (rotated k (map rank_of u)) (rotated least (map rank_of u)) ≡ true =
+      rw (← ranks_rotated k u, ← ranks_rotated least u) (ranks_of_above (rotated k u) (rotated least u) a) in
+      cc);
+  stays = h.stays;
 }
 
 pub replaced : (u : List Edge) (k least : ℕ) → LeastUpTo u k least → k < length u → ranks_below (rotated k (map rank_of u)) (rotated least (map rank_of u)) ≡ true → LeastUpTo u (k + 1) k
@@ -57,9 +57,9 @@ replaced u k least h l test =
     record {
       within = l;
       none = below_more (λ j. Above (rotated j u) (rotated k u) → ⊥) k
-        (λ j jk b. h.none j jk (above_transitive (rotated j u) (rotated k u) (rotated least u) b a))
-        (above_irreflexive (rotated k u));
+          (λ j jk b. h.none j jk (above_transitive (rotated j u) (rotated k u) (rotated least u) b a))
+          (above_irreflexive (rotated k u));
       stays = λ n.
-        let e : rotated least u ≡ u = ap (λ i. rotated i u) (h.stays n) ∙ append-nil u in
-        absurd (n (rotated k u) (rotation_of_place k u) (rw e at a))
+          let e : rotated least u ≡ u = ap (λ i. rotated i u) (h.stays n) ∙ append-nil u in
+          absurd (n (rotated k u) (rotation_of_place k u) (rw e at a));
     }

@@ -27,4 +27,4 @@ joined u v =
 
 -- the cycle that a path makes
 abbrev pub closed : List Edge → Result (List Edge) NotClosed
-closed u = cond (last_joins u u) (Ok u) (Err (record { }))
+closed u = cond (last_joins u u) (Ok u) (Err (record {}))

@@ -6,12 +6,10 @@ ghost use Rattle.edge_algebra.specs.Laws.{ComposesExactly, JoiningIsAssociative}
 #[tactic(auto, using(crate::proofs::Composed::composes_exactly))]
 pub fn composes_exactly()
     ensures { ComposesExactly }
-{
-}
+{}
 
 /// Joining is associative: where a path joins the next and that one a third, it doesn't matter
 /// which are joined first.
 pub fn joining_is_associative()
     ensures { JoiningIsAssociative }
-{
-}
+{}

@@ -14,12 +14,27 @@ const FAMILIES: [(&str, &str); 14] = [
     ("PodWW Wse PodWW Wse", "PodWW Wse PodWW Wse"),
     ("Rfe PodRW Rfe PodRR Fre", "Fre Rfe PodRW Rfe PodRR"),
     ("Rfe PodRR Fre PodWR Fre", "Fre PodWR Fre Rfe PodRR"),
-    ("PodWW Rfe PodRW Rfe PodRR Fre", "Fre PodWW Rfe PodRW Rfe PodRR"),
+    (
+        "PodWW Rfe PodRW Rfe PodRR Fre",
+        "Fre PodWW Rfe PodRW Rfe PodRR",
+    ),
     ("Rfe PodRR Fre Rfe PodRR Fre", "Fre Rfe PodRR Fre Rfe PodRR"),
-    ("PodWW Rfe PodRR Fre PodWR Fre", "Fre PodWR Fre PodWW Rfe PodRR"),
-    ("PodWR Fre PodWR Fre PodWR Fre", "Fre PodWR Fre PodWR Fre PodWR"),
-    ("PodRW Rfe PodRW Rfe PodRW Rfe", "PodRW Rfe PodRW Rfe PodRW Rfe"),
-    ("PodWW Wse PodWW Wse PodWW Wse", "PodWW Wse PodWW Wse PodWW Wse"),
+    (
+        "PodWW Rfe PodRR Fre PodWR Fre",
+        "Fre PodWR Fre PodWW Rfe PodRR",
+    ),
+    (
+        "PodWR Fre PodWR Fre PodWR Fre",
+        "Fre PodWR Fre PodWR Fre PodWR",
+    ),
+    (
+        "PodRW Rfe PodRW Rfe PodRW Rfe",
+        "PodRW Rfe PodRW Rfe PodRW Rfe",
+    ),
+    (
+        "PodWW Wse PodWW Wse PodWW Wse",
+        "PodWW Wse PodWW Wse PodWW Wse",
+    ),
 ];
 
 fn edge_of(rt: &impl Abort, word: &str) -> Edge {

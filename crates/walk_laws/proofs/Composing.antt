@@ -147,7 +147,7 @@ pub path_joined : (u v : List Edge) → IsPath u → IsPath v → length u + len
 path_joined u v p q l h = record {
   some = omega (arith, p.some, length-append u v);
   few = omega (arith, length-append u v);
-  joined = joined_parts u v ∙ rw (p.joined, h, q.joined) refl
+  joined = joined_parts u v ∙ rw (p.joined, h, q.joined) refl;
 }
 
 -- a path whose last edge joins its first is a cycle

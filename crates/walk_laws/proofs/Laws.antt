@@ -1,5 +1,5 @@
 -- The laws, each from its lemmas.
-use Rattle.std.proofs.Common.{◌≡◌, ◌↔◌, List}
+use Rattle.std.proofs.Common.{List}
 use Rattle.relax_edges.specs.declared.edge.Edge.{Edge}
 use Rattle.walk_laws.specs.Composable.{IsCycle}
 use Rattle.walk_laws.specs.Rotation.{IsRotation}

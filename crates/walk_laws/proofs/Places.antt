@@ -1,5 +1,5 @@
 -- Rotations by a place: where each edge goes, and how two rotations add.
-use Rattle.std.proofs.Common.{◌≡◌, ◌<◌, ◌≤◌, ◌⊎◌, inl, inr, ℕ, ◌+◌, ◌-◌, ◌%◌, suc, zero, List, [], ◌∷◌, ◌++◌, length, take, drop, refl, sym, ◌∙◌, ap, arith, append_assoc, length-append, length-drop, slice_get, Some, None}
+use Rattle.std.proofs.Common.{◌≡◌, ◌<◌, ◌≤◌, inl, inr, ℕ, ◌+◌, ◌-◌, ◌%◌, suc, zero, List, [], ◌∷◌, ◌++◌, length, take, drop, refl, sym, ◌∙◌, ap, arith, append_assoc, length-drop, slice_get}
 use Rattle.std.proofs.lemmas.List.{take-append-drop, length-take-le, drop-append-le, take-append-le}
 use Rattle.std.proofs.Math.Seq.{drop-append-add, take-append-add}
 use Rattle.std.proofs.Math.Nat.{mod-eq_of_lt, add-mod_left}
@@ -36,14 +36,14 @@ module _ {A : Type 0} where
       let la : length a ≡ k = length-take-le k u (omega arith) in
       let lb : length b ≡ length u - k = length-drop k u in
       elim (cases_lt i (length b)) [
-        inl h ↦
-          let same : (i + k) % length u ≡ length a + i = mod-eq_of_lt {n = i + k} {m = length u} (omega arith) ∙ omega arith in
-          turned_at_front a b i h ∙ ap (λ w. slice_get w (length a + i)) whole ∙ ap (slice_get u) (sym same)
+        | inl h ↦
+            let same : (i + k) % length u ≡ length a + i = mod-eq_of_lt {n = i + k} {m = length u} (omega arith) ∙ omega arith in
+            turned_at_front a b i h ∙ ap (λ w. slice_get w (length a + i)) whole ∙ ap (slice_get u) (sym same)
         | inr h ↦
-          let m : ℕ = i - length b in
-          let same : (i + k) % length u ≡ m = past_once (i + k) (length u) m (omega arith) (omega arith) in
-          let at_i : length b + m ≡ i = omega arith in
-          ap (slice_get (b ++ a)) (sym at_i) ∙ turned_at_back a b m (omega arith) ∙ ap (λ w. slice_get w m) whole ∙ ap (slice_get u) (sym same)
+            let m : ℕ = i - length b in
+            let same : (i + k) % length u ≡ m = past_once (i + k) (length u) m (omega arith) (omega arith) in
+            let at_i : length b + m ≡ i = omega arith in
+            ap (slice_get (b ++ a)) (sym at_i) ∙ turned_at_back a b m (omega arith) ∙ ap (λ w. slice_get w m) whole ∙ ap (slice_get u) (sym same)
       ]
 
   -- the rotation of two exchanged parts, by a place of the first or of the second
@@ -64,12 +64,12 @@ module _ {A : Type 0} where
       let la : length a ≡ j = length-take-le j u (omega arith) in
       let lb : length b ≡ length u - j = length-drop j u in
       elim (cases_lt k (length b)) [
-        inl h ↦
-          let same : (j + k) % length u ≡ length a + k = mod-eq_of_lt {n = j + k} {m = length u} (omega arith) ∙ omega arith in
-          turned_within a b k (omega arith) ∙ ap (rotated (length a + k)) whole ∙ ap (λ i. rotated i u) (sym same)
+        | inl h ↦
+            let same : (j + k) % length u ≡ length a + k = mod-eq_of_lt {n = j + k} {m = length u} (omega arith) ∙ omega arith in
+            turned_within a b k (omega arith) ∙ ap (rotated (length a + k)) whole ∙ ap (λ i. rotated i u) (sym same)
         | inr h ↦
-          let m : ℕ = k - length b in
-          let same : (j + k) % length u ≡ m = past_once (j + k) (length u) m (omega arith) (omega arith) in
-          let at_k : length b + m ≡ k = omega arith in
-          ap (λ i. rotated i (b ++ a)) (sym at_k) ∙ turned_past a b m (omega arith) ∙ ap (rotated m) whole ∙ ap (λ i. rotated i u) (sym same)
+            let m : ℕ = k - length b in
+            let same : (j + k) % length u ≡ m = past_once (j + k) (length u) m (omega arith) (omega arith) in
+            let at_k : length b + m ≡ k = omega arith in
+            ap (λ i. rotated i (b ++ a)) (sym at_k) ∙ turned_past a b m (omega arith) ∙ ap (rotated m) whole ∙ ap (λ i. rotated i u) (sym same)
       ]

@@ -10,6 +10,6 @@ invariant_of-result c =
     let back = c.edges-back.ensures in
     let whole : c.try_extend_from_slice.new.self.items ≡ c.args.self.now ++ c.args.next.now = search rules in
     let few : length c.args.self.now + length c.args.next.now ≤ MAX_EDGES =
-        omega (arith, ap length front.value, ap length back.value, c.if-front-back-gt-MAX_EDGES.false) in
+    omega (arith, ap length front.value, ap length back.value, c.if-front-back-gt-MAX_EDGES.false) in
     let meets : last_joins c.args.self.now c.args.next.now ≡ true = search rules in
     rw whole (path_joined c.args.self.now c.args.next.now front.composable back.composable few meets)
