@@ -1,14 +1,12 @@
 -- What a list of edges makes, by the answer.
-use Rattle.std.proofs.Common.{◌≡◌, ◌<◌, ◌≤◌, ◌↔◌, ◌⊎◌, inl, inr, ℕ, ◌+◌, Bool, true, false, cond, List, [], ◌∷◌, ◌++◌, length, take, Option, Some, None, Result, Ok, Err, refl, sym, ◌∙◌, ap, arith, append_assoc, length-append, nat_lt}
-use Rattle.std.proofs.lemmas.Bool.{lt-ltb, le-ltb, ltb-true, ltb-false, cases_order, cases_lt}
+use Rattle.std.proofs.Common.{◌≡◌, ◌<◌, ◌≤◌, inl, inr, ℕ, ◌+◌, Bool, true, false, cond, List, [], ◌∷◌, ◌++◌, length, Option, Some, None, Ok, Err, refl, ◌∙◌, ap, arith, append_assoc, length-append, nat_lt}
+use Rattle.std.proofs.lemmas.Bool.{lt-ltb, le-ltb, cases_order, cases_lt}
 use Rattle.relax_edges.specs.declared.TheConstants.{MAX_EDGES}
 use Rattle.relax_edges.specs.declared.edge.Edge.{Edge}
-use Rattle.walk_laws.specs.Composable.{joins_first, is_joined, is_closed, IsPath, IsCycle, first_break, last_joins, JoinsNext}
-use Rattle.walk_laws.proofs.Composing.{joined_unbroken, unbroken_joined, break_within}
+use Rattle.walk_laws.specs.Composable.{joins_first, IsCycle, first_break, last_joins}
+use Rattle.walk_laws.proofs.Composing.{joined_unbroken, break_within}
 use Rattle.walk_laws.proofs.Neighbours.{closed_at_place, break_is, break_is_first}
-use Rattle.edge_algebra.specs.declared.errors.CycleError.{CycleError}
 use Rattle.edge_algebra.specs.declared.errors.CycleError.TheVariants.{Empty, TooLong, DoesNotCompose}
-use Rattle.edge_algebra.specs.declared.errors.JoinError.{JoinError}
 use Rattle.edge_algebra.specs.declared.errors.JoinError.TheVariants as joins
 use Rattle.edge_algebra.specs.Compose.{composed, unbroken, joined}
 use Rattle.edge_algebra.specs.Laws.{IsFirstBreak, ComposesExactly, JoiningIsAssociative}

@@ -1,5 +1,5 @@
 -- Each rotation of a list is a part of the list written twice, and the least is found among those from each place.
-use Rattle.std.proofs.Common.{◌≡◌, ◌<◌, ◌≤◌, ◌⊎◌, inl, inr, ℕ, ◌+◌, ◌-◌, Bool, true, false, List, ◌++◌, length, take, drop, map, refl, sym, ◌∙◌, ap, arith, below_more}
+use Rattle.std.proofs.Common.{◌≡◌, ◌<◌, ◌≤◌, ℕ, ◌+◌, ◌-◌, true, false, List, ◌++◌, length, take, drop, map, refl, sym, ◌∙◌, ap, arith, below_more}
 use Rattle.std.proofs.lemmas.List.{append-nil, drop-append-le, length-drop, length-map, map-append, drop-map, take-map}
 use Rattle.std.proofs.Math.Seq.{take-append-add}
 use Rattle.relax_edges.specs.declared.edge.Edge.{Edge}

@@ -1,4 +1,4 @@
-use Rattle.std.proofs.Common.{◌≡◌, true, rules, sym}
+use Rattle.std.proofs.Common.{◌≡◌, true, rules}
 use Rattle.walk_laws.specs.Composable.{last_joins}
 use Rattle.walk_laws.proofs.Composing.{path_closed}
 use Rattle.edge_algebra.proofs.paths.Path.close.Goals as goal
