@@ -32,7 +32,7 @@ impl Model for Cycle {
     ghost invariant = { λ c. IsCycle c.edges.items };
 }
 
-fn copied(edges: &[Edge]) -> ArrayVec<Edge, MAX_EDGES>
+pub(crate) fn copied(edges: &[Edge]) -> ArrayVec<Edge, MAX_EDGES>
     requires { length edges.now ≤ MAX_EDGES }
     ensures { result.items ≡ edges.now }
 {

@@ -1,5 +1,6 @@
 ghost use Rattle.std.specs.Prelude.{◌≡◌, ℕ, ◌+◌, ◌<◌, ◌≤◌, ◌↔◌, ◌++◌, length, map, IsTrue};
 ghost use Rattle.relax_edges.specs.Order.{rank_of};
+ghost use Rattle.walk_laws.specs.Beginning.{may_begin, none_below};
 ghost use Rattle.walk_laws.specs.Order.{IsLeast, IsNormal, ranks_below};
 ghost use Rattle.walk_laws.specs.Rotation.{IsRotation, rotated};
 
@@ -19,6 +20,13 @@ impl Cycle {
         self.rotate(place)
     }
 
+    /// Whether the cycle is a normal form: no rotation of it is less.
+    pub fn is_normal(&self) -> bool
+        ensures { IsTrue result ↔ IsNormal self.now }
+    {
+        least_place(self.edges()) == 0
+    }
+
     /// Whether the other cycle is the same: a rotation of this one.
     pub fn same(&self, other: &Cycle) -> bool
         ensures { IsTrue result ↔ IsRotation self.now other.now }
@@ -27,12 +35,34 @@ impl Cycle {
     }
 }
 
-/// The first place at which a least rotation begins.
+/// Whether a list of edges may begin a normal form: no back part of it is less than the list
+/// itself, at a place that both have. No normal form begins with a list that may not.
+pub fn may_begin(edges: &[Edge]) -> bool
+    requires { length edges.now ≤ MAX_EDGES }
+    ensures { result ≡ may_begin edges.now }
+{
+    let mut ranks = ArrayVec::new();
+    push_ranks(&mut ranks, edges);
+    none_below(ranks.as_slice(), ranks.as_slice())
+}
+
+/// Whether no back part of the second list of ranks is less than the first list.
+fn none_below(ranks: &[u8], back: &[u8]) -> bool
+    ensures { result ≡ none_below ranks.now back.now }
+{
+    match back {
+        [] => true,
+        [_, rest @ ..] => !is_below(back, ranks) && none_below(ranks, rest),
+    }
+}
+
+/// The first place at which the least rotation begins.
 fn least_place(edges: &[Edge]) -> u8
     requires some { 0 < length edges.now }
     requires few { length edges.now ≤ MAX_EDGES }
     ensures within { result < length edges.now }
     ensures least { IsNormal (rotated result edges.now) }
+    ensures stays { IsNormal edges.now → result ≡ 0 }
 {
     let ranks = ranks_twice(edges);
     let ranks = ranks.as_slice();

@@ -1,5 +1,5 @@
 -- Rotations by a place: where each edge goes, and how two rotations add.
-use Rattle.std.proofs.Common.{◌≡◌, ◌<◌, ◌≤◌, ◌⊎◌, inl, inr, ℕ, ◌+◌, ◌-◌, ◌%◌, suc, zero, List, [], ◌∷◌, ◌++◌, length, take, drop, refl, sym, ◌∙◌, ap, arith, append_assoc, length-append, length-drop, slice_get, Some, None}
+use Rattle.std.proofs.Common.{◌≡◌, ◌<◌, ◌≤◌, inl, inr, ℕ, ◌+◌, ◌-◌, ◌%◌, suc, zero, List, [], ◌∷◌, ◌++◌, length, take, drop, refl, sym, ◌∙◌, ap, arith, append_assoc, length-drop, slice_get}
 use Rattle.std.proofs.lemmas.List.{take-append-drop, length-take-le, drop-append-le, take-append-le}
 use Rattle.std.proofs.Math.Seq.{drop-append-add, take-append-add}
 use Rattle.std.proofs.Math.Nat.{mod-eq_of_lt, add-mod_left}
@@ -7,16 +7,16 @@ use Rattle.std.proofs.lemmas.Bool.{cases_lt}
 use Rattle.walk_laws.specs.Rotation.{rotated}
 
 -- a number that passes another once
-past_once : (i n m : ℕ) → i ≡ n + m → m < n → i % n ≡ m
+pub past_once : (i n m : ℕ) → i ≡ n + m → m < n → i % n ≡ m
 past_once i n m e h = rw e (add-mod_left n m ∙ mod-eq_of_lt h)
 
 module _ {A : Type 0} where
-  get_front : (u v : List A) (i : ℕ) → i < length u → slice_get (u ++ v) i ≡ slice_get u i
+  pub get_front : (u v : List A) (i : ℕ) → i < length u → slice_get (u ++ v) i ≡ slice_get u i
   get_front [] v i h = absurd (omega arith)
   get_front (x ∷ u) v zero h = refl
   get_front (x ∷ u) v (suc i) h = get_front u v i (omega arith)
 
-  get_behind : (u v : List A) (i : ℕ) → slice_get (u ++ v) (length u + i) ≡ slice_get v i
+  pub get_behind : (u v : List A) (i : ℕ) → slice_get (u ++ v) (length u + i) ≡ slice_get v i
   get_behind [] v i = let e : 0 + i ≡ i = omega arith in rw e refl
   get_behind (x ∷ u) v i = let e : suc (length u) + i ≡ suc (length u + i) = omega arith in rw e (get_behind u v i)
 
@@ -36,14 +36,14 @@ module _ {A : Type 0} where
       let la : length a ≡ k = length-take-le k u (omega arith) in
       let lb : length b ≡ length u - k = length-drop k u in
       elim (cases_lt i (length b)) [
-        inl h ↦
-          let same : (i + k) % length u ≡ length a + i = mod-eq_of_lt {n = i + k} {m = length u} (omega arith) ∙ omega arith in
-          turned_at_front a b i h ∙ ap (λ w. slice_get w (length a + i)) whole ∙ ap (slice_get u) (sym same)
+        | inl h ↦
+            let same : (i + k) % length u ≡ length a + i = mod-eq_of_lt {n = i + k} {m = length u} (omega arith) ∙ omega arith in
+            turned_at_front a b i h ∙ ap (λ w. slice_get w (length a + i)) whole ∙ ap (slice_get u) (sym same)
         | inr h ↦
-          let m : ℕ = i - length b in
-          let same : (i + k) % length u ≡ m = past_once (i + k) (length u) m (omega arith) (omega arith) in
-          let at_i : length b + m ≡ i = omega arith in
-          ap (slice_get (b ++ a)) (sym at_i) ∙ turned_at_back a b m (omega arith) ∙ ap (λ w. slice_get w m) whole ∙ ap (slice_get u) (sym same)
+            let m : ℕ = i - length b in
+            let same : (i + k) % length u ≡ m = past_once (i + k) (length u) m (omega arith) (omega arith) in
+            let at_i : length b + m ≡ i = omega arith in
+            ap (slice_get (b ++ a)) (sym at_i) ∙ turned_at_back a b m (omega arith) ∙ ap (λ w. slice_get w m) whole ∙ ap (slice_get u) (sym same)
       ]
 
   -- the rotation of two exchanged parts, by a place of the first or of the second
@@ -64,12 +64,12 @@ module _ {A : Type 0} where
       let la : length a ≡ j = length-take-le j u (omega arith) in
       let lb : length b ≡ length u - j = length-drop j u in
       elim (cases_lt k (length b)) [
-        inl h ↦
-          let same : (j + k) % length u ≡ length a + k = mod-eq_of_lt {n = j + k} {m = length u} (omega arith) ∙ omega arith in
-          turned_within a b k (omega arith) ∙ ap (rotated (length a + k)) whole ∙ ap (λ i. rotated i u) (sym same)
+        | inl h ↦
+            let same : (j + k) % length u ≡ length a + k = mod-eq_of_lt {n = j + k} {m = length u} (omega arith) ∙ omega arith in
+            turned_within a b k (omega arith) ∙ ap (rotated (length a + k)) whole ∙ ap (λ i. rotated i u) (sym same)
         | inr h ↦
-          let m : ℕ = k - length b in
-          let same : (j + k) % length u ≡ m = past_once (j + k) (length u) m (omega arith) (omega arith) in
-          let at_k : length b + m ≡ k = omega arith in
-          ap (λ i. rotated i (b ++ a)) (sym at_k) ∙ turned_past a b m (omega arith) ∙ ap (rotated m) whole ∙ ap (λ i. rotated i u) (sym same)
+            let m : ℕ = k - length b in
+            let same : (j + k) % length u ≡ m = past_once (j + k) (length u) m (omega arith) (omega arith) in
+            let at_k : length b + m ≡ k = omega arith in
+            ap (λ i. rotated i (b ++ a)) (sym at_k) ∙ turned_past a b m (omega arith) ∙ ap (rotated m) whole ∙ ap (λ i. rotated i u) (sym same)
       ]

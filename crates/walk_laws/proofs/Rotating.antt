@@ -1,9 +1,10 @@
 -- Rotations: an equivalence, the same as those by a place, and of them one is least.
-use Rattle.std.proofs.Common.{◌≡◌, ◌<◌, ◌≤◌, ◌⊎◌, inl, inr, ℕ, ◌+◌, ◌-◌, ◌%◌, List, [], ◌∷◌, ◌++◌, length, take, drop, refl, sym, ◌∙◌, ap, arith, append_assoc, length-append, length-take, length-drop, slice_get, Some}
-use Rattle.std.proofs.lemmas.List.{append-nil, take-append-drop, take_at, drop_at, take_all, drop_all, length-take-le}
+use Rattle.std.proofs.Common.{◌≡◌, ◌<◌, ◌≤◌, inl, inr, ℕ, List, [], ◌∷◌, ◌++◌, length, take, drop, refl, sym, ◌∙◌, ap, arith, append_assoc, length-append}
+use Rattle.std.proofs.lemmas.List.{append-nil, take-append-drop, take_at, drop_at}
 use Rattle.std.proofs.lemmas.Bool.{cases_lt}
 use Rattle.relax_edges.specs.declared.edge.Edge.{Edge}
 use Rattle.walk_laws.specs.Rotation.{IsRotation, rotated}
+use Rattle.walk_laws.specs.Laws.{Place}
 use Rattle.walk_laws.specs.Order.{Above, IsNormal, IsLeast}
 use Rattle.walk_laws.proofs.Ordering.{same_if_not_above}
 
@@ -26,7 +27,7 @@ cuts (x ∷ a) b [] d e = behind (x ∷ a) refl (sym e)
 cuts (x ∷ a) b (y ∷ c) d e =
     let h : x ≡ y = cc in
     elim (cuts a b c d (cc)) [
-      before m p q ↦ before m (cc) q
+      | before m p q ↦ before m (cc) q
       | behind m p q ↦ behind m (cc) q
     ]
 
@@ -34,17 +35,17 @@ cuts (x ∷ a) b (y ∷ c) d e =
 pub rotation_on : (u v w : List Edge) → IsRotation u v → IsRotation v w → IsRotation u w
 rotation_on u v w r s =
     elim (cuts r.back r.front s.front s.back (sym r.to ∙ s.from)) [
-      before m p q ↦ record {
+      | before m p q ↦ record {
         front = m;
         back = s.back ++ r.back;
         from = r.from ∙ rw q (append_assoc m s.back r.back);
-        to = s.to ∙ rw p (sym (append_assoc s.back r.back m))
+        to = s.to ∙ rw p (sym (append_assoc s.back r.back m));
       }
       | behind m p q ↦ record {
         front = r.front ++ s.front;
         back = m;
         from = r.from ∙ rw p (sym (append_assoc r.front s.front m));
-        to = s.to ∙ rw q (append_assoc m r.front s.front)
+        to = s.to ∙ rw q (append_assoc m r.front s.front);
       }
     ]
 
@@ -60,18 +61,13 @@ pub rotation_of_place : (k : ℕ) (u : List Edge) → IsRotation u (rotated k u)
 rotation_of_place k u = record { front = take k u; back = drop k u; from = sym (take-append-drop k u); to = refl }
 
 -- each rotation of a list begins at a place of it
-pub record Place (u v : List Edge) : Type 0 where
-  pub place : ℕ
-  pub within : place < length u
-  pub is : v ≡ rotated place u
-
 pub place_of_rotation : (u v : List Edge) → 0 < length u → IsRotation u v → Place u v
 place_of_rotation u v some r =
     elim (cases_lt (length r.front) (length u)) [
-      inl within ↦ record {
+      | inl within ↦ record {
         place = length r.front;
         within = within;
-        is = rw (r.from, drop_at r.front r.back (length r.front) refl, take_at r.front r.back (length r.front) refl) r.to
+        is = rw (r.from, drop_at r.front r.back (length r.front) refl, take_at r.front r.back (length r.front) refl) r.to;
       }
       | inr all ↦ record { place = 0; within = some; is = whole r.front r.back r.from r.to all }
     ]

@@ -1,4 +1,4 @@
-use Rattle.std.proofs.Common.{rules, sym}
+use Rattle.std.proofs.Common.{rules}
 use Rattle.std.proofs.lemmas.Slice.Eq.{slice_eq-Decides}
 use Rattle.relax_edges.proofs.Ranks.{rank_decides}
 use Rattle.edge_algebra.proofs.cycles.CyclePartialEq.eq.Goals as goal
