@@ -1,2 +1,4 @@
+pub mod Laws
 pub mod Masks
 pub mod Rules
+pub mod Steps
