@@ -21,6 +21,11 @@ pub exec_append : (code after : List Micro) (p : Point) →
 exec_append [] after p = refl
 exec_append (op ∷ code) after p = exec_append code after (go op p)
 
+-- a run that goes on with another list from where it ended
+pub run_then : (code after : List Micro) (p : Point) (r : Run) → exec code p ≡ At r →
+    exec (code ++ after) p ≡ exec after (At r)
+run_then code after p r e = exec_append code after p ∙ ap (exec after) e
+
 -- a run that is stuck stays so, and one that wants a read does
 pub stuck_stays : (code : List Micro) → exec code Stuck ≡ Stuck
 stuck_stays [] = refl

@@ -1,5 +1,5 @@
 -- What each step keeps: where it may jump, the registers that it leaves alone, what its masks name.
-use Rattle.std.proofs.Common.{ℕ, suc, ◌+◌, ◌^◌, ◌<◌, ◌≡◌, ◌==◌, refl, Bool, true, false, cond, not, Option, Some, None, ◌⊎◌, inl, inr, arith, lt_of_lt_of_le, pow-suc}
+use Rattle.std.proofs.Common.{eq-eqb, ℕ, suc, ◌+◌, ◌^◌, ◌<◌, ◌≡◌, ◌==◌, refl, Bool, true, false, cond, not, Option, Some, None, ◌⊎◌, inl, inr, arith, lt_of_lt_of_le, pow-suc}
 use Rattle.std.proofs.lemmas.Nat.{or_lt, pow_pos}
 use Rattle.std.proofs.Math.Pow.{pow_mono}
 use Rattle.relax_edges.specs.declared.kinds.Value.{Value}
@@ -106,31 +106,35 @@ step_jumps (ops.Barrier kind) s read = inl refl
 abbrev pub Keeps : State → ℕ → Told → Type 0
 Keeps s r told = told.state.regs r ≡ s.regs r
 
-kept : (s : State) (r d : ℕ) (h : Held) → (r == d) ≡ false → (put s d h).regs r ≡ s.regs r
-kept s r d h e = rw e refl
+-- a register that was written, and one that was not
+pub put_same : (s : State) (d : ℕ) (h : Held) → (put s d h).regs d ≡ h
+put_same s d h = rw (eq-eqb d d refl) refl
+
+pub put_other : (s : State) (r d : ℕ) (h : Held) → (r == d) ≡ false → (put s d h).regs r ≡ s.regs r
+put_other s r d h e = rw e refl
 
 pub step_keeps : (op : Micro) (s : State) (read : Option ℕ) (r : ℕ) →
     is_named r (writes op) ≡ false → OnTold (Keeps s r) (step op s read)
-step_keeps (ops.Imm d n) s read r e = kept s r d (num n 0) e
+step_keeps (ops.Imm d n) s read r e = put_other s r d (num n 0) e
 step_keeps (ops.Xor d a b) s read r e =
     let P = Keeps s r in
-    either_told P (a == b) _ _ (kept s r d (num 0 (s.regs a).mask) e)
+    either_told P (a == b) _ _ (put_other s r d (num 0 (s.regs a).mask) e)
     (on_writing P s d (both_masks s a b) (xored (s.regs a).value (s.regs b).value)
-    (λ v. kept s r d (record { value = v; mask = both_masks s a b }) e))
+    (λ v. put_other s r d (record { value = v; mask = both_masks s a b }) e))
 step_keeps (ops.AddImm d a n) s read r e =
     on_writing (Keeps s r) s d (s.regs a).mask (plus (s.regs a).value n)
-    (λ v. kept s r d (record { value = v; mask = (s.regs a).mask }) e)
+    (λ v. put_other s r d (record { value = v; mask = (s.regs a).mask }) e)
 step_keeps (ops.OrImm d a n) s read r e =
     on_writing (Keeps s r) s d (s.regs a).mask (ored (s.regs a).value n)
-    (λ v. kept s r d (record { value = v; mask = (s.regs a).mask }) e)
+    (λ v. put_other s r d (record { value = v; mask = (s.regs a).mask }) e)
 step_keeps (ops.Add d a b) s read r e =
     on_writing (Keeps s r) s d (both_masks s a b) (summed (s.regs a).value (s.regs b).value)
-    (λ v. kept s r d (record { value = v; mask = both_masks s a b }) e)
+    (λ v. put_other s r d (record { value = v; mask = both_masks s a b }) e)
 step_keeps (ops.Load d base index) s read r e =
     on_loading (Keeps s r) s d (place_of s base index) (address_mask s base index) read
-    (λ p n. kept s r d (num n (bit s.loads)) e)
+    (λ p n. put_other s r d (num n (bit s.loads)) e)
 step_keeps (ops.LoadAt d p) s read r e =
-    on_loading (Keeps s r) s d (Some p) 0 read (λ p n. kept s r d (num n (bit s.loads)) e)
+    on_loading (Keeps s r) s d (Some p) 0 read (λ p n. put_other s r d (num n (bit s.loads)) e)
 step_keeps (ops.Store src base index) s read r e =
     on_storing (Keeps s r) s (place_of s base index) (address_mask s base index)
     (s.regs src).value (s.regs src).mask (λ p n. refl)

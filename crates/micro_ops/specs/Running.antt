@@ -108,13 +108,19 @@ starting [] _ = num 0 0
 starting (named ∷ init) r =
     cond (r == named.0) (record { value = named.1; mask = 0 }) (starting init r)
 
+-- what a thread holds before its first operation
+abbrev pub initial : List (ℕ × Value) → State
+initial init = record {
+  regs = starting init;
+  flag = false;
+  flag_mask = 0;
+  control = 0;
+  loads = 0;
+}
+
 -- a thread before its first operation
 abbrev pub beginning : List (ℕ × Value) → List ℕ → Run
-beginning init reads = record {
-  state = record { regs = starting init; flag = false; flag_mask = 0; control = 0; loads = 0 };
-  reads = reads;
-  made = [];
-}
+beginning init reads = record { state = initial init; reads = reads; made = [] }
 
 -- how a run ends: with its items and the values of its registers, all reads used; at its end with
 -- reads left; at a load that lacks a read; or where no rule fits, or a label is missing
