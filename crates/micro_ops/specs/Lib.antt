@@ -1,2 +1,3 @@
 pub mod Machine
+pub mod Machines
 pub mod Running

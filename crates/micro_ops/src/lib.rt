@@ -2,7 +2,10 @@
 #![tactic(auto)]
 
 mod held;
+mod machine;
+mod operand;
 mod operation;
 
 pub use held::Held;
+pub use machine::{Machine, Stepped, Stuck};
 pub use operation::{Barrier, Item, Micro};
