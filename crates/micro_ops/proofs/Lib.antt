@@ -1,5 +1,6 @@
 pub mod Examples
 pub mod Laws
 pub mod Masks
+pub mod Naming
 pub mod Rules
 pub mod Steps

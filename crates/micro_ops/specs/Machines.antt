@@ -1,5 +1,6 @@
 -- What a machine of fixed arrays holds, as a state, and what its step answers, as a rule does.
-use Rattle.std.specs.Prelude.{ℕ, ◌<◌, get_or, Option, Some, None, Result, Ok, Err, IfSome}
+use Rattle.std.specs.Prelude.{ℕ, ◌<◌, get_or, List, Option, Some, None, Result, Ok, Err, IfSome}
+use Rattle.micro_ops.specs.declared.held.Held.{Held}
 use Rattle.micro_ops.specs.declared.machine.Machine.{Machine}
 use Rattle.micro_ops.specs.declared.machine.Stepped.{Stepped}
 use Rattle.micro_ops.specs.declared.machine.Stuck.{Stuck}
@@ -7,10 +8,14 @@ use Rattle.micro_ops.specs.declared.operation.Micro.{Micro}
 use Rattle.micro_ops.specs.declared.operation.Micro.TheVariants as ops
 use Rattle.micro_ops.specs.Machine.{State, Told, num}
 
+-- what each register of an array holds; past its end, the number 0
+abbrev pub held_in : List Held → ℕ → Held
+held_in registers r = get_or registers r (num 0 0)
+
 -- what a machine holds
 abbrev pub state_of : Machine → State
 state_of machine = record {
-  regs = λ r. get_or machine.registers r (num 0 0);
+  regs = held_in machine.registers;
   flag = machine.flag;
   flag_mask = machine.flag_mask;
   control = machine.control;
