@@ -5,7 +5,9 @@ mod held;
 mod machine;
 mod operand;
 mod operation;
+mod run;
 
 pub use held::Held;
 pub use machine::{Machine, Stepped, Stuck};
 pub use operation::{Barrier, Item, Micro};
+pub use run::{RunError, Trace};

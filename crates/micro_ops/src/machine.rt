@@ -150,7 +150,8 @@ impl Machine {
         }
     }
 
-    fn held(&self, register: u8) -> Held
+    /// What a register holds.
+    pub fn held(&self, register: u8) -> Held
         requires { register < 32 }
         ensures { result ≡ (state_of self.now).regs register }
     {
