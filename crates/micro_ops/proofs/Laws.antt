@@ -13,7 +13,7 @@ use Rattle.micro_ops.specs.declared.operation.Item.{Item}
 use Rattle.micro_ops.specs.declared.operation.Item.TheVariants as items
 use Rattle.micro_ops.specs.Machine.{Told, step}
 use Rattle.micro_ops.specs.Running.{Run, Point, At, Past, Wants, Stuck, go, exec, taken, led, landing, wanting, is_load, is_label, stands, stands_if, target, lands, labels_of, is_past, writes, is_named, is_written, is_read, NamesLoads, beginning, starting, add_item, AllNameLoads, RunNamesLoads}
-use Rattle.micro_ops.proofs.Steps.{OnTold, JumpsTo, step_jumps, Keeps, step_keeps, Named, step_named, reads_in, ItemNames}
+use Rattle.micro_ops.proofs.Steps.{OnTold, JumpsTo, step_jumps, Keeps, step_keeps, Named, step_named, step_counts, Counts, reads_in, ItemNames}
 
 -- a run of one list and then another
 pub exec_append : (code after : List Micro) (p : Point) →
@@ -131,32 +131,41 @@ led_keeps P (Some told) reads made h = at_landing told.jump _ h
     at_landing None r h = h
     at_landing (Some l) r h = h
 
+-- each step of an operation leads from runs with one fact to runs with another
+abbrev pub StepLeads : (Run → Type 0) → (Run → Type 0) → Micro → Type 0
+StepLeads P Q op =
+    (r : Run) (read : Option ℕ) (reads : List ℕ) → P r →
+    OnTold (λ t. Q (record { state = t.state; reads = reads; made = add_item r.made t.item }))
+    (step op r.state read)
+
+pub go_leads : (P Q : Run → Type 0) (op : Micro) → ((r : Run) → P r → Q r) → StepLeads P Q op →
+    (p : Point) → OnRun P p → OnRun Q (go op p)
+go_leads P Q op w k (At r) h = at_taken (is_load op) r.reads
+  where
+    at_wanting : (told : Option Told) → OnRun Q (wanting told r)
+    at_wanting (Some told) = w r h
+    at_wanting None = tt
+
+    at_taken : (b : Bool) (reads : List ℕ) → OnRun Q (taken op r b reads)
+    at_taken false reads = led_keeps Q (step op r.state None) reads r.made (k r None reads h)
+    at_taken true (n ∷ reads) =
+        led_keeps Q (step op r.state (Some n)) reads r.made (k r (Some n) reads h)
+    at_taken true [] = at_wanting (step op r.state (Some 0))
+go_leads P Q op w k (Past l r) h = passed (is_label l op)
+  where
+    passed : (b : Bool) → OnRun Q (cond b (At r) (Past l r))
+    passed true = w r h
+    passed false = w r h
+go_leads P Q op w k (Wants r) h = w r h
+go_leads P Q op w k Stuck h = tt
+
 -- a fact of runs that each step of an operation keeps
 abbrev pub StepKeeps : (Run → Type 0) → Micro → Type 0
-StepKeeps P op = (r : Run) (read : Option ℕ) (reads : List ℕ) → P r →
-    OnTold (λ t. P (record { state = t.state; reads = reads; made = add_item r.made t.item }))
-    (step op r.state read)
+StepKeeps P op = StepLeads P P op
 
 pub go_keeps : (P : Run → Type 0) (op : Micro) → StepKeeps P op → (p : Point) → OnRun P p →
     OnRun P (go op p)
-go_keeps P op k (At r) h = at_taken (is_load op) r.reads
-  where
-    at_wanting : (told : Option Told) → OnRun P (wanting told r)
-    at_wanting (Some told) = h
-    at_wanting None = tt
-
-    at_taken : (b : Bool) (reads : List ℕ) → OnRun P (taken op r b reads)
-    at_taken false reads = led_keeps P (step op r.state None) reads r.made (k r None reads h)
-    at_taken true (n ∷ reads) =
-        led_keeps P (step op r.state (Some n)) reads r.made (k r (Some n) reads h)
-    at_taken true [] = at_wanting (step op r.state (Some 0))
-go_keeps P op k (Past l r) h = passed (is_label l op)
-  where
-    passed : (b : Bool) → OnRun P (cond b (At r) (Past l r))
-    passed true = h
-    passed false = h
-go_keeps P op k (Wants r) h = h
-go_keeps P op k Stuck h = tt
+go_keeps P op k p h = go_leads P P op (λ r g. g) k p h
 
 -- a register that no operation writes keeps what it holds
 pub unwritten_kept : (code : List Micro) (q : ℕ) (held : Held) (p : Point) →
@@ -301,3 +310,39 @@ beginning_names init reads = record {
   items = tt;
   loads = refl;
 }
+
+counts_lead : (op : Micro) (n : ℕ) →
+    StepLeads (λ r. r.state.loads ≤ n) (λ r. r.state.loads ≤ n + cond (is_load op) 1 0) op
+counts_lead op n r read reads h = on_told (step op r.state read) (step_counts op r.state read)
+  where
+    on_told : (told : Option Told) → OnTold (Counts r.state (cond (is_load op) 1 0)) told →
+        OnTold (λ t. t.state.loads ≤ n + cond (is_load op) 1 0) told
+    on_told (Some told) g = omega arith
+    on_told None g = tt
+
+more_loads : (m n : ℕ) → m ≤ n → (p : Point) → OnRun (λ r. r.state.loads ≤ m) p →
+    OnRun (λ r. r.state.loads ≤ n) p
+more_loads m n e (At r) h = omega arith
+more_loads m n e (Past l r) h = omega arith
+more_loads m n e (Wants r) h = omega arith
+more_loads m n e Stuck h = tt
+
+-- a run from a point that stepped some loads steps at most as many more as stand in the code
+pub loads_grow : (code : List Micro) (n : ℕ) (p : Point) → OnRun (λ r. r.state.loads ≤ n) p →
+    OnRun (λ r. r.state.loads ≤ n + count_by is_load code) (exec code p)
+loads_grow [] n p h = more_loads n (n + 0) (omega arith) p h
+loads_grow (op ∷ code) n p h =
+    more_loads (n + cond (is_load op) 1 0 + count_by is_load code)
+    (n + count_by is_load (op ∷ code))
+    (omega (arith, sum_by-append (λ x. cond (is_load x) 1 0) (op ∷ []) code))
+    (exec code (go op p))
+    (loads_grow code (n + cond (is_load op) 1 0) (go op p)
+    (go_leads (λ r. r.state.loads ≤ n) (λ r. r.state.loads ≤ n + cond (is_load op) 1 0) op
+    (λ r g. omega arith) (counts_lead op n) p h))
+
+pub loads_within : (code : List Micro) (init : List (ℕ × Value)) (reads : List ℕ) →
+    OnRun (λ r. r.state.loads ≤ count_by is_load code) (exec code (At (beginning init reads)))
+loads_within code init reads =
+    more_loads (0 + count_by is_load code) (count_by is_load code) (omega arith)
+    (exec code (At (beginning init reads)))
+    (loads_grow code 0 (At (beginning init reads)) (omega arith))

@@ -4,3 +4,4 @@ pub mod Masks
 pub mod Naming
 pub mod Rules
 pub mod Steps
+pub mod Threads

@@ -1,5 +1,5 @@
 -- What each step keeps: where it may jump, the registers that it leaves alone, what its masks name.
-use Rattle.std.proofs.Common.{eq-eqb, ℕ, suc, ◌+◌, ◌^◌, ◌<◌, ◌≡◌, ◌==◌, refl, Bool, true, false, cond, not, Option, Some, None, ◌⊎◌, inl, inr, arith, lt_of_lt_of_le, pow-suc}
+use Rattle.std.proofs.Common.{add-zero, sym, eq-eqb, ℕ, suc, ◌+◌, ◌^◌, ◌<◌, ◌≡◌, ◌==◌, refl, Bool, true, false, cond, not, Option, Some, None, ◌⊎◌, inl, inr, arith, lt_of_lt_of_le, pow-suc}
 use Rattle.std.proofs.lemmas.Nat.{or_lt, pow_pos}
 use Rattle.std.proofs.Math.Pow.{pow_mono}
 use Rattle.relax_edges.specs.declared.kinds.Value.{Value}
@@ -9,7 +9,7 @@ use Rattle.micro_ops.specs.declared.operation.Micro.{Micro}
 use Rattle.micro_ops.specs.declared.operation.Micro.TheVariants as ops
 use Rattle.micro_ops.specs.declared.operation.Item.{Item}
 use Rattle.micro_ops.specs.Machine.{State, Told, num, bit, put, step, writing, becomes, loading, storing, comparing, branching, branching_on, xored, same_number, place_of, address_mask, both_masks, plus, ored, summed}
-use Rattle.micro_ops.specs.Running.{target, writes, is_named, is_read, MasksNameLoads, NamesLoads}
+use Rattle.micro_ops.specs.Running.{is_load, target, writes, is_named, is_read, MasksNameLoads, NamesLoads}
 
 -- a fact of what a rule leads to, where there is a rule
 abbrev pub OnTold : (Told → Type 0) → Option Told → Type 0
@@ -290,3 +290,40 @@ step_named (ops.BranchNz a l) s read h =
 step_named (ops.Label l) s read h = record { masks = h; item = tt; loads = omega arith }
 step_named (ops.Barrier kind) s read h =
     record { masks = h; item = h.in_control; loads = omega arith }
+
+-- a step counts a load, and no other operation
+abbrev pub Counts : State → ℕ → Told → Type 0
+Counts s more told = told.state.loads ≡ s.loads + more
+
+pub step_counts : (op : Micro) (s : State) (read : Option ℕ) →
+    OnTold (Counts s (cond (is_load op) 1 0)) (step op s read)
+step_counts (ops.Imm d n) s read = sym (add-zero s.loads)
+step_counts (ops.Xor d a b) s read =
+    let P = Counts s 0 in
+    either_told P (a == b) _ _ (sym (add-zero s.loads))
+    (on_writing P s d (both_masks s a b) (xored (s.regs a).value (s.regs b).value)
+    (λ v. sym (add-zero s.loads)))
+step_counts (ops.AddImm d a n) s read =
+    on_writing (Counts s 0) s d (s.regs a).mask (plus (s.regs a).value n) (λ v. sym (add-zero s.loads))
+step_counts (ops.OrImm d a n) s read =
+    on_writing (Counts s 0) s d (s.regs a).mask (ored (s.regs a).value n) (λ v. sym (add-zero s.loads))
+step_counts (ops.Add d a b) s read =
+    on_writing (Counts s 0) s d (both_masks s a b) (summed (s.regs a).value (s.regs b).value)
+    (λ v. sym (add-zero s.loads))
+step_counts (ops.Load d base index) s read =
+    on_loading (Counts s 1) s d (place_of s base index) (address_mask s base index) read
+    (λ p n. refl)
+step_counts (ops.LoadAt d p) s read = on_loading (Counts s 1) s d (Some p) 0 read (λ p n. refl)
+step_counts (ops.Store src base index) s read =
+    on_storing (Counts s 0) s (place_of s base index) (address_mask s base index)
+    (s.regs src).value (s.regs src).mask (λ p n. sym (add-zero s.loads))
+step_counts (ops.StoreAt p n) s read = sym (add-zero s.loads)
+step_counts (ops.Cmp a b) s read =
+    on_comparing (Counts s 0) s (both_masks s a b)
+    (cond (a == b) (Some true) (same_number (s.regs a).value (s.regs b).value))
+    (λ b. sym (add-zero s.loads))
+step_counts (ops.BranchEq l) s read = sym (add-zero s.loads)
+step_counts (ops.BranchNz a l) s read =
+    on_branching (Counts s 0) s (s.regs a).mask (s.regs a).value l (λ b. sym (add-zero s.loads))
+step_counts (ops.Label l) s read = sym (add-zero s.loads)
+step_counts (ops.Barrier kind) s read = sym (add-zero s.loads)

@@ -1,6 +1,6 @@
 -- What the run of a thread answers.
 -- Source: own.
-use Rattle.std.specs.Prelude.{ℕ, ◌+◌, ◌<◌, ◌≡◌, Bool, true, false, List, take, length, Option, Some, None, vec_items}
+use Rattle.std.specs.Prelude.{ℕ, ◌+◌, ◌<◌, ◌≡◌, Bool, true, false, List, take, length, vec_items}
 use Rattle.relax_edges.specs.declared.kinds.Value.{Value}
 use Rattle.micro_ops.specs.declared.operation.Micro.{Micro}
 use Rattle.micro_ops.specs.declared.operation.Item.{Item}
@@ -8,7 +8,9 @@ use Rattle.micro_ops.specs.declared.run.Trace.{Trace}
 use Rattle.micro_ops.specs.declared.run.Runner.{Runner}
 use Rattle.micro_ops.specs.declared.run.RunError.{RunError}
 use Rattle.micro_ops.specs.declared.run.RunError.TheVariants as errors
-use Rattle.micro_ops.specs.Running.{Run, Point, At, Past, Wants, Stuck, exec, landing, beginning, Outcome, ReadsLeft, runs}
+use Rattle.micro_ops.specs.declared.run.Halt.{Halt}
+use Rattle.micro_ops.specs.declared.run.Halt.TheVariants as halts
+use Rattle.micro_ops.specs.Running.{Point, At, Past, Wants, Stuck, exec, landing, beginning, ReadsLeft, runs}
 use Rattle.micro_ops.specs.Machines.{state_of}
 
 -- the items of a trace, in order
@@ -47,3 +49,8 @@ point_of runner =
       reads = runner.reads.now;
       made = vec_items runner.items;
     })
+
+-- the error of a runner that can't go on at an operation
+abbrev pub error_of : Halt → ℕ → RunError
+error_of halts.Stuck at_op = errors.Stuck at_op
+error_of halts.NoMemory _ = errors.NoMemory

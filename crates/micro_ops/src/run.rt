@@ -1,8 +1,8 @@
 ghost use Rattle.std.specs.Prelude.{◌≡◌, ◌<◌, ◌≤◌, ◌^◌, ◌++◌, [], ◌∷◌, length, All, Option, Some, None, OnOk, OnErr, IfOk, IfErr, IsErrOf, count_by, true, false, vec_items};
 ghost use Rattle.micro_ops.specs.Machine.{step};
 ghost use Rattle.micro_ops.specs.Machines.{state_of, InRange};
-ghost use Rattle.micro_ops.specs.Running.{go, led, is_load, is_label, lands, runs, Ended};
-ghost use Rattle.micro_ops.specs.Threads.{trace_items, trace_values, goes_on, CausedBy, point_of};
+ghost use Rattle.micro_ops.specs.Running.{At, beginning, go, led, is_load, is_label, is_past, lands, runs, outcome, Ended, ReadsLeft};
+ghost use Rattle.micro_ops.specs.Threads.{trace_items, trace_values, goes_on, CausedBy, point_of, error_of};
 
 use crate::machine::Machine;
 use crate::operation::{Item, Micro};
@@ -55,6 +55,33 @@ enum Halt {
     NoMemory,
 }
 
+/// Runs the code of a thread from its initial registers on the numbers that its loads read.
+///
+/// It is stuck at an operation exactly where no rule fits its operands, or it is a load and no
+/// read is left; reads are left exactly where the code ends before all are used.
+pub fn run_thread(
+    alloc: Global,
+    code: &[Micro],
+    init: &[(u8, Value)],
+    reads: &[u32],
+) -> Result<Trace, RunError>
+    requires in_range { All InRange code.now }
+    requires registers { All (λ named. named.0 < 32) init.now }
+    requires lands { lands code.now ≡ true }
+    requires few_loads { count_by is_load code.now ≤ 64 }
+    requires short { length code.now < 2 ^ 32 }
+    ensures ended { IfOk result (λ trace. runs code.now init.now reads.now ≡ Ended (trace_items trace) (trace_values trace)) }
+    ensures refused { IfErr result (λ error. CausedBy error code.now init.now reads.now) }
+{
+    let mut runner = Runner::new(alloc, init, reads);
+    for (index, op) in code.iter().enumerate() {
+        if let Err(halt) = runner.go(*op) {
+            return Err(halt.stops_at(index as u32));
+        }
+    }
+    runner.end()
+}
+
 /// A run, as far as it has come. On the way to a label it passes over operations.
 #[derive(Debug, Drop)]
 struct Runner<'a> {
@@ -81,7 +108,46 @@ impl Micro {
     }
 }
 
-impl Runner<'_> {
+impl Halt {
+    fn stops_at(self, at: u32) -> RunError
+        ensures { result ≡ error_of self at }
+    {
+        match self {
+            Halt::Stuck => RunError::Stuck { at },
+            Halt::NoMemory => RunError::NoMemory,
+        }
+    }
+}
+
+impl<'a> Runner<'a> {
+    fn new(alloc: Global, init: &[(u8, Value)], reads: &'a [u32]) -> Runner<'a>
+        requires { All (λ named. named.0 < 32) init.now }
+        ensures { point_of result ≡ At (beginning init.now reads.now) }
+    {
+        Runner {
+            machine: Machine::new(init),
+            items: Vec::new(alloc),
+            past: None,
+            reads,
+        }
+    }
+
+    /// The trace of a run whose code is over, on the way to no label.
+    fn end(self) -> Result<Trace, RunError>
+        requires { is_past (point_of self) ≡ false }
+        ensures ended { IfOk result (λ trace. outcome (point_of self.entry) ≡ Ended (trace_items trace) (trace_values trace)) }
+        ensures left { IfErr result (λ error. (error ≡ RunError.ReadsLeft) × (outcome (point_of self.entry) ≡ ReadsLeft)) }
+    {
+        if self.reads.is_empty() {
+            Ok(Trace {
+                items: self.items,
+                machine: self.machine,
+            })
+        } else {
+            Err(RunError::ReadsLeft)
+        }
+    }
+
     fn step(&mut self, op: Micro, read: Option<u32>) -> Result<(), Halt>
         requires in_range { InRange op }
         requires room { is_load op ≡ true → (state_of self.old.machine).loads < 64 }
