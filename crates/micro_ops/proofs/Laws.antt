@@ -1,6 +1,6 @@
 -- The laws of runs: one list of operations after another, jumps, registers that keep their value,
 -- what masks name.
-use Rattle.std.proofs.Common.{ℕ, ◌+◌, ◌^◌, ◌<◌, ◌≡◌, ◌==◌, refl, Bool, true, false, cond, ◌||◌, List, [], ◌∷◌, ◌++◌, Option, Some, None, ◌∙◌, sym, ap, eq-eqb, true≢false, ◌⊎◌, inl, inr, count_by, ◌≤◌, lt_of_lt_of_le, arith}
+use Rattle.std.proofs.Common.{take, drop, take-append-drop, true≢false, ℕ, ◌+◌, ◌^◌, ◌<◌, ◌≡◌, ◌==◌, refl, Bool, true, false, cond, ◌||◌, List, [], ◌∷◌, ◌++◌, Option, Some, None, ◌∙◌, sym, ap, eq-eqb, ◌⊎◌, inl, inr, count_by, ◌≤◌, lt_of_lt_of_le, arith}
 use Rattle.std.proofs.lemmas.Bool.{and_parts, and_from}
 use Rattle.std.proofs.lemmas.Nat.{pow_pos}
 use Rattle.std.proofs.lemmas.List.Sums.{sum_by-append}
@@ -12,7 +12,8 @@ use Rattle.micro_ops.specs.declared.operation.Micro.TheVariants as ops
 use Rattle.micro_ops.specs.declared.operation.Item.{Item}
 use Rattle.micro_ops.specs.declared.operation.Item.TheVariants as items
 use Rattle.micro_ops.specs.Machine.{Told, step}
-use Rattle.micro_ops.specs.Running.{Run, Point, At, Past, Wants, Stuck, go, exec, taken, led, landing, wanting, is_load, is_label, stands, stands_if, target, lands, labels_of, is_past, writes, is_named, is_written, is_read, NamesLoads, beginning, starting, add_item, AllNameLoads, RunNamesLoads}
+use Rattle.micro_ops.specs.Running.{Run, Point, At, Past, Wants, Stuck, go, exec, taken, led, landing, wanting, is_load, is_label, stands, stands_if, target, lands, labels_of, is_past, writes, is_named, is_written, is_read, NamesLoads, beginning, starting, add_item, AllNameLoads, RunNamesLoads, OnRun}
+use Rattle.micro_ops.specs.Threads.{goes_on, StopsAt}
 use Rattle.micro_ops.proofs.Steps.{OnTold, JumpsTo, step_jumps, Keeps, step_keeps, Named, step_named, step_counts, Counts, reads_in, ItemNames}
 
 -- a run of one list and then another
@@ -112,13 +113,6 @@ exec_ways (op ∷ code) p h w =
 pub never_past : (code : List Micro) (r : Run) → lands code ≡ true →
     is_past (exec code (At r)) ≡ false
 never_past code r h = exec_ways code (At r) h tt
-
--- a fact of the run that a point has, where it isn't stuck
-abbrev pub OnRun : (Run → Type 0) → Point → Type 0
-OnRun P (At r) = P r
-OnRun P (Past _ r) = P r
-OnRun P (Wants r) = P r
-OnRun P Stuck = Unit {0}
 
 -- what each step keeps, a run keeps
 led_keeps : (P : Run → Type 0) (told : Option Told) (reads : List ℕ) (made : List Item) →
@@ -346,3 +340,23 @@ loads_within code init reads =
     more_loads (0 + count_by is_load code) (count_by is_load code) (omega arith)
     (exec code (At (beginning init reads)))
     (loads_grow code 0 (At (beginning init reads)) (omega arith))
+
+-- a run that stops at an operation doesn't go on behind it
+halted_stays : (code : List Micro) (p : Point) → goes_on p ≡ false → goes_on (exec code p) ≡ false
+halted_stays code (At r) h = absurd (true≢false h)
+halted_stays code (Past l r) h = absurd (true≢false h)
+halted_stays code (Wants r) h = ap goes_on (wants_stays code r)
+halted_stays code Stuck h = ap goes_on (stuck_stays code)
+
+pub stops_for_good : (code : List Micro) (start : Point) (i : ℕ) → StopsAt code start i →
+    goes_on (exec code start) ≡ false
+stops_for_good code start i h =
+    ap (λ ops. goes_on (exec ops start)) (sym (take-append-drop (i + 1) code)) ∙
+    ap goes_on (exec_append (take (i + 1) code) (drop (i + 1) code) start) ∙
+    halted_stays (drop (i + 1) code) (exec (take (i + 1) code) start) h.behind
+
+-- each mask of a run of a thread names only loads that were stepped
+pub runs_name_loads : (code : List Micro) (init : List (ℕ × Value)) (reads : List ℕ) →
+    OnRun RunNamesLoads (exec code (At (beginning init reads)))
+runs_name_loads code init reads =
+    names_kept code (At (beginning init reads)) (beginning_names init reads)

@@ -11,9 +11,9 @@ use Rattle.micro_ops.specs.declared.run.RunError.TheVariants as errors
 use Rattle.micro_ops.specs.declared.run.Halt.{Halt}
 use Rattle.micro_ops.specs.declared.run.Halt.TheVariants as halts
 use Rattle.micro_ops.specs.Machines.{state_of}
-use Rattle.micro_ops.specs.Running.{Run, Point, At, go, exec, is_load, is_past, lands, landing, beginning, outcome, runs, ReadsLeft}
+use Rattle.micro_ops.specs.Running.{Run, Point, At, go, exec, is_load, is_past, lands, landing, beginning, outcome, runs, ReadsLeft, OnRun}
 use Rattle.micro_ops.specs.Threads.{goes_on, StopsAt, point_of, CausedBy, error_of}
-use Rattle.micro_ops.proofs.Laws.{exec_append, never_past, OnRun, loads_within}
+use Rattle.micro_ops.proofs.Laws.{exec_append, never_past, loads_within}
 
 -- one operation more
 pub exec_more : (code : List Micro) (i : ℕ) (d : Micro) (p q : Point) → i < length code →

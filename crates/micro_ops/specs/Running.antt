@@ -199,3 +199,10 @@ pub record RunNamesLoads (r : Run) : Type 0 where
   pub masks : MasksNameLoads r.state
   pub items : AllNameLoads r.state.loads r.made
   pub loads : r.state.loads ≡ count_by is_read r.made
+
+-- a fact of the run that a point has, where it isn't stuck
+abbrev pub OnRun : (Run → Type 0) → Point → Type 0
+OnRun P (At r) = P r
+OnRun P (Past _ r) = P r
+OnRun P (Wants r) = P r
+OnRun P Stuck = Unit {0}

@@ -6,6 +6,7 @@ mod machine;
 mod operand;
 mod operation;
 mod run;
+pub mod run_laws;
 
 pub use held::Held;
 pub use machine::{Machine, Stepped, Stuck};
