@@ -11,4 +11,7 @@ pub mod run_laws;
 pub use held::Held;
 pub use machine::{Machine, Stepped, Stuck};
 pub use operation::{Barrier, Item, Micro};
-pub use run::{RunError, Trace};
+pub use run::{RunError, Trace, run_thread};
+
+#[cfg(test)]
+mod tests;
