@@ -5,7 +5,7 @@ ghost use Rattle.micro_ops.specs.Machines.{state_of, held_in, told, InRange};
 
 use crate::held::Held;
 use crate::operand::{add_immediate, equal, exclusive_or, or_immediate, place, sum};
-use crate::operation::{Item, Micro};
+use crate::operation::{Barrier, Item, Micro};
 use relax_edges::{Dir, Value};
 use thiserror::Error;
 
@@ -101,6 +101,14 @@ impl Machine {
         self.loads
     }
 
+    /// What a register holds.
+    pub fn held(&self, register: u8) -> Held
+        requires { register < 32 }
+        ensures { result ≡ (state_of self.now).regs register }
+    {
+        self.registers[usize::from(register)]
+    }
+
     /// Steps one operation by its rule; a load reads `read`. It is stuck exactly where no rule
     /// fits the operands, or a load has nothing to read, and then the machine is unchanged.
     pub fn step(&mut self, op: Micro, read: Option<u32>) -> Result<Stepped, Stuck>
@@ -143,19 +151,8 @@ impl Machine {
             Micro::BranchEq { label } => Ok(self.branch(self.flag_mask, self.flag, label)),
             Micro::BranchNz { a, label } => self.branch_on(a, label),
             Micro::Label { .. } => Ok(Stepped::quiet()),
-            Micro::Barrier { kind } => Ok(Stepped::makes(Item::Barrier {
-                kind,
-                ctrl_mask: self.control,
-            })),
+            Micro::Barrier { kind } => Ok(self.barrier(kind)),
         }
-    }
-
-    /// What a register holds.
-    pub fn held(&self, register: u8) -> Held
-        requires { register < 32 }
-        ensures { result ≡ (state_of self.now).regs register }
-    {
-        self.registers[usize::from(register)]
     }
 
     /// The place of an access.
@@ -331,5 +328,12 @@ impl Machine {
             return Err(Stuck);
         };
         Ok(self.branch(held.mask, n != 0, label))
+    }
+
+    fn barrier(&self, kind: Barrier) -> Stepped
+        ensures { told (Ok result) (state_of self.now) ≡ step (Micro.Barrier kind) (state_of self.now) None }
+    {
+        let ctrl_mask = self.control;
+        Stepped::makes(Item::Barrier { kind, ctrl_mask })
     }
 }

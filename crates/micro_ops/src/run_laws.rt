@@ -1,3 +1,4 @@
+//! The laws of runs: each function does nothing, and its contract is the law.
 ghost use Rattle.std.specs.Prelude.{◌≡◌, ℕ, ◌⊎◌, ◌++◌, ◌∷◌, [], List, Option, false, true};
 ghost use Rattle.relax_edges.specs.declared.kinds.Value.{Value};
 ghost use Rattle.micro_ops.specs.declared.operation.Micro.{Micro};
