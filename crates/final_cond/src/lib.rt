@@ -2,7 +2,9 @@
 #![tactic(auto)]
 
 mod cond;
-mod print;
+mod errors;
+mod read;
 
-pub use cond::{Cond, Left, PlaceName, Quantifier, RegName, Term};
-pub use print::print_cond;
+pub use cond::{Cond, Left, MAX_TERMS, PlaceName, Quantifier, RegName, Term};
+pub use errors::{CondError, CondKind};
+pub use read::Follow;

@@ -1,0 +1,6 @@
+pub mod Names
+pub mod Conditions
+pub mod CondText
+pub mod Numbers
+pub mod Runs
+pub mod Reading
