@@ -1,1 +1,4 @@
 mod ReadingRows
+pub mod RunLaws
+pub mod NameLaws
+pub mod NumberLaws

@@ -4,3 +4,4 @@ pub mod CondText
 pub mod Numbers
 pub mod Runs
 pub mod Reading
+pub mod Classes

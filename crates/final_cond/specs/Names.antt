@@ -15,9 +15,9 @@ is_place_byte byte = is_ascii_alphanumeric byte || byte == 95
 -- a letter or `_`, then letters, digits and `_`, of at most 16 bytes
 unfoldable pub is_place_name : List ℕ → Bool
 is_place_name [] = false
-is_place_name (byte ∷ bytes) = begins_place byte && list_all is_place_byte bytes && nat_le (length bytes) 15
+is_place_name (byte ∷ bytes) = begins_place byte && list_all is_place_byte bytes && nat_le (length (byte ∷ bytes)) 16
 
 -- a letter, then letters and digits, of at most 16 bytes
 unfoldable pub is_register_name : List ℕ → Bool
 is_register_name [] = false
-is_register_name (byte ∷ bytes) = is_ascii_alphabetic byte && list_all is_ascii_alphanumeric bytes && nat_le (length bytes) 15
+is_register_name (byte ∷ bytes) = is_ascii_alphabetic byte && list_all is_ascii_alphanumeric bytes && nat_le (length (byte ∷ bytes)) 16

@@ -3,8 +3,13 @@
 
 mod cond;
 mod errors;
+mod names;
+mod numbers;
 mod read;
+mod runs;
 
 pub use cond::{Cond, Left, MAX_TERMS, PlaceName, Quantifier, RegName, Term};
 pub use errors::{CondError, CondKind};
+pub use names::{MAX_NAME, is_place_name, is_register_name};
+pub use numbers::number_of;
 pub use read::Follow;
