@@ -11,7 +11,7 @@ use Rattle.std.proofs.lemmas.Str.{IsUtf8-from_ascii}
 use Rattle.std.proofs.lemmas.Str.Ascii.{IsAscii-nil, IsAscii-cons}
 use Rattle.final_cond.specs.Names.{begins_place, is_place_byte, is_place_name, is_register_name}
 
-rest_is : (byte : ℕ) (bytes : List ℕ) → take (length (byte ∷ bytes) - 1) (drop 1 (byte ∷ bytes)) ≡ bytes
+pub rest_is : (byte : ℕ) (bytes : List ℕ) → take (length (byte ∷ bytes) - 1) (drop 1 (byte ∷ bytes)) ≡ bytes
 rest_is byte bytes = ap (λ n. take n bytes) (omega arith) ∙ take-length bytes
 
 -- a place's name by its first byte and the others

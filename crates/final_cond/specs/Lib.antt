@@ -5,3 +5,4 @@ pub mod Numbers
 pub mod Runs
 pub mod Reading
 pub mod Classes
+pub mod Gives

@@ -106,10 +106,14 @@ left_at_front [] = None
 left_at_front (byte ∷ rest) =
     cond (byte == 91) (bracketed_at_front rest) (cond (is_ascii_digit byte) (register_at_front (byte ∷ rest)) (place_at_front (byte ∷ rest)))
 
--- a left side that passes
+-- a left side, where it passes
+abbrev pub known_left : (LeftSeen → Bool) → LeftSeen → Option LeftSeen
+known_left known left = cond (known left) (Some left) None
+
+-- a left side at the front of a text, where it passes
 abbrev pub only_known : (LeftSeen → Bool) → Option (LeftSeen × List ℕ) → Option (LeftSeen × List ℕ)
 only_known known None = None
-only_known known (Some left) = cond (known left.0) (Some left) None
+only_known known (Some left) = before_text (known_left known left.0) left.1
 
 -- a left side that passes, at the front of a text
 unfoldable pub left_read : (LeftSeen → Bool) → List ℕ → Read LeftSeen

@@ -20,3 +20,11 @@ pub struct CondError {
     pub at: usize,
     pub kind: CondKind,
 }
+
+/// A fault in a text that is read from the left: what is faulty or missing, and the text from the
+/// first byte on, blanks passed over, of what stands there.
+#[derive(Clone, Copy, Debug)]
+pub struct CondFault<'a> {
+    pub kind: CondKind,
+    pub rest: &'a [u8],
+}
