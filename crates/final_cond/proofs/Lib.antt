@@ -3,3 +3,4 @@ pub mod RunLaws
 pub mod NameLaws
 pub mod NumberLaws
 pub mod LeftLaws
+pub mod TermLaws

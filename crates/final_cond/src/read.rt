@@ -1,13 +1,14 @@
-ghost use Rattle.std.specs.Prelude.{◌≡◌, option_map};
-ghost use Rattle.final_cond.specs.Conditions.{left_view, InRegister, AtPlace};
+ghost use Rattle.std.specs.Prelude.{◌≡◌, [], map, option_map};
+ghost use Rattle.final_cond.specs.Conditions.{left_view, term_view, cond_view, InRegister, AtPlace};
 ghost use Rattle.final_cond.specs.Gives.{Gives, left_and_rest, term_and_rest};
-ghost use Rattle.final_cond.specs.Reading.{sign_read, quantifier_of, opening_read, known_left, only_known, has_form, place_at_front, bracketed_at_front, register_at_front, left_at_front, left_read, value_read, term_read, follow_read};
+ghost use Rattle.final_cond.specs.Reading.{sign_read, quantifier_of, opening_read, known_left, only_known, has_form, place_at_front, bracketed_at_front, register_at_front, left_at_front, left_read, value_read, term_read, follow_read, terms_read, parts_read};
 
-use crate::cond::{Left, Quantifier, Term};
+use crate::cond::{Cond, Left, MAX_TERMS, Quantifier, Term};
 use crate::errors::{CondFault, CondKind};
 use crate::names::{place_name, register_name};
 use crate::numbers::number_of;
 use crate::runs::{Class, split_run, without_blanks};
+use arrayvec::ArrayVec;
 
 /// What follows a term of a condition.
 #[derive(Clone, Copy, Debug, PartialEq, Eq)]
@@ -185,4 +186,50 @@ pub fn read_follow(text: &[u8]) -> Result<(Follow, &[u8]), CondFault<'_>>
             rest: text,
         }),
     }
+}
+
+#[tactic(auto, using(crate::proofs::TermLaws::nothing_behind))]
+/// Puts the terms of a text into `terms`, which is empty, up to the `)` behind the last.
+fn read_terms<'a>(
+    text: &'a [u8],
+    terms: &mut ArrayVec<Term, MAX_TERMS>,
+) -> Result<&'a [u8], CondFault<'a>>
+    requires { terms.old.items ≡ [] }
+    ensures { Gives (λ rest. (map term_view terms.new.items, rest.now)) result (terms_read has_form MAX_TERMS text.now) }
+{
+    let mut rest = text;
+    'terms: loop {
+        let (term, after) = match read_term(rest) {
+            Ok(term) => term,
+            Err(fault) => return Err(fault),
+        };
+        if terms.is_full() {
+            return Err(CondFault {
+                kind: CondKind::BadEnd,
+                rest: without_blanks(rest),
+            });
+        }
+        terms.push(term);
+        match read_follow(after)? {
+            (Follow::Term, behind) => rest = behind,
+            (Follow::End, behind) => return Ok(behind),
+        }
+    }
+}
+
+#[tactic(auto, unfolding(crate::specs::Reading::parts_read))]
+fn read_parts(text: &[u8]) -> Result<Cond, CondFault<'_>>
+    ensures { Gives cond_view result (parts_read has_form text.now) }
+{
+    let (quantifier, inside) = read_opening(text)?;
+    let mut terms = ArrayVec::new();
+    let behind = read_terms(inside, &mut terms)?;
+    let end = without_blanks(behind);
+    if !end.is_empty() {
+        return Err(CondFault {
+            kind: CondKind::BadEnd,
+            rest: end,
+        });
+    }
+    Ok(Cond { quantifier, terms })
 }
