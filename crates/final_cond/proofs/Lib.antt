@@ -4,3 +4,4 @@ pub mod NameLaws
 pub mod NumberLaws
 pub mod LeftLaws
 pub mod TermLaws
+pub mod WithinLaws

@@ -1,10 +1,10 @@
-ghost use Rattle.std.specs.Prelude.{◌≡◌, [], map, option_map};
+ghost use Rattle.std.specs.Prelude.{◌≡◌, [], map, option_map, IfOk, IfErr};
 ghost use Rattle.final_cond.specs.Conditions.{left_view, term_view, cond_view, InRegister, AtPlace};
 ghost use Rattle.final_cond.specs.Gives.{Gives, left_and_rest, term_and_rest};
-ghost use Rattle.final_cond.specs.Reading.{sign_read, quantifier_of, opening_read, known_left, only_known, has_form, place_at_front, bracketed_at_front, register_at_front, left_at_front, left_read, value_read, term_read, follow_read, terms_read, parts_read};
+ghost use Rattle.final_cond.specs.Reading.{sign_read, quantifier_of, opening_read, known_left, only_known, has_form, place_at_front, bracketed_at_front, register_at_front, left_at_front, left_read, value_read, term_read, follow_read, terms_read, parts_read, cond_read};
 
 use crate::cond::{Cond, Left, MAX_TERMS, Quantifier, Term};
-use crate::errors::{CondFault, CondKind};
+use crate::errors::{CondError, CondFault, CondKind};
 use crate::names::{place_name, register_name};
 use crate::numbers::number_of;
 use crate::runs::{Class, split_run, without_blanks};
@@ -232,4 +232,24 @@ fn read_parts(text: &[u8]) -> Result<Cond, CondFault<'_>>
         });
     }
     Ok(Cond { quantifier, terms })
+}
+
+/// The condition that a text writes: a quantifier, `(`, terms with `/\` between, and `)`. Blanks
+/// may stand anywhere but inside a word, a left side or a number.
+///
+/// There are 1 to `MAX_TERMS` terms, threads are below 64, and names are of their forms. Else the
+/// answer is the first fault from the left, and its place.
+#[tactic(auto, unfolding(crate::specs::Reading::cond_read))]
+pub fn read_cond(text: &str) -> Result<Cond, CondError>
+    ensures ok { IfOk result (λ cond. cond_read text.now ≡ Ok (cond_view cond)) }
+    ensures err { IfErr result (λ error. cond_read text.now ≡ Err error) }
+{
+    let bytes = text.as_bytes();
+    match read_parts(bytes) {
+        Ok(cond) => Ok(cond),
+        Err(fault) => Err(CondError {
+            at: bytes.len() - fault.rest.len(),
+            kind: fault.kind,
+        }),
+    }
 }
