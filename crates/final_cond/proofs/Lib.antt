@@ -5,3 +5,4 @@ pub mod NumberLaws
 pub mod LeftLaws
 pub mod TermLaws
 pub mod WithinLaws
+pub mod StateLaws

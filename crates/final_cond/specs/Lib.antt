@@ -6,3 +6,4 @@ pub mod Runs
 pub mod Reading
 pub mod Classes
 pub mod Gives
+pub mod States

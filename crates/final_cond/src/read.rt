@@ -188,8 +188,8 @@ pub fn read_follow(text: &[u8]) -> Result<(Follow, &[u8]), CondFault<'_>>
     }
 }
 
-#[tactic(auto, using(crate::proofs::TermLaws::nothing_behind))]
 /// Puts the terms of a text into `terms`, which is empty, up to the `)` behind the last.
+#[tactic(auto, using(crate::proofs::TermLaws::nothing_behind))]
 fn read_terms<'a>(
     text: &'a [u8],
     terms: &mut ArrayVec<Term, MAX_TERMS>,

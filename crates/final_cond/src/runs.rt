@@ -34,8 +34,8 @@ impl Class {
     }
 }
 
-#[tactic(auto, using(crate::proofs::RunLaws::run_stops, crate::proofs::RunLaws::run_ends, crate::proofs::RunLaws::none_passed, crate::proofs::RunLaws::one_passed))]
 /// The bytes at the front of a text that are of a class, and the text behind them.
+#[tactic(auto, using(crate::proofs::RunLaws::run_stops, crate::proofs::RunLaws::run_ends, crate::proofs::RunLaws::none_passed, crate::proofs::RunLaws::one_passed))]
 pub(crate) fn split_run(class: Class, text: &[u8]) -> (&[u8], &[u8])
     ensures run { result.0.now ≡ run_of (class_test class) text.now }
     ensures rest { result.1.now ≡ after_run (class_test class) text.now }
