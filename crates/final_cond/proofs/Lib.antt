@@ -1,0 +1,8 @@
+mod ReadingRows
+pub mod RunLaws
+pub mod NameLaws
+pub mod NumberLaws
+pub mod LeftLaws
+pub mod TermLaws
+pub mod WithinLaws
+pub mod StateLaws
