@@ -1,0 +1,6 @@
+pub mod Taking
+pub mod Runs
+pub mod Codes
+pub mod Shapes
+pub mod Whole
+pub mod Items

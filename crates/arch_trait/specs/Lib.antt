@@ -1,0 +1,4 @@
+pub mod Links
+pub mod Taking
+pub mod Threads
+pub mod Laws
