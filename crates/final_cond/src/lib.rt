@@ -2,7 +2,14 @@
 #![tactic(auto)]
 
 mod cond;
-mod print;
+mod errors;
+mod names;
+mod numbers;
+mod read;
+mod runs;
 
-pub use cond::{Cond, Left, PlaceName, Quantifier, RegName, Term};
-pub use print::print_cond;
+pub use cond::{Cond, Left, MAX_TERMS, PlaceName, Quantifier, RegName, Term};
+pub use errors::{CondError, CondFault, CondKind};
+pub use names::{MAX_NAME, is_place_name, is_register_name};
+pub use numbers::number_of;
+pub use read::{Follow, read_follow, read_opening, read_term};
