@@ -4,7 +4,7 @@ use Rattle.std.proofs.Common.{◌⊎◌, inl, inr, eqb-true, eq-eqb, ℕ, suc, �
 use Rattle.std.proofs.lemmas.Bool.{and_from, and_parts, or_left, or_right, or_cases}
 use Rattle.std.proofs.lemmas.List.Folds.{list_all-append}
 use Rattle.std.proofs.lemmas.List.Sums.{sum_by-cons}
-use Rattle.std.specs.List.{list_all}
+use Rattle.std.specs.List.{list_all, range_with_len}
 use Rattle.relax_edges.specs.declared.kinds.Dir.{Dir}
 use Rattle.relax_edges.specs.declared.kinds.Dir.TheVariants as dirs
 use Rattle.micro_ops.specs.declared.operation.Micro.{Micro}
@@ -16,7 +16,7 @@ use Rattle.arch_trait.specs.declared.link.Link.TheVariants as links
 use Rattle.arch_trait.specs.declared.step.Step.{Step}
 use Rattle.arch_trait.specs.Links.{depends, branches}
 use Rattle.arch_trait.specs.Taking.{address_in, has_address}
-use Rattle.arch_trait.specs.Threads.{Puts, Way, FitStep, FitSteps, is_load_dir, loads_in, branches_in, numbers_from, visits, from_of, put_of, filled_by, next_put, next_filled, further, step_code, thread_code, thread_regs, thread_loads, put_before}
+use Rattle.arch_trait.specs.Threads.{Puts, Way, FitStep, FitSteps, is_load_dir, loads_in, branches_in, visits, from_of, put_of, filled_by, next_put, next_filled, further, step_code, thread_code, thread_regs, thread_loads, put_before}
 use Rattle.arch_trait.specs.Laws.{IsTaken, AddsAddress, IsUsable, HasLink, MakesAccess, IsArch, is_at, access_room, link_room, link_labels}
 use Rattle.arch_trait.proofs.Taking.{by_option, address_added}
 use Rattle.arch_trait.proofs.Runs.{step_takes, step_grew, thread_grew, step_filled, IsWithin}
@@ -98,7 +98,7 @@ step_labels a laws w s b fit given =
 -- the labels of a thread are numbered in order
 pub thread_labels : (a : Puts) → IsArch a → (b : Bool) (w : Way) (ss : List Step) →
     FitSteps a.name b ss → IsGiven b w.last →
-    labels_of (thread_code a w ss) ≡ numbers_from w.label (branches_in ss)
+    labels_of (thread_code a w ss) ≡ range_with_len w.label (branches_in ss)
 thread_labels a laws b w [] fit given = refl
 thread_labels a laws b w (s ∷ ss) fit given =
     labels_append (step_code a w s) (thread_code a (further a w s) ss) ∙
@@ -106,10 +106,10 @@ thread_labels a laws b w (s ∷ ss) fit given =
     (ap (λ l. link_labels s.link w.label ++ l)
     (thread_labels a laws (is_load_dir s.dir) (further a w s) ss fit.1 (given_after a w s)) ∙
     (one_more w.label (branches s.link) (branches_in ss) ∙
-    ap (λ n. numbers_from w.label n) (sym (sum_by-cons (λ t. cond (branches t.link) 1 0) s ss)))))
+    ap (λ n. range_with_len w.label n) (sym (sum_by-cons (λ t. cond (branches t.link) 1 0) s ss)))))
   where
     one_more : (n : ℕ) (t : Bool) (k : ℕ) →
-        cond t (n ∷ []) [] ++ numbers_from (n + cond t 1 0) k ≡ numbers_from n (cond t 1 0 + k)
+        cond t (n ∷ []) [] ++ range_with_len (n + cond t 1 0) k ≡ range_with_len n (cond t 1 0 + k)
     one_more n true k = let e : 1 + k ≡ suc k = omega arith in rw e refl
     one_more n false k =
         let e : 0 + k ≡ k = omega arith in let f : n + 0 ≡ n = omega arith in rw (e, f) refl

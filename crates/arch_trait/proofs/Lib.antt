@@ -4,3 +4,4 @@ pub mod Codes
 pub mod Shapes
 pub mod Whole
 pub mod Items
+pub mod Tables

@@ -1,6 +1,6 @@
 -- The code of a thread: for each access the code of its link, and then that of the access.
 -- Source: own.
-use Rattle.std.specs.Prelude.{ℕ, zero, suc, ◌+◌, ◌-◌, ◌==◌, ◌<◌, ◌≡◌, Bool, true, false, cond, ◌||◌, List, [], ◌∷◌, ◌++◌, Option, Some, None, count_by}
+use Rattle.std.specs.Prelude.{ℕ, ◌+◌, ◌-◌, ◌==◌, ◌<◌, ◌≡◌, Bool, true, false, cond, ◌||◌, List, [], ◌∷◌, ◌++◌, Option, Some, None, count_by}
 use Rattle.relax_edges.specs.declared.kinds.Dir.{Dir}
 use Rattle.relax_edges.specs.declared.kinds.Dir.TheVariants as dirs
 use Rattle.relax_edges.specs.declared.kinds.ArchName.{ArchName}
@@ -60,11 +60,6 @@ places_in (s ∷ ss) = cond (visits s.place ss) 0 1 + places_in ss
 -- how many branches stand before the accesses
 abbrev pub branches_in : List Step → ℕ
 branches_in ss = count_by (λ s. branches s.link) ss
-
--- so many numbers, from one on
-abbrev pub numbers_from : ℕ → ℕ → List ℕ
-numbers_from n zero = []
-numbers_from n (suc k) = n ∷ numbers_from (n + 1) k
 
 -- what the accesses of a thread need registers for
 abbrev pub shape_of : List Step → Shape
