@@ -1,14 +1,12 @@
 //! What an architecture is, and the code of a thread, made once for every architecture.
 #![tactic(auto)]
 
-mod arch;
-mod code;
 mod link;
 mod places;
 mod regs;
+mod step;
 
-pub use arch::{Arch, Instrs, MAX_INSTRS, MAX_STEP_INSTRS, Shape};
-pub use code::{Code, Step, TooManyRegisters, compile_thread};
 pub use link::{Link, link_of};
-pub use places::Places;
-pub use regs::Regs;
+pub use places::{MAX_PLACES, Places};
+pub use regs::{Links, MAX_REGISTERS, Regs};
+pub use step::{MAX_STEPS, Shape, Step};

@@ -57,7 +57,7 @@ fn name_of(bytes: &[u8]) -> ArrayString<MAX_NAME>
 
 /// The name of a place, where these bytes have its form.
 #[tactic(auto, using(crate::proofs::NameLaws::place_name_ascii, crate::proofs::NameLaws::place_name_short))]
-pub(crate) fn place_name(name: &[u8]) -> Option<PlaceName>
+pub fn place_name(name: &[u8]) -> Option<PlaceName>
     ensures { option_map (λ p. p.bytes) result ≡ cond (is_place_name name.now) (Some name.now) None }
 {
     if is_place_name(name) {
@@ -69,7 +69,7 @@ pub(crate) fn place_name(name: &[u8]) -> Option<PlaceName>
 
 /// The name of a register, where these bytes have its form.
 #[tactic(auto, using(crate::proofs::NameLaws::register_name_ascii, crate::proofs::NameLaws::register_name_short))]
-pub(crate) fn register_name(name: &[u8]) -> Option<RegName>
+pub fn register_name(name: &[u8]) -> Option<RegName>
     ensures { option_map (λ p. p.bytes) result ≡ cond (is_register_name name.now) (Some name.now) None }
 {
     if is_register_name(name) {

@@ -1,0 +1,6 @@
+pub mod Links
+pub mod Registers
+pub mod Taking
+pub mod Threads
+pub mod Laws
+pub mod Names
