@@ -1,4 +1,4 @@
-ghost use Rattle.std.specs.Prelude.{◌≡◌, ℕ, ◌+◌, ◌<◌, ◌≤◌, ◌↔◌, ◌++◌, length, map, IsTrue};
+ghost use Rattle.std.specs.Prelude.{◌≡◌, ◌+◌, ◌<◌, ◌≤◌, ◌↔◌, ◌++◌, length, map, IsTrue};
 ghost use Rattle.relax_edges.specs.Order.{rank_of};
 ghost use Rattle.walk_laws.specs.Beginning.{may_begin, none_below};
 ghost use Rattle.walk_laws.specs.Order.{IsLeast, IsNormal, ranks_below};
