@@ -1,9 +1,8 @@
 -- Counts over the numbers below n: one number more, equal and smaller counts, and when there is something to count.
-use Rattle.std.proofs.Common.{◌≡◌, ℕ, zero, suc, ◌+◌, ◌<◌, ◌≤◌, Bool, true, false, cond, List, [], ◌∷◌, ◌++◌, length, refl, sym, ◌∙◌, ap, arith, add-one}
+use Rattle.std.proofs.Common.{◌≡◌, ℕ, zero, suc, ◌+◌, ◌<◌, ◌≤◌, Bool, true, false, cond, refl, ap, arith, add-one}
 use Rattle.std.specs.List.{count_by}
 use Rattle.std.proofs.lemmas.List.Sums.{sum_by_push, count_by-le-length}
 use Rattle.std.proofs.lemmas.Bool.{cond-true, cond-false}
-use Rattle.std.proofs.lemmas.Bool.Decides.{nat_tests}
 use Rattle.list_laws.specs.Numbers.{upto}
 use Rattle.list_laws.proofs.Cases.{by_test, by_less}
 use Rattle.list_laws.proofs.Numbers.{length-upto}
@@ -54,6 +53,14 @@ pub count_upto_none : (p : ℕ → Bool) (n : ℕ) → ((i : ℕ) → i < n → 
 count_upto_none p zero h = refl
 count_upto_none p (suc n) h =
     omega (arith, count_upto-suc p n, count_upto_none p n (λ i l. h i (omega arith)), cond-false {A = ℕ} (p n) 1 0 (h n (omega arith)))
+
+-- nothing more to count from m on
+pub count_upto_stays : (p : ℕ → Bool) (m n : ℕ) → m ≤ n → ((i : ℕ) → m ≤ i → i < n → p i ≡ false) → count_by p (upto n) ≡ count_by p (upto m)
+count_upto_stays p m zero h f = let e : m ≡ 0 = omega arith in rw e refl
+count_upto_stays p m (suc n) h f =
+    by_less n m
+    (λ g. let e : m ≡ suc n = omega arith in rw e refl)
+    (λ l. omega (arith, count_upto-suc p n, count_upto_stays p m n l (λ i a b. f i a (omega arith)), cond-false {A = ℕ} (p n) 1 0 (f n l (omega arith))))
 
 -- a number that passes is counted once, and a greater count has passed it
 pub count_upto_past : (p : ℕ → Bool) (i n : ℕ) → i < n → p i ≡ true → count_by p (upto i) + 1 ≤ count_by p (upto n)

@@ -1,0 +1,4 @@
+pub mod Threads
+pub mod Locations
+pub mod Turning
+pub mod Walking
