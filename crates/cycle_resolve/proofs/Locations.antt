@@ -137,7 +137,7 @@ same_thread es m k h = rw (eq-eqb (thread_of es m) k h) (by_and (is_diff (edge_a
     by_and false = refl
 
 -- between two events of a thread the moves are moves of that thread
-moves_between : (es : List Edge) (i j k : ℕ) → i ≤ j → j ≤ length es → thread_of es i ≡ k → thread_of es j ≡ k → moves_before es j + moves_in_before es k i ≤ moves_before es i + moves_in_before es k j
+pub moves_between : (es : List Edge) (i j k : ℕ) → i ≤ j → j ≤ length es → thread_of es i ≡ k → thread_of es j ≡ k → moves_before es j + moves_in_before es k i ≤ moves_before es i + moves_in_before es k j
 unfolding moves_before moves_in_before
 moves_between es i zero k h l a b = let e : i ≡ 0 = omega arith in rw e (omega arith)
 moves_between es i (suc j) k h l a b =

@@ -1,7 +1,7 @@
 -- The resolution of a cycle: in which thread, in which slot and at which location each event is. Event i is the access
 -- that edge i leaves. All is counted over prefixes of the list of edges. Source: the diy part of the herdtools manual
 -- (external edges change the thread, `d` edges the location); where counting begins is own.
-use Rattle.std.specs.Prelude.{◌≡◌, ℕ, ◌+◌, ◌%◌, ◌≤◌, Bool, true, false, ◌==◌, ◌&&◌, nat_lt, if◌then◌else◌, List, [], ◌∷◌, length, map, take, count_by, unwrap_or, slice_index_or, Result, Ok, Err}
+use Rattle.std.specs.Prelude.{◌≡◌, ℕ, zero, suc, ◌+◌, ◌-◌, ◌%◌, ◌≤◌, Bool, true, false, ◌==◌, ◌&&◌, nat_lt, if◌then◌else◌, List, [], ◌∷◌, length, map, take, count_by, unwrap_or, slice_index_or, Result, Ok, Err}
 use Rattle.std.specs.List.{filter, find, list_any}
 use Rattle.relax_edges.specs.declared.kinds.Reach.TheVariants.{Internal}
 use Rattle.relax_edges.specs.declared.kinds.Com.TheVariants.{Rf}
@@ -64,6 +64,11 @@ events_of es = map (event_of es) (upto (length es))
 -- the events of thread k, in order
 unfoldable pub events_in : List Edge → ℕ → List ℕ
 events_in es k = filter (λ i. thread_of es i == k) (upto (length es))
+
+-- the event whose edge enters event i: before event 0 comes the last one
+abbrev pub event_before : List Edge → ℕ → ℕ
+event_before es zero = length es - 1
+event_before es (suc i) = i
 
 -- the event that edge i enters: behind the last one comes event 0
 unfoldable pub event_after : List Edge → ℕ → ℕ

@@ -92,3 +92,14 @@ count_upto_one_more p q m (suc n) h f t e =
     let a : ◌≡◌ {A = ℕ} (cond (q n) 1 0) 1 = cond-true {A = ℕ} (q n) 1 0 (rw s at t) in
     let b : ◌≡◌ {A = ℕ} (cond (p n) 1 0) 0 = cond-false {A = ℕ} (p n) 1 0 (rw s at f) in
     omega (arith, count_upto-suc p n, count_upto-suc q n, a, b, count_upto_same q p n (λ i k. e i (omega arith) (λ z. omega (arith, z, k, s)))))
+
+-- a test that passes less, and not number m
+pub count_upto_less : (p q : ℕ → Bool) (m n : ℕ) → m < n → p m ≡ false → q m ≡ true → ((i : ℕ) → i < n → p i ≡ true → q i ≡ true) → count_by p (upto n) + 1 ≤ count_by q (upto n)
+count_upto_less p q m zero h f t e = absurd (omega arith)
+count_upto_less p q m (suc n) h f t e =
+    by_less m n
+    (λ l. omega (arith, count_upto-suc p n, count_upto-suc q n, count_upto_less p q m n l f t (λ i k. e i (omega arith)), one_le (p n) (q n) (e n (omega arith))))
+    (λ g. let s : m ≡ n = omega arith in
+    let a : ◌≡◌ {A = ℕ} (cond (q n) 1 0) 1 = cond-true {A = ℕ} (q n) 1 0 (rw s at t) in
+    let b : ◌≡◌ {A = ℕ} (cond (p n) 1 0) 0 = cond-false {A = ℕ} (p n) 1 0 (rw s at f) in
+    omega (arith, count_upto-suc p n, count_upto-suc q n, a, b, count_upto_fewer p q n (λ i k. e i (omega arith))))

@@ -4,3 +4,4 @@ pub mod Counts
 pub mod Ranks
 pub mod Finds
 pub mod Prefixes
+pub mod Totals
