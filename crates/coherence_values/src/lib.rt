@@ -3,4 +3,4 @@
 
 mod valued;
 
-pub use valued::{NeedsObserver, Valued, value};
+pub use valued::NeedsObserver;

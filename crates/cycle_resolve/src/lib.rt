@@ -3,4 +3,4 @@
 
 mod resolved;
 
-pub use resolved::{Event, ResolveError, Resolved, resolve};
+pub use resolved::{Event, ResolveError};
