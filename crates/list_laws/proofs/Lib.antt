@@ -1,0 +1,5 @@
+pub mod Cases
+pub mod Numbers
+pub mod Counts
+pub mod Ranks
+pub mod Finds
