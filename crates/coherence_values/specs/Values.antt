@@ -1,9 +1,8 @@
 -- The values of the events of a resolved cycle, and the locations that have an observer. `es` is the list of edges in
 -- which threads and locations are counted. Source: the diy part of the herdtools manual (values along the coherence
 -- order, observers); which locations are observed in which mode is own.
-use Rattle.std.specs.Prelude.{ℕ, zero, suc, ◌+◌, ◌-◌, Bool, true, false, ◌==◌, ◌&&◌, nat_lt, nat_le, if◌then◌else◌, List, [], ◌∷◌, length, count_by, slice_get, Option, Some, None}
+use Rattle.std.specs.Prelude.{ℕ, zero, suc, ◌+◌, ◌-◌, Bool, true, false, ◌==◌, ◌&&◌, nat_lt, nat_le, if◌then◌else◌, List, [], ◌∷◌, length, count_by, Option, Some, None}
 use Rattle.std.specs.List.{find, list_any, filter_map}
-use Rattle.std.specs.Option.{option_map}
 use Rattle.relax_edges.specs.declared.kinds.Dir.{Dir}
 use Rattle.relax_edges.specs.declared.kinds.Dir.TheVariants as dirs
 use Rattle.relax_edges.specs.declared.kinds.ObsMode.{ObsMode}
@@ -55,10 +54,15 @@ is_observed es Accept location = list_any (is_inner_entry es location) (upto (le
 is_observed es Avoid location = false
 is_observed es Force location = nat_le 2 (write_count es location)
 
--- the locations that need an observer, each with its first write that does, in order
-abbrev pub observer_needs : List Edge → List NeedsObserver
-observer_needs es = filter_map (λ location. option_map (λ event. record { location = location; event = event }) (first_inner_entry es location)) (upto (move_count es))
+-- the lowest location of a list that needs an observer, with its first write that does
+abbrev pub first_need : List Edge → List ℕ → Option NeedsObserver
+first_need es [] = None
+first_need es (location ∷ locations) = needed (first_inner_entry es location)
+  where
+    needed : Option ℕ → Option NeedsObserver
+    needed (Some event) = Some (record { location = location; event = event })
+    needed None = first_need es locations
 
 -- what the mode avoid refuses: the lowest location with an inner write that an external edge enters
 abbrev pub observer_need : List Edge → Option NeedsObserver
-observer_need es = slice_get (observer_needs es) 0
+observer_need es = first_need es (upto (move_count es))

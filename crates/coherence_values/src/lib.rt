@@ -3,4 +3,4 @@
 
 mod valued;
 
-pub use valued::NeedsObserver;
+pub use valued::{NeedsObserver, Valued, value};

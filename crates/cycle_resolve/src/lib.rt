@@ -3,4 +3,4 @@
 
 mod resolved;
 
-pub use resolved::{Event, ResolveError};
+pub use resolved::{Event, ResolveError, Resolved, resolve};
