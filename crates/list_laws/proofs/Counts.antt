@@ -1,9 +1,8 @@
 -- Counts over the numbers below n: one number more, equal and smaller counts, and when there is something to count.
-use Rattle.std.proofs.Common.{◌≡◌, ℕ, zero, suc, ◌+◌, ◌<◌, ◌≤◌, Bool, true, false, cond, List, [], ◌∷◌, ◌++◌, length, refl, sym, ◌∙◌, ap, arith, add-one}
+use Rattle.std.proofs.Common.{◌≡◌, ℕ, zero, suc, ◌+◌, ◌<◌, ◌≤◌, Bool, true, false, cond, refl, ap, arith, add-one}
 use Rattle.std.specs.List.{count_by}
 use Rattle.std.proofs.lemmas.List.Sums.{sum_by_push, count_by-le-length}
 use Rattle.std.proofs.lemmas.Bool.{cond-true, cond-false}
-use Rattle.std.proofs.lemmas.Bool.Decides.{nat_tests}
 use Rattle.list_laws.specs.Numbers.{upto}
 use Rattle.list_laws.proofs.Cases.{by_test, by_less}
 use Rattle.list_laws.proofs.Numbers.{length-upto}
@@ -55,6 +54,14 @@ count_upto_none p zero h = refl
 count_upto_none p (suc n) h =
     omega (arith, count_upto-suc p n, count_upto_none p n (λ i l. h i (omega arith)), cond-false {A = ℕ} (p n) 1 0 (h n (omega arith)))
 
+-- nothing more to count from m on
+pub count_upto_stays : (p : ℕ → Bool) (m n : ℕ) → m ≤ n → ((i : ℕ) → m ≤ i → i < n → p i ≡ false) → count_by p (upto n) ≡ count_by p (upto m)
+count_upto_stays p m zero h f = let e : m ≡ 0 = omega arith in rw e refl
+count_upto_stays p m (suc n) h f =
+    by_less n m
+    (λ g. let e : m ≡ suc n = omega arith in rw e refl)
+    (λ l. omega (arith, count_upto-suc p n, count_upto_stays p m n l (λ i a b. f i a (omega arith)), cond-false {A = ℕ} (p n) 1 0 (f n l (omega arith))))
+
 -- a number that passes is counted once, and a greater count has passed it
 pub count_upto_past : (p : ℕ → Bool) (i n : ℕ) → i < n → p i ≡ true → count_by p (upto i) + 1 ≤ count_by p (upto n)
 count_upto_past p i n h t = omega (arith, count_upto_more_yes p i t, count_upto_up p (i + 1) n (omega arith))
@@ -85,3 +92,14 @@ count_upto_one_more p q m (suc n) h f t e =
     let a : ◌≡◌ {A = ℕ} (cond (q n) 1 0) 1 = cond-true {A = ℕ} (q n) 1 0 (rw s at t) in
     let b : ◌≡◌ {A = ℕ} (cond (p n) 1 0) 0 = cond-false {A = ℕ} (p n) 1 0 (rw s at f) in
     omega (arith, count_upto-suc p n, count_upto-suc q n, a, b, count_upto_same q p n (λ i k. e i (omega arith) (λ z. omega (arith, z, k, s)))))
+
+-- a test that passes less, and not number m
+pub count_upto_less : (p q : ℕ → Bool) (m n : ℕ) → m < n → p m ≡ false → q m ≡ true → ((i : ℕ) → i < n → p i ≡ true → q i ≡ true) → count_by p (upto n) + 1 ≤ count_by q (upto n)
+count_upto_less p q m zero h f t e = absurd (omega arith)
+count_upto_less p q m (suc n) h f t e =
+    by_less m n
+    (λ l. omega (arith, count_upto-suc p n, count_upto-suc q n, count_upto_less p q m n l f t (λ i k. e i (omega arith)), one_le (p n) (q n) (e n (omega arith))))
+    (λ g. let s : m ≡ n = omega arith in
+    let a : ◌≡◌ {A = ℕ} (cond (q n) 1 0) 1 = cond-true {A = ℕ} (q n) 1 0 (rw s at t) in
+    let b : ◌≡◌ {A = ℕ} (cond (p n) 1 0) 0 = cond-false {A = ℕ} (p n) 1 0 (rw s at f) in
+    omega (arith, count_upto-suc p n, count_upto-suc q n, a, b, count_upto_fewer p q n (λ i k. e i (omega arith))))

@@ -1,9 +1,9 @@
 -- The first number below n that passes a test, and whether there is one.
-use Rattle.std.proofs.Common.{◌≡◌, ℕ, zero, suc, ◌+◌, ◌<◌, ◌≤◌, Bool, true, false, cond, List, [], ◌∷◌, ◌++◌, Option, Some, None, map, ◌||◌, refl, sym, ◌∙◌, ap, arith}
-use Rattle.std.specs.List.{count_by, find, list_any}
+use Rattle.std.proofs.Common.{◌≡◌, ℕ, zero, suc, ◌<◌, Bool, true, false, List, [], ◌∷◌, Some, None, map, ◌||◌, refl, sym, ◌∙◌, arith}
+use Rattle.std.specs.List.{find, list_any}
 use Rattle.std.specs.Option.{option_or, option_map}
 use Rattle.std.proofs.lemmas.List.Folds.{find-append, list_any-append}
-use Rattle.std.proofs.lemmas.Bool.{cond-true, cond-false, or_parts, or_cases, or_left, or_right, or_from}
+use Rattle.std.proofs.lemmas.Bool.{or_left, or_right}
 use Rattle.list_laws.specs.Numbers.{upto}
 use Rattle.list_laws.proofs.Cases.{by_test, by_less, by_option}
 use Rattle.list_laws.proofs.Counts.{Passing}
@@ -97,3 +97,8 @@ any_upto_passing p (suc n) h =
     let e : list_any p (upto n) ≡ true = by_test (list_any p (upto n)) (λ y. y) (λ z. let a : false ≡ true = sym (rw (z, f) refl) ∙ g in cc) in
     let r = any_upto_passing p n e in
     record { number = r.number; below = omega (arith, r.below); passes = r.passes })
+
+-- the first that passes among what a function makes of the elements
+pub find-map : {X Y : Type 0} (p : Y → Bool) (f : X → Y) (xs : List X) → find p (map f xs) ≡ option_map f (find (λ x. p (f x)) xs)
+find-map p f [] = refl
+find-map p f (x ∷ xs) = by_test (p (f x)) (λ t. rw t refl) (λ e. rw e (find-map p f xs))

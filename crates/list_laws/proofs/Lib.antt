@@ -3,3 +3,5 @@ pub mod Numbers
 pub mod Counts
 pub mod Ranks
 pub mod Finds
+pub mod Prefixes
+pub mod Totals

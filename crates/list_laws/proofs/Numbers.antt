@@ -1,9 +1,9 @@
 -- The numbers in order, as a list: its length, its elements, its front parts, and what a function makes of them.
-use Rattle.std.proofs.Common.{◌≡◌, ℕ, zero, suc, ◌+◌, ◌<◌, ◌≤◌, List, [], ◌∷◌, ◌++◌, length, take, get_or, map, Option, Some, None, slice_get, refl, sym, ◌∙◌, ap, arith, add-one, length-append, append_assoc}
-use Rattle.std.proofs.lemmas.List.{append-nil, length_push, get_or_push, get_or_append_left, take_all, take-append-le, map_push, length-map, get_or-map}
+use Rattle.std.proofs.Common.{◌≡◌, ℕ, zero, suc, ◌+◌, ◌<◌, ◌≤◌, [], ◌∷◌, ◌++◌, length, take, get_or, map, Some, slice_get, refl, ◌∙◌, ap, arith, add-one, length-append}
+use Rattle.std.proofs.lemmas.List.{get_or_push, get_or_append_left, take_all, take-append-le, map_push, length-map, get_or-map}
 use Rattle.std.proofs.lemmas.Option.{slice_get-get_or}
 use Rattle.list_laws.specs.Numbers.{upto}
-use Rattle.list_laws.proofs.Cases.{by_test, by_less}
+use Rattle.list_laws.proofs.Cases.{by_less}
 
 pub length-upto : (n : ℕ) → length (upto n) ≡ n
 length-upto zero = refl

@@ -1,5 +1,5 @@
 -- The numbers below n that pass a test, in order: the place of each is how many pass before it.
-use Rattle.std.proofs.Common.{◌≡◌, ℕ, zero, suc, ◌+◌, ◌<◌, ◌≤◌, Bool, true, false, cond, List, [], ◌∷◌, ◌++◌, length, get_or, Option, Some, None, slice_get, refl, sym, ◌∙◌, ap, arith, add-one}
+use Rattle.std.proofs.Common.{◌≡◌, ℕ, zero, suc, ◌<◌, Bool, true, false, [], ◌∷◌, ◌++◌, length, get_or, Some, slice_get, sym, ◌∙◌, ap, arith}
 use Rattle.std.specs.List.{count_by, filter}
 use Rattle.std.proofs.lemmas.List.{append-nil, get_or_push, get_or_append_left, length_push}
 use Rattle.std.proofs.lemmas.List.Elements.{filter-append}
@@ -8,7 +8,7 @@ use Rattle.std.proofs.lemmas.Bool.{cond-true, cond-false}
 use Rattle.std.proofs.lemmas.Option.{slice_get-get_or, slice_get_within, get_or_from_slice_get}
 use Rattle.list_laws.specs.Numbers.{upto}
 use Rattle.list_laws.proofs.Cases.{by_test, by_less}
-use Rattle.list_laws.proofs.Counts.{count_upto-suc, count_upto_past}
+use Rattle.list_laws.proofs.Counts.{count_upto_past}
 
 filter_upto_yes : (p : ℕ → Bool) (n : ℕ) → p n ≡ true → filter p (upto (suc n)) ≡ filter p (upto n) ++ n ∷ []
 filter_upto_yes p n h = filter-append p (upto n) (n ∷ []) ∙ ap (λ l. filter p (upto n) ++ l) (cond-true (p n) (n ∷ []) [] h)
