@@ -5,3 +5,4 @@ pub mod Shapes
 pub mod Whole
 pub mod Items
 pub mod Tables
+pub mod Compiling

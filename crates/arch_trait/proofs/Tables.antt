@@ -1,10 +1,9 @@
 -- Tables of names.
-use Rattle.std.proofs.Common.{ℕ, zero, suc, ◌+◌, ◌/◌, ◌%◌, ◌<◌, ◌≤◌, ◌≡◌, refl, Bool, true, false, cond, nat_lt, ◌==◌, List, [], ◌∷◌, ◌++◌, Option, Some, None, is_none, ◌&&◌, map, length, get_or, drop, length-append, ◌∙◌, sym, ap, subst, arith}
+use Rattle.std.proofs.Common.{ℕ, zero, suc, ◌+◌, ◌/◌, ◌%◌, ◌<◌, ◌≡◌, refl, Bool, true, false, cond, nat_lt, ◌==◌, List, [], ◌∷◌, ◌++◌, Option, Some, None, is_none, ◌&&◌, length, get_or, length-append, ◌∙◌, sym, ap, subst, arith}
 use Rattle.std.proofs.lemmas.Bool.{and_from, and_parts, eqb-true, eqb-false, ltb-true}
 use Rattle.std.proofs.lemmas.List.Folds.{list_all-append}
 use Rattle.std.proofs.lemmas.List.FromFn.{map-range_with_len_more, length-map-range_with_len}
-use Rattle.std.proofs.lemmas.Option.{cond_some}
-use Rattle.std.specs.List.{list_all, position_from, range_with_len, IsDistinct, AllByRecursion}
+use Rattle.std.specs.List.{list_all, position_from, IsDistinct, AllByRecursion}
 use Rattle.std.specs.Str.{bytes_eq}
 use Rattle.final_cond.specs.Names.{is_place_name}
 use Rattle.arch_trait.specs.Names.{IsTable, number_in, location_letters, lap_mark, location_name, letters}
@@ -24,8 +23,11 @@ none_passes : (t : List ℕ → Bool) (i : ℕ) (names : List (List ℕ)) → po
 none_passes t i [] e = tt
 none_passes t i (x ∷ names) e = by_test (t x)
     (λ f. absurd (some_none (sym (ap (λ b. cond b (Some i) (position_from t (i + 1) names)) f) ∙ e)))
-    (λ f. (f, none_passes t (i + 1) names
-      (sym (ap (λ b. cond b (Some i) (position_from t (i + 1) names)) f) ∙ e)))
+    (λ f. (
+      f,
+      none_passes t (i + 1) names
+          (sym (ap (λ b. cond b (Some i) (position_from t (i + 1) names)) f) ∙ e),
+    ))
   where
     some_none : Some i ≡ None → ⊥
     some_none e = cc
@@ -74,12 +76,12 @@ new_at : (n k : ℕ) → new_below n ≡ true → k < n → IsNew k
 new_at zero k e h = absurd (omega arith)
 new_at (suc n) k e h =
     let parts = and_parts (is_place_name (location_name n))
-        (is_none (number_in (letters n) (location_name n)) && new_below n) e in
+    (is_none (number_in (letters n) (location_name n)) && new_below n) e in
     let later = and_parts (is_none (number_in (letters n) (location_name n))) (new_below n) parts.1 in
     by_test (k == n)
     (λ t. let P : ℕ → Type 0 = IsNew in
-      subst P (sym (eqb-true k n t))
-      (record { formed = parts.0; new = none_is (number_in (letters n) (location_name n)) later.0 }))
+    subst P (sym (eqb-true k n t))
+    (record { formed = parts.0; new = none_is (number_in (letters n) (location_name n)) later.0 }))
     (λ t. let d : k ≡ n → ⊥ = eqb-false k n t in new_at n k later.1 (omega arith))
   where
     none_is : (o : Option ℕ) → is_none o ≡ true → o ≡ None

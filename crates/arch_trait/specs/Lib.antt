@@ -4,3 +4,4 @@ pub mod Taking
 pub mod Threads
 pub mod Laws
 pub mod Names
+pub mod Codes
