@@ -2,7 +2,7 @@
 use Rattle.std.proofs.Common.{◌≡◌, ℕ, zero, suc, ◌+◌, ◌-◌, ◌<◌, true, false, ◌&&◌, List, [], ◌∷◌, ◌++◌, length, Option, Some, None, Ok, Err, refl, sym, ◌∙◌, ap, arith, add-one}
 use Rattle.std.specs.Prelude.{nat_lt}
 use Rattle.std.specs.List.{find, filter_map, list_any}
-use Rattle.std.specs.Option.{option_or, is_some}
+use Rattle.std.specs.Option.{option_map, option_or, is_some}
 use Rattle.std.proofs.lemmas.List.Elements.{filter_map-append}
 use Rattle.std.proofs.lemmas.List.Folds.{find-append}
 use Rattle.std.proofs.lemmas.Bool.{and_parts, and_right, lt-ltb, le-ltb, ltb-true}
@@ -14,6 +14,7 @@ use Rattle.list_laws.proofs.Finds.{any_upto_none, any_upto_passing, any_upto_fai
 use Rattle.coherence_values.specs.Values.{edge_into, is_write_at, value_of, write_count, write_at, is_inner_entry, first_inner_entry, need_at, first_need, observer_need, valuation_of}
 use Rattle.relax_edges.specs.declared.kinds.ObsMode.{ObsMode}
 use Rattle.relax_edges.specs.declared.kinds.ObsMode.TheVariants.{Accept, Avoid, Force}
+use Rattle.cycle_resolve.specs.Resolution.{move_count}
 use Rattle.coherence_values.specs.declared.valued.NeedsObserver.{NeedsObserver}
 use Rattle.coherence_values.specs.Arc.{entry, first_entry, inner_entry}
 use Rattle.coherence_values.proofs.Writes.{Write, write_of, is_write_number}
@@ -95,13 +96,13 @@ none_found es l (suc m) h =
     (λ x s. let a : true ≡ false = sym (rw s refl) ∙ none_found es l m (λ k g. h k (omega arith)) in cc)
 
 -- the parts of an inner write that an external edge enters
-record Inner (es : List Edge) (l i : ℕ) : Type 0 where
-  writes : is_write_at es l i ≡ true
-  entered : is_external (edge_into es i) ≡ true
-  later : 1 < value_of es i
-  earlier : value_of es i < write_count es l
+pub record Inner (es : List Edge) (l i : ℕ) : Type 0 where
+  pub writes : is_write_at es l i ≡ true
+  pub entered : is_external (edge_into es i) ≡ true
+  pub later : 1 < value_of es i
+  pub earlier : value_of es i < write_count es l
 
-inner_parts : (es : List Edge) (l i : ℕ) → is_inner_entry es l i ≡ true → Inner es l i
+pub inner_parts : (es : List Edge) (l i : ℕ) → is_inner_entry es l i ≡ true → Inner es l i
 inner_parts es l i h =
     let a = and_parts (is_write_at es l i && is_external (edge_into es i) && nat_lt 1 (value_of es i)) (nat_lt (value_of es i) (write_count es l)) h in
     let b = and_parts (is_write_at es l i && is_external (edge_into es i)) (nat_lt 1 (value_of es i)) a.0 in
@@ -187,3 +188,31 @@ pub others_allowed : (es : List Edge) (mode : ObsMode) → (mode ≡ Avoid → �
 others_allowed es Accept h = refl
 others_allowed es Avoid h = absurd (h refl)
 others_allowed es Force h = refl
+
+-- where no location needs an observer, none has an inner write that an external edge enters
+need_none : (es : List Edge) (k d : ℕ) → k < d → first_need es (upto d) ≡ None → need_at es k ≡ None
+need_none es k zero h n = absurd (omega arith)
+need_none es k (suc d) h n =
+    let both : option_or (first_need es (upto d)) (option_or (need_at es d) None) ≡ None = sym (first_need-append es (upto d) (d ∷ [])) ∙ n in
+    let front = or_none_left (first_need es (upto d)) (option_or (need_at es d) None) both in
+    let back = or_none_right (first_need es (upto d)) (option_or (need_at es d) None) both in
+    by_less k d
+    (λ l. need_none es k d l front)
+    (λ g. let q : k ≡ d = omega arith in rw q (sym (need_or_none (need_at es d)) ∙ back))
+  where
+    or_none_left : (x y : Option NeedsObserver) → option_or x y ≡ None → x ≡ None
+    or_none_left None y e = refl
+    or_none_left (Some x) y e = cc
+    or_none_right : (x y : Option NeedsObserver) → option_or x y ≡ None → y ≡ None
+    or_none_right None y e = e
+    or_none_right (Some x) y e = cc
+
+pub no_inner_entry : (es : List Edge) (l i : ℕ) → observer_need es ≡ None → l < move_count es → i < length es → is_inner_entry es l i ≡ false
+no_inner_entry es l i n h b =
+    let none : first_inner_entry es l ≡ None = unmapped (first_inner_entry es l) (need_none es l (move_count es) h n) in
+    let found : is_some (inner_entry es l (write_count es l)) ≡ false = rw (first_inner_found es l, none) refl in
+    any_upto_fails (is_inner_entry es l) (length es) i (sym (inner_found es l) ∙ found) b
+  where
+    unmapped : (o : Option ℕ) → option_map (λ (event : ℕ). let r : NeedsObserver = record { location = l; event = event } in r) o ≡ None → o ≡ None
+    unmapped None e = refl
+    unmapped (Some x) e = cc

@@ -3,3 +3,4 @@ pub mod Along
 pub mod Writes
 pub mod Walk
 pub mod Entries
+pub mod Laws
