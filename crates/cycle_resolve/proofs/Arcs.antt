@@ -1,8 +1,8 @@
 -- The locations of a resolved cycle: there are several, which events of a thread share one, and where each one is left.
-use Rattle.std.proofs.Common.{◌≡◌, ℕ, zero, suc, ◌+◌, ◌-◌, ◌<◌, ◌≤◌, Bool, true, false, ◌==◌, ◌&&◌, cond, List, [], length, get_or, refl, sym, ◌∙◌, ap, arith}
-use Rattle.std.specs.List.{count_by, filter}
+use Rattle.std.proofs.Common.{◌≡◌, ℕ, zero, suc, ◌+◌, ◌-◌, ◌<◌, ◌≤◌, Bool, true, false, ◌==◌, ◌&&◌, List, length, get_or, refl, sym, ◌∙◌, ap, arith}
+use Rattle.std.specs.List.{filter}
 use Rattle.std.specs.Prelude.{◌↔◌}
-use Rattle.std.proofs.lemmas.Bool.{eq-eqb, and_from, cases_Bool}
+use Rattle.std.proofs.lemmas.Bool.{eq-eqb, and_from}
 use Rattle.std.proofs.lemmas.Option.{slice_get-get_or}
 use Rattle.relax_edges.specs.declared.kinds.Reach.TheVariants.{Internal}
 use Rattle.relax_edges.specs.declared.kinds.Com.TheVariants.{Rf}
@@ -10,13 +10,13 @@ use Rattle.relax_edges.specs.declared.edge.Edge.{Edge}
 use Rattle.relax_edges.specs.declared.edge.Edge.TheVariants as edges
 use Rattle.relax_edges.specs.EdgeTable.{is_external, is_diff}
 use Rattle.list_laws.specs.Numbers.{upto}
-use Rattle.list_laws.proofs.Cases.{by_test, by_less, by_same}
-use Rattle.list_laws.proofs.Counts.{count_upto_up, count_upto_past, counted, Passing}
+use Rattle.list_laws.proofs.Cases.{by_test, by_less}
+use Rattle.list_laws.proofs.Counts.{count_upto_up, count_upto_past, counted}
 use Rattle.list_laws.proofs.Prefixes.{count_all, count_take}
 use Rattle.list_laws.proofs.Ranks.{unrank_upto, length-filter-upto}
-use Rattle.cycle_resolve.specs.Resolution.{external_count, move_count, edge_at, thread_of, moves_before, location_of, moves_in, is_coherence_only, IsResolved}
+use Rattle.cycle_resolve.specs.Resolution.{external_count, move_count, edge_at, thread_of, moves_before, location_of, moves_in, IsResolved}
 use Rattle.cycle_resolve.proofs.Threads.{thread_up, thread_end, thread_out}
-use Rattle.cycle_resolve.proofs.Locations.{ends_with, external_keeps, moves-zero, moves_on, moves_kept, moves_up, moves_end, moves_most, location_wrapped, location_first, same_moves_location, moves_in_before, moves_between, moves_in_fewer, moves_in_most}
+use Rattle.cycle_resolve.proofs.Locations.{ends_with, external_keeps, moves_on, moves_kept, moves_up, moves_end, moves_most, location_wrapped, location_first, same_moves_location, moves_in_before, moves_between, moves_in_fewer}
 
 -- the last edge is external, and keeps the location
 pub last_outside : (es : List Edge) (n : ℕ) → IsResolved es → length es ≡ n + 1 → is_external (edge_at es n) ≡ true
@@ -39,8 +39,11 @@ moves_last es n r h = omega (arith, moves_kept es n (omega (arith, h)) (last_kee
 move_in_thread : (es : List Edge) (i : ℕ) → i < length es → is_diff (edge_at es i) ≡ true → 1 ≤ moves_in es (thread_of es i)
 unfolding moves_in
 move_in_thread es i h t =
-    omega (arith, count_upto_past (λ j. is_diff (edge_at es j) && (thread_of es j == thread_of es i)) i (length es) h
-    (and_from (is_diff (edge_at es i)) (thread_of es i == thread_of es i) t (eq-eqb (thread_of es i) (thread_of es i) refl)))
+    omega (
+      arith,
+      count_upto_past (λ j. is_diff (edge_at es j) && (thread_of es j == thread_of es i)) i (length es) h
+          (and_from (is_diff (edge_at es i)) (thread_of es i == thread_of es i) t (eq-eqb (thread_of es i) (thread_of es i) refl)),
+    )
 
 -- there are at least two locations
 pub several_locations : (es : List Edge) → IsResolved es → 2 ≤ move_count es
@@ -118,9 +121,10 @@ same_moves es i (suc j) h l k =
 
 -- in one thread, two events are at one location exactly where no edge between them leads to another
 pub location_in_thread : (es : List Edge) (i j : ℕ) → IsResolved es → i ≤ j → j < length es → thread_of es i ≡ thread_of es j → (location_of es i ≡ location_of es j) ↔ ((m : ℕ) → i ≤ m → m < j → is_diff (edge_at es m) ≡ false)
-location_in_thread es i j r h l t =
-    (λ e m a b. none_moves es i j m a b (omega arith) (one_location es i j r h l t e),
-    λ k. same_moves_location es i j (same_moves es i j h (omega arith) k))
+location_in_thread es i j r h l t = (
+  λ e m a b. none_moves es i j m a b (omega arith) (one_location es i j r h l t e),
+  λ k. same_moves_location es i j (same_moves es i j h (omega arith) k),
+)
 
 -- the events of a thread at one location stand together: in one run, none of another thread or location between them
 pub record SameRun (es : List Edge) (i m : ℕ) : Type 0 where

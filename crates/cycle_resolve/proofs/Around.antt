@@ -1,16 +1,16 @@
 -- The way round a cycle: where each edge leads, the last one back to event 0 included.
-use Rattle.std.proofs.Common.{◌≡◌, ℕ, zero, suc, ◌+◌, ◌-◌, ◌<◌, ◌≤◌, Bool, true, false, ◌==◌, ◌&&◌, cond, List, [], ◌∷◌, ◌++◌, length, take, get_or, refl, sym, ◌∙◌, ap, arith, length-append}
+use Rattle.std.proofs.Common.{◌≡◌, ℕ, zero, suc, ◌+◌, ◌-◌, ◌<◌, true, false, ◌==◌, cond, List, [], ◌∷◌, ◌++◌, length, get_or, refl, sym, ◌∙◌, ap, arith, length-append}
 use Rattle.std.proofs.lemmas.List.{get_or_append_left, get_or_push}
 use Rattle.std.proofs.lemmas.Bool.{eq-eqb, ne_eqb, and_parts, cond-true, cond-false}
 use Rattle.relax_edges.specs.declared.kinds.Dir.{Dir}
 use Rattle.relax_edges.specs.declared.kinds.Dir.TheVariants as dirs
 use Rattle.relax_edges.specs.declared.edge.Edge.{Edge}
 use Rattle.relax_edges.specs.EdgeTable.{source_of, target_of, joins_to, same_dir, is_external, is_diff}
-use Rattle.walk_laws.specs.Composable.{joins_first, is_joined, is_closed, IsCycle}
-use Rattle.list_laws.proofs.Cases.{by_test, by_less, by_same}
-use Rattle.cycle_resolve.specs.Resolution.{external_count, move_count, edge_at, thread_of, slot_of, moves_before, location_of, event_after, event_before, IsResolved}
+use Rattle.walk_laws.specs.Composable.{is_joined, IsCycle}
+use Rattle.list_laws.proofs.Cases.{by_same}
+use Rattle.cycle_resolve.specs.Resolution.{external_count, edge_at, thread_of, slot_of, location_of, event_after, event_before, IsResolved}
 use Rattle.cycle_resolve.proofs.Threads.{thread-zero, thread_out, thread_in, thread_end, slot-zero, slot_out, slot_in}
-use Rattle.cycle_resolve.proofs.Locations.{moves-zero, moves_kept, location-zero, location_kept, location_wrapped}
+use Rattle.cycle_resolve.proofs.Locations.{location-zero, location_kept, location_wrapped}
 use Rattle.cycle_resolve.proofs.Arcs.{last_outside, last_keeps, moves_last, moved_location, thread_below}
 
 -- behind the last event comes event 0, behind any other the next one

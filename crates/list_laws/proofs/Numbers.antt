@@ -1,5 +1,5 @@
 -- The numbers in order, as a list: its length, its elements, its front parts, and what a function makes of them.
-use Rattle.std.proofs.Common.{◌≡◌, ℕ, zero, suc, ◌+◌, ◌<◌, ◌≤◌, [], ◌∷◌, ◌++◌, length, take, get_or, map, Some, slice_get, refl, ◌∙◌, ap, arith, add-one, length-append}
+use Rattle.std.proofs.Common.{◌≡◌, ℕ, zero, suc, ◌+◌, ◌<◌, ◌≤◌, List, [], ◌∷◌, ◌++◌, length, take, get_or, map, Some, slice_get, refl, ◌∙◌, ap, arith, add-one, length-append}
 use Rattle.std.proofs.lemmas.List.{get_or_push, get_or_append_left, take_all, take-append-le, map_push, length-map, get_or-map}
 use Rattle.std.proofs.lemmas.Option.{slice_get-get_or}
 use Rattle.list_laws.specs.Numbers.{upto}
@@ -40,3 +40,7 @@ get_or-map-upto f n i d h = get_or-map f (upto n) i 0 d (omega (arith, length-up
 pub slice_get-map-upto : {X : Type 0} (f : ℕ → X) (n i : ℕ) → i < n → slice_get (map f (upto n)) i ≡ Some (f i)
 slice_get-map-upto f n i h =
     slice_get-get_or (map f (upto n)) i (f i) (omega (arith, length-map-upto f n)) ∙ ap Some (get_or-map-upto f n i (f i) h)
+
+-- a number below n is a place of such a list
+pub place_in_map : {X : Type 0} (f : ℕ → X) (n i : ℕ) (xs : List X) → xs ≡ map f (upto n) → i < n → i < length xs
+place_in_map f n i xs e h = omega (arith, ap length e, length-map-upto f n)

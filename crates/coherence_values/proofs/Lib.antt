@@ -1,0 +1,5 @@
+pub mod Ways
+pub mod Along
+pub mod Writes
+pub mod Walk
+pub mod Entries
