@@ -6,3 +6,4 @@ pub mod LeftLaws
 pub mod TermLaws
 pub mod WithinLaws
 pub mod StateLaws
+pub mod BackLaws
