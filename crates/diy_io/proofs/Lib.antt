@@ -1,0 +1,3 @@
+pub mod MemSinkLemmas
+pub mod PiecesLemmas
+pub mod StdSinkLemmas
