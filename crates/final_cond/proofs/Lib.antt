@@ -7,3 +7,4 @@ pub mod TermLaws
 pub mod WithinLaws
 pub mod StateLaws
 pub mod BackLaws
+pub mod PrintLaws

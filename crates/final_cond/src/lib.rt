@@ -3,15 +3,19 @@
 
 mod cond;
 mod errors;
+mod law;
 mod names;
 mod numbers;
+mod print;
 mod read;
 mod runs;
 mod state;
 
 pub use cond::{Cond, Left, MAX_TERMS, PlaceName, Quantifier, RegName, Term};
 pub use errors::{CondError, CondFault, CondKind};
+pub use law::printed_reads_back;
 pub use names::{MAX_NAME, is_place_name, is_register_name};
 pub use numbers::number_of;
+pub use print::print_cond;
 pub use read::{Follow, read_cond, read_follow, read_opening, read_term};
 pub use state::{Final, holds};
