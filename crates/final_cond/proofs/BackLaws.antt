@@ -17,7 +17,7 @@ use Rattle.final_cond.specs.Conditions.{LeftSeen, InRegister, AtPlace, TermSeen,
 use Rattle.final_cond.specs.CondText.{quantifier_word, left_text, term_text, terms_text, cond_text}
 use Rattle.final_cond.specs.Runs.{run_of, after_run, is_blank, unblanked}
 use Rattle.final_cond.specs.ReadBack.{IsFormedTerm, IsFormed}
-use Rattle.final_cond.specs.Reading.{sign_read, opening_read, left_at_front, register_at_front, has_form, left_read, value_read, term_read, follow_read, terms_read, parts_read, cond_read}
+use Rattle.final_cond.specs.Reading.{sign_read, opening_read, left_at_front, register_at_front, has_form, left_read, value_read, right_read, term_read, follow_read, terms_read, parts_read, cond_read}
 use Rattle.final_cond.proofs.NameLaws.{place_shaped, register_shaped, shaped_all}
 use Rattle.final_cond.proofs.NumberLaws.{own, number_of-decimal}
 
@@ -129,6 +129,11 @@ equals_back : (rest : List ℕ) → sign_read BadTerm 61 (61 ∷ rest) ≡ Ok re
 unfolding sign_read after_run
 equals_back rest = refl
 
+-- `=` and a value read back
+pub right_back : (n : ℕ) (rest : List ℕ) → n < 2 ^ 32 → stops is_ascii_digit rest ≡ true → right_read (61 ∷ (decimal n ++ rest)) ≡ Ok (n, rest)
+unfolding right_read
+right_back n rest h s = rw (equals_back (decimal n ++ rest), value_back n rest h s) refl
+
 term_parts : (left value rest : List ℕ) → ((left ++ 61 ∷ []) ++ value) ++ rest ≡ left ++ (61 ∷ (value ++ rest))
 term_parts left value rest = simp append_assoc
 
@@ -137,7 +142,7 @@ pub term_back : (known : LeftSeen → Bool) (term : TermSeen) (rest : List ℕ) 
 unfolding term_read term_text
 term_back known term rest f k s =
     rw term_parts (rw (left_unblanked term.left (61 ∷ (decimal term.value ++ rest)) f.form, left_back known term.left (61 ∷ (decimal term.value ++ rest)) f.form k refl)
-    (rw (equals_back (decimal term.value ++ rest), value_back term.value rest f.value s) refl))
+    (rw (right_back term.value rest f.value s) refl))
 
 -- a blank before a term, or before terms, changes nothing
 term_blank : (known : LeftSeen → Bool) (text : List ℕ) → term_read known (32 ∷ text) ≡ term_read known text

@@ -8,3 +8,4 @@ pub mod WithinLaws
 pub mod StateLaws
 pub mod BackLaws
 pub mod PrintLaws
+pub mod KnownLaws

@@ -17,5 +17,5 @@ pub use law::printed_reads_back;
 pub use names::{MAX_NAME, is_place_name, is_register_name};
 pub use numbers::number_of;
 pub use print::print_cond;
-pub use read::{Follow, read_cond, read_follow, read_opening, read_term};
+pub use read::{Follow, read_cond, read_follow, read_left, read_opening, read_right, read_term};
 pub use state::{Final, holds};
