@@ -15,4 +15,5 @@ pub use code::{Code, TooManyRegisters, compile_into, compile_thread};
 pub use link::{Link, link_of};
 pub use places::{MAX_PLACES, Places};
 pub use regs::{Links, MAX_REGISTERS, Regs};
+pub use shape::shape_of;
 pub use step::{MAX_STEPS, Shape, Step};
