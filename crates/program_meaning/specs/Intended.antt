@@ -1,7 +1,7 @@
 -- The accesses that the test of a cycle makes, and its intended execution. `es` is the list of edges in which threads,
 -- locations and values are counted, and `number` gives the number of each location's place.
 -- Source: own, after the way diy takes from a cycle to a test.
-use Rattle.std.specs.Prelude.{ℕ, zero, suc, ◌+◌, ◌==◌, List, [], ◌∷◌, ◌++◌, length, filter, map, unwrap_or, Option, Some, None}
+use Rattle.std.specs.Prelude.{ℕ, zero, suc, ◌≡◌, ◌<◌, ◌+◌, ◌==◌, List, [], ◌∷◌, ◌++◌, length, filter, map, unwrap_or, Option, Some, None}
 use Rattle.std.specs.List.{find, filter_map}
 use Rattle.std.specs.Option.{option_map}
 use Rattle.relax_edges.specs.declared.kinds.ObsMode.{ObsMode}
@@ -16,7 +16,7 @@ use Rattle.program_meaning.specs.Executions.{Execution}
 use Rattle.program_meaning.specs.Standing.{event_name}
 
 -- the events of a thread, in order
-abbrev pub events_in : List Edge → ℕ → List ℕ
+unfoldable pub events_in : List Edge → ℕ → List ℕ
 events_in es thread = filter (λ i. thread_of es i == thread) (upto (length es))
 
 -- the locations that have an observer, in order
@@ -32,7 +32,7 @@ abbrev pub observer_accesses : List Edge → (ℕ → ℕ) → ℕ → List Acce
 observer_accesses es number location = map (λ k. read (number location) (k + 1)) (upto (write_count es location))
 
 -- the accesses of the cycle's threads, and then of the observers
-abbrev pub cycle_accesses : List Edge → ObsMode → (ℕ → ℕ) → List (List Access)
+unfoldable pub cycle_accesses : List Edge → ObsMode → (ℕ → ℕ) → List (List Access)
 cycle_accesses es mode number =
     map (λ thread. map (event_access es number) (events_in es thread)) (upto (external_count es)) ++
     map (observer_accesses es number) (observed_locations es mode)
@@ -55,16 +55,21 @@ abbrev pub reads_in : List Edge → ℕ → List ℕ
 reads_in es thread = filter (λ i. is_read (event_access es (λ location. location) i)) (events_in es thread)
 
 -- the writes of a location, in the order of their values
-abbrev pub location_order : List Edge → ℕ → List WriteAt
+unfoldable pub location_order : List Edge → ℕ → List WriteAt
 location_order es location = filter_map (λ k. write_of es location (k + 1)) (upto (write_count es location))
 
+-- a numbering of the places: a number below the count of the locations for each location, and no number for two
+pub record IsNumbering (es : List Edge) (number : ℕ → ℕ) : Type 0 where
+  pub below : (location : ℕ) → location < move_count es → number location < move_count es
+  pub injective : (l m : ℕ) → l < move_count es → m < move_count es → number l ≡ number m → l ≡ m
+
 -- the location whose place has this number
-abbrev pub location_numbered : List Edge → (ℕ → ℕ) → ℕ → ℕ
+unfoldable pub location_numbered : List Edge → (ℕ → ℕ) → ℕ → ℕ
 location_numbered es number place = unwrap_or (find (λ location. number location == place) (upto (move_count es))) 0
 
 -- the intended execution: each read reads the write of its location that has its value, and each place has its writes
 -- in the order of their values
-abbrev pub intended : List Edge → ObsMode → (ℕ → ℕ) → Execution
+unfoldable pub intended : List Edge → ObsMode → (ℕ → ℕ) → Execution
 intended es mode number = record {
   reads =
       map (λ thread. map (event_read es) (reads_in es thread)) (upto (external_count es)) ++

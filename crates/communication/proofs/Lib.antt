@@ -1,0 +1,6 @@
+pub mod Examples
+pub mod Lists
+pub mod Orders
+pub mod Resolves
+pub mod Numbering
+pub mod Accesses
