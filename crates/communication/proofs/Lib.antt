@@ -4,3 +4,5 @@ pub mod Orders
 pub mod Resolves
 pub mod Numbering
 pub mod Accesses
+pub mod WriteEvents
+pub mod ReadLists

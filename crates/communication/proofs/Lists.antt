@@ -1,10 +1,11 @@
 -- Lists by their elements: joined lists, equal lists, what a map and a filter hold, and the place of an element.
-use Rattle.std.proofs.Common.{◌≡◌, ℕ, zero, suc, ◌+◌, ◌-◌, ◌<◌, ◌≤◌, Bool, true, false, cond, ltb, List, [], ◌∷◌, ◌++◌, length, get_or, map, Option, Some, None, slice_get, refl, sym, ◌∙◌, ap, arith, add-one}
-use Rattle.std.specs.List.{filter, filter_map, position, position_or_len}
+use Rattle.std.proofs.Common.{◌≡◌, ℕ, zero, suc, ◌+◌, ◌-◌, ◌<◌, ◌≤◌, Bool, true, false, cond, ltb, List, [], ◌∷◌, ◌++◌, length, get_or, map, Option, Some, None, slice_get, take, refl, sym, ◌∙◌, ap, arith}
+use Rattle.std.specs.List.{count_by, filter, filter_map}
 use Rattle.std.specs.Option.{option_map}
 use Rattle.std.proofs.lemmas.Bool.{cond-true, cond-false, lt-ltb}
 use Rattle.std.proofs.lemmas.Option.{slice_get-map, slice_get_within, slice_get_past, slice_get-get_or}
 use Rattle.std.proofs.lemmas.List.Elements.{filter_map-append}
+use Rattle.std.proofs.lemmas.List.Sums.{sum_by-cons}
 use Rattle.std.proofs.lemmas.List.{append-nil, length_push}
 use Rattle.list_laws.specs.Numbers.{upto}
 use Rattle.list_laws.proofs.Cases.{by_test, by_less}
@@ -97,3 +98,45 @@ slice_get-filter_map-upto {X} g (suc n) k h l =
     (λ m. slice_get-append_left (filter_map g (upto n)) (w.0 ∷ []) k (omega arith) ∙ slice_get-filter_map-upto g n k (λ j o. h j (omega arith)) m)
     (λ m. let s : k ≡ n = omega arith in
     slice_get-append_right (filter_map g (upto n)) (w.0 ∷ []) k 0 (omega arith) ∙ sym w.1 ∙ ap g (sym s)))
+
+-- what a filter keeps all of, it leaves as it is
+pub filter_all : {X : Type 0} (p : X → Bool) (xs : List X) → ((x : X) → p x ≡ true) → filter p xs ≡ xs
+filter_all p [] h = refl
+filter_all {X} p (x ∷ xs) h = cond-true {A = List X} (p x) (x ∷ filter p xs) (filter p xs) (h x) ∙ ap (λ l. x ∷ l) (filter_all p xs h)
+
+-- what a filter keeps is an element that passes
+pub record Kept {X : Type 0} (p : X → Bool) (xs : List X) (x : X) : Type 0 where
+  pub index : ℕ
+  pub got : slice_get xs index ≡ Some x
+  pub passes : p x ≡ true
+
+pub kept : {X : Type 0} (p : X → Bool) (xs : List X) (k : ℕ) (x : X) → slice_get (filter p xs) k ≡ Some x → Kept p xs x
+kept p [] k x h = cc
+kept {X} p (y ∷ xs) k x h =
+    by_test (p y)
+    (λ t. first k (kept p xs) t (ap (λ l. slice_get l k) (sym (cond-true {A = List X} (p y) (y ∷ filter p xs) (filter p xs) t)) ∙ h))
+    (λ f. later (kept p xs k x (ap (λ l. slice_get l k) (sym (cond-false {A = List X} (p y) (y ∷ filter p xs) (filter p xs) f)) ∙ h)))
+  where
+    later : Kept p xs x → Kept p (y ∷ xs) x
+    later r = record { index = suc r.index; got = r.got; passes = r.passes }
+    first : (k : ℕ) → ((j : ℕ) (z : X) → slice_get (filter p xs) j ≡ Some z → Kept p xs z) → p y ≡ true → slice_get (y ∷ filter p xs) k ≡ Some x → Kept p (y ∷ xs) x
+    first zero rest t g = let e : y ≡ x = cc in record { index = 0; got = g; passes = ap p (sym e) ∙ t }
+    first (suc k) rest t g = later (rest k x g)
+
+-- an element that passes stands in the filter behind as many as pass before it
+pub rank_filter : {X : Type 0} (p : X → Bool) (xs : List X) (k : ℕ) (x : X) → slice_get xs k ≡ Some x → p x ≡ true → slice_get (filter p xs) (count_by p (take k xs)) ≡ Some x
+rank_filter p [] k x h t = cc
+rank_filter {X} p (y ∷ xs) zero x h t =
+    let e : y ≡ x = cc in
+    ap (λ l. slice_get l 0) (cond-true {A = List X} (p y) (y ∷ filter p xs) (filter p xs) (ap p e ∙ t)) ∙ h
+rank_filter {X} p (y ∷ xs) (suc k) x h t =
+    by_test (p y)
+    (λ q. ap (λ l. slice_get l (count_by p (take (suc k) (y ∷ xs)))) (cond-true {A = List X} (p y) (y ∷ filter p xs) (filter p xs) q)
+    ∙ ap (slice_get (y ∷ filter p xs)) (let e : count_by p (take (suc k) (y ∷ xs)) ≡ suc (count_by p (take k xs)) = omega (arith, counted, cond-true {A = ℕ} (p y) 1 0 q) in e)
+    ∙ rank_filter p xs k x h t)
+    (λ q. ap (λ l. slice_get l (count_by p (take (suc k) (y ∷ xs)))) (cond-false {A = List X} (p y) (y ∷ filter p xs) (filter p xs) q)
+    ∙ ap (slice_get (filter p xs)) (let e : count_by p (take (suc k) (y ∷ xs)) ≡ count_by p (take k xs) = omega (arith, counted, cond-false {A = ℕ} (p y) 1 0 q) in e)
+    ∙ rank_filter p xs k x h t)
+  where
+    counted : count_by p (take (suc k) (y ∷ xs)) ≡ cond (p y) 1 0 + count_by p (take k xs)
+    counted = sum_by-cons (λ x. cond (p x) 1 0) y (take k xs)

@@ -33,7 +33,7 @@ written_by dirs.W = 1
 -- how the events of a cycle stand to one another in threads, at locations and by their values
 pub record Resolves (es : List Edge) : Type 0 where
   pub locations : 0 < move_count es
-  pub location : (i : ℕ) → i < length es → location_of es i < move_count es
+  pub location : (i : ℕ) → location_of es i < move_count es
   pub thread : (i : ℕ) → i < length es → thread_of es i < external_count es
   pub stands : (i : ℕ) → i < length es → slice_get (events_in es (thread_of es i)) (slot_of es i) ≡ Some i
   pub event : (k s i : ℕ) → slice_get (events_in es k) s ≡ Some i → IsIn es k s i

@@ -37,10 +37,14 @@ cycle_accesses es mode number =
     map (λ thread. map (event_access es number) (events_in es thread)) (upto (external_count es)) ++
     map (observer_accesses es number) (observed_locations es mode)
 
+-- write number k of a location, from 0, by its name
+abbrev pub ordered_write : List Edge → ℕ → ℕ → Option WriteAt
+ordered_write es location k = option_map (event_name es) (write_at es location k)
+
 -- the write of a location with a value, none for the value 0
 abbrev pub write_of : List Edge → ℕ → ℕ → Option WriteAt
 write_of es location zero = None
-write_of es location (suc k) = option_map (event_name es) (write_at es location k)
+write_of es location (suc k) = ordered_write es location k
 
 -- what event i reads in the intended execution: the write of its location that has its value
 abbrev pub event_read : List Edge → ℕ → ℕ × Option WriteAt
@@ -48,7 +52,7 @@ event_read es i = (value_of es i, write_of es (location_of es i) (value_of es i)
 
 -- what an observer reads: the writes of its location, in the order of their values
 abbrev pub observer_reads : List Edge → ℕ → List (ℕ × Option WriteAt)
-observer_reads es location = map (λ k. (k + 1, write_of es location (k + 1))) (upto (write_count es location))
+observer_reads es location = map (λ k. (k + 1, ordered_write es location k)) (upto (write_count es location))
 
 -- the events of a thread that read
 abbrev pub reads_in : List Edge → ℕ → List ℕ
@@ -56,7 +60,7 @@ reads_in es thread = filter (λ i. is_read (event_access es (λ location. locati
 
 -- the writes of a location, in the order of their values
 unfoldable pub location_order : List Edge → ℕ → List WriteAt
-location_order es location = filter_map (λ k. write_of es location (k + 1)) (upto (write_count es location))
+location_order es location = filter_map (ordered_write es location) (upto (write_count es location))
 
 -- a numbering of the places: a number below the count of the locations for each location, and no number for two
 pub record IsNumbering (es : List Edge) (number : ℕ → ℕ) : Type 0 where
