@@ -6,3 +6,5 @@ pub mod Numbering
 pub mod Accesses
 pub mod WriteEvents
 pub mod ReadLists
+pub mod IntendedReads
+pub mod IntendedOrders
