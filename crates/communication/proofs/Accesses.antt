@@ -69,7 +69,7 @@ pub record GotFrom {X : Type 0} (o : Option (List X)) (k : ℕ) (x : X) : Type 0
   pub list_is : o ≡ Some list
   pub got : slice_get list k ≡ Some x
 
-got_from_list : {X : Type 0} (o : Option (List X)) (k : ℕ) (x : X) → got_from o k ≡ Some x → GotFrom o k x
+pub got_from_list : {X : Type 0} (o : Option (List X)) (k : ℕ) (x : X) → got_from o k ≡ Some x → GotFrom o k x
 got_from_list None k x h = cc
 got_from_list (Some xs) k x h = record { list = xs; list_is = refl; got = h }
 

@@ -93,7 +93,7 @@ load_reads es number l n h =
     same k = rw (add-one, location_of_number es number l n h) refl
 
 -- how many threads read
-reads-count : (es : List Edge) (mode : ObsMode) (number : ℕ → ℕ) → length (intended es mode number).reads ≡ length (cycle_accesses es mode number)
+pub reads-count : (es : List Edge) (mode : ObsMode) (number : ℕ → ℕ) → length (intended es mode number).reads ≡ length (cycle_accesses es mode number)
 unfolding intended cycle_accesses
 reads-count es mode number =
     length-append (map (λ thread. map (event_read es) (reads_in es thread)) (upto (external_count es))) (map (observer_reads es) (observed_locations es mode))

@@ -8,3 +8,5 @@ pub mod WriteEvents
 pub mod ReadLists
 pub mod IntendedReads
 pub mod IntendedOrders
+pub mod IntendedExists
+pub mod OnlyOne

@@ -1,13 +1,16 @@
 -- What the executions of a cycle rest on: the facts of its threads, its locations and its values.
-use Rattle.std.specs.Prelude.{◌≡◌, ◌≢◌, ℕ, suc, ◌+◌, ◌<◌, ◌≤◌, List, length, Option, Some, slice_get}
+use Rattle.std.proofs.Common.{refl, ◌∙◌, arith, add-one}
+use Rattle.std.proofs.lemmas.Bool.{cond-true, cond-false, eq-eqb, ne_eqb}
+use Rattle.std.specs.Prelude.{◌≡◌, ◌≢◌, ℕ, zero, suc, ◌+◌, ◌-◌, ◌<◌, ◌≤◌, ◌==◌, false, List, length, Option, Some, slice_get}
 use Rattle.relax_edges.specs.declared.kinds.Dir.{Dir}
 use Rattle.relax_edges.specs.declared.kinds.Dir.TheVariants as dirs
 use Rattle.relax_edges.specs.declared.kinds.Sd.TheVariants.{Same, Diff}
 use Rattle.relax_edges.specs.declared.kinds.Reach.TheVariants.{Internal, External}
+use Rattle.relax_edges.specs.declared.kinds.ObsMode.{ObsMode}
 use Rattle.relax_edges.specs.declared.edge.Edge.{Edge}
 use Rattle.relax_edges.specs.EdgeTable.{source_of, target_of, place_of, reach_of}
 use Rattle.cycle_resolve.specs.Resolution.{edge_at, external_count, move_count, thread_of, slot_of, location_of}
-use Rattle.coherence_values.specs.Values.{value_of, write_at, write_count}
+use Rattle.coherence_values.specs.Values.{value_of, write_at, write_count, edge_into, is_observed}
 use Rattle.program_meaning.specs.Coherence.{MayFollow}
 use Rattle.program_meaning.specs.Standing.{next_event}
 use Rattle.program_meaning.specs.Intended.{events_in}
@@ -51,3 +54,21 @@ pub record Resolves (es : List Edge) : Type 0 where
   pub writes : (location k i : ℕ) → write_at es location k ≡ Some i → IsWrite es location k i
   pub found : (location k i : ℕ) → IsWrite es location k i → write_at es location k ≡ Some i
   pub positive : (i : ℕ) → i < length es → source_of (edge_at es i) ≡ dirs.W → 0 < value_of es i
+
+-- a write of a location without an observer that an external edge enters is its first or its last
+pub record EntersLast (es : List Edge) (mode : ObsMode) : Type 0 where
+  pub last : (i : ℕ) → i < length es → source_of (edge_at es i) ≡ dirs.W → is_observed es mode (location_of es i) ≡ false → reach_of (edge_into es i) ≡ External → 1 < value_of es i → value_of es i ≡ write_count es (location_of es i)
+
+-- the edge into an event leaves the event before it
+pub record Entered (es : List Edge) (i : ℕ) : Type 0 where
+  pub before : ℕ
+  pub below : before < length es
+  pub next : next_event es before ≡ i
+  pub edge : edge_into es i ≡ edge_at es before
+
+pub entered : (es : List Edge) (i : ℕ) → i < length es → Entered es i
+entered es zero h =
+    let e : length es - 1 + 1 ≡ length es = omega arith in
+    record { before = length es - 1; below = omega arith; next = cond-true {A = ℕ} (length es - 1 + 1 == length es) 0 (length es - 1 + 1) (eq-eqb (length es - 1 + 1) (length es) e); edge = refl }
+entered es (suc i) h =
+    record { before = i; below = omega arith; next = cond-false {A = ℕ} (i + 1 == length es) 0 (i + 1) (ne_eqb (i + 1) (length es) (λ e. omega (arith, e, h))) ∙ add-one i; edge = refl }
