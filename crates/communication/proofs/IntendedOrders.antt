@@ -55,6 +55,9 @@ order_of threads places place x c h =
     let e : g.element ≡ order_at x place = sym (ap (λ o. unwrap_or o []) g.got) in
     record { got = g.got ∙ ap Some e; orders = subst (IsOrderOf threads place) e (c.orders place g.element g.got) }
 
+pub order_got : (threads : List (List Access)) (places place : ℕ) (x : Execution) → IsExecutionOf threads places x → place < places → slice_get x.orders place ≡ Some (order_at x place)
+order_got threads places place x c h = let o = order_of threads places place x c h in o.got
+
 -- which holds the location's writes
 pub order_holds : (es : List Edge) (mode : ObsMode) (number : ℕ → ℕ) (l : ℕ) (x : Execution) → Resolves es → IsNumbering es number → IsExecutionOf (cycle_accesses es mode number) (move_count es) x → l < move_count es → Holds (order_at x (number l)) (ordered_write es l) (write_count es l)
 order_holds es mode number l x r n c h =
