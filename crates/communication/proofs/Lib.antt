@@ -10,3 +10,4 @@ pub mod IntendedReads
 pub mod IntendedOrders
 pub mod IntendedExists
 pub mod OnlyOne
+pub mod EdgesJoin

@@ -13,7 +13,7 @@ use Rattle.coherence_values.specs.Values.{is_observed, value_of, write_at, write
 use Rattle.program_meaning.specs.declared.WriteAt.{WriteAt}
 use Rattle.program_meaning.specs.Accesses.{Access, read, is_read}
 use Rattle.program_meaning.specs.Executions.{Execution}
-use Rattle.program_meaning.specs.Standing.{event_name}
+use Rattle.program_meaning.specs.Standing.{AccessAt, event_name}
 
 -- the events of a thread, in order
 unfoldable pub events_in : List Edge → ℕ → List ℕ
@@ -26,6 +26,10 @@ observed_locations es mode = filter (is_observed es mode) (upto (move_count es))
 -- the access of event i
 abbrev pub event_access : List Edge → (ℕ → ℕ) → ℕ → Access
 event_access es number i = record { dir = source_of (edge_at es i); place = number (location_of es i); value = value_of es i }
+
+-- event i, by its name
+abbrev pub event_at : List Edge → (ℕ → ℕ) → ℕ → AccessAt
+event_at es number i = record { name = event_name es i; access = event_access es number i }
 
 -- the accesses of an observer: as many reads as its location has writes, of the values 1, 2, ..
 abbrev pub observer_accesses : List Edge → (ℕ → ℕ) → ℕ → List Access

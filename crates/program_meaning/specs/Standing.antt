@@ -28,22 +28,54 @@ use Rattle.program_meaning.specs.Coherence.{coherence_place, source_at}
 use Rattle.program_meaning.specs.Programs.{Program, accesses_in, items_in, visits_in}
 
 -- an access of an execution, by its name
+pub record AccessAt : Type 0 where
+  pub name : WriteAt
+  pub access : Access
+
+-- an access of an execution, by its name, with what stands before it
 pub record Named : Type 0 where
   pub name : WriteAt
   pub visit : Visit
+
+-- the access alone
+abbrev pub access_at : Named → AccessAt
+access_at e = record { name = e.name; access = e.visit.access }
 
 -- the place of an edge's target is that of its source, or another
 abbrev pub AreAt : Sd → ℕ → ℕ → Type 0
 AreAt Same p q = p ≡ q
 AreAt Diff p q = p ≢ q
 
+-- the coherence place of the first is less than that of the second
+abbrev pub ComesBefore : List (List Access) → Execution → AccessAt → AccessAt → Type 0
+ComesBefore threads x e f = coherence_place threads x e.name e.access < coherence_place threads x f.name f.access
+
 -- the communication of an edge: the read reads the write, or the source comes before the target in the coherence order
-abbrev pub Communicates : Com → List (List Access) → Execution → Named → Named → Type 0
+abbrev pub Communicates : Com → List (List Access) → Execution → AccessAt → AccessAt → Type 0
 Communicates coms.Rf threads x e f = source_at threads x f.name ≡ Some e.name
-Communicates coms.Fr threads x e f =
-    coherence_place threads x e.name e.visit.access < coherence_place threads x f.name f.visit.access
-Communicates coms.Ws threads x e f =
-    coherence_place threads x e.name e.visit.access < coherence_place threads x f.name f.visit.access
+Communicates coms.Fr threads x e f = ComesBefore threads x e f
+Communicates coms.Ws threads x e f = ComesBefore threads x e f
+
+-- the communication that an edge asks for, if it is one
+abbrev pub CommunicatesBy : Edge → List (List Access) → Execution → AccessAt → AccessAt → Type 0
+CommunicatesBy (edges.Com kind _) threads x e f = Communicates kind threads x e f
+CommunicatesBy (edges.Po _ _ _) threads x e f = Unit {0}
+CommunicatesBy (edges.Fenced _ _ _ _) threads x e f = Unit {0}
+CommunicatesBy (edges.Dep _ _ _) threads x e f = Unit {0}
+CommunicatesBy (edges.Data _) threads x e f = Unit {0}
+
+-- an internal edge leads to the next access of its thread, an external one to another thread
+abbrev pub Reaches : Reach → WriteAt → WriteAt → Type 0
+Reaches Internal e f = (f.thread ≡ e.thread) × (f.access ≡ e.access + 1)
+Reaches External e f = e.thread ≢ f.thread
+
+-- an edge joins access e to access f: what it asks of the two and of the execution, whatever stands between them
+pub record Joins (threads : List (List Access)) (x : Execution) (edge : Edge) (e f : AccessAt) : Type 0 where
+  pub leaves : e.access.dir ≡ source_of edge
+  pub enters : f.access.dir ≡ target_of edge
+  pub places : AreAt (place_of edge) e.access.place f.access.place
+  pub communicates : CommunicatesBy edge threads x e f
+  pub reaches : Reaches (reach_of edge) e.name f.name
 
 -- the mask that names the read e alone
 abbrev pub mask_of : List (List Access) → Named → ℕ
@@ -74,35 +106,19 @@ DependsBy deps.CtrlIsync threads e f =
 DependsBy deps.CtrlIsb threads e f =
     IsTied threads e f (kinds.Isb ∷ []) 0 0 true × BarriersWait threads e f.visit.barriers
 
--- how an internal edge ties the next access of the thread
+-- how an internal edge ties the next access of the thread; an external one ties nothing
 abbrev pub TiesBy : Edge → List (List Access) → Named → Named → Type 0
-TiesBy (edges.Com _ _) threads e f = IsTied threads e f [] 0 0 false
+TiesBy (edges.Com _ Internal) threads e f = IsTied threads e f [] 0 0 false
+TiesBy (edges.Com _ External) threads e f = Unit {0}
 TiesBy (edges.Po _ _ _) threads e f = IsTied threads e f [] 0 0 false
 TiesBy (edges.Fenced kind _ _ _) threads e f = IsTied threads e f (kinds.Fence kind ∷ []) 0 0 false
 TiesBy (edges.Dep kind _ _) threads e f = DependsBy kind threads e f
 TiesBy (edges.Data _) threads e f = IsTied threads e f [] 0 (mask_of threads e) false
 
--- an internal edge leads to the next access of its thread, an external one to another thread
-abbrev pub Reaches : Reach → Edge → List (List Access) → Named → Named → Type 0
-Reaches Internal edge threads e f =
-    (f.name.thread ≡ e.name.thread) × (f.name.access ≡ e.name.access + 1) × TiesBy edge threads e f
-Reaches External edge threads e f = e.name.thread ≢ f.name.thread
-
--- the communication that an edge asks for, if it is one
-abbrev pub CommunicatesBy : Edge → List (List Access) → Execution → Named → Named → Type 0
-CommunicatesBy (edges.Com kind _) threads x e f = Communicates kind threads x e f
-CommunicatesBy (edges.Po _ _ _) threads x e f = Unit {0}
-CommunicatesBy (edges.Fenced _ _ _ _) threads x e f = Unit {0}
-CommunicatesBy (edges.Dep _ _ _) threads x e f = Unit {0}
-CommunicatesBy (edges.Data _) threads x e f = Unit {0}
-
--- an edge stands from access e to access f
+-- an edge stands from access e to access f: it joins them, and what stands between them is what it says
 pub record Stands (threads : List (List Access)) (x : Execution) (edge : Edge) (e f : Named) : Type 0 where
-  pub leaves : e.visit.access.dir ≡ source_of edge
-  pub enters : f.visit.access.dir ≡ target_of edge
-  pub places : AreAt (place_of edge) e.visit.access.place f.visit.access.place
-  pub communicates : CommunicatesBy edge threads x e f
-  pub reaches : Reaches (reach_of edge) edge threads e f
+  pub joins : Joins threads x edge (access_at e) (access_at f)
+  pub ties : TiesBy edge threads e f
 
 -- the name of event i: its thread and its slot there
 abbrev pub event_name : List Edge → ℕ → WriteAt
