@@ -19,6 +19,7 @@ use Rattle.program_meaning.specs.Executions.{Execution, IsExecutionOf, IsOrderOf
 use Rattle.program_meaning.specs.Coherence.{MayFollow, IsCoherent, coherence_place, order_at, last_write, value_in, final_value}
 use Rattle.program_meaning.specs.Standing.{event_name}
 use Rattle.program_meaning.specs.Intended.{IsNumbering, cycle_accesses, ordered_write, location_order, location_numbered, intended}
+use Rattle.communication.specs.Premises.{MeetsCondition}
 use Rattle.communication.proofs.Lists.{image_of, length-filter_map-upto, slice_get-filter_map-upto}
 use Rattle.communication.proofs.Orders.{Holds, order_given}
 use Rattle.communication.proofs.Numbering.{Numbers, numbering_onto}
@@ -140,3 +141,15 @@ intended_ends es mode number l k r n h c =
     ap (λ order. value_in (option_and_then (at_name (cycle_accesses es mode number)) (last_write order))) (intended_order es mode number l n h)
     ∙ ap (λ o. value_in (option_and_then (at_name (cycle_accesses es mode number)) o)) (last_of_order es l k r c ∙ w.name_is)
     ∙ ap value_in (write_stands es mode number l k w.event r w.is_write)
+
+-- so it meets the condition
+pub intended_meets : (es : List Edge) (mode : ObsMode) (number : ℕ → ℕ) → Resolves es → IsNumbering es number → MeetsCondition es mode number (intended es mode number)
+intended_meets es mode number r n = record {
+  execution = intended_is_execution es mode number r n;
+  coherent = intended_is_coherent es mode number r n;
+  ends = λ l h u m. by_count l h (write_count es l) refl m;
+}
+  where
+    by_count : (l : ℕ) → l < move_count es → (c : ℕ) → write_count es l ≡ c → 2 ≤ write_count es l → final_value (cycle_accesses es mode number) (intended es mode number) (number l) ≡ write_count es l
+    by_count l h zero e m = absurd (omega arith)
+    by_count l h (suc k) e m = intended_ends es mode number l k r n h e ∙ sym e

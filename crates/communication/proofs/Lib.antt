@@ -11,3 +11,4 @@ pub mod IntendedOrders
 pub mod IntendedExists
 pub mod OnlyOne
 pub mod EdgesJoin
+pub mod Programs

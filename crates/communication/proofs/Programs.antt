@@ -1,0 +1,105 @@
+-- From a program to its accesses: a candidate execution of a program that makes the accesses of the cycle's test and
+-- meets its condition is an execution that the laws of this crate speak of.
+use Rattle.std.proofs.Common.{◌≡◌, ℕ, zero, suc, ◌+◌, ◌<◌, ◌≤◌, Bool, true, false, List, [], ◌∷◌, ◌++◌, length, map, Option, Some, None, slice_get, refl, sym, ◌∙◌, ap, subst, arith, length-append}
+use Rattle.std.specs.List.{count_by, filter}
+use Rattle.std.proofs.lemmas.List.{length-map}
+use Rattle.std.proofs.lemmas.List.Sums.{length-filter}
+use Rattle.std.proofs.lemmas.Option.{slice_get_within}
+use Rattle.relax_edges.specs.declared.kinds.Dir.{Dir}
+use Rattle.relax_edges.specs.declared.kinds.Dir.TheVariants as dirs
+use Rattle.relax_edges.specs.declared.kinds.ObsMode.{ObsMode}
+use Rattle.relax_edges.specs.declared.edge.Edge.{Edge}
+use Rattle.relax_edges.specs.EdgeTable.{source_of}
+use Rattle.micro_ops.specs.Running.{Outcome}
+use Rattle.list_laws.specs.Numbers.{upto}
+use Rattle.list_laws.proofs.Numbers.{length-map-upto}
+use Rattle.cycle_resolve.specs.Resolution.{edge_at, external_count, move_count, thread_of}
+use Rattle.coherence_values.specs.Values.{write_count}
+use Rattle.program_meaning.specs.declared.WriteAt.{WriteAt}
+use Rattle.program_meaning.specs.Accesses.{Access, Visit, accesses_of, visits_of, got_from, at_name, is_read}
+use Rattle.program_meaning.specs.Executions.{Execution, IsExecutionOf}
+use Rattle.program_meaning.specs.Coherence.{IsCoherent, final_value}
+use Rattle.program_meaning.specs.Programs.{Program, Thread, IsCandidate, IsCoherentIn, HasEnded, runs_of, items_in, visits_in, accesses_in, made_in}
+use Rattle.program_meaning.specs.Intended.{IsNumbering, cycle_accesses, intended}
+use Rattle.communication.specs.Premises.{MeetsCondition}
+use Rattle.communication.specs.Joining.{value_taken, values_left, filled, values_read, Makes, ReadsAsAsked, EndsAsAsked}
+use Rattle.communication.proofs.Lists.{same_below, got_below, map-map}
+use Rattle.communication.proofs.ReadLists.{reads_by_source}
+use Rattle.communication.proofs.IntendedReads.{reads-count, intended_reads, source_for}
+use Rattle.communication.proofs.IntendedExists.{intended_meets}
+use Rattle.communication.proofs.Resolves.{Resolves}
+
+-- accesses whose reads read their own values are as they were
+filled_own : (accesses : List Access) → filled accesses (map (λ access. access.value) (filter is_read accesses)) ≡ accesses
+filled_own [] = refl
+filled_own (access ∷ accesses) = by_dir access.dir refl (filled_own accesses)
+  where
+    first : Dir → Access
+    first d = record { dir = d; place = access.place; value = access.value }
+    by_dir : (d : Dir) → access.dir ≡ d → filled accesses (map (λ access. access.value) (filter is_read accesses)) ≡ accesses → filled (access ∷ accesses) (map (λ access. access.value) (filter is_read (access ∷ accesses))) ≡ access ∷ accesses
+    by_dir dirs.R e h = rw e (ap (λ l. first dirs.R ∷ l) h)
+    by_dir dirs.W e h = rw e (ap (λ l. first dirs.W ∷ l) h)
+
+-- as many runs as threads
+runs-count : (threads : List Thread) (reads : List (List (ℕ × Option WriteAt))) → length (runs_of threads reads) ≡ length threads
+runs-count [] reads = refl
+runs-count (thread ∷ threads) [] = ap suc (runs-count threads [])
+runs-count (thread ∷ threads) (r ∷ reads) = ap suc (runs-count threads reads)
+
+pub accesses-count : (p : Program) (x : Execution) → length (accesses_in p x) ≡ length p.threads
+accesses-count p x =
+    length-map (visits_in p x) accesses_of ∙ length-map (items_in p x) visits_of ∙ length-map (runs_of p.threads x.reads) made_in ∙ runs-count p.threads x.reads
+
+-- where the values read are those asked for, the accesses made are those of the cycle's test
+pub makes_planned : (es : List Edge) (mode : ObsMode) (number : ℕ → ℕ) (p : Program) (x : Execution) → Makes es mode number p x → ReadsAsAsked es mode number x → length x.reads ≡ length p.threads → accesses_in p x ≡ cycle_accesses es mode number
+makes_planned es mode number p x m v c =
+    same_below (accesses_in p x) (cycle_accesses es mode number) (length p.threads) (accesses-count p x) (sym m.threads) here
+  where
+    here : (k : ℕ) → k < length p.threads → slice_get (accesses_in p x) k ≡ slice_get (cycle_accesses es mode number) k
+    here k l =
+        let t = got_below (cycle_accesses es mode number) k (omega (arith, m.threads, l)) in
+        let r = got_below x.reads k (omega (arith, c, l)) in
+        m.accesses k t.element r.element t.got r.got
+        ∙ ap Some (ap (filled t.element) (v k t.element r.element t.got r.got) ∙ filled_own t.element)
+        ∙ sym t.got
+
+-- a candidate execution that is coherent and meets the condition, by its accesses alone
+pub candidate_meets : (es : List Edge) (mode : ObsMode) (number : ℕ → ℕ) (p : Program) (x : Execution) → Makes es mode number p x → IsCandidate p x → IsCoherentIn p x → ReadsAsAsked es mode number x → EndsAsAsked es mode number p x → MeetsCondition es mode number x
+candidate_meets es mode number p x m c h v f =
+    record {
+      execution = subst (λ (t : List (List Access) × ℕ). IsExecutionOf t.0 t.1 x) (λ i. (made i, m.places i)) c.execution;
+      coherent = subst (λ (t : List (List Access)). IsCoherent t x) made h;
+      ends = λ l b u n. subst (λ (t : List (List Access)). final_value t x (number l) ≡ write_count es l) made (f l b u n);
+    }
+  where
+    made : accesses_in p x ≡ cycle_accesses es mode number
+    made = makes_planned es mode number p x m v (c.execution.read_lists ∙ accesses-count p x)
+
+-- the intended execution reads the values asked for
+pub intended_asked : (es : List Edge) (mode : ObsMode) (number : ℕ → ℕ) → Resolves es → IsNumbering es number → ReadsAsAsked es mode number (intended es mode number)
+intended_asked es mode number r n k planned reads t g =
+    let s : Some (reads_by_source (source_for es number) (filter is_read planned)) ≡ Some reads = sym (intended_reads es mode number k planned r n t) ∙ g in
+    let e : reads_by_source (source_for es number) (filter is_read planned) ≡ reads = cc in
+    ap values_read (sym e) ∙ map-map (λ access. (access.value, source_for es number access)) (λ r. r.0) (filter is_read planned)
+
+-- the intended execution of a program that makes the accesses of the cycle's test is a candidate, it is coherent and it
+-- meets the condition
+pub record IntendedMeets (es : List Edge) (mode : ObsMode) (number : ℕ → ℕ) (p : Program) : Type 0 where
+  pub candidate : IsCandidate p (intended es mode number)
+  pub coherent : IsCoherentIn p (intended es mode number)
+  pub asked : ReadsAsAsked es mode number (intended es mode number)
+  pub ends : EndsAsAsked es mode number p (intended es mode number)
+
+pub intended_candidate : (es : List Edge) (mode : ObsMode) (number : ℕ → ℕ) (p : Program) → Resolves es → IsNumbering es number → Makes es mode number p (intended es mode number) → ((k : ℕ) (run : Outcome) → slice_get (runs_of p.threads (intended es mode number).reads) k ≡ Some run → HasEnded run) → IntendedMeets es mode number p
+intended_candidate es mode number p r n m ended =
+    record {
+      candidate = record { ended = ended; execution = subst (λ (t : List (List Access) × ℕ). IsExecutionOf t.0 t.1 (intended es mode number)) (λ i. (sym made i, sym m.places i)) q.execution };
+      coherent = subst (λ (t : List (List Access)). IsCoherent t (intended es mode number)) (sym made) q.coherent;
+      asked = intended_asked es mode number r n;
+      ends = λ l b u c. subst (λ (t : List (List Access)). final_value t (intended es mode number) (number l) ≡ write_count es l) (sym made) (q.ends l b u c);
+    }
+  where
+    q : MeetsCondition es mode number (intended es mode number)
+    q = intended_meets es mode number r n
+    made : accesses_in p (intended es mode number) ≡ cycle_accesses es mode number
+    made = makes_planned es mode number p (intended es mode number) m (intended_asked es mode number r n) (reads-count es mode number ∙ sym m.threads)
