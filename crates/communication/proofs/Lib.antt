@@ -12,3 +12,4 @@ pub mod IntendedExists
 pub mod OnlyOne
 pub mod EdgesJoin
 pub mod Programs
+pub mod AllStand
