@@ -9,12 +9,12 @@ use Rattle.relax_edges.specs.EdgeTable.{source_of}
 use Rattle.list_laws.specs.Numbers.{upto}
 use Rattle.list_laws.proofs.Cases.{by_less}
 use Rattle.list_laws.proofs.Numbers.{length-map-upto, slice_get-map-upto, slice_get-upto, length-upto}
-use Rattle.cycle_resolve.specs.Resolution.{edge_at, external_count, thread_of, slot_of, location_of}
+use Rattle.cycle_resolve.specs.Resolution.{edge_at, external_count, thread_of, slot_of, location_of, events_in}
 use Rattle.coherence_values.specs.Values.{value_of, write_count}
 use Rattle.program_meaning.specs.declared.WriteAt.{WriteAt}
 use Rattle.program_meaning.specs.Accesses.{Access, read, write, got_from, at_name}
 use Rattle.program_meaning.specs.Standing.{event_name}
-use Rattle.program_meaning.specs.Intended.{events_in, observed_locations, event_access, observer_accesses, cycle_accesses}
+use Rattle.program_meaning.specs.Intended.{observed_locations, event_access, observer_accesses, cycle_accesses}
 use Rattle.communication.proofs.Lists.{slice_get-append_left, slice_get-append_right, image_of, got_map}
 use Rattle.communication.proofs.Resolves.{Resolves}
 

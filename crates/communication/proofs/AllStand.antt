@@ -10,19 +10,20 @@ use Rattle.relax_edges.specs.declared.edge.Edge.{Edge}
 use Rattle.relax_edges.specs.EdgeTable.{source_of}
 use Rattle.list_laws.specs.Numbers.{upto}
 use Rattle.list_laws.proofs.Numbers.{length-map-upto}
-use Rattle.cycle_resolve.specs.Resolution.{edge_at, external_count, thread_of}
+use Rattle.cycle_resolve.specs.Resolution.{edge_at, external_count, thread_of, event_after, events_in}
+use Rattle.cycle_resolve.proofs.Around.{after_below}
 use Rattle.coherence_values.specs.Values.{write_count}
 use Rattle.program_meaning.specs.declared.WriteAt.{WriteAt}
 use Rattle.program_meaning.specs.Accesses.{Access, Visit, read, accesses_of, got_from, at_name}
 use Rattle.program_meaning.specs.Executions.{Execution}
 use Rattle.program_meaning.specs.Programs.{Program, visits_in, accesses_in}
-use Rattle.program_meaning.specs.Standing.{AccessAt, Named, access_at, IsEvent, Observes, HasEvents, AllStand, Stands, Joins, event_name, event_count, next_event}
-use Rattle.program_meaning.specs.Intended.{IsNumbering, events_in, event_access, event_at, observer_accesses, observed_locations, cycle_accesses}
+use Rattle.program_meaning.specs.Standing.{AccessAt, Named, access_at, IsEvent, Observes, HasEvents, AllStand, Stands, Joins, event_name}
+use Rattle.program_meaning.specs.Intended.{IsNumbering, event_access, event_at, observer_accesses, observed_locations, cycle_accesses}
 use Rattle.communication.specs.Premises.{MeetsCondition}
 use Rattle.communication.specs.Joining.{AreFree, IsTiedUp}
 use Rattle.communication.proofs.Lists.{image_of, got_map}
 use Rattle.communication.proofs.Accesses.{GotFrom, got_from_list, thread_accesses, observer_thread, event_stands}
-use Rattle.communication.proofs.EdgesJoin.{next-below, edges_join}
+use Rattle.communication.proofs.EdgesJoin.{edges_join}
 use Rattle.communication.proofs.Programs.{accesses-count}
 use Rattle.communication.proofs.Resolves.{Resolves, EntersLast}
 
@@ -65,10 +66,6 @@ unfolding cycle_accesses
 threads-count es mode number =
     omega (arith, length-append (map (λ thread. map (event_access es number) (events_in es thread)) (upto (external_count es))) (map (observer_accesses es number) (observed_locations es mode)), length-map-upto (λ thread. map (event_access es number) (events_in es thread)) (external_count es))
 
-event-count : (es : List Edge) (number : ℕ → ℕ) (k : ℕ) → length (map (event_access es number) (events_in es k)) ≡ event_count es k
-unfolding events_in
-event-count es number k = length-map (events_in es k) (event_access es number) ∙ length-filter (λ i. thread_of es i == k) (upto (length es))
-
 -- a program that makes these accesses, tied up, has the events of the cycle
 pub has_events : (es : List Edge) (mode : ObsMode) (number : ℕ → ℕ) (p : Program) (x : Execution) → Resolves es → accesses_in p x ≡ cycle_accesses es mode number → IsTiedUp es p x → HasEvents es p x
 has_events es mode number p x r m f = record {
@@ -84,11 +81,11 @@ has_events es mode number p x r m f = record {
   where
     made : (k : ℕ) (visits : List Visit) → slice_get (visits_in p x) k ≡ Some visits → slice_get (cycle_accesses es mode number) k ≡ Some (accesses_of visits)
     made k visits g = ap (λ (t : List (List Access)). slice_get t k) (sym m) ∙ got_map accesses_of (visits_in p x) k visits g
-    counted : (k : ℕ) (visits : List Visit) → k < external_count es → slice_get (visits_in p x) k ≡ Some visits → length visits ≡ event_count es k
+    counted : (k : ℕ) (visits : List Visit) → k < external_count es → slice_get (visits_in p x) k ≡ Some visits → length visits ≡ length (events_in es k)
     counted k visits h g =
         let s : Some (accesses_of visits) ≡ Some (map (event_access es number) (events_in es k)) = sym (made k visits g) ∙ thread_accesses es mode number k h in
         let e : accesses_of visits ≡ map (event_access es number) (events_in es k) = cc in
-        sym (length-map visits (λ v. v.access)) ∙ ap length e ∙ event-count es number k
+        sym (length-map visits (λ v. v.access)) ∙ ap length e ∙ length-map (events_in es k) (event_access es number)
     reads : (k : ℕ) (visits : List Visit) → external_count es ≤ k → slice_get (visits_in p x) k ≡ Some visits → (j : ℕ) (visit : Visit) → slice_get visits j ≡ Some visit → visit.access.dir ≡ dirs.R
     reads k visits h g j visit q =
         let e : k ≡ external_count es + (k - external_count es) = omega arith in
@@ -102,7 +99,7 @@ all_stand es mode number p x r q n m c f = record {
   events = has_events es mode number p x r m f;
   stand = λ i e g h u v. record {
     joins = subst (λ (z : AccessAt × AccessAt × List (List Access)). Joins z.2 x (edge_at es i) z.0 z.1)
-        (λ t. (sym (is_event_at es mode number p x i e r m h u) t, sym (is_event_at es mode number p x (next_event es i) g r m (next-below es i h) v) t, sym m t))
+        (λ t. (sym (is_event_at es mode number p x i e r m h u) t, sym (is_event_at es mode number p x (event_after es i) g r m (after_below es i h) v) t, sym m t))
         (edges_join es mode number x i r q n c h);
     ties = f.ties i e g h u v;
   };

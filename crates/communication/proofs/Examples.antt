@@ -7,11 +7,11 @@ use Rattle.relax_edges.specs.declared.kinds.Com.TheVariants as coms
 use Rattle.relax_edges.specs.declared.kinds.ObsMode.TheVariants.{Accept, Avoid, Force}
 use Rattle.relax_edges.specs.declared.edge.Edge.{Edge}
 use Rattle.relax_edges.specs.declared.edge.Edge.TheVariants as edges
-use Rattle.cycle_resolve.specs.Resolution.{thread_of, slot_of, location_of, moves_before}
-use Rattle.coherence_values.specs.Values.{value_of, way_place, write_count, write_at, is_observed, observer_needs, observer_need, first_inner_entry}
+use Rattle.cycle_resolve.specs.Resolution.{thread_of, slot_of, location_of, moves_before, events_in}
+use Rattle.coherence_values.specs.Values.{value_of, way_place, write_count, write_at, is_observed}
 use Rattle.program_meaning.specs.declared.WriteAt.{WriteAt}
 use Rattle.program_meaning.specs.Accesses.{Access, read, write}
-use Rattle.program_meaning.specs.Intended.{cycle_accesses, intended, events_in, location_order, location_numbered}
+use Rattle.program_meaning.specs.Intended.{cycle_accesses, intended, location_order, location_numbered}
 
 abbrev PodWW : Edge
 PodWW = edges.Po Diff dirs.W dirs.W

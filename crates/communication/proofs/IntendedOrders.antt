@@ -8,14 +8,14 @@ use Rattle.relax_edges.specs.declared.kinds.Dir.TheVariants as dirs
 use Rattle.relax_edges.specs.declared.kinds.ObsMode.{ObsMode}
 use Rattle.relax_edges.specs.declared.edge.Edge.{Edge}
 use Rattle.list_laws.proofs.Numbers.{length-map-upto, slice_get-map-upto}
-use Rattle.cycle_resolve.specs.Resolution.{move_count, thread_of, slot_of}
+use Rattle.cycle_resolve.specs.Resolution.{move_count, thread_of, slot_of, events_in}
 use Rattle.coherence_values.specs.Values.{value_of, write_count}
 use Rattle.program_meaning.specs.declared.WriteAt.{WriteAt}
 use Rattle.program_meaning.specs.Accesses.{Access, write, at_name, is_read}
 use Rattle.program_meaning.specs.Executions.{Execution, IsExecutionOf, IsOrderOf}
 use Rattle.program_meaning.specs.Coherence.{order_place, order_at, source_at, placed_by, coherence_place}
 use Rattle.program_meaning.specs.Standing.{event_name}
-use Rattle.program_meaning.specs.Intended.{IsNumbering, events_in, cycle_accesses, ordered_write, write_of, location_order, location_numbered, intended}
+use Rattle.program_meaning.specs.Intended.{IsNumbering, cycle_accesses, ordered_write, write_of, location_order, location_numbered, intended}
 use Rattle.communication.proofs.Lists.{Got, got_below}
 use Rattle.communication.proofs.Orders.{Holds, Gives, order_given, place_given}
 use Rattle.communication.proofs.Numbering.{location_of_number}

@@ -12,14 +12,14 @@ use Rattle.list_laws.specs.Numbers.{upto}
 use Rattle.list_laws.proofs.Cases.{by_less}
 use Rattle.list_laws.proofs.Numbers.{length-map-upto, slice_get-map-upto}
 use Rattle.list_laws.proofs.Ranks.{unrank_upto}
-use Rattle.cycle_resolve.specs.Resolution.{edge_at, external_count, move_count, thread_of, slot_of, location_of}
+use Rattle.cycle_resolve.specs.Resolution.{edge_at, external_count, move_count, thread_of, slot_of, location_of, events_in}
 use Rattle.coherence_values.specs.Values.{value_of, write_count, is_observed}
 use Rattle.program_meaning.specs.declared.WriteAt.{WriteAt}
 use Rattle.program_meaning.specs.Accesses.{Access, read, write, got_from, at_name, is_read}
 use Rattle.program_meaning.specs.Executions.{Execution, IsExecutionOf, AreReadsOf, CanRead}
 use Rattle.program_meaning.specs.Coherence.{source_at}
 use Rattle.program_meaning.specs.Standing.{event_name}
-use Rattle.program_meaning.specs.Intended.{IsNumbering, events_in, observed_locations, event_access, observer_accesses, cycle_accesses, ordered_write, write_of, event_read, observer_reads, reads_in, location_numbered, intended}
+use Rattle.program_meaning.specs.Intended.{IsNumbering, observed_locations, event_access, observer_accesses, cycle_accesses, ordered_write, write_of, event_read, observer_reads, reads_in, location_numbered, intended}
 use Rattle.communication.proofs.Lists.{slice_get-append_left, slice_get-append_right, same_below, got_below, image_of, got_map, map_same, map-map, filter-map, filter_all, kept}
 use Rattle.communication.proofs.Numbering.{location_of_number}
 use Rattle.communication.proofs.Accesses.{EventAt, LoadAt, by_origin, thread_accesses, observer_thread, event_stands, observer_stands}

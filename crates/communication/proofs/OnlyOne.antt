@@ -16,13 +16,13 @@ use Rattle.list_laws.proofs.Cases.{by_test}
 use Rattle.list_laws.proofs.Ranks.{rank_upto}
 use Rattle.list_laws.specs.Numbers.{upto}
 use Rattle.std.specs.List.{count_by}
-use Rattle.cycle_resolve.specs.Resolution.{edge_at, external_count, move_count, thread_of, slot_of, location_of}
+use Rattle.cycle_resolve.specs.Resolution.{edge_at, external_count, move_count, thread_of, slot_of, location_of, event_after}
 use Rattle.coherence_values.specs.Values.{value_of, write_count, is_observed, edge_into}
 use Rattle.program_meaning.specs.declared.WriteAt.{WriteAt}
 use Rattle.program_meaning.specs.Accesses.{Access, read, write, at_name}
 use Rattle.program_meaning.specs.Executions.{Execution}
 use Rattle.program_meaning.specs.Coherence.{MayFollow, order_place, order_at, coherence_place, last_write, value_in, final_value}
-use Rattle.program_meaning.specs.Standing.{event_name, next_event}
+use Rattle.program_meaning.specs.Standing.{event_name}
 use Rattle.program_meaning.specs.Intended.{IsNumbering, observed_locations, event_access, cycle_accesses, ordered_write, write_of, location_order, location_numbered, intended}
 use Rattle.communication.specs.Premises.{MeetsCondition}
 use Rattle.communication.proofs.Lists.{same_below, got_below}
@@ -56,7 +56,7 @@ record FromBefore (es : List Edge) (l k : ℕ) : Type 0 where
   is_write : IsWrite es l (suc k) write
   from : ℕ
   below : from < length es
-  next : next_event es from ≡ write
+  next : event_after es from ≡ write
   edge : edge_into es write ≡ edge_at es from
   spot : location_of es from ≡ l
   value : value_of es from ≡ suc k
@@ -67,9 +67,9 @@ from_before es l k i r w =
   where
     e : Entered es i
     e = entered es i w.below
-    one : written_by (source_of (edge_at es (next_event es e.before))) ≡ 1
+    one : written_by (source_of (edge_at es (event_after es e.before))) ≡ 1
     one = ap (λ j. written_by (source_of (edge_at es j))) e.next ∙ ap written_by w.writes
-    reached : value_of es (next_event es e.before) ≡ suc (suc k)
+    reached : value_of es (event_after es e.before) ≡ suc (suc k)
     reached = ap (value_of es) e.next ∙ w.value
     by_place : (p : Sd) → place_of (edge_at es e.before) ≡ p → FromBefore es l k
     by_place Same p = record {
@@ -84,7 +84,7 @@ internal_step : (es : List Edge) (mode : ObsMode) (number : ℕ → ℕ) (x : Ex
 internal_step es mode number x l k r n s c b h =
     subst (λ (z : ℕ × ℕ). z.0 < z.1) (λ t. (source t, target t)) follows
   where
-    stays : (thread_of es (next_event es b.from) ≡ thread_of es b.from) × (slot_of es (next_event es b.from) ≡ slot_of es b.from + 1)
+    stays : (thread_of es (event_after es b.from) ≡ thread_of es b.from) × (slot_of es (event_after es b.from) ≡ slot_of es b.from + 1)
     stays = r.stays b.from b.below h
     name_is : event_name es b.write ≡ record { thread = thread_of es b.from; access = slot_of es b.write }
     name_is t = record { thread = (ap (thread_of es) (sym b.next) ∙ stays.0) t; access = slot_of es b.write }

@@ -1,6 +1,5 @@
 -- What the executions of a cycle rest on: the facts of its threads, its locations and its values.
-use Rattle.std.proofs.Common.{refl, ◌∙◌, arith, add-one}
-use Rattle.std.proofs.lemmas.Bool.{cond-true, cond-false, eq-eqb, ne_eqb}
+use Rattle.std.proofs.Common.{refl}
 use Rattle.std.specs.Prelude.{◌≡◌, ◌≢◌, ℕ, zero, suc, ◌+◌, ◌-◌, ◌<◌, ◌≤◌, ◌==◌, false, List, length, Option, Some, slice_get}
 use Rattle.relax_edges.specs.declared.kinds.Dir.{Dir}
 use Rattle.relax_edges.specs.declared.kinds.Dir.TheVariants as dirs
@@ -9,11 +8,10 @@ use Rattle.relax_edges.specs.declared.kinds.Reach.TheVariants.{Internal, Externa
 use Rattle.relax_edges.specs.declared.kinds.ObsMode.{ObsMode}
 use Rattle.relax_edges.specs.declared.edge.Edge.{Edge}
 use Rattle.relax_edges.specs.EdgeTable.{source_of, target_of, place_of, reach_of}
-use Rattle.cycle_resolve.specs.Resolution.{edge_at, external_count, move_count, thread_of, slot_of, location_of}
+use Rattle.cycle_resolve.specs.Resolution.{edge_at, external_count, move_count, thread_of, slot_of, location_of, event_after, event_before, events_in}
+use Rattle.cycle_resolve.proofs.Around.{before_below, after_before}
 use Rattle.coherence_values.specs.Values.{value_of, write_at, write_count, edge_into, is_observed}
 use Rattle.program_meaning.specs.Coherence.{MayFollow}
-use Rattle.program_meaning.specs.Standing.{next_event}
-use Rattle.program_meaning.specs.Intended.{events_in}
 
 -- event i is in slot s of thread k
 pub record IsIn (es : List Edge) (k s i : ℕ) : Type 0 where
@@ -41,14 +39,14 @@ pub record Resolves (es : List Edge) : Type 0 where
   pub stands : (i : ℕ) → i < length es → slice_get (events_in es (thread_of es i)) (slot_of es i) ≡ Some i
   pub event : (k s i : ℕ) → slice_get (events_in es k) s ≡ Some i → IsIn es k s i
   pub rises : (i j : ℕ) → i < j → j < length es → thread_of es i ≡ thread_of es j → slot_of es i < slot_of es j
-  pub enters : (i : ℕ) → i < length es → target_of (edge_at es i) ≡ source_of (edge_at es (next_event es i))
-  pub keeps : (i : ℕ) → i < length es → place_of (edge_at es i) ≡ Same → location_of es (next_event es i) ≡ location_of es i
-  pub moves : (i : ℕ) → i < length es → place_of (edge_at es i) ≡ Diff → location_of es (next_event es i) ≢ location_of es i
-  pub stays : (i : ℕ) → i < length es → reach_of (edge_at es i) ≡ Internal → (thread_of es (next_event es i) ≡ thread_of es i) × (slot_of es (next_event es i) ≡ slot_of es i + 1)
-  pub leaves : (i : ℕ) → i < length es → reach_of (edge_at es i) ≡ External → thread_of es (next_event es i) ≢ thread_of es i
+  pub enters : (i : ℕ) → i < length es → target_of (edge_at es i) ≡ source_of (edge_at es (event_after es i))
+  pub keeps : (i : ℕ) → i < length es → place_of (edge_at es i) ≡ Same → location_of es (event_after es i) ≡ location_of es i
+  pub moves : (i : ℕ) → i < length es → place_of (edge_at es i) ≡ Diff → location_of es (event_after es i) ≢ location_of es i
+  pub stays : (i : ℕ) → i < length es → reach_of (edge_at es i) ≡ Internal → (thread_of es (event_after es i) ≡ thread_of es i) × (slot_of es (event_after es i) ≡ slot_of es i + 1)
+  pub leaves : (i : ℕ) → i < length es → reach_of (edge_at es i) ≡ External → thread_of es (event_after es i) ≢ thread_of es i
   pub order : (i j : ℕ) → i < j → j < length es → thread_of es i ≡ thread_of es j → location_of es i ≡ location_of es j → MayFollow (source_of (edge_at es j)) (value_of es i) (value_of es j)
-  pub counts : (i : ℕ) → i < length es → place_of (edge_at es i) ≡ Same → value_of es (next_event es i) ≡ value_of es i + written_by (source_of (edge_at es (next_event es i)))
-  pub begins : (i : ℕ) → i < length es → place_of (edge_at es i) ≡ Diff → value_of es (next_event es i) ≡ written_by (source_of (edge_at es (next_event es i)))
+  pub counts : (i : ℕ) → i < length es → place_of (edge_at es i) ≡ Same → value_of es (event_after es i) ≡ value_of es i + written_by (source_of (edge_at es (event_after es i)))
+  pub begins : (i : ℕ) → i < length es → place_of (edge_at es i) ≡ Diff → value_of es (event_after es i) ≡ written_by (source_of (edge_at es (event_after es i)))
   pub within : (i : ℕ) → i < length es → value_of es i ≤ write_count es (location_of es i)
   pub written : (location k : ℕ) → k < write_count es location → (i : ℕ) × (write_at es location k ≡ Some i)
   pub writes : (location k i : ℕ) → write_at es location k ≡ Some i → IsWrite es location k i
@@ -63,12 +61,8 @@ pub record EntersLast (es : List Edge) (mode : ObsMode) : Type 0 where
 pub record Entered (es : List Edge) (i : ℕ) : Type 0 where
   pub before : ℕ
   pub below : before < length es
-  pub next : next_event es before ≡ i
+  pub next : event_after es before ≡ i
   pub edge : edge_into es i ≡ edge_at es before
 
 pub entered : (es : List Edge) (i : ℕ) → i < length es → Entered es i
-entered es zero h =
-    let e : length es - 1 + 1 ≡ length es = omega arith in
-    record { before = length es - 1; below = omega arith; next = cond-true {A = ℕ} (length es - 1 + 1 == length es) 0 (length es - 1 + 1) (eq-eqb (length es - 1 + 1) (length es) e); edge = refl }
-entered es (suc i) h =
-    record { before = i; below = omega arith; next = cond-false {A = ℕ} (i + 1 == length es) 0 (i + 1) (ne_eqb (i + 1) (length es) (λ e. omega (arith, e, h))) ∙ add-one i; edge = refl }
+entered es i h = record { before = event_before es i; below = before_below es i h; next = after_before es i h; edge = refl }

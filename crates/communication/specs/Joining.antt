@@ -6,14 +6,14 @@ use Rattle.relax_edges.specs.declared.kinds.Dir.TheVariants as dirs
 use Rattle.relax_edges.specs.declared.kinds.ObsMode.{ObsMode}
 use Rattle.relax_edges.specs.declared.edge.Edge.{Edge}
 use Rattle.micro_ops.specs.declared.operation.Item.{Item}
-use Rattle.cycle_resolve.specs.Resolution.{edge_at, external_count, move_count}
+use Rattle.cycle_resolve.specs.Resolution.{edge_at, external_count, move_count, event_after}
 use Rattle.coherence_values.specs.Values.{is_observed, write_count}
 use Rattle.program_meaning.specs.declared.WriteAt.{WriteAt}
 use Rattle.program_meaning.specs.Accesses.{Access, Visit, barriers_behind, is_read}
 use Rattle.program_meaning.specs.Executions.{Execution}
 use Rattle.program_meaning.specs.Coherence.{final_value}
 use Rattle.program_meaning.specs.Programs.{Program, IsCandidate, IsCoherentIn, accesses_in, items_in, visits_in}
-use Rattle.program_meaning.specs.Standing.{Named, IsEvent, IsFree, StartsFree, TiesBy, next_event}
+use Rattle.program_meaning.specs.Standing.{Named, IsEvent, IsFree, StartsFree, TiesBy}
 use Rattle.program_meaning.specs.Intended.{cycle_accesses}
 
 -- the value of an access: a read takes the first of the values read, if there is one
@@ -65,7 +65,7 @@ AreFree (visit ∷ visits) = (visit.barriers ≡ []) × IsFree visit × AreFree 
 
 -- what stands between the accesses of a program is what the edges of the cycle say, and else nothing
 pub record IsTiedUp (es : List Edge) (p : Program) (x : Execution) : Type 0 where
-  pub ties : (i : ℕ) (e f : Named) → i < length es → IsEvent es (visits_in p x) i e → IsEvent es (visits_in p x) (next_event es i) f → TiesBy (edge_at es i) (accesses_in p x) e f
+  pub ties : (i : ℕ) (e f : Named) → i < length es → IsEvent es (visits_in p x) i e → IsEvent es (visits_in p x) (event_after es i) f → TiesBy (edge_at es i) (accesses_in p x) e f
   pub observers : (k : ℕ) (visits : List Visit) → external_count es ≤ k → slice_get (visits_in p x) k ≡ Some visits → AreFree visits
   pub starts : (k : ℕ) (visits : List Visit) → slice_get (visits_in p x) k ≡ Some visits → StartsFree visits
   pub ends : (k : ℕ) (made : List Item) → slice_get (items_in p x) k ≡ Some made → barriers_behind [] made ≡ []

@@ -8,16 +8,12 @@ use Rattle.relax_edges.specs.declared.kinds.ObsMode.{ObsMode}
 use Rattle.relax_edges.specs.declared.edge.Edge.{Edge}
 use Rattle.relax_edges.specs.EdgeTable.{source_of}
 use Rattle.list_laws.specs.Numbers.{upto}
-use Rattle.cycle_resolve.specs.Resolution.{edge_at, external_count, move_count, thread_of, location_of}
+use Rattle.cycle_resolve.specs.Resolution.{edge_at, external_count, move_count, location_of, events_in}
 use Rattle.coherence_values.specs.Values.{is_observed, value_of, write_at, write_count}
 use Rattle.program_meaning.specs.declared.WriteAt.{WriteAt}
 use Rattle.program_meaning.specs.Accesses.{Access, read, is_read}
 use Rattle.program_meaning.specs.Executions.{Execution}
 use Rattle.program_meaning.specs.Standing.{AccessAt, event_name}
-
--- the events of a thread, in order
-unfoldable pub events_in : List Edge → ℕ → List ℕ
-events_in es thread = filter (λ i. thread_of es i == thread) (upto (length es))
 
 -- the locations that have an observer, in order
 abbrev pub observed_locations : List Edge → ObsMode → List ℕ

@@ -1,6 +1,6 @@
 -- When the edges of a cycle stand between the accesses of a program in an execution. `es` is the list of edges in which
 -- threads and slots are counted. Source: the diy part of the herdtools manual (what each edge means).
-use Rattle.std.specs.Prelude.{ℕ, zero, suc, ◌≡◌, ◌≢◌, ◌+◌, ◌<◌, ◌≤◌, ◌^◌, ◌==◌, ◌&&◌, if◌then◌else◌, Bool, true, false, List, [], ◌∷◌, length, map, count_by, Option, Some, None, slice_get}
+use Rattle.std.specs.Prelude.{ℕ, ◌≡◌, ◌≢◌, ◌+◌, ◌<◌, ◌≤◌, ◌^◌, ◌==◌, ◌&&◌, Bool, true, false, List, [], ◌∷◌, length, map, Option, Some, None, slice_get}
 use Rattle.std.specs.Int.{bit_at}
 use Rattle.relax_edges.specs.declared.kinds.Dir.{Dir}
 use Rattle.relax_edges.specs.declared.kinds.Dir.TheVariants as dirs
@@ -19,8 +19,7 @@ use Rattle.relax_edges.specs.EdgeTable.{source_of, target_of, reach_of, place_of
 use Rattle.micro_ops.specs.declared.operation.Barrier.{Barrier}
 use Rattle.micro_ops.specs.declared.operation.Barrier.TheVariants as kinds
 use Rattle.micro_ops.specs.declared.operation.Item.{Item}
-use Rattle.list_laws.specs.Numbers.{upto}
-use Rattle.cycle_resolve.specs.Resolution.{edge_at, external_count, thread_of, slot_of}
+use Rattle.cycle_resolve.specs.Resolution.{edge_at, external_count, thread_of, slot_of, events_in, event_after}
 use Rattle.program_meaning.specs.declared.WriteAt.{WriteAt}
 use Rattle.program_meaning.specs.Accesses.{Access, Barred, Visit, accesses_of, at_name, barriers_behind, is_read, reads_before, visits_of}
 use Rattle.program_meaning.specs.Executions.{Execution}
@@ -130,10 +129,6 @@ pub record IsEvent (es : List Edge) (visits : List (List Visit)) (i : ℕ) (e : 
   pub visit_is : at_name visits e.name ≡ Some e.visit
   pub direction : e.visit.access.dir ≡ source_of (edge_at es i)
 
--- how many events a thread of the cycle has
-abbrev pub event_count : List Edge → ℕ → ℕ
-event_count es thread = count_by (λ i. thread_of es i == thread) (upto (length es))
-
 -- an access has three empty masks
 pub record IsFree (visit : Visit) : Type 0 where
   pub address : visit.address_mask ≡ 0
@@ -155,17 +150,13 @@ Observes (visit ∷ visits) =
 -- and in its direction; all other threads observe; no barrier stands at either end of a thread
 pub record HasEvents (es : List Edge) (p : Program) (x : Execution) : Type 0 where
   pub threads : external_count es ≤ length p.threads
-  pub counts : (k : ℕ) (visits : List Visit) → k < external_count es → slice_get (visits_in p x) k ≡ Some visits → length visits ≡ event_count es k
+  pub counts : (k : ℕ) (visits : List Visit) → k < external_count es → slice_get (visits_in p x) k ≡ Some visits → length visits ≡ length (events_in es k)
   pub events : (i : ℕ) → i < length es → (e : Named) × IsEvent es (visits_in p x) i e
   pub observers : (k : ℕ) (visits : List Visit) → external_count es ≤ k → slice_get (visits_in p x) k ≡ Some visits → Observes visits
   pub starts : (k : ℕ) (visits : List Visit) → slice_get (visits_in p x) k ≡ Some visits → StartsFree visits
   pub ends : (k : ℕ) (made : List Item) → slice_get (items_in p x) k ≡ Some made → barriers_behind [] made ≡ []
 
--- the event after event i on the way round the cycle
-abbrev pub next_event : List Edge → ℕ → ℕ
-next_event es i = if i + 1 == length es then 0 else i + 1
-
 -- all edges of a cycle stand, in order, between its events: the last one leads back to event 0
 pub record AllStand (es : List Edge) (p : Program) (x : Execution) : Type 0 where
   pub events : HasEvents es p x
-  pub stand : (i : ℕ) (e f : Named) → i < length es → IsEvent es (visits_in p x) i e → IsEvent es (visits_in p x) (next_event es i) f → Stands (accesses_in p x) x (edge_at es i) e f
+  pub stand : (i : ℕ) (e f : Named) → i < length es → IsEvent es (visits_in p x) i e → IsEvent es (visits_in p x) (event_after es i) f → Stands (accesses_in p x) x (edge_at es i) e f
