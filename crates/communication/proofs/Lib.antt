@@ -13,3 +13,4 @@ pub mod OnlyOne
 pub mod EdgesJoin
 pub mod Programs
 pub mod AllStand
+pub mod Bridge
