@@ -14,3 +14,4 @@ pub mod EdgesJoin
 pub mod Programs
 pub mod AllStand
 pub mod Bridge
+pub mod Rearranged
