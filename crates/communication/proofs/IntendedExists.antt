@@ -27,7 +27,7 @@ use Rattle.communication.proofs.Accesses.{EventAt, LoadAt, by_origin}
 use Rattle.communication.proofs.WriteEvents.{NthWrite, nth_write, WriteEvent, write_event, write_stands, ordered_write-is, rank_below}
 use Rattle.communication.proofs.IntendedReads.{reads-count, intended_are_reads}
 use Rattle.communication.proofs.IntendedOrders.{gives_writes, intended_order, place_is_value}
-use Rattle.communication.proofs.Resolves.{IsWrite, Resolves}
+use Rattle.communication.proofs.Resolves.{IsWrite, Resolves, later_slot}
 
 -- the order of a location holds its writes
 held_by_order : (es : List Edge) (l : ℕ) → Resolves es → Holds (location_order es l) (ordered_write es l) (write_count es l)
@@ -86,7 +86,7 @@ intended_is_execution es mode number r n = record {
 }
 
 -- of two accesses of one thread at one place the later has a value that may follow
-values_follow : (es : List Edge) (mode : ObsMode) (number : ℕ → ℕ) (thread e f : ℕ) (a b : Access) → Resolves es → IsNumbering es number → e < f → at_name (cycle_accesses es mode number) (record { thread = thread; access = e }) ≡ Some a → at_name (cycle_accesses es mode number) (record { thread = thread; access = f }) ≡ Some b → a.place ≡ b.place → MayFollow b.dir a.value b.value
+pub values_follow : (es : List Edge) (mode : ObsMode) (number : ℕ → ℕ) (thread e f : ℕ) (a b : Access) → Resolves es → IsNumbering es number → e < f → at_name (cycle_accesses es mode number) (record { thread = thread; access = e }) ≡ Some a → at_name (cycle_accesses es mode number) (record { thread = thread; access = f }) ≡ Some b → a.place ≡ b.place → MayFollow b.dir a.value b.value
 values_follow es mode number thread e f a b r n less h k p =
     by_origin es mode number (record { thread = thread; access = e }) a r h
     (λ (i : EventAt es number (record { thread = thread; access = e }) a).
@@ -102,11 +102,7 @@ values_follow es mode number thread e f a b r n less h k p =
     both_events i j =
         let t : thread_of es i.event ≡ thread_of es j.event = sym i.thread ∙ j.thread in
         let l : location_of es i.event ≡ location_of es j.event = n.injective (location_of es i.event) (location_of es j.event) (r.location i.event) (r.location j.event) (ap (λ c. c.place) i.access_is ∙ p ∙ sym (ap (λ c. c.place) j.access_is)) in
-        let o : i.event < j.event =
-          by_less i.event j.event (λ m. m)
-          (λ m. by_less j.event i.event
-          (λ q. absurd (omega (arith, r.rises j.event i.event q i.below (sym t), i.slot, j.slot, less)))
-          (λ q. let s : i.event ≡ j.event = omega (arith, m, q) in absurd (omega (arith, ap (slot_of es) s, i.slot, j.slot, less)))) in
+        let o : i.event < j.event = later_slot es i.event j.event r i.below t (omega (arith, i.slot, j.slot, less)) in
         let v : value_of es i.event ≡ a.value = ap (λ c. c.value) i.access_is in
         let w : value_of es j.event ≡ b.value = ap (λ c. c.value) j.access_is in
         let d : source_of (edge_at es j.event) ≡ b.dir = ap (λ c. c.dir) j.access_is in

@@ -15,3 +15,5 @@ pub mod Programs
 pub mod AllStand
 pub mod Bridge
 pub mod Rearranged
+pub mod Swaps
+pub mod Exchanged

@@ -1,5 +1,6 @@
 -- What the executions of a cycle rest on: the facts of its threads, its locations and its values.
-use Rattle.std.proofs.Common.{refl}
+use Rattle.std.proofs.Common.{refl, sym, ap, arith}
+use Rattle.list_laws.proofs.Cases.{by_less}
 use Rattle.std.specs.Prelude.{◌≡◌, ◌≢◌, ℕ, zero, suc, ◌+◌, ◌-◌, ◌<◌, ◌≤◌, ◌==◌, false, List, length, Option, Some, slice_get}
 use Rattle.relax_edges.specs.declared.kinds.Dir.{Dir}
 use Rattle.relax_edges.specs.declared.kinds.Dir.TheVariants as dirs
@@ -45,6 +46,7 @@ pub record Resolves (es : List Edge) : Type 0 where
   pub stays : (i : ℕ) → i < length es → reach_of (edge_at es i) ≡ Internal → (thread_of es (event_after es i) ≡ thread_of es i) × (slot_of es (event_after es i) ≡ slot_of es i + 1)
   pub leaves : (i : ℕ) → i < length es → reach_of (edge_at es i) ≡ External → thread_of es (event_after es i) ≢ thread_of es i
   pub order : (i j : ℕ) → i < j → j < length es → thread_of es i ≡ thread_of es j → location_of es i ≡ location_of es j → MayFollow (source_of (edge_at es j)) (value_of es i) (value_of es j)
+  pub run : (i m j : ℕ) → i ≤ m → m < j → j < length es → thread_of es i ≡ thread_of es j → location_of es i ≡ location_of es j → (place_of (edge_at es m) ≡ Same) × (reach_of (edge_at es m) ≡ Internal)
   pub counts : (i : ℕ) → i < length es → place_of (edge_at es i) ≡ Same → value_of es (event_after es i) ≡ value_of es i + written_by (source_of (edge_at es (event_after es i)))
   pub begins : (i : ℕ) → i < length es → place_of (edge_at es i) ≡ Diff → value_of es (event_after es i) ≡ written_by (source_of (edge_at es (event_after es i)))
   pub within : (i : ℕ) → i < length es → value_of es i ≤ write_count es (location_of es i)
@@ -66,3 +68,19 @@ pub record Entered (es : List Edge) (i : ℕ) : Type 0 where
 
 pub entered : (es : List Edge) (i : ℕ) → i < length es → Entered es i
 entered es i h = record { before = event_before es i; below = before_below es i h; next = after_before es i h; edge = refl }
+
+-- in one thread the later slot is that of the later event
+pub later_slot : (es : List Edge) (i j : ℕ) → Resolves es → i < length es → thread_of es i ≡ thread_of es j → slot_of es i < slot_of es j → i < j
+later_slot es i j r h t less =
+    by_less i j (λ m. m)
+    (λ m. by_less j i
+    (λ q. absurd (omega (arith, r.rises j i q h (sym t), less)))
+    (λ q. let s : i ≡ j = omega (arith, m, q) in absurd (omega (arith, ap (slot_of es) s, less))))
+
+-- a write that is neither the first nor the last of its location and that an external edge enters
+pub record InnerEntry (es : List Edge) (i : ℕ) : Type 0 where
+  pub below : i < length es
+  pub writes : source_of (edge_at es i) ≡ dirs.W
+  pub outside : reach_of (edge_into es i) ≡ External
+  pub second : 1 < value_of es i
+  pub inner : value_of es i < write_count es (location_of es i)
