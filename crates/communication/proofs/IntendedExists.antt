@@ -123,7 +123,7 @@ intended_is_coherent es mode number r n thread e f a b less h k p =
     (values_follow es mode number thread e f a b r n less h k p)
 
 -- the last write of a location's order is the one of the greatest value
-last_of_order : (es : List Edge) (l k : ℕ) → Resolves es → write_count es l ≡ suc k → last_write (location_order es l) ≡ ordered_write es l k
+pub last_of_order : (es : List Edge) (l k : ℕ) → Resolves es → write_count es l ≡ suc k → last_write (location_order es l) ≡ ordered_write es l k
 unfolding location_order
 last_of_order es l k r h =
     let g = gives_writes es l r in

@@ -51,17 +51,17 @@ load_place es mode number x o l k r n s h g b =
     ∙ ap (write_of es l) (add-one k))
 
 -- the edge into a write that isn't the first of its location comes from the value before
-record FromBefore (es : List Edge) (l k : ℕ) : Type 0 where
-  write : ℕ
-  is_write : IsWrite es l (suc k) write
-  from : ℕ
-  below : from < length es
-  next : event_after es from ≡ write
-  edge : edge_into es write ≡ edge_at es from
-  spot : location_of es from ≡ l
-  value : value_of es from ≡ suc k
+pub record FromBefore (es : List Edge) (l k : ℕ) : Type 0 where
+  pub write : ℕ
+  pub is_write : IsWrite es l (suc k) write
+  pub from : ℕ
+  pub below : from < length es
+  pub next : event_after es from ≡ write
+  pub edge : edge_into es write ≡ edge_at es from
+  pub spot : location_of es from ≡ l
+  pub value : value_of es from ≡ suc k
 
-from_before : (es : List Edge) (l k i : ℕ) → Resolves es → IsWrite es l (suc k) i → FromBefore es l k
+pub from_before : (es : List Edge) (l k i : ℕ) → Resolves es → IsWrite es l (suc k) i → FromBefore es l k
 from_before es l k i r w =
     by_place (place_of (edge_at es e.before)) refl
   where
