@@ -17,3 +17,4 @@ pub mod Bridge
 pub mod Rearranged
 pub mod Swaps
 pub mod Exchanged
+pub mod Needs
