@@ -29,6 +29,7 @@ use Rattle.program_meaning.specs.Executions.{Execution, IsExecutionOf, IsOrderOf
 use Rattle.program_meaning.specs.Coherence.{MayFollow, IsCoherent, order_place, order_at, coherence_place, last_write, value_in, final_value}
 use Rattle.program_meaning.specs.Standing.{Communicates, CommunicatesBy, Joins, event_name}
 use Rattle.program_meaning.specs.Intended.{IsNumbering, event_access, event_at, cycle_accesses, ordered_write, write_of, location_order, location_numbered, intended}
+use Rattle.communication.specs.Premises.{MeetsCondition}
 use Rattle.communication.specs.Exchange.{swapped, exchanged_value, exchanged_order, exchanged}
 use Rattle.communication.proofs.Lists.{image_of}
 use Rattle.communication.proofs.Numbering.{Numbers, numbering_onto, location_of_number}
@@ -36,7 +37,7 @@ use Rattle.communication.proofs.Accesses.{EventAt, LoadAt, by_origin, event_stan
 use Rattle.communication.proofs.WriteEvents.{nth_write, write_stands}
 use Rattle.communication.proofs.IntendedReads.{IsPlaced, placed, source_for, reads-count, intended_are_reads}
 use Rattle.communication.proofs.IntendedOrders.{intended_order, placed_write}
-use Rattle.communication.proofs.IntendedExists.{values_follow, last_of_order}
+use Rattle.communication.proofs.IntendedExists.{values_follow, last_of_order, intended_meets}
 use Rattle.communication.proofs.OnlyOne.{FromBefore, from_before}
 use Rattle.communication.proofs.Rearranged.{Exchanges, order_under, place_under, order_under_is, last_under, empty_under}
 use Rattle.communication.proofs.Swaps.{swapped_here, swapped_before, swap_exchanges, follows_still}
@@ -66,7 +67,7 @@ order_exchanged es number event l n h =
     ap (λ o. unwrap_or o []) (slice_get-map-upto (λ place. exchanged_order es event (location_numbered es number place)) (move_count es) (number l) (n.below l h))
     ∙ ap (exchanged_order es event) (location_of_number es number l n h)
 
-reads_exchanged : (es : List Edge) (number : ℕ → ℕ) (event : ℕ) → (exchanged es number event).reads ≡ (intended es Avoid number).reads
+pub reads_exchanged : (es : List Edge) (number : ℕ → ℕ) (event : ℕ) → (exchanged es number event).reads ≡ (intended es Avoid number).reads
 unfolding exchanged
 reads_exchanged es number event = refl
 
@@ -278,3 +279,15 @@ exchanged_breaks es number event r n q j =
     by_edge (edges.Fenced kind sd from to) e c = let d : Internal ≡ External = sym (ap reach_of e) ∙ q.outside in cc
     by_edge (edges.Dep kind sd to) e c = let d : Internal ≡ External = sym (ap reach_of e) ∙ q.outside in cc
     by_edge (edges.Data sd) e c = let d : Internal ≡ External = sym (ap reach_of e) ∙ q.outside in cc
+
+-- so it meets the same condition
+pub exchanged_meets : (es : List Edge) (number : ℕ → ℕ) (event : ℕ) → Resolves es → IsNumbering es number → InnerEntry es event → MeetsCondition es Avoid number (exchanged es number event)
+exchanged_meets es number event r n q =
+    record {
+      execution = exchanged_is_execution es number event r n q;
+      coherent = exchanged_is_coherent es number event r n q;
+      ends = λ l h u c. exchanged_ends es number event (number l) r n q (n.below l h) ∙ first.ends l h u c;
+    }
+  where
+    first : MeetsCondition es Avoid number (intended es Avoid number)
+    first = intended_meets es Avoid number r n

@@ -18,3 +18,4 @@ pub mod Rearranged
 pub mod Swaps
 pub mod Exchanged
 pub mod Needs
+pub mod Laws

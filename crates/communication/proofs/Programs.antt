@@ -22,7 +22,7 @@ use Rattle.program_meaning.specs.Coherence.{IsCoherent, final_value}
 use Rattle.program_meaning.specs.Programs.{Program, Thread, IsCandidate, IsCoherentIn, HasEnded, runs_of, items_in, visits_in, accesses_in, made_in}
 use Rattle.program_meaning.specs.Intended.{IsNumbering, cycle_accesses, intended}
 use Rattle.communication.specs.Premises.{MeetsCondition}
-use Rattle.communication.specs.Joining.{value_taken, values_left, filled, values_read, Makes, ReadsAsAsked, EndsAsAsked}
+use Rattle.communication.specs.Joining.{value_taken, values_left, filled, values_read, Makes, ReadsAsAsked, EndsAsAsked, IsOutcome}
 use Rattle.communication.proofs.Lists.{same_below, got_below, map-map}
 use Rattle.communication.proofs.ReadLists.{reads_by_source}
 use Rattle.communication.proofs.IntendedReads.{reads-count, intended_reads, source_for}
@@ -63,17 +63,21 @@ makes_planned es mode number p x m v c =
         ∙ ap Some (ap (filled t.element) (v k t.element r.element t.got r.got) ∙ filled_own t.element)
         ∙ sym t.got
 
--- a candidate execution that is coherent and meets the condition, by its accesses alone
-pub candidate_meets : (es : List Edge) (mode : ObsMode) (number : ℕ → ℕ) (p : Program) (x : Execution) → Makes es mode number p x → IsCandidate p x → IsCoherentIn p x → ReadsAsAsked es mode number x → EndsAsAsked es mode number p x → MeetsCondition es mode number x
-candidate_meets es mode number p x m c h v f =
+-- in an outcome of such a program the accesses made are those of the cycle's test
+pub outcome_makes : (es : List Edge) (mode : ObsMode) (number : ℕ → ℕ) (p : Program) (x : Execution) → Makes es mode number p x → IsOutcome es mode number p x → accesses_in p x ≡ cycle_accesses es mode number
+outcome_makes es mode number p x m o = makes_planned es mode number p x m o.reads (o.candidate.execution.read_lists ∙ accesses-count p x)
+
+-- so an outcome is coherent and meets the condition, by its accesses alone
+pub outcome_meets : (es : List Edge) (mode : ObsMode) (number : ℕ → ℕ) (p : Program) (x : Execution) → Makes es mode number p x → IsOutcome es mode number p x → MeetsCondition es mode number x
+outcome_meets es mode number p x m o =
     record {
-      execution = subst (λ (t : List (List Access) × ℕ). IsExecutionOf t.0 t.1 x) (λ i. (made i, m.places i)) c.execution;
-      coherent = subst (λ (t : List (List Access)). IsCoherent t x) made h;
-      ends = λ l b u n. subst (λ (t : List (List Access)). final_value t x (number l) ≡ write_count es l) made (f l b u n);
+      execution = subst (λ (t : List (List Access) × ℕ). IsExecutionOf t.0 t.1 x) (λ i. (made i, m.places i)) o.candidate.execution;
+      coherent = subst (λ (t : List (List Access)). IsCoherent t x) made o.coherent;
+      ends = λ l b u n. subst (λ (t : List (List Access)). final_value t x (number l) ≡ write_count es l) made (o.ends l b u n);
     }
   where
     made : accesses_in p x ≡ cycle_accesses es mode number
-    made = makes_planned es mode number p x m v (c.execution.read_lists ∙ accesses-count p x)
+    made = outcome_makes es mode number p x m o
 
 -- the intended execution reads the values asked for
 pub intended_asked : (es : List Edge) (mode : ObsMode) (number : ℕ → ℕ) → Resolves es → IsNumbering es number → ReadsAsAsked es mode number (intended es mode number)
@@ -82,20 +86,13 @@ intended_asked es mode number r n k planned reads t g =
     let e : reads_by_source (source_for es number) (filter is_read planned) ≡ reads = cc in
     ap values_read (sym e) ∙ map-map (λ access. (access.value, source_for es number access)) (λ r. r.0) (filter is_read planned)
 
--- the intended execution of a program that makes the accesses of the cycle's test is a candidate, it is coherent and it
--- meets the condition
-pub record IntendedMeets (es : List Edge) (mode : ObsMode) (number : ℕ → ℕ) (p : Program) : Type 0 where
-  pub candidate : IsCandidate p (intended es mode number)
-  pub coherent : IsCoherentIn p (intended es mode number)
-  pub asked : ReadsAsAsked es mode number (intended es mode number)
-  pub ends : EndsAsAsked es mode number p (intended es mode number)
-
-pub intended_candidate : (es : List Edge) (mode : ObsMode) (number : ℕ → ℕ) (p : Program) → Resolves es → IsNumbering es number → Makes es mode number p (intended es mode number) → ((k : ℕ) (run : Outcome) → slice_get (runs_of p.threads (intended es mode number).reads) k ≡ Some run → HasEnded run) → IntendedMeets es mode number p
-intended_candidate es mode number p r n m ended =
+-- where the runs on the intended reads come to their ends, the intended execution is an outcome
+pub intended_outcome : (es : List Edge) (mode : ObsMode) (number : ℕ → ℕ) (p : Program) → Resolves es → IsNumbering es number → Makes es mode number p (intended es mode number) → ((k : ℕ) (run : Outcome) → slice_get (runs_of p.threads (intended es mode number).reads) k ≡ Some run → HasEnded run) → IsOutcome es mode number p (intended es mode number)
+intended_outcome es mode number p r n m ended =
     record {
       candidate = record { ended = ended; execution = subst (λ (t : List (List Access) × ℕ). IsExecutionOf t.0 t.1 (intended es mode number)) (λ i. (sym made i, sym m.places i)) q.execution };
       coherent = subst (λ (t : List (List Access)). IsCoherent t (intended es mode number)) (sym made) q.coherent;
-      asked = intended_asked es mode number r n;
+      reads = intended_asked es mode number r n;
       ends = λ l b u c. subst (λ (t : List (List Access)). final_value t (intended es mode number) (number l) ≡ write_count es l) (sym made) (q.ends l b u c);
     }
   where

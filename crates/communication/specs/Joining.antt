@@ -58,6 +58,13 @@ EndsAsAsked es mode number p x =
     (location : ℕ) → location < move_count es → is_observed es mode location ≡ false → 2 ≤ write_count es location →
     final_value (accesses_in p x) x (number location) ≡ write_count es location
 
+-- an outcome that the condition asks for: a candidate execution that is coherent per location, with the values asked for
+pub record IsOutcome (es : List Edge) (mode : ObsMode) (number : ℕ → ℕ) (p : Program) (x : Execution) : Type 0 where
+  pub candidate : IsCandidate p x
+  pub coherent : IsCoherentIn p x
+  pub reads : ReadsAsAsked es mode number x
+  pub ends : EndsAsAsked es mode number p x
+
 -- no barriers and no dependencies in a thread
 abbrev pub AreFree : List Visit → Type 0
 AreFree [] = Unit {0}
