@@ -1,18 +1,16 @@
 -- Where each event of a cycle and each load of an observer stands among the accesses of the cycle's test, and that
 -- nothing else stands there.
-use Rattle.std.proofs.Common.{◌≡◌, ℕ, zero, suc, ◌+◌, ◌-◌, ◌<◌, ◌≤◌, List, [], ◌∷◌, ◌++◌, length, map, Option, Some, None, slice_get, refl, sym, ◌∙◌, ap, arith}
+use Rattle.std.proofs.Common.{◌≡◌, ℕ, ◌+◌, ◌-◌, ◌<◌, List, length, map, Option, Some, None, slice_get, refl, sym, ◌∙◌, ap, arith}
 use Rattle.std.proofs.lemmas.Option.{slice_get_within}
-use Rattle.relax_edges.specs.declared.kinds.Dir.TheVariants as dirs
 use Rattle.relax_edges.specs.declared.kinds.ObsMode.{ObsMode}
 use Rattle.relax_edges.specs.declared.edge.Edge.{Edge}
-use Rattle.relax_edges.specs.EdgeTable.{source_of}
 use Rattle.list_laws.specs.Numbers.{upto}
 use Rattle.list_laws.proofs.Cases.{by_less}
 use Rattle.list_laws.proofs.Numbers.{length-map-upto, slice_get-map-upto, slice_get-upto, length-upto}
-use Rattle.cycle_resolve.specs.Resolution.{edge_at, external_count, thread_of, slot_of, location_of, events_in}
-use Rattle.coherence_values.specs.Values.{value_of, write_count}
+use Rattle.cycle_resolve.specs.Resolution.{external_count, thread_of, slot_of, events_in}
+use Rattle.coherence_values.specs.Values.{write_count}
 use Rattle.program_meaning.specs.declared.WriteAt.{WriteAt}
-use Rattle.program_meaning.specs.Accesses.{Access, read, write, got_from, at_name}
+use Rattle.program_meaning.specs.Accesses.{Access, read, got_from, at_name}
 use Rattle.program_meaning.specs.Standing.{event_name}
 use Rattle.program_meaning.specs.Intended.{observed_locations, event_access, observer_accesses, cycle_accesses}
 use Rattle.communication.proofs.Lists.{slice_get-append_left, slice_get-append_right, image_of, got_map}
@@ -82,6 +80,7 @@ by_origin {G} es mode number name access r h event load =
   where
     g : GotFrom (slice_get (cycle_accesses es mode number) name.thread) name.access access
     g = got_from_list (slice_get (cycle_accesses es mode number) name.thread) name.access access h
+
     as_event : name.thread < external_count es → EventAt es number name access
     as_event l =
         let s : Some g.list ≡ Some (map (event_access es number) (events_in es name.thread)) = sym g.list_is ∙ thread_accesses es mode number name.thread l in
@@ -89,6 +88,7 @@ by_origin {G} es mode number name access r h event load =
         let i = image_of (event_access es number) (events_in es name.thread) name.access access (rw e at g.got) in
         let w = r.event name.thread name.access i.element i.got in
         record { event = i.element; below = w.below; thread = sym w.thread; slot = sym w.slot; access_is = i.image }
+
     as_load : (o : ℕ) → name.thread ≡ external_count es + o → LoadAt es mode number name access
     as_load o t =
         let i = image_of (observer_accesses es number) (observed_locations es mode) o g.list (sym (observer_thread es mode number name.thread o t) ∙ g.list_is) in

@@ -1,5 +1,5 @@
 -- A resolved cycle has the facts that the executions rest on.
-use Rattle.std.proofs.Common.{◌≡◌, ◌≢◌, ℕ, zero, suc, ◌+◌, ◌<◌, ◌≤◌, Bool, true, false, cond, List, length, Option, Some, None, slice_get, refl, sym, ◌∙◌, ap, subst, arith, add-one}
+use Rattle.std.proofs.Common.{◌≡◌, ◌≢◌, ℕ, ◌+◌, ◌<◌, ◌≤◌, true, false, cond, List, length, Some, refl, sym, ◌∙◌, ap, arith, add-one}
 use Rattle.std.specs.Prelude.{◌==◌}
 use Rattle.std.specs.List.{count_by}
 use Rattle.std.proofs.lemmas.Bool.{cond-true, cond-false, eqb-true, eq-eqb}
@@ -13,18 +13,16 @@ use Rattle.relax_edges.specs.declared.kinds.Sd.TheVariants.{Same, Diff}
 use Rattle.relax_edges.specs.declared.kinds.Reach.{Reach}
 use Rattle.relax_edges.specs.declared.kinds.Reach.TheVariants.{Internal, External}
 use Rattle.relax_edges.specs.declared.edge.Edge.{Edge}
-use Rattle.relax_edges.specs.declared.edge.Edge.TheVariants as edges
-use Rattle.relax_edges.specs.EdgeTable.{source_of, target_of, place_of, reach_of, is_external, is_diff, same_dir}
-use Rattle.cycle_resolve.specs.Resolution.{IsResolved, edge_at, external_count, move_count, moves_before, thread_of, slot_of, location_of, event_after, events_in}
-use Rattle.cycle_resolve.proofs.Threads.{IsAt, thread_out, event_in_slot, slot_of_event}
+use Rattle.relax_edges.specs.EdgeTable.{source_of, place_of, reach_of, is_external, is_diff, same_dir}
+use Rattle.cycle_resolve.specs.Resolution.{IsResolved, edge_at, external_count, move_count, thread_of, slot_of, location_of, event_after}
+use Rattle.cycle_resolve.proofs.Threads.{thread_out, event_in_slot, slot_of_event}
 use Rattle.cycle_resolve.proofs.Arcs.{SameRun, thread_below, several_locations, one_run, one_location, none_moves}
-use Rattle.cycle_resolve.proofs.Around.{source_after, Follows, internal_follows, Leads, external_leads, keeps_location, changes_location}
-use Rattle.coherence_values.specs.Values.{value_of, write_at, write_count, edge_into, is_inner_entry, is_write_at, is_observed, first_inner_entry, need_at, first_need, observer_need}
+use Rattle.cycle_resolve.proofs.Around.{source_after, internal_follows, external_leads, keeps_location, changes_location}
+use Rattle.coherence_values.specs.Values.{value_of, write_at}
 use Rattle.coherence_values.proofs.Along.{is_write, value_after, value_most, write_value, values_in_thread, values_in_thread_grow}
-use Rattle.coherence_values.proofs.Writes.{Write, write_of as write_from, write_at_parts, write_at_from, is_write_number, write_number, write_number_below}
+use Rattle.coherence_values.proofs.Writes.{write_of as write_from, write_at_parts, write_at_from, is_write_number, write_number}
 use Rattle.program_meaning.specs.Coherence.{MayFollow}
-use Rattle.communication.specs.Premises.{IsServed}
-use Rattle.communication.proofs.Resolves.{IsIn, IsWrite, Resolves, EntersLast, InnerEntry, written_by}
+use Rattle.communication.proofs.Resolves.{IsWrite, Resolves, written_by}
 
 keeps : (e : Edge) → place_of e ≡ Same → is_diff e ≡ false
 keeps e h = rw h refl
@@ -83,14 +81,17 @@ edges_of_run es i m j r h l b t e =
   where
     here : SameRun es i m
     here = one_run es i m j r h (omega arith) b t e
+
     there : SameRun es i (m + 1)
     there = one_run es i (m + 1) j r (omega arith) (omega arith) b t e
+
     same_place : (p : Sd) → place_of (edge_at es m) ≡ p → p ≡ Same
     same_place Same q = refl
     same_place Diff q =
         let a : is_diff (edge_at es m) ≡ false = none_moves es i j m h l (omega arith) (one_location es i j r (omega arith) b t e) in
         let c : true ≡ false = sym (moves (edge_at es m) q) ∙ a in
         cc
+
     same_thread : (p : Reach) → reach_of (edge_at es m) ≡ p → p ≡ Internal
     same_thread Internal q = refl
     same_thread External q =

@@ -1,16 +1,16 @@
 -- The definitions tried on small cycles, by computing.
-use Rattle.std.proofs.Common.{◌≡◌, ℕ, List, [], ◌∷◌, Option, Some, None, refl}
+use Rattle.std.proofs.Common.{◌≡◌, ℕ, List, [], ◌∷◌, Some, None, refl}
 use Rattle.relax_edges.specs.declared.kinds.Dir.TheVariants as dirs
-use Rattle.relax_edges.specs.declared.kinds.Sd.TheVariants.{Same, Diff}
+use Rattle.relax_edges.specs.declared.kinds.Sd.TheVariants.{Diff}
 use Rattle.relax_edges.specs.declared.kinds.Reach.TheVariants.{Internal, External}
 use Rattle.relax_edges.specs.declared.kinds.Com.TheVariants as coms
-use Rattle.relax_edges.specs.declared.kinds.ObsMode.TheVariants.{Accept, Avoid, Force}
+use Rattle.relax_edges.specs.declared.kinds.ObsMode.TheVariants.{Accept}
 use Rattle.relax_edges.specs.declared.edge.Edge.{Edge}
 use Rattle.relax_edges.specs.declared.edge.Edge.TheVariants as edges
 use Rattle.cycle_resolve.specs.Resolution.{thread_of, slot_of, location_of, moves_before, events_in}
 use Rattle.coherence_values.specs.Values.{value_of, way_place, write_count, write_at, is_observed}
 use Rattle.program_meaning.specs.declared.WriteAt.{WriteAt}
-use Rattle.program_meaning.specs.Accesses.{Access, read, write}
+use Rattle.program_meaning.specs.Accesses.{read, write}
 use Rattle.program_meaning.specs.Intended.{cycle_accesses, intended, location_order, location_numbered}
 
 abbrev PodWW : Edge
@@ -72,7 +72,7 @@ W3O-accesses = refl
 
 W3O-intended : intended W3O Accept here ≡ record {
   reads = [] ∷ [] ∷ ((0, None) ∷ []) ∷ ((1, Some (name 0 1)) ∷ (2, Some (name 1 0)) ∷ (3, Some (name 2 0)) ∷ []) ∷ [];
-  orders = (name 0 0 ∷ []) ∷ (name 0 1 ∷ name 1 0 ∷ name 2 0 ∷ []) ∷ []
+  orders = (name 0 0 ∷ []) ∷ (name 0 1 ∷ name 1 0 ∷ name 2 0 ∷ []) ∷ [];
 }
 unfolding cycle_accesses intended events_in location_order location_numbered thread_of slot_of location_of moves_before value_of way_place write_count write_at is_observed
 W3O-intended = refl

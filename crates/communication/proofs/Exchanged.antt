@@ -1,6 +1,6 @@
 -- Where an external edge enters an inner write of a location without an observer, the exchanged execution is coherent and
 -- has the reads and the final values of the intended one, but the edge doesn't stand in it.
-use Rattle.std.proofs.Common.{◌≡◌, ℕ, zero, suc, ◌+◌, ◌-◌, ◌<◌, ◌≤◌, Bool, true, false, cond, List, [], ◌∷◌, length, map, Option, Some, None, slice_get, refl, sym, ◌∙◌, ap, subst, arith, add-one}
+use Rattle.std.proofs.Common.{◌≡◌, ℕ, zero, suc, ◌+◌, ◌-◌, ◌<◌, ◌≤◌, true, false, List, [], length, Some, slice_get, refl, sym, ◌∙◌, ap, subst, arith, add-one}
 use Rattle.std.specs.Prelude.{◌==◌, unwrap_or}
 use Rattle.std.specs.List.{filter_map}
 use Rattle.std.specs.Option.{option_and_then}
@@ -9,7 +9,6 @@ use Rattle.std.proofs.lemmas.Option.{slice_get_within}
 use Rattle.relax_edges.specs.declared.kinds.Dir.{Dir}
 use Rattle.relax_edges.specs.declared.kinds.Dir.TheVariants as dirs
 use Rattle.relax_edges.specs.declared.kinds.Sd.TheVariants.{Same}
-use Rattle.relax_edges.specs.declared.kinds.Reach.{Reach}
 use Rattle.relax_edges.specs.declared.kinds.Reach.TheVariants.{Internal, External}
 use Rattle.relax_edges.specs.declared.kinds.Com.TheVariants as coms
 use Rattle.relax_edges.specs.declared.kinds.ObsMode.TheVariants.{Avoid}
@@ -20,28 +19,26 @@ use Rattle.list_laws.specs.Numbers.{upto}
 use Rattle.list_laws.proofs.Cases.{by_same, by_less}
 use Rattle.list_laws.proofs.Numbers.{length-map-upto, length-upto, slice_get-upto, slice_get-map-upto}
 use Rattle.list_laws.proofs.Ranks.{unrank_upto}
-use Rattle.cycle_resolve.specs.Resolution.{edge_at, move_count, thread_of, slot_of, location_of, event_after, event_before}
+use Rattle.cycle_resolve.specs.Resolution.{edge_at, move_count, thread_of, location_of, event_after, event_before}
 use Rattle.cycle_resolve.proofs.Around.{by_after, before_below, after_before}
 use Rattle.coherence_values.specs.Values.{value_of, write_count, is_observed, edge_into}
 use Rattle.program_meaning.specs.declared.WriteAt.{WriteAt}
-use Rattle.program_meaning.specs.Accesses.{Access, write, at_name}
-use Rattle.program_meaning.specs.Executions.{Execution, IsExecutionOf, IsOrderOf}
+use Rattle.program_meaning.specs.Accesses.{Access, at_name}
+use Rattle.program_meaning.specs.Executions.{IsExecutionOf, IsOrderOf}
 use Rattle.program_meaning.specs.Coherence.{MayFollow, IsCoherent, order_place, order_at, coherence_place, last_write, value_in, final_value}
-use Rattle.program_meaning.specs.Standing.{Communicates, CommunicatesBy, Joins, event_name}
+use Rattle.program_meaning.specs.Standing.{CommunicatesBy, Joins, event_name}
 use Rattle.program_meaning.specs.Intended.{IsNumbering, event_access, event_at, cycle_accesses, ordered_write, write_of, location_order, location_numbered, intended}
 use Rattle.communication.specs.Premises.{MeetsCondition}
 use Rattle.communication.specs.Exchange.{swapped, exchanged_value, exchanged_order, exchanged}
 use Rattle.communication.proofs.Lists.{image_of}
 use Rattle.communication.proofs.Numbering.{Numbers, numbering_onto, location_of_number}
-use Rattle.communication.proofs.Accesses.{EventAt, LoadAt, by_origin, event_stands}
-use Rattle.communication.proofs.WriteEvents.{nth_write, write_stands}
-use Rattle.communication.proofs.IntendedReads.{IsPlaced, placed, source_for, reads-count, intended_are_reads}
+use Rattle.communication.proofs.Accesses.{EventAt, by_origin, event_stands}
+use Rattle.communication.proofs.IntendedReads.{IsPlaced, placed, reads-count, intended_are_reads}
 use Rattle.communication.proofs.IntendedOrders.{intended_order, placed_write}
 use Rattle.communication.proofs.IntendedExists.{values_follow, last_of_order, intended_meets}
-use Rattle.communication.proofs.OnlyOne.{FromBefore, from_before}
 use Rattle.communication.proofs.Rearranged.{Exchanges, order_under, place_under, order_under_is, last_under, empty_under}
 use Rattle.communication.proofs.Swaps.{swapped_here, swapped_before, swap_exchanges, follows_still}
-use Rattle.communication.proofs.Resolves.{IsWrite, Resolves, InnerEntry, later_slot, written_by}
+use Rattle.communication.proofs.Resolves.{Resolves, InnerEntry, later_slot, written_by}
 
 -- at the event's location two values are exchanged, at the others none
 at_location : (es : List Edge) (event l : ℕ) → l ≡ location_of es event → exchanged_value es event l ≡ swapped (value_of es event)
@@ -148,12 +145,16 @@ rises_at es i (suc m) v r h b t l below above =
   where
     run : (place_of (edge_at es m) ≡ Same) × (reach_of (edge_at es m) ≡ Internal)
     run = r.run i m (suc m) (omega arith) (omega arith) b t l
+
     after : event_after es m ≡ suc m
     after = by_after es m (omega arith) (λ k e. e ∙ add-one m) (λ k e. absurd (omega (arith, k, b)))
+
     counts : value_of es (suc m) ≡ value_of es m + written_by (source_of (edge_at es (suc m)))
     counts = sym (ap (value_of es) after) ∙ r.counts m (omega arith) run.0 ∙ ap (λ k. value_of es m + written_by (source_of (edge_at es k))) after
+
     thread : thread_of es (suc m) ≡ thread_of es m
     thread = let s = r.stays m (omega arith) run.1 in sym (ap (thread_of es) after) ∙ s.0
+
     place : location_of es (suc m) ≡ location_of es m
     place = sym (ap (location_of es) after) ∙ r.keeps m (omega arith) run.0
 
@@ -182,22 +183,31 @@ exchanged_is_coherent es number event r n q thread e f a b less h k same =
   where
     p : IsPlaced es number a
     p = placed es Avoid number (record { thread = thread; access = e }) a r h
+
     o : IsPlaced es number b
     o = placed es Avoid number (record { thread = thread; access = f }) b r k
+
     spots : p.spot ≡ o.spot
     spots = n.injective p.spot o.spot p.below o.below (p.place_is ∙ same ∙ sym o.place_is)
+
     i : EventAt es number (record { thread = thread; access = e }) a
     i = avoid_event es number (record { thread = thread; access = e }) a r h
+
     j : EventAt es number (record { thread = thread; access = f }) b
     j = avoid_event es number (record { thread = thread; access = f }) b r k
+
     threads : thread_of es i.event ≡ thread_of es j.event
     threads = sym i.thread ∙ j.thread
+
     at_spot : location_of es i.event ≡ p.spot
     at_spot = n.injective (location_of es i.event) p.spot (r.location i.event) p.below (ap (λ c. c.place) i.access_is ∙ sym p.place_is)
+
     at_other : location_of es j.event ≡ o.spot
     at_other = n.injective (location_of es j.event) o.spot (r.location j.event) o.below (ap (λ c. c.place) j.access_is ∙ sym o.place_is)
+
     values : MayFollow b.dir a.value b.value
     values = values_follow es Avoid number thread e f a b r n less h k same
+
     never : p.spot ≡ location_of es event → a.value + 1 ≡ value_of es event → b.value ≡ value_of es event → ⊥
     never s u v =
         let x : value_of es i.event ≡ a.value = ap (λ c. c.value) i.access_is in
@@ -205,6 +215,7 @@ exchanged_is_coherent es number event r n q thread e f a b less h k same =
         apart es event i.event j.event r q
         (later_slot es i.event j.event r i.below threads (omega (arith, i.slot, j.slot, less)))
         j.below threads (at_spot ∙ spots ∙ sym at_other) (at_spot ∙ s) (omega (arith, x, u)) (y ∙ v)
+
     follow : MayFollow b.dir (exchanged_value es event p.spot a.value) (exchanged_value es event p.spot b.value)
     follow =
         by_same p.spot (location_of es event)
@@ -224,9 +235,11 @@ exchanged_ends es number event place r n q h =
   where
     w : Numbers es number place
     w = numbering_onto es number place n h
+
     orders : (c : ℕ) → write_count es w.spot ≡ c → last_write (order_under es w.spot (exchanged_value es event w.spot)) ≡ last_write (location_order es w.spot)
     orders zero e = ap last_write (empty_under es w.spot (exchanged_value es event w.spot) e) ∙ sym (ap last_write (empty_order es w.spot e))
     orders (suc k) e = last_under es w.spot k (exchanged_value es event w.spot) r (exchanges es event w.spot q) e ∙ sym (last_of_order es w.spot k r e)
+
     lasts : last_write (order_at (exchanged es number event) place) ≡ last_write (order_at (intended es Avoid number) place)
     lasts =
         ap (λ z. last_write (order_at (exchanged es number event) z)) (sym w.number_is)
@@ -249,18 +262,24 @@ falls_back es number event r n q p less =
   where
     before : ℕ
     before = event_before es event
+
     below : before < length es
     below = before_below es event q.below
+
     after : event_after es before ≡ event
     after = after_before es event q.below
+
     place : location_of es before ≡ location_of es event
     place = sym (r.keeps before below p) ∙ ap (location_of es) after
+
     value : value_of es before + 1 ≡ value_of es event
     value =
         ap (λ d. value_of es before + written_by d) (sym (ap (λ j. source_of (edge_at es j)) after ∙ q.writes))
         ∙ sym (r.counts before below p) ∙ ap (value_of es) after
+
     before_place : coherence_place (cycle_accesses es Avoid number) (exchanged es number event) (event_name es before) (event_access es number before) ≡ value_of es event
     before_place = event_exchanged es number event before r n q below place ∙ swapped_before (value_of es event) (value_of es before) value
+
     entry_place : coherence_place (cycle_accesses es Avoid number) (exchanged es number event) (event_name es event) (event_access es number event) ≡ value_of es event - 1
     entry_place = event_exchanged es number event event r n q q.below refl ∙ swapped_here (value_of es event)
 
@@ -271,6 +290,7 @@ exchanged_breaks es number event r n q j =
   where
     into : target_of (edge_at es (event_before es event)) ≡ dirs.W
     into = sym j.enters ∙ q.writes
+
     by_edge : (edge : Edge) → edge_at es (event_before es event) ≡ edge → CommunicatesBy edge (cycle_accesses es Avoid number) (exchanged es number event) (event_at es number (event_before es event)) (event_at es number event) → ⊥
     by_edge (edges.Com coms.Rf reach) e c = let d : dirs.R ≡ dirs.W = sym (ap target_of e) ∙ into in cc
     by_edge (edges.Com coms.Fr reach) e c = falls_back es number event r n q (ap place_of e) c

@@ -1,6 +1,6 @@
 -- The intended execution is an execution of the cycle's accesses, it is coherent per location, and each location's place
 -- has its last value at the end.
-use Rattle.std.proofs.Common.{◌≡◌, ℕ, zero, suc, ◌+◌, ◌-◌, ◌<◌, ◌≤◌, List, [], ◌∷◌, length, map, Option, Some, None, slice_get, refl, sym, ◌∙◌, ap, subst, arith}
+use Rattle.std.proofs.Common.{◌≡◌, ℕ, zero, suc, ◌+◌, ◌-◌, ◌<◌, ◌≤◌, List, length, Some, slice_get, refl, sym, ◌∙◌, ap, subst, arith}
 use Rattle.std.specs.Option.{option_and_then}
 use Rattle.relax_edges.specs.declared.kinds.Dir.{Dir}
 use Rattle.relax_edges.specs.declared.kinds.Dir.TheVariants as dirs
@@ -8,26 +8,25 @@ use Rattle.relax_edges.specs.declared.kinds.ObsMode.{ObsMode}
 use Rattle.relax_edges.specs.declared.edge.Edge.{Edge}
 use Rattle.relax_edges.specs.EdgeTable.{source_of}
 use Rattle.list_laws.specs.Numbers.{upto}
-use Rattle.list_laws.proofs.Cases.{by_less}
 use Rattle.list_laws.proofs.Numbers.{length-map-upto, length-upto, slice_get-upto}
 use Rattle.std.proofs.lemmas.Option.{slice_get_within}
-use Rattle.cycle_resolve.specs.Resolution.{edge_at, external_count, move_count, thread_of, slot_of, location_of}
+use Rattle.cycle_resolve.specs.Resolution.{edge_at, move_count, thread_of, location_of}
 use Rattle.coherence_values.specs.Values.{value_of, write_count}
 use Rattle.program_meaning.specs.declared.WriteAt.{WriteAt}
-use Rattle.program_meaning.specs.Accesses.{Access, write, at_name}
-use Rattle.program_meaning.specs.Executions.{Execution, IsExecutionOf, IsOrderOf}
-use Rattle.program_meaning.specs.Coherence.{MayFollow, IsCoherent, coherence_place, order_at, last_write, value_in, final_value}
+use Rattle.program_meaning.specs.Accesses.{Access, at_name}
+use Rattle.program_meaning.specs.Executions.{IsExecutionOf, IsOrderOf}
+use Rattle.program_meaning.specs.Coherence.{MayFollow, IsCoherent, last_write, value_in, final_value}
 use Rattle.program_meaning.specs.Standing.{event_name}
 use Rattle.program_meaning.specs.Intended.{IsNumbering, cycle_accesses, ordered_write, location_order, location_numbered, intended}
 use Rattle.communication.specs.Premises.{MeetsCondition}
 use Rattle.communication.proofs.Lists.{image_of, length-filter_map-upto, slice_get-filter_map-upto}
 use Rattle.communication.proofs.Orders.{Holds, order_given}
-use Rattle.communication.proofs.Numbering.{Numbers, numbering_onto}
+use Rattle.communication.proofs.Numbering.{numbering_onto}
 use Rattle.communication.proofs.Accesses.{EventAt, LoadAt, by_origin}
-use Rattle.communication.proofs.WriteEvents.{NthWrite, nth_write, WriteEvent, write_event, write_stands, ordered_write-is, rank_below}
+use Rattle.communication.proofs.WriteEvents.{nth_write, write_event, write_stands, ordered_write-is, rank_below}
 use Rattle.communication.proofs.IntendedReads.{reads-count, intended_are_reads}
 use Rattle.communication.proofs.IntendedOrders.{gives_writes, intended_order, place_is_value}
-use Rattle.communication.proofs.Resolves.{IsWrite, Resolves, later_slot}
+use Rattle.communication.proofs.Resolves.{Resolves, later_slot}
 
 -- the order of a location holds its writes
 held_by_order : (es : List Edge) (l : ℕ) → Resolves es → Holds (location_order es l) (ordered_write es l) (write_count es l)
@@ -73,6 +72,7 @@ intended_are_orders es mode number place order r n h =
   where
     number_below : {p : ℕ} → slice_get (upto (move_count es)) place ≡ Some p → place < move_count es
     number_below {p} g = omega (arith, slice_get_within (upto (move_count es)) place p g, length-upto (move_count es))
+
     number_at : {p : ℕ} → slice_get (upto (move_count es)) place ≡ Some p → place < move_count es → p ≡ place
     number_at {p} g b = let s : Some p ≡ Some place = sym g ∙ slice_get-upto (move_count es) place b in cc
 
@@ -107,6 +107,7 @@ values_follow es mode number thread e f a b r n less h k p =
         let w : value_of es j.event ≡ b.value = ap (λ c. c.value) j.access_is in
         let d : source_of (edge_at es j.event) ≡ b.dir = ap (λ c. c.dir) j.access_is in
         subst (λ (z : Dir × ℕ × ℕ). MayFollow z.0 z.1 z.2) (λ t. (d t, v t, w t)) (r.order i.event j.event o j.below t l)
+
     both_loads : LoadAt es mode number (record { thread = thread; access = e }) a → LoadAt es mode number (record { thread = thread; access = f }) b → MayFollow b.dir a.value b.value
     both_loads i j =
         let v : e + 1 ≡ a.value = ap (λ c. c.value) i.access_is in

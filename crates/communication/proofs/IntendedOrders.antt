@@ -1,29 +1,28 @@
 -- The coherence order of a location's place: in an execution it holds the location's writes, and in the intended one
 -- they stand in the order of their values, so that the coherence place of each access is its value.
-use Rattle.std.proofs.Common.{◌≡◌, ℕ, zero, suc, ◌+◌, ◌<◌, ◌≤◌, List, [], ◌∷◌, length, map, Option, Some, None, slice_get, refl, sym, ◌∙◌, ap, subst, arith, add-one}
+use Rattle.std.proofs.Common.{◌≡◌, ℕ, zero, suc, ◌<◌, ◌≤◌, List, [], length, Some, slice_get, refl, sym, ◌∙◌, ap, subst, arith, add-one}
 use Rattle.std.specs.Prelude.{unwrap_or}
-use Rattle.std.specs.List.{filter}
 use Rattle.relax_edges.specs.declared.kinds.Dir.{Dir}
 use Rattle.relax_edges.specs.declared.kinds.Dir.TheVariants as dirs
 use Rattle.relax_edges.specs.declared.kinds.ObsMode.{ObsMode}
 use Rattle.relax_edges.specs.declared.edge.Edge.{Edge}
-use Rattle.list_laws.proofs.Numbers.{length-map-upto, slice_get-map-upto}
-use Rattle.cycle_resolve.specs.Resolution.{move_count, thread_of, slot_of, events_in}
+use Rattle.list_laws.proofs.Numbers.{slice_get-map-upto}
+use Rattle.cycle_resolve.specs.Resolution.{move_count, events_in}
 use Rattle.coherence_values.specs.Values.{value_of, write_count}
 use Rattle.program_meaning.specs.declared.WriteAt.{WriteAt}
-use Rattle.program_meaning.specs.Accesses.{Access, write, at_name, is_read}
+use Rattle.program_meaning.specs.Accesses.{Access, at_name}
 use Rattle.program_meaning.specs.Executions.{Execution, IsExecutionOf, IsOrderOf}
-use Rattle.program_meaning.specs.Coherence.{order_place, order_at, source_at, placed_by, coherence_place}
+use Rattle.program_meaning.specs.Coherence.{order_place, order_at, placed_by, coherence_place}
 use Rattle.program_meaning.specs.Standing.{event_name}
 use Rattle.program_meaning.specs.Intended.{IsNumbering, cycle_accesses, ordered_write, write_of, location_order, location_numbered, intended}
-use Rattle.communication.proofs.Lists.{Got, got_below}
-use Rattle.communication.proofs.Orders.{Holds, Gives, order_given, place_given}
+use Rattle.communication.proofs.Lists.{got_below}
+use Rattle.communication.proofs.Orders.{Holds, Gives, place_given}
 use Rattle.communication.proofs.Numbering.{location_of_number}
 use Rattle.communication.proofs.Accesses.{GotFrom, got_from_list}
-use Rattle.communication.proofs.WriteEvents.{NthWrite, WriteEvent, nth_write, write_event, write_stands, ordered_write-is, rank_below, source_fixed}
-use Rattle.communication.proofs.ReadLists.{reads_by_source, source_given}
+use Rattle.communication.proofs.WriteEvents.{nth_write, write_event, write_stands, ordered_write-is, rank_below, source_fixed}
+use Rattle.communication.proofs.ReadLists.{source_given}
 use Rattle.communication.proofs.IntendedReads.{IsPlaced, placed, source_for, intended_reads}
-use Rattle.communication.proofs.Resolves.{IsWrite, Resolves}
+use Rattle.communication.proofs.Resolves.{Resolves}
 
 -- events of one name are one event
 pub same_event : (es : List Edge) (i j : ℕ) → Resolves es → i < length es → j < length es → event_name es i ≡ event_name es j → i ≡ j
@@ -78,6 +77,7 @@ order_holds es mode number l x r n c h =
   where
     g : Gives (ordered_write es l) (write_count es l)
     g = gives_writes es l r
+
     o : OrderAt (cycle_accesses es mode number) x (number l)
     o = order_of (cycle_accesses es mode number) (move_count es) (number l) x c (n.below l h)
 
@@ -101,8 +101,10 @@ placed_write es mode number x name access r n s h =
   where
     g : GotFrom (slice_get (cycle_accesses es mode number) name.thread) name.access access
     g = got_from_list (slice_get (cycle_accesses es mode number) name.thread) name.access access h
+
     p : IsPlaced es number access
     p = placed es mode number name access r h
+
     by_dir : (d : Dir) → access.dir ≡ d → placed_by d (cycle_accesses es mode number) x name ≡ source_for es number access
     by_dir dirs.R e =
         source_given (cycle_accesses es mode number) x (source_for es number) name g.list access g.list_is g.got (rw e refl)

@@ -1,30 +1,24 @@
 -- What each thread reads in the intended execution, and that in each execution of these accesses it reads the same.
-use Rattle.std.proofs.Common.{◌≡◌, ℕ, zero, suc, ◌+◌, ◌-◌, ◌<◌, ◌≤◌, Bool, true, false, List, [], ◌∷◌, ◌++◌, length, map, Option, Some, None, slice_get, refl, sym, ◌∙◌, ap, subst, arith, add-one, length-append}
+use Rattle.std.proofs.Common.{◌≡◌, ℕ, ◌+◌, ◌-◌, ◌<◌, ◌≤◌, true, List, length, map, Option, Some, slice_get, refl, sym, ◌∙◌, ap, subst, arith, add-one, length-append}
 use Rattle.std.specs.List.{filter}
 use Rattle.std.proofs.lemmas.List.{length-map}
-use Rattle.std.proofs.lemmas.Bool.{eqb-true}
-use Rattle.relax_edges.specs.declared.kinds.Dir.{Dir}
-use Rattle.relax_edges.specs.declared.kinds.Dir.TheVariants as dirs
 use Rattle.relax_edges.specs.declared.kinds.ObsMode.{ObsMode}
 use Rattle.relax_edges.specs.declared.edge.Edge.{Edge}
-use Rattle.relax_edges.specs.EdgeTable.{source_of}
 use Rattle.list_laws.specs.Numbers.{upto}
 use Rattle.list_laws.proofs.Cases.{by_less}
 use Rattle.list_laws.proofs.Numbers.{length-map-upto, slice_get-map-upto}
 use Rattle.list_laws.proofs.Ranks.{unrank_upto}
-use Rattle.cycle_resolve.specs.Resolution.{edge_at, external_count, move_count, thread_of, slot_of, location_of, events_in}
+use Rattle.cycle_resolve.specs.Resolution.{external_count, move_count, location_of, events_in}
 use Rattle.coherence_values.specs.Values.{value_of, write_count, is_observed}
 use Rattle.program_meaning.specs.declared.WriteAt.{WriteAt}
-use Rattle.program_meaning.specs.Accesses.{Access, read, write, got_from, at_name, is_read}
+use Rattle.program_meaning.specs.Accesses.{Access, read, got_from, at_name, is_read}
 use Rattle.program_meaning.specs.Executions.{Execution, IsExecutionOf, AreReadsOf, CanRead}
-use Rattle.program_meaning.specs.Coherence.{source_at}
-use Rattle.program_meaning.specs.Standing.{event_name}
 use Rattle.program_meaning.specs.Intended.{IsNumbering, observed_locations, event_access, observer_accesses, cycle_accesses, ordered_write, write_of, event_read, observer_reads, reads_in, location_numbered, intended}
 use Rattle.communication.proofs.Lists.{slice_get-append_left, slice_get-append_right, same_below, got_below, image_of, got_map, map_same, map-map, filter-map, filter_all, kept}
 use Rattle.communication.proofs.Numbering.{location_of_number}
-use Rattle.communication.proofs.Accesses.{EventAt, LoadAt, by_origin, thread_accesses, observer_thread, event_stands, observer_stands}
+use Rattle.communication.proofs.Accesses.{EventAt, LoadAt, by_origin, thread_accesses, observer_thread}
 use Rattle.communication.proofs.WriteEvents.{source_fixed, can_read}
-use Rattle.communication.proofs.ReadLists.{reads_by_source, reads_given, reads_fixed, source_given}
+use Rattle.communication.proofs.ReadLists.{reads_by_source, reads_given, reads_fixed}
 use Rattle.communication.proofs.Resolves.{Resolves}
 
 -- the write that an access reads in the intended execution: that of its value at its place's location
@@ -125,6 +119,7 @@ intended_reads es mode number k accesses r n h =
         let s : Some (map (event_access es number) (events_in es k)) ≡ Some accesses = sym (thread_accesses es mode number k l) ∙ h in
         let e : map (event_access es number) (events_in es k) ≡ accesses = cc in
         front_reads es mode number k l ∙ ap Some (event_reads es number k r n ∙ ap (λ l. reads_by_source (source_for es number) (filter is_read l)) e)
+
     back : (o : ℕ) → k ≡ external_count es + o → slice_get (intended es mode number).reads k ≡ Some (reads_by_source (source_for es number) (filter is_read accesses))
     back o t =
         let i = image_of (observer_accesses es number) (observed_locations es mode) o accesses (sym (observer_thread es mode number k o t) ∙ h) in

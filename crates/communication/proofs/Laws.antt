@@ -1,8 +1,5 @@
 -- The laws of this crate, from the facts of a resolved cycle.
-use Rattle.std.proofs.Common.{◌≡◌, ℕ, ◌<◌, List, length, Some, slice_get, sym, ◌∙◌, ap}
-use Rattle.relax_edges.specs.declared.kinds.ObsMode.{ObsMode}
 use Rattle.relax_edges.specs.declared.kinds.ObsMode.TheVariants.{Avoid}
-use Rattle.cycle_resolve.specs.Resolution.{edge_at, event_after}
 use Rattle.communication.specs.Laws.{EdgesJoin, OnlyTheIntended, TheIntendedMeets, NoConditionServes, AllEdgesStand, OneOutcome, AnOutcome}
 use Rattle.communication.proofs.Bridge.{resolves}
 use Rattle.communication.proofs.Needs.{enters_last, refused_entry}

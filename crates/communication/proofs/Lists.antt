@@ -1,15 +1,14 @@
 -- Lists by their elements: joined lists, equal lists, what a map and a filter hold, and the place of an element.
-use Rattle.std.proofs.Common.{◌≡◌, ℕ, zero, suc, ◌+◌, ◌-◌, ◌<◌, ◌≤◌, Bool, true, false, cond, ltb, List, [], ◌∷◌, ◌++◌, length, get_or, map, Option, Some, None, slice_get, take, refl, sym, ◌∙◌, ap, arith}
+use Rattle.std.proofs.Common.{◌≡◌, ℕ, zero, suc, ◌+◌, ◌<◌, Bool, true, cond, List, [], ◌∷◌, ◌++◌, length, map, Option, Some, None, slice_get, take, refl, sym, ◌∙◌, ap, arith}
 use Rattle.std.specs.List.{count_by, filter, filter_map}
 use Rattle.std.specs.Option.{option_map}
-use Rattle.std.proofs.lemmas.Bool.{cond-true, cond-false, lt-ltb}
-use Rattle.std.proofs.lemmas.Option.{slice_get-map, slice_get_within, slice_get_past, slice_get-get_or}
+use Rattle.std.proofs.lemmas.Bool.{cond-true, cond-false}
+use Rattle.std.proofs.lemmas.Option.{slice_get-map, slice_get_past}
 use Rattle.std.proofs.lemmas.List.Elements.{filter_map-append}
 use Rattle.std.proofs.lemmas.List.Sums.{sum_by-cons}
-use Rattle.std.proofs.lemmas.List.{append-nil, length_push}
+use Rattle.std.proofs.lemmas.List.{length_push}
 use Rattle.list_laws.specs.Numbers.{upto}
 use Rattle.list_laws.proofs.Cases.{by_test, by_less}
-use Rattle.list_laws.proofs.Numbers.{length-upto, slice_get-upto, slice_get-map-upto}
 
 -- the front part of two lists joined
 pub slice_get-append_left : {X : Type 0} (xs ys : List X) (i : ℕ) → i < length xs → slice_get (xs ++ ys) i ≡ slice_get xs i
@@ -119,6 +118,7 @@ kept {X} p (y ∷ xs) k x h =
   where
     later : Kept p xs x → Kept p (y ∷ xs) x
     later r = record { index = suc r.index; got = r.got; passes = r.passes }
+
     first : (k : ℕ) → ((j : ℕ) (z : X) → slice_get (filter p xs) j ≡ Some z → Kept p xs z) → p y ≡ true → slice_get (y ∷ filter p xs) k ≡ Some x → Kept p (y ∷ xs) x
     first zero rest t g = let e : y ≡ x = cc in record { index = 0; got = g; passes = ap p (sym e) ∙ t }
     first (suc k) rest t g = later (rest k x g)

@@ -1,8 +1,8 @@
 -- Where a mode serves a cycle, a write of a location without an observer that an external edge enters is its first or its
 -- last; and what the mode avoid refuses is an inner one.
-use Rattle.std.proofs.Common.{◌≡◌, ℕ, zero, suc, ◌+◌, ◌<◌, ◌≤◌, Bool, true, false, cond, ◌&&◌, List, [], ◌∷◌, length, Option, Some, None, slice_get, refl, sym, ◌∙◌, ap, arith}
-use Rattle.std.specs.Prelude.{◌==◌, nat_lt, nat_le}
-use Rattle.std.specs.List.{find, filter_map, list_any}
+use Rattle.std.proofs.Common.{◌≡◌, ℕ, zero, suc, ◌<◌, Bool, true, false, ◌&&◌, List, [], ◌∷◌, length, Option, Some, None, slice_get, refl, sym, ◌∙◌, ap, arith}
+use Rattle.std.specs.Prelude.{◌==◌, nat_lt, Ok, Err}
+use Rattle.std.specs.List.{find, filter_map}
 use Rattle.std.specs.Option.{option_map, option_or}
 use Rattle.std.proofs.lemmas.Bool.{and_parts, and_from, eqb-true, eq-eqb, ltb-true, lt-ltb, leb-false, cond-true, cond-false}
 use Rattle.std.proofs.lemmas.Option.{slice_get_within}
@@ -20,7 +20,7 @@ use Rattle.list_laws.proofs.Numbers.{slice_get-upto}
 use Rattle.list_laws.proofs.Finds.{any_upto_fails}
 use Rattle.cycle_resolve.specs.Resolution.{edge_at, move_count, location_of}
 use Rattle.coherence_values.specs.declared.valued.NeedsObserver.{NeedsObserver}
-use Rattle.coherence_values.specs.Values.{value_of, write_at, write_count, edge_into, is_inner_entry, is_write_at, is_observed, first_inner_entry, need_at, first_need, observer_need}
+use Rattle.coherence_values.specs.Values.{value_of, write_at, write_count, edge_into, is_inner_entry, is_write_at, is_observed, first_inner_entry, first_need, observer_need, Valuation, valuation_of}
 use Rattle.communication.specs.Premises.{IsServed}
 use Rattle.communication.proofs.Lists.{length-filter_map-upto, slice_get-filter_map-upto}
 use Rattle.communication.proofs.Resolves.{IsWrite, Resolves, EntersLast, InnerEntry}
@@ -55,6 +55,7 @@ entry_is es l i h t =
     is_write : (d : Dir) → same_dir d dirs.W ≡ true → d ≡ dirs.W
     is_write dirs.R s = cc
     is_write dirs.W s = refl
+
     outside : (p : Reach) → reach_of (edge_into es i) ≡ p → is_external (edge_into es i) ≡ true → p ≡ External
     outside Internal e s = let f : false ≡ true = sym (rw e refl) ∙ s in cc
     outside External e s = refl
@@ -154,12 +155,29 @@ enters_last es mode r s = record { last = λ i h w u e v. by_mode mode s i h w u
         by_less (value_of es i) (write_count es (location_of es i))
         (λ l. let t : false ≡ true = sym f ∙ is_entry es (location_of es i) i w refl e v l in cc)
         (λ g. omega (arith, g, r.within i h))
+
     rank : (i : ℕ) → (v : ℕ) → value_of es i ≡ v → 1 < v → (k : ℕ) × (value_of es i ≡ suc k)
     rank i zero e h = absurd (omega arith)
     rank i (suc k) e h = (k, e)
+
     by_mode : (mode : ObsMode) → IsServed es mode → (i : ℕ) → i < length es → source_of (edge_at es i) ≡ dirs.W → is_observed es mode (location_of es i) ≡ false → reach_of (edge_into es i) ≡ External → 1 < value_of es i → value_of es i ≡ write_count es (location_of es i)
     by_mode Accept s i h w u e v = not_inner i h w e v (accept_fails es (location_of es i) i h u)
     by_mode Avoid s i h w u e v =
         let k = rank i (value_of es i) refl v in
         not_inner i h w e v (avoided es (location_of es i) i k.0 r s (r.location i) (record { below = h; writes = w; location = refl; value = k.1 }))
     by_mode Force s i h w u e v = absurd (omega (arith, v, r.within i h, force_few es (location_of es i) u))
+
+-- a mode serves a cycle that was valued in it
+pub served_if_valued : (es : List Edge) (mode : ObsMode) (v : Valuation) → valuation_of es mode ≡ Ok v → IsServed es mode
+served_if_valued es Accept v h = tt
+served_if_valued es Avoid v h =
+    by_option (observer_need es) (λ n. n)
+    (λ need s. let e : Err need ≡ Ok v = rw s at h in cc)
+served_if_valued es Force v h = tt
+
+-- what a refusal in the mode avoid names is a need
+pub need_if_refused : (es : List Edge) (need : NeedsObserver) → valuation_of es Avoid ≡ Err need → observer_need es ≡ Some need
+need_if_refused es need h =
+    by_option (observer_need es)
+    (λ n. let e : Ok (record { edges = es; mode = Avoid }) ≡ Err need = rw n at h in cc)
+    (λ other s. let e : Err other ≡ Err need = rw s at h in let q : other ≡ need = cc in s ∙ ap Some q)

@@ -1,9 +1,9 @@
 -- A numbering of the places can be read back: it takes each number below the count of the locations.
-use Rattle.std.proofs.Common.{◌≡◌, ℕ, zero, suc, ◌+◌, ◌<◌, ◌≤◌, Bool, true, false, cond, ◌||◌, List, [], ◌∷◌, ◌++◌, Option, Some, None, refl, sym, ◌∙◌, ap, arith}
+use Rattle.std.proofs.Common.{◌≡◌, ℕ, zero, suc, ◌<◌, ◌≤◌, Bool, true, false, ◌||◌, List, [], ◌∷◌, refl, sym, ◌∙◌, ap, arith}
 use Rattle.std.specs.Prelude.{◌==◌, unwrap_or}
-use Rattle.std.specs.List.{count_by, find, list_any}
+use Rattle.std.specs.List.{count_by, list_any}
 use Rattle.std.proofs.lemmas.List.Folds.{list_any-append}
-use Rattle.std.proofs.lemmas.Bool.{eqb-true, eq-eqb, ne_eqb, cond-true, cond-false, or_from, or_right, or_left}
+use Rattle.std.proofs.lemmas.Bool.{eqb-true, eq-eqb, ne_eqb, cond-true, cond-false}
 use Rattle.relax_edges.specs.declared.edge.Edge.{Edge}
 use Rattle.list_laws.specs.Numbers.{upto}
 use Rattle.list_laws.proofs.Cases.{by_test, by_less}
@@ -41,8 +41,10 @@ taken-count es number (suc m) r l =
   where
     fresh : is_taken number m (number m) ≡ false
     fresh = any_upto_none (λ k. number k == number m) m (λ k h. ne_eqb (number k) (number m) (λ e. omega (arith, h, r.injective k m (omega arith) l e)))
+
     taken : is_taken number (suc m) (number m) ≡ true
     taken = any_upto (λ k. number k == number m) (suc m) m (omega arith) (eq-eqb (number m) (number m) refl)
+
     others : (i : ℕ) → i < move_count es → (i ≡ number m → ⊥) → is_taken number (suc m) i ≡ is_taken number m i
     others i h d = is_taken-more number m i ∙ or_false (is_taken number m i) (number m == i) (ne_eqb (number m) i (λ e. d (sym e)))
 

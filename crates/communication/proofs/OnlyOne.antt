@@ -1,10 +1,9 @@
 -- An execution that meets the condition is the intended one: its reads are fixed by their values, and its orders by the
 -- edges into the writes.
-use Rattle.std.proofs.Common.{◌≡◌, ℕ, zero, suc, ◌+◌, ◌-◌, ◌<◌, ◌≤◌, Bool, true, false, List, [], ◌∷◌, length, Option, Some, None, slice_get, refl, sym, ◌∙◌, ap, subst, arith, add-one}
+use Rattle.std.proofs.Common.{◌≡◌, ℕ, suc, ◌+◌, ◌-◌, ◌<◌, ◌≤◌, true, false, List, length, Option, Some, slice_get, refl, sym, ◌∙◌, ap, subst, arith, add-one}
 use Rattle.std.specs.Option.{option_and_then}
 use Rattle.std.proofs.lemmas.Option.{slice_get_within}
 use Rattle.relax_edges.specs.declared.kinds.Dir.{Dir}
-use Rattle.relax_edges.specs.declared.kinds.Dir.TheVariants as dirs
 use Rattle.relax_edges.specs.declared.kinds.Sd.{Sd}
 use Rattle.relax_edges.specs.declared.kinds.Sd.TheVariants.{Same, Diff}
 use Rattle.relax_edges.specs.declared.kinds.Reach.{Reach}
@@ -19,18 +18,18 @@ use Rattle.std.specs.List.{count_by}
 use Rattle.cycle_resolve.specs.Resolution.{edge_at, external_count, move_count, thread_of, slot_of, location_of, event_after}
 use Rattle.coherence_values.specs.Values.{value_of, write_count, is_observed, edge_into}
 use Rattle.program_meaning.specs.declared.WriteAt.{WriteAt}
-use Rattle.program_meaning.specs.Accesses.{Access, read, write, at_name}
+use Rattle.program_meaning.specs.Accesses.{read, at_name}
 use Rattle.program_meaning.specs.Executions.{Execution}
 use Rattle.program_meaning.specs.Coherence.{MayFollow, order_place, order_at, coherence_place, last_write, value_in, final_value}
 use Rattle.program_meaning.specs.Standing.{event_name}
-use Rattle.program_meaning.specs.Intended.{IsNumbering, observed_locations, event_access, cycle_accesses, ordered_write, write_of, location_order, location_numbered, intended}
+use Rattle.program_meaning.specs.Intended.{IsNumbering, observed_locations, event_access, cycle_accesses, ordered_write, write_of, location_order, intended}
 use Rattle.communication.specs.Premises.{MeetsCondition}
 use Rattle.communication.proofs.Lists.{same_below, got_below}
 use Rattle.communication.proofs.Orders.{Holds, place_held, order_by_steps}
-use Rattle.communication.proofs.Numbering.{Numbers, numbering_onto, location_of_number}
+use Rattle.communication.proofs.Numbering.{numbering_onto, location_of_number}
 use Rattle.communication.proofs.Accesses.{event_stands, observer_stands}
-use Rattle.communication.proofs.WriteEvents.{NthWrite, nth_write, write_stands, ordered_write-is}
-use Rattle.communication.proofs.IntendedReads.{source_for, reads_are_intended}
+use Rattle.communication.proofs.WriteEvents.{NthWrite, nth_write, write_stands}
+use Rattle.communication.proofs.IntendedReads.{reads_are_intended}
 use Rattle.communication.proofs.IntendedOrders.{gives_writes, order_got, order_holds, intended_order, placed_write}
 use Rattle.communication.proofs.IntendedExists.{orders-count, intended_is_execution}
 use Rattle.communication.proofs.Resolves.{IsWrite, Resolves, EntersLast, Entered, entered, written_by}
@@ -67,13 +66,21 @@ from_before es l k i r w =
   where
     e : Entered es i
     e = entered es i w.below
+
     one : written_by (source_of (edge_at es (event_after es e.before))) ≡ 1
     one = ap (λ j. written_by (source_of (edge_at es j))) e.next ∙ ap written_by w.writes
+
     reached : value_of es (event_after es e.before) ≡ suc (suc k)
     reached = ap (value_of es) e.next ∙ w.value
+
     by_place : (p : Sd) → place_of (edge_at es e.before) ≡ p → FromBefore es l k
     by_place Same p = record {
-      write = i; is_write = w; from = e.before; below = e.below; next = e.next; edge = e.edge;
+      write = i;
+      is_write = w;
+      from = e.before;
+      below = e.below;
+      next = e.next;
+      edge = e.edge;
       spot = sym (r.keeps e.before e.below p) ∙ ap (location_of es) e.next ∙ w.location;
       value = omega (arith, r.counts e.before e.below p, one, reached);
     }
@@ -86,12 +93,16 @@ internal_step es mode number x l k r n s c b h =
   where
     stays : (thread_of es (event_after es b.from) ≡ thread_of es b.from) × (slot_of es (event_after es b.from) ≡ slot_of es b.from + 1)
     stays = r.stays b.from b.below h
+
     name_is : event_name es b.write ≡ record { thread = thread_of es b.from; access = slot_of es b.write }
     name_is t = record { thread = (ap (thread_of es) (sym b.next) ∙ stays.0) t; access = slot_of es b.write }
+
     later : slot_of es b.from < slot_of es b.write
     later = omega (arith, stays.1, ap (slot_of es) b.next)
+
     places : number (location_of es b.from) ≡ number (location_of es b.write)
     places = ap number (b.spot ∙ sym b.is_write.location)
+
     follows : coherence_place (cycle_accesses es mode number) x (event_name es b.from) (event_access es number b.from) < coherence_place (cycle_accesses es mode number) x (event_name es b.write) (event_access es number b.write)
     follows =
         subst (λ (w : WriteAt). coherence_place (cycle_accesses es mode number) x (event_name es b.from) (event_access es number b.from) < coherence_place (cycle_accesses es mode number) x w (event_access es number b.write)) (sym name_is)
@@ -100,8 +111,10 @@ internal_step es mode number x l k r n s c b h =
         (event_stands es mode number b.from r b.below)
         (ap (at_name (cycle_accesses es mode number)) (sym name_is) ∙ event_stands es mode number b.write r b.is_write.below)
         places))
+
     source : coherence_place (cycle_accesses es mode number) x (event_name es b.from) (event_access es number b.from) ≡ order_place (order_at x (number l)) (ordered_write es l k)
     source = event_place es mode number x b.from r n s b.below ∙ (λ t. order_place (order_at x (number (b.spot t))) (write_of es (b.spot t) (b.value t)))
+
     target : coherence_place (cycle_accesses es mode number) x (event_name es b.write) (event_access es number b.write) ≡ order_place (order_at x (number l)) (ordered_write es l (suc k))
     target = event_place es mode number x b.write r n s b.is_write.below ∙ (λ t. order_place (order_at x (number (b.is_write.location t))) (write_of es (b.is_write.location t) (b.is_write.value t)))
 
@@ -142,8 +155,10 @@ observed_step es mode number x l k r n s c h b t =
   where
     o : ℕ
     o = count_by (is_observed es mode) (upto l)
+
     seen : slice_get (observed_locations es mode) o ≡ Some l
     seen = rank_upto (is_observed es mode) (move_count es) l h t
+
     follows : coherence_place (cycle_accesses es mode number) x (record { thread = external_count es + o; access = k }) (read (number l) (k + 1)) ≤ coherence_place (cycle_accesses es mode number) x (record { thread = external_count es + o; access = suc k }) (read (number l) (suc k + 1))
     follows =
         c.coherent (external_count es + o) k (suc k) (read (number l) (k + 1)) (read (number l) (suc k + 1)) (omega arith)
@@ -160,8 +175,8 @@ ends_with es mode number x l k r n c h z v =
     let a = nth_write es l j.0 r j.1 in
     let t : last_write (order_at x (number l)) ≡ Some (event_name es a.event) = e.got ∙ sym j.2 ∙ a.name_is in
     let f : final_value (cycle_accesses es mode number) x (number l) ≡ suc j.0 =
-      ap (λ w. value_in (option_and_then (at_name (cycle_accesses es mode number)) w)) t
-      ∙ ap value_in (write_stands es mode number l j.0 a.event r a.is_write) in
+    ap (λ w. value_in (option_and_then (at_name (cycle_accesses es mode number)) w)) t
+    ∙ ap value_in (write_stands es mode number l j.0 a.event r a.is_write) in
     let d : j.0 ≡ k = omega (arith, f, v) in
     e.got ∙ sym j.2 ∙ ap (ordered_write es l) d
 
@@ -183,14 +198,18 @@ write_step es mode number x l k r q n s c h b =
   where
     w : NthWrite es l (suc k)
     w = nth_write es l (suc k) r b
+
     f : FromBefore es l k
     f = from_before es l k w.event r w.is_write
+
     at_spot : location_of es f.write ≡ l
     at_spot = f.is_write.location
+
     is_last : reach_of (edge_at es f.from) ≡ External → is_observed es mode l ≡ false → write_count es l ≡ suc (suc k)
     is_last e u =
         let v : value_of es f.write ≡ write_count es (location_of es f.write) = q.last f.write f.is_write.below f.is_write.writes (ap (is_observed es mode) at_spot ∙ u) (ap reach_of f.edge ∙ e) (omega (arith, f.is_write.value)) in
         sym (ap (write_count es) at_spot) ∙ sym v ∙ f.is_write.value
+
     by_reach : (p : Reach) → reach_of (edge_at es f.from) ≡ p → order_place (order_at x (number l)) (ordered_write es l k) < order_place (order_at x (number l)) (ordered_write es l (suc k))
     by_reach Internal e = internal_step es mode number x l k r n s c f e
     by_reach External e =

@@ -1,6 +1,6 @@
 -- The place of a write in a coherence order, and orders that are fixed by their steps.
-use Rattle.std.proofs.Common.{◌≡◌, ℕ, zero, suc, ◌+◌, ◌-◌, ◌<◌, ◌≤◌, Bool, true, false, cond, ltb, eqb, ◌&&◌, List, [], ◌∷◌, length, get_or, Option, Some, None, slice_get, refl, sym, ◌∙◌, ap, arith}
-use Rattle.std.specs.List.{filter_map, position, position_or_len}
+use Rattle.std.proofs.Common.{◌≡◌, ℕ, zero, suc, ◌+◌, ◌<◌, ◌≤◌, true, false, cond, ltb, eqb, List, length, get_or, Option, Some, None, slice_get, refl, sym, ◌∙◌, ap, arith}
+use Rattle.std.specs.List.{filter_map, position_or_len}
 use Rattle.std.proofs.lemmas.Bool.{and_parts, and_from, eqb-true, eq-eqb, lt-ltb, cond-true}
 use Rattle.std.proofs.lemmas.Option.{slice_get_within, slice_get-get_or, get_or_from_slice_get}
 use Rattle.std.proofs.lemmas.List.Sums.{position_or_len_is}
@@ -28,6 +28,7 @@ order_place_at order j w h once =
   where
     within : j < length order
     within = slice_get_within order j w h
+
     before : (k : ℕ) → k < j → same_write w (get_or order k w) ≡ false
     before k l =
         by_test (same_write w (get_or order k w))
@@ -35,8 +36,10 @@ order_place_at order j w h once =
         let g : slice_get order k ≡ Some w = slice_get-get_or order k w (omega (arith, l, within)) ∙ ap Some (sym e) in
         absurd (omega (arith, once k g, l)))
         (λ f. f)
+
     here : same_write w (get_or order j w) ≡ true
     here = ap (same_write w) (get_or_from_slice_get order j w w h) ∙ same_write-refl w
+
     is : position_or_len (same_write w) order ≡ j
     is = position_or_len_is (same_write w) order j w (omega (arith, within)) before (λ _. here)
 
@@ -75,9 +78,11 @@ filled_by_steps place m n r = same m n refl refl
     up : (a : ℕ) → m ≡ a → a ≤ n
     up zero e = omega arith
     up (suc a) e = omega (arith, at_least place m n a r (omega arith), r.within a (omega arith))
+
     down : (b : ℕ) → n ≡ b → b ≤ m
     down zero e = omega arith
     down (suc b) e = let w = r.covers b (omega arith) in omega (arith, w.1, w.2, fixed_by_steps place m n r w.0 w.1)
+
     same : (a b : ℕ) → m ≡ a → n ≡ b → n ≡ m
     same a b e f = omega (arith, up a e, down b f)
 
@@ -107,6 +112,7 @@ order_by_steps order g m r s =
   where
     filled : length order ≡ m
     filled = filled_by_steps (λ k. order_place order (g k)) m (length order) (rising order g m r s)
+
     there : (k : ℕ) → k < m → slice_get order k ≡ g k
     there k l =
         let w = r.some k l in
@@ -129,6 +135,7 @@ order_given g m r = record {
   where
     inside : (j : ℕ) (w : WriteAt) → slice_get (filter_map g (upto m)) j ≡ Some w → j < m
     inside j w h = omega (arith, slice_get_within (filter_map g (upto m)) j w h, length-filter_map-upto g m r.some)
+
     from : (j : ℕ) (w : WriteAt) → slice_get (filter_map g (upto m)) j ≡ Some w → g j ≡ Some w
     from j w h = sym (slice_get-filter_map-upto g m j r.some (inside j w h)) ∙ h
 

@@ -1,28 +1,22 @@
 -- From a program to its accesses: a candidate execution of a program that makes the accesses of the cycle's test and
 -- meets its condition is an execution that the laws of this crate speak of.
-use Rattle.std.proofs.Common.{◌≡◌, ℕ, zero, suc, ◌+◌, ◌<◌, ◌≤◌, Bool, true, false, List, [], ◌∷◌, ◌++◌, length, map, Option, Some, None, slice_get, refl, sym, ◌∙◌, ap, subst, arith, length-append}
-use Rattle.std.specs.List.{count_by, filter}
+use Rattle.std.proofs.Common.{◌≡◌, ℕ, suc, ◌<◌, List, [], ◌∷◌, length, map, Option, Some, slice_get, refl, sym, ◌∙◌, ap, subst, arith}
+use Rattle.std.specs.List.{filter}
 use Rattle.std.proofs.lemmas.List.{length-map}
-use Rattle.std.proofs.lemmas.List.Sums.{length-filter}
-use Rattle.std.proofs.lemmas.Option.{slice_get_within}
 use Rattle.relax_edges.specs.declared.kinds.Dir.{Dir}
 use Rattle.relax_edges.specs.declared.kinds.Dir.TheVariants as dirs
 use Rattle.relax_edges.specs.declared.kinds.ObsMode.{ObsMode}
 use Rattle.relax_edges.specs.declared.edge.Edge.{Edge}
-use Rattle.relax_edges.specs.EdgeTable.{source_of}
 use Rattle.micro_ops.specs.Running.{Outcome}
-use Rattle.list_laws.specs.Numbers.{upto}
-use Rattle.list_laws.proofs.Numbers.{length-map-upto}
-use Rattle.cycle_resolve.specs.Resolution.{edge_at, external_count, move_count, thread_of}
 use Rattle.coherence_values.specs.Values.{write_count}
 use Rattle.program_meaning.specs.declared.WriteAt.{WriteAt}
-use Rattle.program_meaning.specs.Accesses.{Access, Visit, accesses_of, visits_of, got_from, at_name, is_read}
+use Rattle.program_meaning.specs.Accesses.{Access, accesses_of, visits_of, is_read}
 use Rattle.program_meaning.specs.Executions.{Execution, IsExecutionOf}
 use Rattle.program_meaning.specs.Coherence.{IsCoherent, final_value}
-use Rattle.program_meaning.specs.Programs.{Program, Thread, IsCandidate, IsCoherentIn, HasEnded, runs_of, items_in, visits_in, accesses_in, made_in}
+use Rattle.program_meaning.specs.Programs.{Program, Thread, HasEnded, runs_of, items_in, visits_in, accesses_in, made_in}
 use Rattle.program_meaning.specs.Intended.{IsNumbering, cycle_accesses, intended}
 use Rattle.communication.specs.Premises.{MeetsCondition}
-use Rattle.communication.specs.Joining.{value_taken, values_left, filled, values_read, Makes, ReadsAsAsked, EndsAsAsked, IsOutcome}
+use Rattle.communication.specs.Joining.{filled, values_read, Makes, ReadsAsAsked, IsOutcome}
 use Rattle.communication.proofs.Lists.{same_below, got_below, map-map}
 use Rattle.communication.proofs.ReadLists.{reads_by_source}
 use Rattle.communication.proofs.IntendedReads.{reads-count, intended_reads, source_for}
@@ -36,6 +30,7 @@ filled_own (access ∷ accesses) = by_dir access.dir refl (filled_own accesses)
   where
     first : Dir → Access
     first d = record { dir = d; place = access.place; value = access.value }
+
     by_dir : (d : Dir) → access.dir ≡ d → filled accesses (map (λ access. access.value) (filter is_read accesses)) ≡ accesses → filled (access ∷ accesses) (map (λ access. access.value) (filter is_read (access ∷ accesses))) ≡ access ∷ accesses
     by_dir dirs.R e h = rw e (ap (λ l. first dirs.R ∷ l) h)
     by_dir dirs.W e h = rw e (ap (λ l. first dirs.W ∷ l) h)
@@ -98,5 +93,6 @@ intended_outcome es mode number p r n m ended =
   where
     q : MeetsCondition es mode number (intended es mode number)
     q = intended_meets es mode number r n
+
     made : accesses_in p (intended es mode number) ≡ cycle_accesses es mode number
     made = makes_planned es mode number p (intended es mode number) m (intended_asked es mode number r n) (reads-count es mode number ∙ sym m.threads)

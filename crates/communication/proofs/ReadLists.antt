@@ -1,11 +1,11 @@
 -- Lists of reads: what each read reads is fixed where its access can read one thing alone.
-use Rattle.std.proofs.Common.{◌≡◌, ℕ, zero, suc, ◌+◌, ◌<◌, Bool, true, false, List, [], ◌∷◌, map, Option, Some, None, slice_get, take, refl, sym, ◌∙◌, ap}
+use Rattle.std.proofs.Common.{◌≡◌, ℕ, suc, true, List, [], ◌∷◌, map, Option, Some, slice_get, take, refl, ◌∙◌, ap}
 use Rattle.std.specs.Prelude.{unwrap_or}
 use Rattle.std.specs.List.{count_by, filter}
 use Rattle.program_meaning.specs.declared.WriteAt.{WriteAt}
 use Rattle.program_meaning.specs.Accesses.{Access, is_read, reads_before, reads_among}
 use Rattle.program_meaning.specs.Executions.{Execution, CanRead, AreReadsOf}
-use Rattle.program_meaning.specs.Coherence.{source_at, read_at, named_by}
+use Rattle.program_meaning.specs.Coherence.{source_at, named_by}
 use Rattle.communication.proofs.Lists.{rank_filter, got_map}
 
 -- the reads that accesses make, where each reads the write that `source` gives it

@@ -1,5 +1,5 @@
 -- The writes of a location in another order: that of their values under a function that exchanges values in pairs.
-use Rattle.std.proofs.Common.{◌≡◌, ℕ, zero, suc, ◌+◌, ◌-◌, ◌<◌, ◌≤◌, List, [], ◌∷◌, length, Option, Some, None, slice_get, refl, sym, ◌∙◌, ap, subst, arith, add-one}
+use Rattle.std.proofs.Common.{◌≡◌, ℕ, zero, suc, ◌+◌, ◌-◌, ◌<◌, ◌≤◌, List, [], length, Option, Some, slice_get, refl, sym, ◌∙◌, ap, subst, arith, add-one}
 use Rattle.std.specs.List.{filter_map}
 use Rattle.relax_edges.specs.declared.kinds.ObsMode.{ObsMode}
 use Rattle.relax_edges.specs.declared.edge.Edge.{Edge}
@@ -14,7 +14,7 @@ use Rattle.program_meaning.specs.Standing.{event_name}
 use Rattle.program_meaning.specs.Intended.{IsNumbering, cycle_accesses, ordered_write, write_of}
 use Rattle.communication.proofs.Lists.{length-filter_map-upto, slice_get-filter_map-upto}
 use Rattle.communication.proofs.Orders.{Holds, Gives, order_given, place_given}
-use Rattle.communication.proofs.WriteEvents.{NthWrite, nth_write, WriteEvent, write_event, write_stands, ordered_write-is, rank_below}
+use Rattle.communication.proofs.WriteEvents.{nth_write, write_event, write_stands, ordered_write-is, rank_below}
 use Rattle.communication.proofs.IntendedOrders.{gives_writes}
 use Rattle.communication.proofs.Resolves.{IsWrite, Resolves}
 
@@ -62,9 +62,9 @@ gives_under es l f r e = record {
   some = λ k h. let w = value_write es l (f (k + 1)) r (e.above (k + 1) (omega arith) (omega arith)) (e.within (k + 1) (omega arith) (omega arith)) in (event_name es w.event, w.name_is);
   once = λ j k w h g p q.
       let s : f (j + 1) ≡ f (k + 1) =
-        one_value es l (f (j + 1)) (f (k + 1)) w r
-        (e.above (j + 1) (omega arith) (omega arith)) (e.within (j + 1) (omega arith) (omega arith))
-        (e.above (k + 1) (omega arith) (omega arith)) (e.within (k + 1) (omega arith) (omega arith)) p q in
+      one_value es l (f (j + 1)) (f (k + 1)) w r
+      (e.above (j + 1) (omega arith) (omega arith)) (e.within (j + 1) (omega arith) (omega arith))
+      (e.above (k + 1) (omega arith) (omega arith)) (e.within (k + 1) (omega arith) (omega arith)) p q in
       omega (arith, sym (e.back (j + 1)) ∙ ap f s ∙ e.back (k + 1));
 }
 

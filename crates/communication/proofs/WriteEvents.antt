@@ -1,18 +1,17 @@
 -- A value names its write: the writes at a location's place are its write events, with the values from 1.
-use Rattle.std.proofs.Common.{◌≡◌, ℕ, zero, suc, ◌+◌, ◌<◌, ◌≤◌, List, [], ◌∷◌, length, Option, Some, None, slice_get, refl, sym, ◌∙◌, ap, subst, arith}
+use Rattle.std.proofs.Common.{◌≡◌, ℕ, zero, suc, ◌<◌, ◌≤◌, List, Option, Some, None, refl, sym, ◌∙◌, ap, subst, arith}
 use Rattle.std.specs.Option.{option_map}
-use Rattle.relax_edges.specs.declared.kinds.Dir.{Dir}
 use Rattle.relax_edges.specs.declared.kinds.Dir.TheVariants as dirs
 use Rattle.relax_edges.specs.declared.kinds.ObsMode.{ObsMode}
 use Rattle.relax_edges.specs.declared.edge.Edge.{Edge}
 use Rattle.relax_edges.specs.EdgeTable.{source_of}
-use Rattle.cycle_resolve.specs.Resolution.{edge_at, move_count, thread_of, slot_of, location_of}
-use Rattle.coherence_values.specs.Values.{value_of, write_at, write_count}
+use Rattle.cycle_resolve.specs.Resolution.{edge_at, move_count, location_of}
+use Rattle.coherence_values.specs.Values.{value_of, write_count}
 use Rattle.program_meaning.specs.declared.WriteAt.{WriteAt}
-use Rattle.program_meaning.specs.Accesses.{Access, read, write, at_name}
+use Rattle.program_meaning.specs.Accesses.{Access, write, at_name}
 use Rattle.program_meaning.specs.Executions.{CanRead}
 use Rattle.program_meaning.specs.Standing.{event_name}
-use Rattle.program_meaning.specs.Intended.{IsNumbering, event_access, cycle_accesses, ordered_write, write_of}
+use Rattle.program_meaning.specs.Intended.{IsNumbering, cycle_accesses, ordered_write, write_of}
 use Rattle.communication.proofs.Accesses.{EventAt, LoadAt, by_origin, event_stands}
 use Rattle.communication.proofs.Resolves.{IsWrite, Resolves}
 

@@ -1,6 +1,6 @@
 -- The execution that no condition tells from the intended one: where an external edge enters an inner write of a
 -- location, that write and the write before it are exchanged in the coherence order. Source: own.
-use Rattle.std.specs.Prelude.{ℕ, ◌+◌, ◌-◌, ◌==◌, if◌then◌else◌, List, length, map, Option}
+use Rattle.std.specs.Prelude.{ℕ, ◌+◌, ◌-◌, ◌==◌, if◌then◌else◌, List, map}
 use Rattle.std.specs.List.{filter_map}
 use Rattle.relax_edges.specs.declared.kinds.ObsMode.TheVariants.{Avoid}
 use Rattle.relax_edges.specs.declared.edge.Edge.{Edge}

@@ -1,6 +1,6 @@
 -- What the laws of this crate suppose of an execution: facts on accesses alone, whatever the instructions are. `es` is
 -- the list of edges in which threads, locations and values are counted, and `number` numbers the places.
-use Rattle.std.specs.Prelude.{◌≡◌, ℕ, ◌<◌, ◌≤◌, false, List, Option, None}
+use Rattle.std.specs.Prelude.{◌≡◌, ℕ, ◌<◌, ◌≤◌, false, List, None}
 use Rattle.relax_edges.specs.declared.kinds.ObsMode.{ObsMode}
 use Rattle.relax_edges.specs.declared.kinds.ObsMode.TheVariants.{Accept, Avoid, Force}
 use Rattle.relax_edges.specs.declared.edge.Edge.{Edge}

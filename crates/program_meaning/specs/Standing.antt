@@ -1,8 +1,7 @@
 -- When the edges of a cycle stand between the accesses of a program in an execution. `es` is the list of edges in which
 -- threads and slots are counted. Source: the diy part of the herdtools manual (what each edge means).
-use Rattle.std.specs.Prelude.{ℕ, ◌≡◌, ◌≢◌, ◌+◌, ◌<◌, ◌≤◌, ◌^◌, ◌==◌, ◌&&◌, Bool, true, false, List, [], ◌∷◌, length, map, Option, Some, None, slice_get}
+use Rattle.std.specs.Prelude.{ℕ, ◌≡◌, ◌≢◌, ◌+◌, ◌<◌, ◌≤◌, ◌^◌, ◌==◌, ◌&&◌, Bool, true, false, List, [], ◌∷◌, length, map, Some, slice_get}
 use Rattle.std.specs.Int.{bit_at}
-use Rattle.relax_edges.specs.declared.kinds.Dir.{Dir}
 use Rattle.relax_edges.specs.declared.kinds.Dir.TheVariants as dirs
 use Rattle.relax_edges.specs.declared.kinds.Sd.{Sd}
 use Rattle.relax_edges.specs.declared.kinds.Sd.TheVariants.{Same, Diff}
@@ -21,7 +20,7 @@ use Rattle.micro_ops.specs.declared.operation.Barrier.TheVariants as kinds
 use Rattle.micro_ops.specs.declared.operation.Item.{Item}
 use Rattle.cycle_resolve.specs.Resolution.{edge_at, external_count, thread_of, slot_of, events_in, event_after}
 use Rattle.program_meaning.specs.declared.WriteAt.{WriteAt}
-use Rattle.program_meaning.specs.Accesses.{Access, Barred, Visit, accesses_of, at_name, barriers_behind, is_read, reads_before, visits_of}
+use Rattle.program_meaning.specs.Accesses.{Access, Barred, Visit, at_name, barriers_behind, is_read, reads_before}
 use Rattle.program_meaning.specs.Executions.{Execution}
 use Rattle.program_meaning.specs.Coherence.{coherence_place, source_at}
 use Rattle.program_meaning.specs.Programs.{Program, accesses_in, items_in, visits_in}
