@@ -13,37 +13,37 @@ use Rattle.program_meaning.specs.declared.WriteAt.{WriteAt}
 use Rattle.program_meaning.specs.Accesses.{read, write}
 use Rattle.program_meaning.specs.Intended.{cycle_accesses, intended, location_order, location_numbered}
 
-abbrev PodWW : Edge
+abbrev pub PodWW : Edge
 PodWW = edges.Po Diff dirs.W dirs.W
 
-abbrev PodWR : Edge
+abbrev pub PodWR : Edge
 PodWR = edges.Po Diff dirs.W dirs.R
 
-abbrev Wse : Edge
+abbrev pub Wse : Edge
 Wse = edges.Com coms.Ws External
 
-abbrev Wsi : Edge
+abbrev pub Wsi : Edge
 Wsi = edges.Com coms.Ws Internal
 
-abbrev Fre : Edge
+abbrev pub Fre : Edge
 Fre = edges.Com coms.Fr External
 
-abbrev two_writes : List Edge
+abbrev pub two_writes : List Edge
 two_writes = PodWW ∷ Wse ∷ PodWW ∷ Wse ∷ []
 
-abbrev store_buffering : List Edge
+abbrev pub store_buffering : List Edge
 store_buffering = PodWR ∷ Fre ∷ PodWR ∷ Fre ∷ []
 
-abbrev W3 : List Edge
+abbrev pub W3 : List Edge
 W3 = PodWW ∷ Wsi ∷ Wse ∷ PodWR ∷ Fre ∷ []
 
-abbrev W3O : List Edge
+abbrev pub W3O : List Edge
 W3O = PodWW ∷ Wse ∷ Wse ∷ PodWR ∷ Fre ∷ []
 
-abbrev here : ℕ → ℕ
+abbrev pub here : ℕ → ℕ
 here location = location
 
-abbrev name : ℕ → ℕ → WriteAt
+abbrev pub name : ℕ → ℕ → WriteAt
 name thread access = record { thread = thread; access = access }
 
 two_writes-accesses : cycle_accesses two_writes Accept here ≡ (write 0 2 ∷ write 1 1 ∷ []) ∷ (write 1 2 ∷ write 0 1 ∷ []) ∷ []

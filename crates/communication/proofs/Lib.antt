@@ -19,3 +19,4 @@ pub mod Swaps
 pub mod Exchanged
 pub mod Needs
 pub mod Laws
+pub mod Tries
