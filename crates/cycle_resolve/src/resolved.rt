@@ -212,3 +212,6 @@ fn events_of(edges: &[Edge], locations: u8) -> ArrayVec<Event, MAX_EDGES>
     }
     events
 }
+
+#[cfg(test)]
+mod tests;
