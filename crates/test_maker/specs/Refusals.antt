@@ -17,10 +17,10 @@ use Rattle.coherence_values.specs.Values.{observer_need, write_count}
 use Rattle.arch_trait.specs.declared.step.Step.{Step}
 use Rattle.arch_trait.specs.Threads.{Puts, shape_of}
 use Rattle.test_maker.specs.declared.refusal.MakeRefusal.{MakeRefusal}
-use Rattle.test_maker.specs.declared.refusal.MakeRefusal.TheVariants.{NotOfArch, TooFewThreads, CoherenceOnly, NotBuilt, TooManyRegisters}
+use Rattle.test_maker.specs.declared.refusal.MakeRefusal.TheVariants.{NotOfArch, TooFewThreads, CoherenceOnly, TooManyRegisters}
 use Rattle.test_maker.specs.declared.refusal.MakeRefusal.TheVariants as refusals
-use Rattle.test_maker.specs.Steps.{cycle_steps}
-use Rattle.test_maker.specs.TestOf.{plain}
+use Rattle.test_laws.specs.Steps.{cycle_steps}
+use Rattle.test_laws.specs.TestOf.{plain}
 
 -- the first of two reasons
 abbrev pub or_else : Option MakeRefusal → Option MakeRefusal → Option MakeRefusal

@@ -12,7 +12,7 @@ use Rattle.final_cond.specs.Conditions.{CondSeen, TermSeen, InRegister, AtPlace}
 use Rattle.arch_trait.specs.declared.step.Step.{Step}
 use Rattle.arch_trait.specs.Names.{letters, location_name}
 use Rattle.arch_trait.specs.Threads.{Puts, ThreadCode, compiled}
-use Rattle.test_maker.specs.Steps.{cycle_steps, numbers_read}
+use Rattle.test_laws.specs.Steps.{cycle_steps, numbers_read}
 
 -- a test as contracts see it: the edges that it quotes, the names of its places, its threads and its condition
 pub record TestSeen : Type 0 where
