@@ -5,3 +5,4 @@ pub mod WordBounds
 mod RelaxExamples
 pub mod Paths
 pub mod RelaxWords
+pub mod Stars

@@ -8,3 +8,4 @@ pub mod Architectures
 pub mod RelaxText
 pub mod Relaxations
 pub mod RelaxSearch
+pub mod Stars

@@ -22,7 +22,7 @@ expansions [] = [] ∷ []
 expansions (byte ∷ behind) = flat_map (λ choice. map (λ word. choice ∷ word) (expansions behind)) (byte_choices byte (length behind))
 
 -- the edges that a word stands for
-abbrev pub word_edges : List ℕ → List Edge
+unfoldable pub word_edges : List ℕ → List Edge
 word_edges word = filter_map edge_of (expansions word)
 
 -- each edge joins the next, from one on
