@@ -6,3 +6,4 @@ mod RelaxExamples
 pub mod Paths
 pub mod RelaxWords
 pub mod Stars
+pub mod Kept
