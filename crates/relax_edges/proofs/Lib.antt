@@ -7,3 +7,4 @@ pub mod Paths
 pub mod RelaxWords
 pub mod Stars
 pub mod Kept
+pub mod Search

@@ -110,6 +110,15 @@ at_most_64-is kept more ok =
         (λ t. let e : ◌≡◌ {A = Answer} (Err TooManyRelaxes) (Ok more) = rw t at ok in cc)
         (λ f. let e : ◌≡◌ {A = Answer} (Ok kept) (Ok more) = rw f at ok in cc)
 
+pub at_most_64-few : (kept more : List (List Edge)) → at_most_64 kept ≡ Ok more → length more ≤ 64
+at_most_64-few kept more ok =
+    by_test (nat_lt 64 (length kept))
+        (λ t. let e : ◌≡◌ {A = Answer} (Err TooManyRelaxes) (Ok more) = rw t at ok in cc)
+        (λ f.
+            let e : ◌≡◌ {A = Answer} (Ok kept) (Ok more) = rw f at ok in
+            let same : kept ≡ more = cc in
+            rw (← same) (ltb-false 64 (length kept) f))
+
 -- once there are too many, there are too many behind more paths
 pub at_most_64-err : (kept paths more : List (List Edge)) (kind : RelaxKind) → at_most_64 (keep_all kept paths) ≡ Err kind → at_most_64 (keep_all kept (paths ++ more)) ≡ Err kind
 at_most_64-err kept paths more kind err =
