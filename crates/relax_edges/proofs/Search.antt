@@ -1,5 +1,5 @@
 -- How paths are kept, list by list and edge by edge.
-use Rattle.std.specs.Prelude.{ℕ, ◌≡◌, ◌<◌, ◌≤◌, ◌+◌, ◌||◌, Bool, true, false, not, nat_lt, cond, Result, Ok, Err, List, [], ◌∷◌, ◌++◌, length, take, drop}
+use Rattle.std.specs.Prelude.{ℕ, ◌≡◌, ◌<◌, ◌≤◌, ◌+◌, ◌-◌, ◌||◌, Bool, true, false, not, nat_lt, cond, Result, Ok, Err, List, [], ◌∷◌, ◌++◌, length, map, take, drop}
 use Rattle.std.specs.List.{flat_map}
 use Rattle.std.proofs.Common.{suc, get_or, refl, arith, ap, subst, sym, ◌∙◌}
 use Rattle.std.proofs.Math.Seq.{drop-cons, take-suc, take-length}
@@ -7,10 +7,11 @@ use Rattle.std.proofs.lemmas.Grind.{flat_map-append}
 use Rattle.std.proofs.lemmas.List.{append-nil, take-append-drop}
 use Rattle.relax_edges.specs.declared.edge.Edge.{Edge}
 use Rattle.relax_edges.specs.declared.relax_error.RelaxKind.{RelaxKind}
+use Rattle.relax_edges.specs.EdgeTable.{joins_to}
 use Rattle.relax_edges.specs.RelaxText.{is_empty}
-use Rattle.relax_edges.specs.Relaxations.{is_path, keep_all, at_most_64}
+use Rattle.relax_edges.specs.Relaxations.{word_edges, is_path, keep, keep_all, at_most_64}
 use Rattle.relax_edges.specs.RelaxSearch.{paths_behind, paths_by, KeepsPaths}
-use Rattle.relax_edges.proofs.Paths.{paths_behind-cons, paths_behind-end, paths_behind-none, keep_all-append, at_most_64-ok, at_most_64-is, at_most_64-few, at_most_64-err}
+use Rattle.relax_edges.proofs.Paths.{is_path-end, paths_behind-cons, paths_behind-end, paths_behind-none, keep_all-append, at_most_64-ok, at_most_64-is, at_most_64-few, at_most_64-err}
 
 -- the paths behind a front, by the edges of the first list
 pub paths_behind_by : (front edges : List Edge) (lists : List (List Edge)) → paths_behind front (edges ∷ lists) ≡ paths_by front lists edges
@@ -109,3 +110,46 @@ keeps_no_path kept front lists few none = rw (paths_behind-none front lists none
 -- what is kept has room
 pub kept_few : (old paths new : List (List Edge)) (some : Bool) → KeepsPaths old paths new some → length new ≤ 64
 kept_few old paths new some a = at_most_64-few (keep_all old paths) new a.kept
+
+-- a path goes on with an edge, by its last edge
+pub path_extended : (front : List Edge) (edge d : Edge) → 1 ≤ length front → is_path front ≡ true
+    → is_path (front ++ edge ∷ []) ≡ joins_to (get_or front (length front - 1) d) edge
+path_extended front edge d some path =
+    let n : ℕ = length front - 1 in
+    let more : suc n ≡ length front = omega arith in
+    let within : n < length front = omega arith in
+    let parts : front ≡ take n front ++ get_or front n d ∷ [] = sym (take-length front) ∙ ap (λ k. take k front) (sym more) ∙ take-suc front n d within in
+    subst (λ f. is_path (f ++ edge ∷ []) ≡ joins_to (get_or front n d) edge) (sym parts)
+        (is_path-end (take n front) (get_or front n d) edge (subst (λ f. is_path f ≡ true) parts path))
+
+-- the same laws, by the words of a text
+pub keeps_no_word : (old new : List (List Edge)) (front shown : List Edge) (words : List (List ℕ)) → words ≡ [] → shown ≡ front → is_path front ≡ true
+    → at_most_64 (keep old shown) ≡ Ok new → KeepsPaths old (paths_behind front (map word_edges words)) new true
+keeps_no_word old new front shown words none same path kept = rw none (keeps_end old new front path (rw (← same) kept))
+
+pub refused_no_word : (old : List (List Edge)) (kind : RelaxKind) (front shown : List Edge) (words : List (List ℕ)) → words ≡ [] → shown ≡ front → is_path front ≡ true
+    → at_most_64 (keep old shown) ≡ Err kind → at_most_64 (keep_all old (paths_behind front (map word_edges words))) ≡ Err kind
+refused_no_word old kind front shown words none same path err = rw none (refused_end old kind front path (rw (← same) err))
+
+pub keeps_word_next : (old middle new : List (List Edge)) (some more : Bool) (front chosen : List Edge) (lists : List (List Edge)) (edges : List Edge) (i : ℕ) (d : Edge)
+    → chosen ≡ front → i < length edges → KeepsPaths old (paths_by front lists (take i edges)) middle some
+    → KeepsPaths middle (paths_behind (chosen ++ get_or edges i d ∷ []) lists) new more
+    → KeepsPaths old (paths_by front lists (take (i + 1) edges)) new (some || more)
+keeps_word_next old middle new some more front chosen lists edges i d same within a b =
+    keeps_next old middle new some more front lists edges i d within a (subst (λ f. KeepsPaths middle (paths_behind (f ++ get_or edges i d ∷ []) lists) new more) same b)
+
+pub keeps_word : (old new : List (List Edge)) (some : Bool) (front edges : List Edge) (word : List ℕ) (words behind : List (List ℕ)) (n : ℕ)
+    → words ≡ word ∷ behind → edges ≡ word_edges word → n ≡ length edges → KeepsPaths old (paths_by front (map word_edges behind) (take n edges)) new some
+    → KeepsPaths old (paths_behind front (map word_edges words)) new some
+keeps_word old new some front edges word words behind n cut of_word all a =
+    rw (cut, ← of_word) (keeps_last old new some front (map word_edges behind) edges n all a)
+
+pub refused_word : (old middle : List (List Edge)) (some : Bool) (kind : RelaxKind) (front chosen edges : List Edge) (word : List ℕ) (words behind : List (List ℕ)) (i : ℕ) (d : Edge)
+    → words ≡ word ∷ behind → edges ≡ word_edges word → chosen ≡ front → i < length edges
+    → KeepsPaths old (paths_by front (map word_edges behind) (take i edges)) middle some
+    → at_most_64 (keep_all middle (paths_behind (chosen ++ get_or edges i d ∷ []) (map word_edges behind))) ≡ Err kind
+    → at_most_64 (keep_all old (paths_behind front (map word_edges words))) ≡ Err kind
+refused_word old middle some kind front chosen edges word words behind i d cut of_word same within a err =
+    rw (cut, ← of_word, paths_behind_by front edges (map word_edges behind))
+        (refused_next old middle some kind front (map word_edges behind) edges i d within a
+            (subst (λ f. at_most_64 (keep_all middle (paths_behind (f ++ get_or edges i d ∷ []) (map word_edges behind))) ≡ Err kind) same err))

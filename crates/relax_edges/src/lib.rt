@@ -8,6 +8,7 @@ mod order;
 mod read;
 mod relax;
 mod relax_error;
+mod relax_search;
 mod relax_words;
 mod word;
 
