@@ -8,3 +8,4 @@ pub mod RelaxWords
 pub mod Stars
 pub mod Kept
 pub mod Search
+pub mod Items

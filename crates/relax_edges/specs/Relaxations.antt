@@ -82,7 +82,7 @@ kept_paths kept [] = Err DoesNotJoin
 kept_paths kept (path ∷ paths) = at_most_64 (keep_all kept (path ∷ paths))
 
 -- what is kept behind an item with these words, or why it is refused
-abbrev pub kept_words : List (List Edge) → List (List ℕ) → Result (List (List Edge)) RelaxKind
+unfoldable pub kept_words : List (List Edge) → List (List ℕ) → Result (List (List Edge)) RelaxKind
 kept_words kept words =
     elim (list_any (λ word. is_empty (word_edges word)) words) as (λ _. Result (List (List Edge)) RelaxKind) [
         true ↦ Err UnknownEdge
@@ -93,12 +93,12 @@ kept_words kept words =
             ]
     ]
 
-abbrev pub kept_item : List (List Edge) → Option (List (List ℕ)) → Result (List (List Edge)) RelaxKind
+unfoldable pub kept_item : List (List Edge) → Option (List (List ℕ)) → Result (List (List Edge)) RelaxKind
 kept_item kept None = Err BadBracket
 kept_item kept (Some words) = kept_words kept words
 
 -- what is kept behind some items, or the first refusal
-abbrev pub kept_items : List (List Edge) → List Item → Result (List (List Edge)) RelaxError
+unfoldable pub kept_items : List (List Edge) → List Item → Result (List (List Edge)) RelaxError
 kept_items kept [] = Ok kept
 kept_items kept (item ∷ items) =
     elim (kept_item kept item.words) as (λ _. Result (List (List Edge)) RelaxError) [
