@@ -2,6 +2,9 @@
 use Rattle.std.specs.Prelude.{ℕ, ◌≡◌, ◌<◌, ◌≤◌, ◌+◌, ◌-◌, ◌==◌, ◌||◌, Bool, true, false, not, nat_lt, cond, Option, Some, None, Result, Ok, Err, List, [], ◌∷◌, ◌++◌, length, map, take, drop}
 use Rattle.std.specs.List.{before_first, position_or_len, list_any}
 use Rattle.std.proofs.Common.{zero, suc, get_or, refl, arith, ap, subst, sym, ◌∙◌, add-zero}
+use Rattle.std.proofs.Math.ListN.{drop_of_length-le}
+use Rattle.std.proofs.lemmas.List.{drop-drop, length-drop}
+use Rattle.std.proofs.Math.Seq.{take-length}
 use Rattle.std.proofs.lemmas.Bool.{lt-ltb, le-ltb, eqb-true}
 use Rattle.std.proofs.lemmas.List.Folds.{length-prefix_len}
 use Rattle.relax_edges.specs.declared.edge.Edge.{Edge}
@@ -57,8 +60,8 @@ pub kept_words_some : (kept : List (List Edge)) (words : List (List ℕ)) (front
 kept_words_some kept words front new some known short none found a =
     kept_words_short kept words known short
     ∙ paths_some kept (paths_of words) new
-        (subst (λ p. KeepsPaths kept p new true) (paths_behind-nil (map word_edges words))
-            (subst (λ f. KeepsPaths kept (paths_behind f (map word_edges words)) new true) none (subst (λ b. KeepsPaths kept (paths_behind front (map word_edges words)) new b) found a)))
+    (subst (λ p. KeepsPaths kept p new true) (paths_behind-nil (map word_edges words))
+    (subst (λ f. KeepsPaths kept (paths_behind f (map word_edges words)) new true) none (subst (λ b. KeepsPaths kept (paths_behind front (map word_edges words)) new b) found a)))
 
 pub kept_words_none : (kept : List (List Edge)) (words : List (List ℕ)) (front : List Edge) (new : List (List Edge)) (some : Bool)
     → list_any (λ word. is_empty (word_edges word)) words ≡ false → length words ≤ 8 → front ≡ [] → some ≡ false
@@ -66,8 +69,8 @@ pub kept_words_none : (kept : List (List Edge)) (words : List (List ℕ)) (front
 kept_words_none kept words front new some known short none found a =
     kept_words_short kept words known short
     ∙ paths_none kept (paths_of words) new
-        (subst (λ p. KeepsPaths kept p new false) (paths_behind-nil (map word_edges words))
-            (subst (λ f. KeepsPaths kept (paths_behind f (map word_edges words)) new false) none (subst (λ b. KeepsPaths kept (paths_behind front (map word_edges words)) new b) found a)))
+    (subst (λ p. KeepsPaths kept p new false) (paths_behind-nil (map word_edges words))
+    (subst (λ f. KeepsPaths kept (paths_behind f (map word_edges words)) new false) none (subst (λ b. KeepsPaths kept (paths_behind front (map word_edges words)) new b) found a)))
 
 pub kept_words_refused : (kept : List (List Edge)) (words : List (List ℕ)) (front : List Edge) (kind : RelaxKind)
     → list_any (λ word. is_empty (word_edges word)) words ≡ false → length words ≤ 8 → front ≡ [] → length kept ≤ 64
@@ -75,8 +78,8 @@ pub kept_words_refused : (kept : List (List Edge)) (words : List (List ℕ)) (fr
 kept_words_refused kept words front kind known short none few err =
     kept_words_short kept words known short
     ∙ paths_refused kept (paths_of words) kind few
-        (subst (λ p. at_most_64 (keep_all kept p) ≡ Err kind) (paths_behind-nil (map word_edges words))
-            (subst (λ f. at_most_64 (keep_all kept (paths_behind f (map word_edges words))) ≡ Err kind) none err))
+    (subst (λ p. at_most_64 (keep_all kept p) ≡ Err kind) (paths_behind-nil (map word_edges words))
+    (subst (λ f. at_most_64 (keep_all kept (paths_behind f (map word_edges words))) ≡ Err kind) none err))
 
 drop_of_nil : (n : ℕ) → drop {A = ℕ} n [] ≡ []
 drop_of_nil zero = refl
@@ -124,19 +127,19 @@ kept_items_front kept more place [] ok =
     ap (λ k. Ok k) same_kept
 kept_items_front kept more place (byte ∷ behind) ok =
     by_test (is_separator byte)
-        (λ s.
-            let none : item_from place byte behind ≡ [] = rw s refl in
-            let same : ◌≡◌ {A = Answer} (Ok kept) (Ok more) = sym (separator_front kept byte behind s) ∙ ok in
-            let same_kept : kept ≡ more = cc in
-            ap (λ items. kept_items kept (items ++ items_from (place + 1) (bytes_behind byte behind) behind)) none
-            ∙ ap (λ k. kept_items k (items_from (place + 1) (bytes_behind byte behind) behind)) same_kept
-            ∙ ap (kept_items more) (items_behind place byte behind (bytes_behind byte behind)))
-        (λ n.
-            let item : Item = record { start = place; words = words_from byte behind } in
-            let one : item_from place byte behind ≡ item ∷ [] = rw n refl in
-            ap (λ items. kept_items kept (items ++ items_from (place + 1) (bytes_behind byte behind) behind)) one
-            ∙ kept_one kept more item (items_from (place + 1) (bytes_behind byte behind) behind) (sym (item_front kept byte behind n) ∙ ok)
-            ∙ ap (kept_items more) (items_behind place byte behind (bytes_behind byte behind)))
+    (λ s.
+    let none : item_from place byte behind ≡ [] = rw s refl in
+    let same : ◌≡◌ {A = Answer} (Ok kept) (Ok more) = sym (separator_front kept byte behind s) ∙ ok in
+    let same_kept : kept ≡ more = cc in
+    ap (λ items. kept_items kept (items ++ items_from (place + 1) (bytes_behind byte behind) behind)) none
+    ∙ ap (λ k. kept_items k (items_from (place + 1) (bytes_behind byte behind) behind)) same_kept
+    ∙ ap (kept_items more) (items_behind place byte behind (bytes_behind byte behind)))
+    (λ n.
+    let item : Item = record { start = place; words = words_from byte behind } in
+    let one : item_from place byte behind ≡ item ∷ [] = rw n refl in
+    ap (λ items. kept_items kept (items ++ items_from (place + 1) (bytes_behind byte behind) behind)) one
+    ∙ kept_one kept more item (items_from (place + 1) (bytes_behind byte behind) behind) (sym (item_front kept byte behind n) ∙ ok)
+    ∙ ap (kept_items more) (items_behind place byte behind (bytes_behind byte behind)))
 
 pub kept_items_refused : (kept : List (List Edge)) (kind : RelaxKind) (place : ℕ) (text : List ℕ) → kept_front kept text ≡ Err kind
     → kept_items kept (items_from place 0 text) ≡ Err (record { at = place; kind = kind })
@@ -144,9 +147,36 @@ unfolding kept_items kept_front
 kept_items_refused kept kind place [] err = let e : ◌≡◌ {A = Answer} (Ok kept) (Err kind) = err in cc
 kept_items_refused kept kind place (byte ∷ behind) err =
     by_test (is_separator byte)
-        (λ s. let e : ◌≡◌ {A = Answer} (Ok kept) (Err kind) = sym (separator_front kept byte behind s) ∙ err in cc)
-        (λ n.
-            let item : Item = record { start = place; words = words_from byte behind } in
-            let one : item_from place byte behind ≡ item ∷ [] = rw n refl in
-            ap (λ items. kept_items kept (items ++ items_from (place + 1) (bytes_behind byte behind) behind)) one
-            ∙ refused_one kept kind item (items_from (place + 1) (bytes_behind byte behind) behind) (sym (item_front kept byte behind n) ∙ err))
+    (λ s. let e : ◌≡◌ {A = Answer} (Ok kept) (Err kind) = sym (separator_front kept byte behind s) ∙ err in cc)
+    (λ n.
+    let item : Item = record { start = place; words = words_from byte behind } in
+    let one : item_from place byte behind ≡ item ∷ [] = rw n refl in
+    ap (λ items. kept_items kept (items ++ items_from (place + 1) (bytes_behind byte behind) behind)) one
+    ∙ refused_one kept kind item (items_from (place + 1) (bytes_behind byte behind) behind) (sym (item_front kept byte behind n) ∙ err))
+
+-- the same, behind the bytes of a text that are passed
+rest_of : (text : List ℕ) (place : ℕ) → take (length text - place) (drop place text) ≡ drop place text
+rest_of text place = ap (λ n. take n (drop place text)) (sym (length-drop place text)) ∙ take-length (drop place text)
+
+pub items_step : (kept more : List (List Edge)) (text : List ℕ) (place len : ℕ)
+    → kept_front kept (take (length text - place) (drop place text)) ≡ Ok more → len ≡ front_len (take (length text - place) (drop place text))
+    → kept_items more (items_from (place + len) 0 (drop (place + len) text)) ≡ kept_items kept (items_from place 0 (drop place text))
+items_step kept more text place len ok is =
+    let ok_rest : kept_front kept (drop place text) ≡ Ok more = subst (λ t. kept_front kept t ≡ Ok more) (rest_of text place) ok in
+    let is_rest : len ≡ front_len (drop place text) = is ∙ ap front_len (rest_of text place) in
+    let e : drop (place + len) text ≡ drop len (drop place text) = sym (drop-drop len place text) in
+    rw (e, is_rest) (sym (kept_items_front kept more place (drop place text) ok_rest))
+
+pub items_refused : (kept : List (List Edge)) (kind : RelaxKind) (text : List ℕ) (place : ℕ)
+    → kept_front kept (take (length text - place) (drop place text)) ≡ Err kind
+    → kept_items kept (items_from place 0 (drop place text)) ≡ Err (record { at = place; kind = kind })
+items_refused kept kind text place err =
+    kept_items_refused kept kind place (drop place text) (subst (λ t. kept_front kept t ≡ Err kind) (rest_of text place) err)
+
+pub items_end : (kept : List (List Edge)) (text : List ℕ) (place : ℕ) → length text ≤ place → kept_items kept (items_from place 0 (drop place text)) ≡ Ok kept
+unfolding kept_items
+items_end kept text place past = rw (drop_of_length-le text {i = place} past) refl
+
+pub relaxes_of_text : (text : List ℕ) (kept : List (List Edge)) → kept ≡ [] → relaxes_of text ≡ kept_items kept (items_from 0 0 text)
+unfolding relaxes_of items_of
+relaxes_of_text text kept none = ap (λ k. kept_items k (items_from 0 0 text)) (sym none)

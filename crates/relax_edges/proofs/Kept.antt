@@ -55,12 +55,12 @@ distinct_end : (kept : List (List Edge)) (path : List Edge) → are_distinct kep
 distinct_end [] path distinct new = refl
 distinct_end (first ∷ kept) path distinct new =
     by_test (is_same path first)
-        (λ t. absurd (no_true (sym (rw t at new))))
-        (λ n.
-            by_test (list_any (is_same first) kept)
-                (λ t. absurd (no_true (rw t at distinct)))
-                (λ f.
-                    rw (any_end (is_same first) kept path f (same_turned first path ∙ n)) (distinct_end kept path (rw f at distinct) (rw n at new))))
+    (λ t. absurd (no_true (sym (rw t at new))))
+    (λ n.
+    by_test (list_any (is_same first) kept)
+    (λ t. absurd (no_true (rw t at distinct)))
+    (λ f.
+    rw (any_end (is_same first) kept path f (same_turned first path ∙ n)) (distinct_end kept path (rw f at distinct) (rw n at new))))
 
 pub relaxes_end : (kept : List (List Edge)) (path : List Edge) → IsRelaxes kept → list_any (is_same path) kept ≡ false → length kept < 64 → IsRelaxes (kept ++ path ∷ [])
 relaxes_end kept path relaxes new room =

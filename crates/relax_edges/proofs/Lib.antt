@@ -9,3 +9,4 @@ pub mod Stars
 pub mod Kept
 pub mod Search
 pub mod Items
+pub mod Fronts

@@ -39,10 +39,12 @@ pub paths_behind-cons : (front : List Edge) (edges : List Edge) (lists : List (L
 unfolding paths_behind
 paths_behind-cons front [] lists = refl
 paths_behind-cons front (edge ∷ edges) lists =
-    rw (map-append (λ path. front ++ path) (map (λ path. edge ∷ path) (choices lists)) (choices (edges ∷ lists)),
-        filter-append is_path (map (λ path. front ++ path) (map (λ path. edge ∷ path) (choices lists))) (map (λ path. front ++ path) (choices (edges ∷ lists))),
-        moved front edge (choices lists))
-        (ap (λ paths. filter is_path (map (λ path. (front ++ edge ∷ []) ++ path) (choices lists)) ++ paths) (paths_behind-cons front edges lists))
+    rw (
+      map-append (λ path. front ++ path) (map (λ path. edge ∷ path) (choices lists)) (choices (edges ∷ lists)),
+      filter-append is_path (map (λ path. front ++ path) (map (λ path. edge ∷ path) (choices lists))) (map (λ path. front ++ path) (choices (edges ∷ lists))),
+      moved front edge (choices lists),
+    )
+    (ap (λ paths. filter is_path (map (λ path. (front ++ edge ∷ []) ++ path) (choices lists)) ++ paths) (paths_behind-cons front edges lists))
 
 -- behind no edge the paths are all paths
 pub paths_behind-nil : (lists : List (List Edge)) → paths_behind [] lists ≡ filter is_path (choices lists)
@@ -107,26 +109,26 @@ at_most_64-ok kept few = by_test (nat_lt 64 (length kept)) (λ t. absurd (omega 
 pub at_most_64-is : (kept more : List (List Edge)) → at_most_64 kept ≡ Ok more → kept ≡ more
 at_most_64-is kept more ok =
     by_test (nat_lt 64 (length kept))
-        (λ t. let e : ◌≡◌ {A = Answer} (Err TooManyRelaxes) (Ok more) = rw t at ok in cc)
-        (λ f. let e : ◌≡◌ {A = Answer} (Ok kept) (Ok more) = rw f at ok in cc)
+    (λ t. let e : ◌≡◌ {A = Answer} (Err TooManyRelaxes) (Ok more) = rw t at ok in cc)
+    (λ f. let e : ◌≡◌ {A = Answer} (Ok kept) (Ok more) = rw f at ok in cc)
 
 pub at_most_64-few : (kept more : List (List Edge)) → at_most_64 kept ≡ Ok more → length more ≤ 64
 at_most_64-few kept more ok =
     by_test (nat_lt 64 (length kept))
-        (λ t. let e : ◌≡◌ {A = Answer} (Err TooManyRelaxes) (Ok more) = rw t at ok in cc)
-        (λ f.
-            let e : ◌≡◌ {A = Answer} (Ok kept) (Ok more) = rw f at ok in
-            let same : kept ≡ more = cc in
-            rw (← same) (ltb-false 64 (length kept) f))
+    (λ t. let e : ◌≡◌ {A = Answer} (Err TooManyRelaxes) (Ok more) = rw t at ok in cc)
+    (λ f.
+    let e : ◌≡◌ {A = Answer} (Ok kept) (Ok more) = rw f at ok in
+    let same : kept ≡ more = cc in
+    rw (← same) (ltb-false 64 (length kept) f))
 
 -- once there are too many, there are too many behind more paths
 pub at_most_64-err : (kept paths more : List (List Edge)) (kind : RelaxKind) → at_most_64 (keep_all kept paths) ≡ Err kind → at_most_64 (keep_all kept (paths ++ more)) ≡ Err kind
 at_most_64-err kept paths more kind err =
     by_test (nat_lt 64 (length (keep_all kept paths)))
-        (λ t.
-            let e : ◌≡◌ {A = Answer} (Err TooManyRelaxes) (Err kind) = rw t at err in
-            let many : nat_lt 64 (length (keep_all kept (paths ++ more))) ≡ true =
-                lt-ltb 64 (length (keep_all kept (paths ++ more)))
-                    (rw (keep_all-append kept paths more) (omega (arith, ltb-true 64 (length (keep_all kept paths)) t, length-keep_all (keep_all kept paths) more))) in
-            rw many e)
-        (λ f. let e : ◌≡◌ {A = Answer} (Ok (keep_all kept paths)) (Err kind) = rw f at err in cc)
+    (λ t.
+    let e : ◌≡◌ {A = Answer} (Err TooManyRelaxes) (Err kind) = rw t at err in
+    let many : nat_lt 64 (length (keep_all kept (paths ++ more))) ≡ true =
+    lt-ltb 64 (length (keep_all kept (paths ++ more)))
+    (rw (keep_all-append kept paths more) (omega (arith, ltb-true 64 (length (keep_all kept paths)) t, length-keep_all (keep_all kept paths) more))) in
+    rw many e)
+    (λ f. let e : ◌≡◌ {A = Answer} (Ok (keep_all kept paths)) (Err kind) = rw f at err in cc)

@@ -33,7 +33,7 @@ keeps_more old one middle two new some more a b =
     let e : keep_all old one ≡ middle = at_most_64-is (keep_all old one) middle a.kept in
     record {
       kept = rw (keep_all-append old one two, e) b.kept;
-      found = rw (some_either one two, a.found, b.found) refl
+      found = rw (some_either one two, a.found, b.found) refl;
     }
 
 -- where there is no room for a part, there is none for the whole
@@ -83,8 +83,8 @@ pub refused_next : (old middle : List (List Edge)) (some : Bool) (kind : RelaxKi
     → i < length edges → KeepsPaths old (paths_by front lists (take i edges)) middle some
     → at_most_64 (keep_all middle (paths_behind (front ++ get_or edges i d ∷ []) lists)) ≡ Err kind → at_most_64 (keep_all old (paths_by front lists edges)) ≡ Err kind
 refused_next old middle some kind front lists edges i d within a err =
-    rw (paths_by_parts front lists edges i d within) 
-        (refused_more old (paths_by front lists (take i edges)) middle (paths_behind (front ++ get_or edges i d ∷ []) lists) (paths_by front lists (drop (suc i) edges)) some kind a err)
+    rw (paths_by_parts front lists edges i d within)
+    (refused_more old (paths_by front lists (take i edges)) middle (paths_behind (front ++ get_or edges i d ∷ []) lists) (paths_by front lists (drop (suc i) edges)) some kind a err)
 
 -- behind the last edge all paths are kept
 pub keeps_last : (old new : List (List Edge)) (some : Bool) (front : List Edge) (lists : List (List Edge)) (edges : List Edge) (n : ℕ)
@@ -120,7 +120,7 @@ path_extended front edge d some path =
     let within : n < length front = omega arith in
     let parts : front ≡ take n front ++ get_or front n d ∷ [] = sym (take-length front) ∙ ap (λ k. take k front) (sym more) ∙ take-suc front n d within in
     subst (λ f. is_path (f ++ edge ∷ []) ≡ joins_to (get_or front n d) edge) (sym parts)
-        (is_path-end (take n front) (get_or front n d) edge (subst (λ f. is_path f ≡ true) parts path))
+    (is_path-end (take n front) (get_or front n d) edge (subst (λ f. is_path f ≡ true) parts path))
 
 -- the same laws, by the words of a text
 pub keeps_no_word : (old new : List (List Edge)) (front shown : List Edge) (words : List (List ℕ)) → words ≡ [] → shown ≡ front → is_path front ≡ true
@@ -151,5 +151,5 @@ pub refused_word : (old middle : List (List Edge)) (some : Bool) (kind : RelaxKi
     → at_most_64 (keep_all old (paths_behind front (map word_edges words))) ≡ Err kind
 refused_word old middle some kind front chosen edges word words behind i d cut of_word same within a err =
     rw (cut, ← of_word, paths_behind_by front edges (map word_edges behind))
-        (refused_next old middle some kind front (map word_edges behind) edges i d within a
-            (subst (λ f. at_most_64 (keep_all middle (paths_behind (f ++ get_or edges i d ∷ []) (map word_edges behind))) ≡ Err kind) same err))
+    (refused_next old middle some kind front (map word_edges behind) edges i d within a
+    (subst (λ f. at_most_64 (keep_all middle (paths_behind (f ++ get_or edges i d ∷ []) (map word_edges behind))) ≡ Err kind) same err))

@@ -66,12 +66,15 @@ one_byte (byte ∷ bytes) = ap (λ words. (byte ∷ []) ∷ words) (one_byte byt
 expansions-end : (front : List ℕ) (before last : ℕ) → expansions (front ++ before ∷ last ∷ []) ≡ ends front before last
 expansions-end [] before last =
     rw (near_choice before, near_choice last, one_byte (star_choices last))
-        (flat_map-same _ _ (star_choices before) (λ a. map-map (λ word. a ∷ word) (λ c. c ∷ []) (star_choices last)))
+    (flat_map-same _ _ (star_choices before) (λ a. map-map (λ word. a ∷ word) (λ c. c ∷ []) (star_choices last)))
 expansions-end (byte ∷ front) before last =
-    rw (plain_choice byte (length (front ++ before ∷ last ∷ [])) (omega (arith, length-append front (before ∷ last ∷ []))),
-        expansions-end front before last, append-nil (map (λ word. byte ∷ word) (ends front before last)))
-        (map-flat_map (λ word. byte ∷ word) (λ a. map (λ b. front ++ a ∷ b ∷ []) (star_choices last)) (star_choices before)
-        ∙ flat_map-same _ _ (star_choices before) (λ a. map-map (λ word. byte ∷ word) (λ b. front ++ a ∷ b ∷ []) (star_choices last)))
+    rw (
+      plain_choice byte (length (front ++ before ∷ last ∷ [])) (omega (arith, length-append front (before ∷ last ∷ []))),
+      expansions-end front before last,
+      append-nil (map (λ word. byte ∷ word) (ends front before last)),
+    )
+    (map-flat_map (λ word. byte ∷ word) (λ a. map (λ b. front ++ a ∷ b ∷ []) (star_choices last)) (star_choices before)
+    ∙ flat_map-same _ _ (star_choices before) (λ a. map-map (λ word. byte ∷ word) (λ b. front ++ a ∷ b ∷ []) (star_choices last)))
 
 -- a word stands for the edges that its last two bytes choose
 pub word_edges_end : (front : List ℕ) (before last : ℕ) → word_edges (front ++ before ∷ last ∷ []) ≡ edges_by_end front before last
@@ -141,8 +144,8 @@ two_at : (word : List ℕ) (n : ℕ) → length word ≡ suc (suc n) → word �
 two_at word n e =
     sym (take-append-drop n word)
     ∙ ap (λ t. take n word ++ t)
-        (drop-cons word n 0 (omega arith)
-        ∙ ap (λ t. get_or word n 0 ∷ t) (drop-cons word (suc n) 0 (omega arith) ∙ ap (λ t. get_or word (suc n) 0 ∷ t) (drop_of_length-le word {i = suc (suc n)} (omega arith))))
+    (drop-cons word n 0 (omega arith)
+    ∙ ap (λ t. get_or word n 0 ∷ t) (drop-cons word (suc n) 0 (omega arith) ∙ ap (λ t. get_or word (suc n) 0 ∷ t) (drop_of_length-le word {i = suc (suc n)} (omega arith))))
 
 last_two : (word : List ℕ) → 2 ≤ length word → word ≡ take (length word - 2) word ++ get_or word (length word - 2) 0 ∷ get_or word (length word - 1) 0 ∷ []
 last_two word some =

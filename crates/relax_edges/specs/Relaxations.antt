@@ -85,12 +85,12 @@ kept_paths kept (path ∷ paths) = at_most_64 (keep_all kept (path ∷ paths))
 unfoldable pub kept_words : List (List Edge) → List (List ℕ) → Result (List (List Edge)) RelaxKind
 kept_words kept words =
     elim (list_any (λ word. is_empty (word_edges word)) words) as (λ _. Result (List (List Edge)) RelaxKind) [
-        true ↦ Err UnknownEdge
+      | true ↦ Err UnknownEdge
       | false ↦
-            elim (nat_lt 8 (length words)) as (λ _. Result (List (List Edge)) RelaxKind) [
-                true ↦ Err RelaxTooLong
-              | false ↦ kept_paths kept (paths_of words)
-            ]
+          elim (nat_lt 8 (length words)) as (λ _. Result (List (List Edge)) RelaxKind) [
+            | true ↦ Err RelaxTooLong
+            | false ↦ kept_paths kept (paths_of words)
+          ]
     ]
 
 unfoldable pub kept_item : List (List Edge) → Option (List (List ℕ)) → Result (List (List Edge)) RelaxKind
@@ -102,7 +102,7 @@ unfoldable pub kept_items : List (List Edge) → List Item → Result (List (Lis
 kept_items kept [] = Ok kept
 kept_items kept (item ∷ items) =
     elim (kept_item kept item.words) as (λ _. Result (List (List Edge)) RelaxError) [
-        Err kind ↦ Err (record { at = item.start; kind = kind })
+      | Err kind ↦ Err (record { at = item.start; kind = kind })
       | Ok more ↦ kept_items more items
     ]
 

@@ -8,6 +8,8 @@ mod order;
 mod read;
 mod relax;
 mod relax_error;
+mod relax_items;
+mod relax_list;
 mod relax_search;
 mod relax_words;
 mod word;
@@ -19,6 +21,7 @@ pub use order::EDGES;
 pub use read::{UnknownEdge, read_edge, read_edge_bytes};
 pub use relax::{Relax, Relaxes};
 pub use relax_error::{RelaxError, RelaxKind};
+pub use relax_list::read_relaxes;
 
 /// The most edges that a cycle has.
 pub const MAX_EDGES: usize = 24;

@@ -2,11 +2,10 @@ ghost use Rattle.std.specs.Prelude.{◌≡◌, ◌<◌, ◌≤◌, ◌++◌, ◌
 ghost use Rattle.std.specs.List.{list_any};
 ghost use Rattle.relax_edges.specs.Relaxations.{IsRelax, IsRelaxes, is_path, are_distinct, is_same, keep, at_most_64};
 
-use arrayvec::ArrayVec;
-use std::marker::Model;
-
 use crate::edge::Edge;
 use crate::relax_error::RelaxKind;
+use arrayvec::ArrayVec;
+use std::marker::Model;
 
 /// A relaxation: 1 to 8 edges, each of which joins the next.
 #[derive(Drop)]

@@ -4,12 +4,11 @@ ghost use Rattle.relax_edges.specs.RelaxText.{words_of};
 ghost use Rattle.relax_edges.specs.Relaxations.{word_edges, is_path, keep_all, at_most_64};
 ghost use Rattle.relax_edges.specs.RelaxSearch.{paths_behind, KeepsPaths};
 
-use arrayvec::ArrayVec;
-
 use crate::edge::Edge;
 use crate::relax::Relaxes;
 use crate::relax_error::RelaxKind;
 use crate::relax_words::{next_word, word_edges};
+use arrayvec::ArrayVec;
 
 fn extends(front: &[Edge], edge: Edge) -> bool
     requires { is_path front.now ≡ true }
@@ -24,7 +23,11 @@ fn extends(front: &[Edge], edge: Edge) -> bool
 /// Keeps each path that begins with the chosen edges and goes on with an edge of each word. The
 /// answer is whether there is one.
 #[cycle(relax_search)]
-pub(crate) fn keep_paths(words: &[u8], chosen: &mut ArrayVec<Edge, 8>, kept: &mut Relaxes) -> Result<bool, RelaxKind>
+pub(crate) fn keep_paths(
+    words: &[u8],
+    chosen: &mut ArrayVec<Edge, 8>,
+    kept: &mut Relaxes,
+) -> Result<bool, RelaxKind>
     requires path { is_path chosen.old.items ≡ true }
     requires some { 0 < array_vec_len chosen.old + length (words_of words.now) }
     requires short { array_vec_len chosen.old + length (words_of words.now) ≤ 8 }
@@ -48,7 +51,12 @@ pub(crate) fn keep_paths(words: &[u8], chosen: &mut ArrayVec<Edge, 8>, kept: &mu
 
 /// Keeps each path that begins with the chosen edges and one more, if that joins.
 #[cycle(relax_search)]
-fn keep_behind(edge: Edge, words: &[u8], chosen: &mut ArrayVec<Edge, 8>, kept: &mut Relaxes) -> Result<bool, RelaxKind>
+fn keep_behind(
+    edge: Edge,
+    words: &[u8],
+    chosen: &mut ArrayVec<Edge, 8>,
+    kept: &mut Relaxes,
+) -> Result<bool, RelaxKind>
     requires path { is_path chosen.old.items ≡ true }
     requires short { array_vec_len chosen.old + length (words_of words.now) < 8 }
     requires few { length kept.old ≤ 64 }

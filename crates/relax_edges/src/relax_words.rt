@@ -7,10 +7,9 @@ ghost use Rattle.relax_edges.specs.RelaxText.{is_separator, words_of, is_empty};
 ghost use Rattle.relax_edges.specs.Relaxations.{word_edges};
 ghost use Rattle.relax_edges.specs.Stars.{edges_by_last, edges_by_end};
 
-use arrayvec::ArrayVec;
-
 use crate::edge::Edge;
 use crate::read::read_ending;
+use arrayvec::ArrayVec;
 
 /// Whether a byte stands between words: a comma, a space or a tab.
 pub(crate) fn is_separator(byte: u8) -> bool
