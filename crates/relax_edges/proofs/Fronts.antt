@@ -1,8 +1,8 @@
 -- The item that a text begins with, by the places of brackets and of the ends of words.
-use Rattle.std.specs.Prelude.{ℕ, ◌≡◌, ◌<◌, ◌≤◌, ◌+◌, ◌==◌, ◌||◌, Bool, true, false, not, cond, Option, Some, None, Ok, Err, List, [], ◌∷◌, length, take, drop}
+use Rattle.std.specs.Prelude.{ℕ, ◌≡◌, ◌<◌, ◌≤◌, ◌+◌, ◌==◌, ◌||◌, Bool, true, false, not, Some, None, Ok, Err, List, [], ◌∷◌, length, take, drop}
 use Rattle.std.specs.List.{before_first, position_or_len}
 use Rattle.std.proofs.Common.{suc, get_or, refl, arith, ap, subst, sym, ◌∙◌}
-use Rattle.std.proofs.lemmas.Bool.{eqb-true, eq-eqb}
+use Rattle.std.proofs.lemmas.Bool.{eqb-true}
 use Rattle.std.proofs.lemmas.List.{length-take}
 use Rattle.std.proofs.lemmas.List.Folds.{length-prefix_len}
 use Rattle.std.proofs.Math.ListN.{get_or-eq_default}
@@ -11,7 +11,7 @@ use Rattle.relax_edges.specs.declared.edge.Edge.{Edge}
 use Rattle.relax_edges.specs.declared.relax_error.RelaxKind.TheVariants.{BadBracket}
 use Rattle.relax_edges.specs.Relaxations.{kept_words, kept_item}
 use Rattle.relax_edges.specs.RelaxFront.{kept_front, front_words, front_len, ends_here, IsInside, IsFrontWord}
-use Rattle.relax_edges.proofs.RelaxWords.{words_of_run, before_first-no, position_or_len-no}
+use Rattle.relax_edges.proofs.RelaxWords.{words_of_run, before_first-no}
 
 by_test : {G : Type 0} (b : Bool) → (b ≡ true → G) → (b ≡ false → G) → G
 by_test true yes_case no_case = yes_case refl

@@ -1,21 +1,19 @@
 -- Items are kept one after another.
-use Rattle.std.specs.Prelude.{ℕ, ◌≡◌, ◌<◌, ◌≤◌, ◌+◌, ◌-◌, ◌==◌, ◌||◌, Bool, true, false, not, nat_lt, cond, Option, Some, None, Result, Ok, Err, List, [], ◌∷◌, ◌++◌, length, map, take, drop}
-use Rattle.std.specs.List.{before_first, position_or_len, list_any}
-use Rattle.std.proofs.Common.{zero, suc, get_or, refl, arith, ap, subst, sym, ◌∙◌, add-zero}
+use Rattle.std.specs.Prelude.{ℕ, ◌≡◌, ◌<◌, ◌≤◌, ◌+◌, ◌-◌, Bool, true, false, Result, Ok, Err, List, [], ◌∷◌, ◌++◌, length, map, take, drop}
+use Rattle.std.specs.List.{list_any}
+use Rattle.std.proofs.Common.{zero, suc, refl, arith, ap, subst, sym, ◌∙◌}
 use Rattle.std.proofs.Math.ListN.{drop_of_length-le}
 use Rattle.std.proofs.lemmas.List.{drop-drop, length-drop}
 use Rattle.std.proofs.Math.Seq.{take-length}
-use Rattle.std.proofs.lemmas.Bool.{lt-ltb, le-ltb, eqb-true}
-use Rattle.std.proofs.lemmas.List.Folds.{length-prefix_len}
+use Rattle.std.proofs.lemmas.Bool.{lt-ltb, le-ltb}
 use Rattle.relax_edges.specs.declared.edge.Edge.{Edge}
 use Rattle.relax_edges.specs.declared.relax_error.RelaxKind.{RelaxKind}
-use Rattle.relax_edges.specs.declared.relax_error.RelaxKind.TheVariants.{UnknownEdge, BadBracket, RelaxTooLong, DoesNotJoin, TooManyRelaxes}
-use Rattle.relax_edges.specs.declared.relax_error.RelaxError.{RelaxError}
-use Rattle.relax_edges.specs.RelaxText.{is_separator, is_bracket, ends_word, is_empty, words_of, inside, is_closed, some_words, bracket_words, Item, words_from, item_from, bytes_behind, items_from, items_of}
+use Rattle.relax_edges.specs.declared.relax_error.RelaxKind.TheVariants.{UnknownEdge, RelaxTooLong, DoesNotJoin}
+use Rattle.relax_edges.specs.RelaxText.{is_separator, is_empty, Item, words_from, item_from, bytes_behind, items_from, items_of}
 use Rattle.relax_edges.specs.Relaxations.{word_edges, paths_of, keep_all, at_most_64, kept_paths, kept_words, kept_item, kept_items, relaxes_of}
 use Rattle.relax_edges.specs.RelaxSearch.{paths_behind, KeepsPaths}
-use Rattle.relax_edges.specs.RelaxFront.{front_words, front_len, kept_front}
-use Rattle.relax_edges.proofs.Paths.{paths_behind-nil, at_most_64-ok, at_most_64-is, at_most_64-few}
+use Rattle.relax_edges.specs.RelaxFront.{front_len, kept_front}
+use Rattle.relax_edges.proofs.Paths.{paths_behind-nil, at_most_64-ok}
 
 by_test : {G : Type 0} (b : Bool) → (b ≡ true → G) → (b ≡ false → G) → G
 by_test true yes_case no_case = yes_case refl

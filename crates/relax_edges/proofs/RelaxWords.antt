@@ -1,10 +1,10 @@
 -- The first word of a text without brackets, and a text that is one word.
-use Rattle.std.specs.Prelude.{ℕ, ◌≡◌, ◌<◌, ◌≤◌, ◌+◌, ◌&&◌, ◌||◌, ◌==◌, Bool, true, false, not, cond, List, [], ◌∷◌, ◌++◌, length, filter, take, drop}
+use Rattle.std.specs.Prelude.{ℕ, ◌≡◌, ◌<◌, ◌+◌, ◌||◌, Bool, true, false, not, List, [], ◌∷◌, length, filter, drop}
 use Rattle.std.specs.List.{before_first, position, position_or_len, slice_split, onto_first, list_all}
 use Rattle.std.specs.Option.{unwrap_or}
 use Rattle.std.proofs.lemmas.Bool.{ltb-false}
 use Rattle.std.proofs.lemmas.List.Sums.{prefix_len-le-length}
-use Rattle.std.proofs.Common.{suc, nat_lt, refl, arith, ap, subst, sym, ◌∙◌}
+use Rattle.std.proofs.Common.{suc, nat_lt, refl, arith, ap, sym, ◌∙◌}
 use Rattle.relax_edges.specs.RelaxText.{is_separator, is_bracket, ends_word, is_empty, words_of}
 
 by_test : {G : Type 0} (b : Bool) → (b ≡ true → G) → (b ≡ false → G) → G

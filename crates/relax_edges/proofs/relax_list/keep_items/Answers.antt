@@ -1,4 +1,4 @@
-use Rattle.std.proofs.Common.{◌∙◌, sym, rules, arith}
+use Rattle.std.proofs.Common.{◌∙◌, sym, rules}
 use Rattle.relax_edges.proofs.Items.{items_step, items_end, items_refused}
 use Rattle.relax_edges.proofs.relax_list.keep_items.Goals as goal
 

@@ -1,4 +1,4 @@
-use Rattle.std.proofs.Common.{arith, ◌∙◌, sym}
+use Rattle.std.proofs.Common.{◌∙◌, sym}
 use Rattle.relax_edges.proofs.Search.{path_extended}
 use Rattle.relax_edges.proofs.relax_search.extends.Goals as goal
 

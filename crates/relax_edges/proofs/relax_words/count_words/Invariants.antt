@@ -1,7 +1,5 @@
 use Rattle.std.proofs.Common.{◌≡◌, ◌≤◌, ◌+◌, length}
-use Rattle.std.specs.List.{list_any}
-use Rattle.relax_edges.specs.RelaxText.{words_of, is_empty}
-use Rattle.relax_edges.specs.Relaxations.{word_edges}
+use Rattle.relax_edges.specs.RelaxText.{words_of}
 use Rattle.relax_edges.proofs.relax_words.count_words.Given as goal
 
 abbrev pub invariant-loop-behind : goal.invariant-loop-behind

@@ -1,4 +1,4 @@
-use Rattle.std.proofs.Common.{◌≡◌, ◌≤◌, ◌+◌, length}
+use Rattle.std.proofs.Common.{◌≡◌, length}
 use Rattle.std.specs.List.{list_any}
 use Rattle.relax_edges.specs.RelaxText.{words_of, is_empty}
 use Rattle.relax_edges.specs.Relaxations.{word_edges}
