@@ -12,13 +12,7 @@ use Rattle.relax_edges.specs.declared.relax_error.RelaxKind.TheVariants.{BadBrac
 use Rattle.relax_edges.specs.Relaxations.{kept_words, kept_item}
 use Rattle.relax_edges.specs.RelaxFront.{kept_front, front_words, front_len, ends_here, IsInside, IsFrontWord}
 use Rattle.relax_edges.proofs.RelaxWords.{words_of_run, before_first-no}
-
-by_test : {G : Type 0} (b : Bool) → (b ≡ true → G) → (b ≡ false → G) → G
-by_test true yes_case no_case = yes_case refl
-by_test false yes_case no_case = no_case refl
-
-no_true : false ≡ true → ⊥
-no_true e = cc
+use Rattle.relax_edges.proofs.Cases.{by_test, no_true}
 
 before_first-length : (test : ℕ → Bool) (text : List ℕ) → length (before_first test text) ≡ position_or_len test text
 before_first-length test text = length-prefix_len (λ x. not (test x)) text

@@ -14,10 +14,7 @@ use Rattle.relax_edges.specs.Relaxations.{word_edges, paths_of, keep_all, at_mos
 use Rattle.relax_edges.specs.RelaxSearch.{paths_behind, KeepsPaths}
 use Rattle.relax_edges.specs.RelaxFront.{front_len, kept_front}
 use Rattle.relax_edges.proofs.Paths.{paths_behind-nil, at_most_64-ok}
-
-by_test : {G : Type 0} (b : Bool) → (b ≡ true → G) → (b ≡ false → G) → G
-by_test true yes_case no_case = yes_case refl
-by_test false yes_case no_case = no_case refl
+use Rattle.relax_edges.proofs.Cases.{by_test}
 
 abbrev Answer : Type 0
 Answer = Result (List (List Edge)) RelaxKind

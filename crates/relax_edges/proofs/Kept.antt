@@ -9,6 +9,7 @@ use Rattle.relax_edges.specs.declared.relax_error.RelaxKind.TheVariants.{TooMany
 use Rattle.relax_edges.specs.Order.{rank_of}
 use Rattle.relax_edges.specs.Relaxations.{is_same, are_distinct, IsRelaxes, keep, at_most_64}
 use Rattle.relax_edges.proofs.Paths.{at_most_64-ok}
+use Rattle.relax_edges.proofs.Cases.{by_test, no_true}
 
 pub keep_there : (kept : List (List Edge)) (path : List Edge) → IsRelaxes kept → list_any (is_same path) kept ≡ true → at_most_64 (keep kept path) ≡ Ok kept
 keep_there kept path relaxes there = rw there (at_most_64-ok kept relaxes.few)
@@ -21,13 +22,6 @@ keep_full kept path new full =
 pub keep_room : (kept : List (List Edge)) (path : List Edge) → list_any (is_same path) kept ≡ false → length kept < 64 → at_most_64 (keep kept path) ≡ Ok (kept ++ path ∷ [])
 keep_room kept path new room =
     rw new (at_most_64-ok (kept ++ path ∷ []) (omega (arith, length-append kept (path ∷ []))))
-
-by_test : {G : Type 0} (b : Bool) → (b ≡ true → G) → (b ≡ false → G) → G
-by_test true yes_case no_case = yes_case refl
-by_test false yes_case no_case = no_case refl
-
-no_true : false ≡ true → ⊥
-no_true e = cc
 
 both_true : (a b : Bool) → (a ≡ true → b ≡ true) → (b ≡ true → a ≡ true) → a ≡ b
 both_true true b p q = sym (p refl)

@@ -11,10 +11,7 @@ use Rattle.relax_edges.specs.declared.relax_error.RelaxKind.TheVariants.{TooMany
 use Rattle.relax_edges.specs.EdgeTable.{joins_to}
 use Rattle.relax_edges.specs.Relaxations.{joins_on, is_path, choices, is_same, keep, keep_all, at_most_64}
 use Rattle.relax_edges.specs.RelaxSearch.{paths_behind}
-
-by_test : {G : Type 0} (b : Bool) → (b ≡ true → G) → (b ≡ false → G) → G
-by_test true yes_case no_case = yes_case refl
-by_test false yes_case no_case = no_case refl
+use Rattle.relax_edges.proofs.Cases.{by_test, no_true}
 
 abbrev Answer : Type 0
 Answer = Result (List (List Edge)) RelaxKind
@@ -22,9 +19,6 @@ Answer = Result (List (List Edge)) RelaxKind
 and_true : (b : Bool) → (b && true) ≡ b
 and_true true = refl
 and_true false = refl
-
-no_true : false ≡ true → ⊥
-no_true e = cc
 
 -- a path that goes on with an edge goes on behind one edge more
 moved : (front : List Edge) (edge : Edge) (paths : List (List Edge))

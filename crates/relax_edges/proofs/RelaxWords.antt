@@ -6,13 +6,7 @@ use Rattle.std.proofs.lemmas.Bool.{ltb-false}
 use Rattle.std.proofs.lemmas.List.Sums.{prefix_len-le-length}
 use Rattle.std.proofs.Common.{suc, nat_lt, refl, arith, ap, sym, ◌∙◌}
 use Rattle.relax_edges.specs.RelaxText.{is_separator, is_bracket, ends_word, is_empty, words_of}
-
-by_test : {G : Type 0} (b : Bool) → (b ≡ true → G) → (b ≡ false → G) → G
-by_test true yes_case no_case = yes_case refl
-by_test false yes_case no_case = no_case refl
-
-no_true : false ≡ true → ⊥
-no_true e = cc
+use Rattle.relax_edges.proofs.Cases.{by_test, no_true}
 
 one_more : (n : ℕ) → 1 + n ≡ suc n
 one_more n = omega arith

@@ -13,10 +13,7 @@ use Rattle.relax_edges.specs.Spelling.{edge_of}
 use Rattle.relax_edges.specs.Relaxations.{byte_choices, expansions, word_edges}
 use Rattle.relax_edges.specs.Stars.{star_choices, edges_by_last, edges_by_end}
 use Rattle.relax_edges.proofs.Spellings.{edge_of_short}
-
-by_test : {G : Type 0} (b : Bool) → (b ≡ true → G) → (b ≡ false → G) → G
-by_test true yes_case no_case = yes_case refl
-by_test false yes_case no_case = no_case refl
+use Rattle.relax_edges.proofs.Cases.{by_test}
 
 -- the words with a front, by their last two bytes
 abbrev ends : List ℕ → ℕ → ℕ → List (List ℕ)
