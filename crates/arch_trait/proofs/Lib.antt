@@ -7,3 +7,5 @@ pub mod Items
 pub mod Tables
 pub mod Compiling
 pub mod Accesses
+pub mod Spelling
+pub mod Blanks
