@@ -6,3 +6,6 @@ pub mod Whole
 pub mod Items
 pub mod Tables
 pub mod Compiling
+pub mod Accesses
+pub mod Spelling
+pub mod Blanks

@@ -1,11 +1,13 @@
 -- Tables of names.
-use Rattle.std.proofs.Common.{ℕ, zero, suc, ◌+◌, ◌/◌, ◌%◌, ◌<◌, ◌≡◌, refl, Bool, true, false, cond, nat_lt, ◌==◌, List, [], ◌∷◌, ◌++◌, Option, Some, None, is_none, ◌&&◌, length, get_or, length-append, ◌∙◌, sym, ap, subst, arith}
-use Rattle.std.proofs.lemmas.Bool.{and_from, and_parts, eqb-true, eqb-false, ltb-true}
+use Rattle.std.proofs.Common.{ℕ, zero, suc, ◌+◌, ◌/◌, ◌%◌, ◌<◌, ◌≡◌, refl, Bool, true, false, cond, nat_lt, nat_le, ◌==◌, List, [], ◌∷◌, ◌++◌, Option, Some, None, is_none, ◌&&◌, length, get_or, length-append, ◌∙◌, sym, ap, subst, arith}
+use Rattle.std.proofs.lemmas.Bool.{and_from, and_parts, or_left, eqb-true, eqb-false, ltb-true}
 use Rattle.std.proofs.lemmas.List.Folds.{list_all-append}
 use Rattle.std.proofs.lemmas.List.FromFn.{map-range_with_len_more, length-map-range_with_len}
 use Rattle.std.specs.List.{list_all, position_from, IsDistinct, AllByRecursion}
 use Rattle.std.specs.Str.{bytes_eq}
-use Rattle.final_cond.specs.Names.{is_place_name}
+use Rattle.final_cond.specs.Names.{is_place_name, is_register_name, begins_place, is_place_byte}
+use Rattle.final_cond.proofs.NameLaws.{all_weaker}
+use Rattle.std.specs.Char.{is_ascii_alphabetic, is_ascii_alphanumeric}
 use Rattle.arch_trait.specs.Names.{IsTable, number_in, location_letters, lap_mark, location_name, letters}
 use Rattle.arch_trait.proofs.Taking.{by_test}
 
@@ -125,3 +127,17 @@ name_marked k h = marked (k / 26) h
     marked (suc n) h =
         let e : suc n + 48 ≡ 48 + suc n = omega arith in
         ap (λ c. get_or location_letters (k % 26) 0 ∷ 95 ∷ c ∷ []) e
+
+-- the name of a label has the form of a place's name too
+pub label_is_name : (name : List ℕ) → is_register_name name ≡ true → is_place_name name ≡ true
+unfolding is_register_name is_place_name
+label_is_name [] h = cc
+label_is_name (b ∷ bytes) h =
+    let p = and_parts (is_ascii_alphabetic b && list_all is_ascii_alphanumeric bytes) (nat_le (length (b ∷ bytes)) 16) h in
+    let q = and_parts (is_ascii_alphabetic b) (list_all is_ascii_alphanumeric bytes) p.0 in
+    and_from (begins_place b && list_all is_place_byte bytes) (nat_le (length (b ∷ bytes)) 16)
+    (and_from (begins_place b) (list_all is_place_byte bytes)
+    (or_left (is_ascii_alphabetic b) (b == 95) q.0)
+    (all_weaker is_ascii_alphanumeric is_place_byte
+    (λ x e. or_left (is_ascii_alphanumeric x) (x == 95) e) bytes q.1))
+    p.1

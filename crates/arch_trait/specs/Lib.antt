@@ -5,3 +5,7 @@ pub mod Threads
 pub mod Laws
 pub mod Names
 pub mod Codes
+pub mod Writing
+pub mod Reading
+pub mod Pieces
+pub mod Cuts

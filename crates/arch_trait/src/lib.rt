@@ -2,18 +2,22 @@
 #![tactic(auto)]
 
 mod arch;
+mod cells;
 mod code;
 mod link;
 mod places;
+mod reading;
 mod regs;
 mod shape;
 mod step;
 mod way;
 
-pub use arch::{Arch, Instrs, MAX_INSTRS, MAX_STEP_INSTRS};
+pub use arch::{Arch, Instrs, MAX_INSTRS, MAX_STEP_INSTRS, MAX_TEXT};
+pub use cells::{read_cell, register_named};
 pub use code::{Code, TooManyRegisters, compile_into, compile_thread};
 pub use link::{Link, link_of};
 pub use places::{MAX_PLACES, Places};
+pub use reading::{InstrError, Named, Operands, Raw};
 pub use regs::{Links, MAX_REGISTERS, Regs};
 pub use shape::shape_of;
 pub use step::{MAX_STEPS, Shape, Step};

@@ -1,25 +1,36 @@
 //! X86: loads and stores at places, and MFENCE.
 #![tactic(auto)]
 
-use arch_trait::{Arch, Instrs, Link, Places, Regs, Shape};
-use arrayvec::ArrayString;
-use final_cond::RegName;
-use itoa::Buffer;
+ghost use Rattle.std.specs.Prelude.{refl};
+ghost use Rattle.relax_edges.specs.declared.kinds.ArchName.TheVariants as archs;
+ghost use Rattle.arch_x86.specs.Puts.{puts as x86};
+ghost use Rattle.arch_x86.specs.Laws.{laws as x86_laws};
+
+use arch_trait::{Arch, Instrs, Link, Regs, Shape};
 use micro_ops::{Barrier, Micro};
-use relax_edges::{ArchName, Edge};
+use relax_edges::{ArchName, FenceKind};
 
 /// The architecture X86.
 pub struct X86;
 
-const REGISTER_NAMES: [&str; 6] = ["EAX", "EBX", "ECX", "EDX", "ESI", "EDI"];
-
 impl Arch for X86 {
+    ghost puts = { x86 };
+
+    ghost NAME = { archs.X86 };
+
+    ghost REGISTERS = { 6 };
+
     const NAME: ArchName = ArchName::X86;
 
     const REGISTERS: u8 = 6;
 
-    fn supports(edge: Edge) -> bool {
-        edge.of_arch(ArchName::X86)
+    fn has(op: &Micro) -> bool {
+        match *op {
+            Micro::LoadAt { dst, .. } => dst < 6,
+            Micro::StoreAt { n, .. } => n <= 2047,
+            Micro::Barrier { kind } => matches!(kind, Barrier::Fence(FenceKind::MFence)),
+            _ => false,
+        }
     }
 
     fn need(shape: &Shape) -> u32 {
@@ -60,28 +71,9 @@ impl Arch for X86 {
         });
     }
 
-    fn print(op: &Micro, places: &Places, out: &mut ArrayString<40>) {
-        out.clear();
-        match *op {
-            Micro::LoadAt { dst, place } => {
-                out.push_str("MOV ");
-                out.push_str(REGISTER_NAMES[dst as usize]);
-                out.push_str(",[");
-                out.push_str(places.get(place).as_str());
-                out.push_str("]");
-            }
-            Micro::StoreAt { place, n } => {
-                out.push_str("MOV [");
-                out.push_str(places.get(place).as_str());
-                out.push_str("],$");
-                out.push_str(Buffer::new().format(n));
-            }
-            _ => out.push_str("MFENCE"),
-        }
-    }
+    ghost same_name = { refl };
 
-    fn register_name(r: u8, out: &mut RegName) {
-        out.clear();
-        out.push_str(REGISTER_NAMES[r as usize]);
-    }
+    ghost same_registers = { refl };
+
+    ghost laws = { x86_laws };
 }
