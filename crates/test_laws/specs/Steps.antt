@@ -1,7 +1,7 @@
 -- The accesses of the test of a cycle, thread by thread, with the links between them. `es` is the list of edges in which
 -- threads, locations and values are counted, and `number` gives the number of each location's place.
 -- Source: own, after the way diy takes from a cycle to a test.
-use Rattle.std.specs.Prelude.{ℕ, ◌+◌, ◌==◌, if◌then◌else◌, List, [], ◌∷◌, ◌++◌, map}
+use Rattle.std.specs.Prelude.{ℕ, ◌+◌, ◌==◌, if◌then◌else◌, List, ◌++◌, map}
 use Rattle.std.specs.List.{filter}
 use Rattle.relax_edges.specs.declared.kinds.Dir.TheVariants as dirs
 use Rattle.relax_edges.specs.declared.kinds.ObsMode.{ObsMode}

@@ -1,0 +1,2 @@
+pub mod StepsAt
+pub mod StepsFit
