@@ -60,22 +60,22 @@ digits_left (byte ∷ digits) rest h n =
     rw (b, d) refl
 
 -- the digits of a number
-record Digits (n : ℕ) : Type 0 where
-  all : list_all is_ascii_digit (decimal n) ≡ true
-  some : 0 < length (decimal n)
+pub record Digits (n : ℕ) : Type 0 where
+  pub all : list_all is_ascii_digit (decimal n) ≡ true
+  pub some : 0 < length (decimal n)
 
-digits_of : (n : ℕ) → n < 2 ^ 32 → Digits n
+pub digits_of : (n : ℕ) → n < 2 ^ 32 → Digits n
 digits_of n h = record { all = digits_decimal own n (omega arith); some = decimal_nonempty n (omega arith) }
 
 register_text : (digits name rest : List ℕ) → ((digits ++ 58 ∷ []) ++ name) ++ rest ≡ digits ++ (58 ∷ (name ++ rest))
 register_text digits name rest = simp append_assoc
 
 -- what the form of a register says
-record Named (thread : ℕ) (name : List ℕ) : Type 0 where
-  few : thread < 64
-  bytes : list_all is_ascii_alphanumeric name ≡ true
+pub record Named (thread : ℕ) (name : List ℕ) : Type 0 where
+  pub few : thread < 64
+  pub bytes : list_all is_ascii_alphanumeric name ≡ true
 
-named : (thread : ℕ) (name : List ℕ) → has_form (InRegister thread name) ≡ true → Named thread name
+pub named : (thread : ℕ) (name : List ℕ) → has_form (InRegister thread name) ≡ true → Named thread name
 named thread name h =
     let p : (nat_lt thread 64 ≡ true) × (is_register_name name ≡ true) = and_parts (nat_lt thread 64) (is_register_name name) h in
     record {
@@ -83,7 +83,7 @@ named thread name h =
       bytes = shaped_all is_ascii_alphabetic is_ascii_alphanumeric is_ascii_alphanumeric (λ byte l. grind (arith, nat_tests)) (λ byte l. l) name (register_shaped name p.1);
     }
 
-place_bytes : (name : List ℕ) → has_form (AtPlace name) ≡ true → list_all is_place_byte name ≡ true
+pub place_bytes : (name : List ℕ) → has_form (AtPlace name) ≡ true → list_all is_place_byte name ≡ true
 place_bytes name h = shaped_all begins_place is_place_byte is_place_byte (λ byte l. grind (arith, nat_tests)) (λ byte l. l) name (place_shaped name h)
 
 left_unblanked : (left : LeftSeen) (rest : List ℕ) → has_form left ≡ true → unblanked (left_text left ++ rest) ≡ left_text left ++ rest

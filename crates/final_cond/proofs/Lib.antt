@@ -9,3 +9,4 @@ pub mod StateLaws
 pub mod BackLaws
 pub mod PrintLaws
 pub mod KnownLaws
+pub mod TextLaws
