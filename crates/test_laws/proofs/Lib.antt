@@ -1,2 +1,3 @@
 pub mod StepsAt
 pub mod StepsFit
+pub mod Terms
