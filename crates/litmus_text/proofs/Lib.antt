@@ -1,0 +1,5 @@
+mod TextRows
+pub mod WroteLaws
+pub mod ElementLaws
+pub mod InitialLaws
+pub mod TableLaws

@@ -1,0 +1,3 @@
+pub mod TestText
+pub mod Tests
+pub mod Wrote

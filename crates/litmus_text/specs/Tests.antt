@@ -1,0 +1,37 @@
+-- A test as a value of the program, and when it can be printed.
+-- Source: own.
+use Rattle.std.specs.Prelude.{◌≡◌, ℕ, Bool, true, List, map, length, nat_lt}
+use Rattle.std.specs.List.{list_all, All}
+use Rattle.micro_ops.specs.declared.operation.Micro.{Micro}
+use Rattle.arch_trait.specs.Threads.{ThreadCode}
+use Rattle.arch_trait.specs.Written.{is_within}
+use Rattle.arch_trait.specs.declared.code.Code.{Code}
+use Rattle.final_cond.specs.Conditions.{cond_view}
+use Rattle.litmus_text.specs.declared.test.Test.{Test}
+use Rattle.litmus_text.specs.TestText.{TestSeen}
+
+-- the code of a thread
+abbrev pub thread_of : Code → ThreadCode
+thread_of code = record {
+  instrs = code.instrs.items;
+  links = code.links.items;
+  loads = code.loads.items;
+}
+
+-- what the text of a test shows of it
+abbrev pub test_seen : Test → TestSeen
+test_seen test = record {
+  edges = test.edges.items;
+  places = test.places;
+  threads = map thread_of test.threads.items;
+  cond = cond_view test.cond;
+}
+
+-- the code of a thread can be printed: the architecture has its operations, their places have names
+-- and their labels are below 64, and the address registers are the architecture's and hold places
+-- that have names
+pub record IsPrintable (is_of : Micro → Bool) (register_count place_count : ℕ) (code : Code) : Type 0 where
+  pub has : list_all is_of code.instrs.items ≡ true
+  pub within : list_all (is_within place_count) code.instrs.items ≡ true
+  pub registers : list_all (λ link. nat_lt link.0 register_count) code.links.items ≡ true
+  pub places : list_all (λ link. nat_lt link.1 place_count) code.links.items ≡ true
