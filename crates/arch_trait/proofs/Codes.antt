@@ -14,9 +14,10 @@ use Rattle.micro_ops.proofs.Laws.{labels_append, lands_append}
 use Rattle.arch_trait.specs.declared.link.Link.{Link}
 use Rattle.arch_trait.specs.declared.link.Link.TheVariants as links
 use Rattle.arch_trait.specs.declared.step.Step.{Step}
+use Rattle.arch_trait.specs.declared.way.Way.{Way}
 use Rattle.arch_trait.specs.Links.{depends, branches}
 use Rattle.arch_trait.specs.Taking.{address_in, has_address}
-use Rattle.arch_trait.specs.Threads.{Puts, Way, FitStep, FitSteps, is_load_dir, loads_in, branches_in, visits, from_of, put_of, filled_by, next_put, next_filled, further, step_code, thread_code, thread_regs, thread_loads, put_before}
+use Rattle.arch_trait.specs.Threads.{Puts, FitStep, FitSteps, is_load_dir, loads_in, branches_in, visits, from_of, put_of, filled_by, next_put, next_filled, further, step_code, thread_code, thread_regs, thread_loads, put_before}
 use Rattle.arch_trait.specs.Laws.{IsTaken, AddsAddress, IsUsable, HasLink, MakesAccess, IsArch, is_at, access_room, link_room, link_labels}
 use Rattle.arch_trait.proofs.Taking.{by_option, address_added}
 use Rattle.arch_trait.proofs.Runs.{step_takes, step_grew, thread_grew, step_filled, IsWithin}
@@ -37,7 +38,7 @@ pub put_laws : (a : Puts) → IsArch a → (s : Step) → s.value < 256 → (d :
 put_laws a laws s v dirs.R = laws.loads.access
 put_laws a laws s v dirs.W = laws.stores.access s.value v
 
-step_short : (a : Puts) → IsArch a → (w : Way) (s : Step) → s.value < 256 →
+pub step_short : (a : Puts) → IsArch a → (w : Way) (s : Step) → s.value < 256 →
     length (step_code a w s) ≤ 6
 step_short a laws w s v =
     let from = from_of s.link w.last in

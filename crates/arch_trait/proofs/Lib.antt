@@ -5,3 +5,8 @@ pub mod Shapes
 pub mod Whole
 pub mod Items
 pub mod Tables
+pub mod Compiling
+pub mod Accesses
+pub mod Spelling
+pub mod Blanks
+pub mod PlainTexts

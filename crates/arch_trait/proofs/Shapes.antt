@@ -3,10 +3,11 @@ use Rattle.std.proofs.Common.{ℕ, ◌+◌, ◌<◌, ◌≡◌, ◌==◌, refl, 
 use Rattle.std.proofs.lemmas.Bool.{eqb-false}
 use Rattle.std.proofs.lemmas.List.Sums.{sum_by-cons}
 use Rattle.arch_trait.specs.declared.step.Step.{Step}
+use Rattle.arch_trait.specs.declared.way.Way.{Way}
 use Rattle.arch_trait.specs.declared.step.Shape.{Shape}
 use Rattle.arch_trait.specs.Links.{is_addr}
 use Rattle.arch_trait.specs.Taking.{Taken, has_address}
-use Rattle.arch_trait.specs.Threads.{Puts, Way, FitSteps, is_load_dir, loads_in, visits, places_in, shape_of, setting_out, from_of, further, thread_regs}
+use Rattle.arch_trait.specs.Threads.{Puts, FitSteps, is_load_dir, is_store_dir, loads_in, visits, places_in, shape_of, setting_out, from_of, further, thread_regs}
 use Rattle.arch_trait.specs.Laws.{IsArch, grown, no_shape}
 use Rattle.arch_trait.proofs.Taking.{by_test, tracks}
 use Rattle.arch_trait.proofs.Runs.{step_takes}
@@ -81,7 +82,7 @@ places_first ss = places_last ss ∙ last_is_first (λ q. false) ss
 abbrev pub more_steps : Shape → (ℕ → Bool) → List Step → Shape
 more_steps h seen ss = record {
   loads = h.loads + loads_in ss;
-  stores = h.stores + count_by (λ s. cond (is_load_dir s.dir) false true) ss;
+  stores = h.stores + count_by (λ s. is_store_dir s.dir) ss;
   addr = h.addr + count_by (λ s. is_addr s.link) ss;
   places = h.places + first_seen seen ss;
 }
@@ -108,15 +109,10 @@ more_cons h seen s ss =
     same_shape (more_steps h seen (s ∷ ss))
     (more_steps (grown h s.dir s.link (not (seen s.place))) (λ q. s.place == q || seen q) ss)
     (omega (arith, sum_by-cons (λ t. cond (is_load_dir t.dir) 1 0) s ss))
-    (let e = sum_by-cons (λ t. cond (cond (is_load_dir t.dir) false true) 1 0) s ss in
-    let f = of_dir (is_load_dir s.dir) in omega (arith, e, f))
+    (omega (arith, sum_by-cons (λ t. cond (is_store_dir t.dir) 1 0) s ss))
     (omega (arith, sum_by-cons (λ t. cond (is_addr t.link) 1 0) s ss))
     (let e = of_seen (seen s.place) in omega (arith, e))
   where
-    of_dir : (b : Bool) → ◌≡◌ {A = ℕ} (cond (cond b false true) 1 0) (cond b 0 1)
-    of_dir true = refl
-    of_dir false = refl
-
     of_seen : (b : Bool) → ◌≡◌ {A = ℕ} (cond (not b) 1 0) (cond b 0 1)
     of_seen true = refl
     of_seen false = refl

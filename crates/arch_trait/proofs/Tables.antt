@@ -1,12 +1,13 @@
 -- Tables of names.
-use Rattle.std.proofs.Common.{ℕ, zero, suc, ◌+◌, ◌/◌, ◌%◌, ◌<◌, ◌≤◌, ◌≡◌, refl, Bool, true, false, cond, nat_lt, ◌==◌, List, [], ◌∷◌, ◌++◌, Option, Some, None, is_none, ◌&&◌, map, length, get_or, drop, length-append, ◌∙◌, sym, ap, subst, arith}
-use Rattle.std.proofs.lemmas.Bool.{and_from, and_parts, eqb-true, eqb-false, ltb-true}
+use Rattle.std.proofs.Common.{ℕ, zero, suc, ◌+◌, ◌/◌, ◌%◌, ◌<◌, ◌≡◌, refl, Bool, true, false, cond, nat_lt, nat_le, ◌==◌, List, [], ◌∷◌, ◌++◌, Option, Some, None, is_none, ◌&&◌, length, get_or, length-append, ◌∙◌, sym, ap, subst, arith}
+use Rattle.std.proofs.lemmas.Bool.{and_from, and_parts, or_left, eqb-true, eqb-false, ltb-true}
 use Rattle.std.proofs.lemmas.List.Folds.{list_all-append}
 use Rattle.std.proofs.lemmas.List.FromFn.{map-range_with_len_more, length-map-range_with_len}
-use Rattle.std.proofs.lemmas.Option.{cond_some}
-use Rattle.std.specs.List.{list_all, position_from, range_with_len, IsDistinct, AllByRecursion}
+use Rattle.std.specs.List.{list_all, position_from, IsDistinct, AllByRecursion}
 use Rattle.std.specs.Str.{bytes_eq}
-use Rattle.final_cond.specs.Names.{is_place_name}
+use Rattle.final_cond.specs.Names.{is_place_name, is_register_name, begins_place, is_place_byte}
+use Rattle.final_cond.proofs.NameLaws.{all_weaker}
+use Rattle.std.specs.Char.{is_ascii_alphabetic, is_ascii_alphanumeric}
 use Rattle.arch_trait.specs.Names.{IsTable, number_in, location_letters, lap_mark, location_name, letters}
 use Rattle.arch_trait.proofs.Taking.{by_test}
 
@@ -24,8 +25,11 @@ none_passes : (t : List ℕ → Bool) (i : ℕ) (names : List (List ℕ)) → po
 none_passes t i [] e = tt
 none_passes t i (x ∷ names) e = by_test (t x)
     (λ f. absurd (some_none (sym (ap (λ b. cond b (Some i) (position_from t (i + 1) names)) f) ∙ e)))
-    (λ f. (f, none_passes t (i + 1) names
-      (sym (ap (λ b. cond b (Some i) (position_from t (i + 1) names)) f) ∙ e)))
+    (λ f. (
+      f,
+      none_passes t (i + 1) names
+          (sym (ap (λ b. cond b (Some i) (position_from t (i + 1) names)) f) ∙ e),
+    ))
   where
     some_none : Some i ≡ None → ⊥
     some_none e = cc
@@ -74,12 +78,12 @@ new_at : (n k : ℕ) → new_below n ≡ true → k < n → IsNew k
 new_at zero k e h = absurd (omega arith)
 new_at (suc n) k e h =
     let parts = and_parts (is_place_name (location_name n))
-        (is_none (number_in (letters n) (location_name n)) && new_below n) e in
+    (is_none (number_in (letters n) (location_name n)) && new_below n) e in
     let later = and_parts (is_none (number_in (letters n) (location_name n))) (new_below n) parts.1 in
     by_test (k == n)
     (λ t. let P : ℕ → Type 0 = IsNew in
-      subst P (sym (eqb-true k n t))
-      (record { formed = parts.0; new = none_is (number_in (letters n) (location_name n)) later.0 }))
+    subst P (sym (eqb-true k n t))
+    (record { formed = parts.0; new = none_is (number_in (letters n) (location_name n)) later.0 }))
     (λ t. let d : k ≡ n → ⊥ = eqb-false k n t in new_at n k later.1 (omega arith))
   where
     none_is : (o : Option ℕ) → is_none o ≡ true → o ≡ None
@@ -123,3 +127,17 @@ name_marked k h = marked (k / 26) h
     marked (suc n) h =
         let e : suc n + 48 ≡ 48 + suc n = omega arith in
         ap (λ c. get_or location_letters (k % 26) 0 ∷ 95 ∷ c ∷ []) e
+
+-- the name of a label has the form of a place's name too
+pub label_is_name : (name : List ℕ) → is_register_name name ≡ true → is_place_name name ≡ true
+unfolding is_register_name is_place_name
+label_is_name [] h = cc
+label_is_name (b ∷ bytes) h =
+    let p = and_parts (is_ascii_alphabetic b && list_all is_ascii_alphanumeric bytes) (nat_le (length (b ∷ bytes)) 16) h in
+    let q = and_parts (is_ascii_alphabetic b) (list_all is_ascii_alphanumeric bytes) p.0 in
+    and_from (begins_place b && list_all is_place_byte bytes) (nat_le (length (b ∷ bytes)) 16)
+    (and_from (begins_place b) (list_all is_place_byte bytes)
+    (or_left (is_ascii_alphabetic b) (b == 95) q.0)
+    (all_weaker is_ascii_alphanumeric is_place_byte
+    (λ x e. or_left (is_ascii_alphanumeric x) (x == 95) e) bytes q.1))
+    p.1

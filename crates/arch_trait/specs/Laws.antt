@@ -14,7 +14,7 @@ use Rattle.arch_trait.specs.declared.link.Link.{Link}
 use Rattle.arch_trait.specs.declared.step.Shape.{Shape}
 use Rattle.arch_trait.specs.Links.{link_is_of, depends, branches, is_addr, is_data, mask_if, link_control, link_items}
 use Rattle.arch_trait.specs.Taking.{Taken, address_in, has_address}
-use Rattle.arch_trait.specs.Threads.{Put, Puts, is_load_dir}
+use Rattle.arch_trait.specs.Threads.{Put, Puts, is_load_dir, is_store_dir}
 
 -- address registers in the order of taking: ascending, from low on and below high
 abbrev pub InOrder : ℕ → List (ℕ × ℕ) → ℕ → Type 0
@@ -119,7 +119,7 @@ is_at place _ = true
 abbrev pub grown : Shape → Dir → Link → Bool → Shape
 grown h d link is_new = record {
   loads = h.loads + cond (is_load_dir d) 1 0;
-  stores = h.stores + cond (is_load_dir d) 0 1;
+  stores = h.stores + cond (is_store_dir d) 1 0;
   addr = h.addr + cond (is_addr link) 1 0;
   places = h.places + cond is_new 1 0;
 }

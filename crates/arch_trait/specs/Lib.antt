@@ -4,3 +4,8 @@ pub mod Taking
 pub mod Threads
 pub mod Laws
 pub mod Names
+pub mod Codes
+pub mod Writing
+pub mod Reading
+pub mod Pieces
+pub mod Cuts

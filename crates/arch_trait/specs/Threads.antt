@@ -1,6 +1,6 @@
 -- The code of a thread: for each access the code of its link, and then that of the access.
 -- Source: own.
-use Rattle.std.specs.Prelude.{ℕ, ◌+◌, ◌-◌, ◌==◌, ◌<◌, ◌≡◌, Bool, true, false, cond, ◌||◌, List, [], ◌∷◌, ◌++◌, Option, Some, None, count_by}
+use Rattle.std.specs.Prelude.{ℕ, ◌+◌, ◌-◌, ◌==◌, ◌<◌, ◌≡◌, Bool, true, false, cond, List, [], ◌∷◌, ◌++◌, Option, Some, None, count_by}
 use Rattle.relax_edges.specs.declared.kinds.Dir.{Dir}
 use Rattle.relax_edges.specs.declared.kinds.Dir.TheVariants as dirs
 use Rattle.relax_edges.specs.declared.kinds.ArchName.{ArchName}
@@ -15,6 +15,8 @@ use Rattle.relax_edges.specs.declared.kinds.Value.TheVariants.{Num}
 use Rattle.arch_trait.specs.declared.link.Link.{Link}
 use Rattle.arch_trait.specs.declared.step.Step.{Step}
 use Rattle.arch_trait.specs.declared.step.Shape.{Shape}
+use Rattle.arch_trait.specs.declared.way.Way.{Way}
+use Rattle.std.specs.List.{list_any}
 use Rattle.arch_trait.specs.Links.{link_is_of, depends, branches, is_addr, is_data, mask_if, link_control, link_items}
 use Rattle.arch_trait.specs.Taking.{Taken, untaken, initial}
 
@@ -47,10 +49,14 @@ is_load_dir dirs.W = false
 abbrev pub loads_in : List Step → ℕ
 loads_in ss = count_by (λ s. is_load_dir s.dir) ss
 
+-- an access stores
+abbrev pub is_store_dir : Dir → Bool
+is_store_dir dirs.R = false
+is_store_dir dirs.W = true
+
 -- a place is that of one of the accesses
 abbrev pub visits : ℕ → List Step → Bool
-visits place [] = false
-visits place (s ∷ ss) = s.place == place || visits place ss
+visits place ss = list_any (λ s. s.place == place) ss
 
 -- at how many locations the accesses are: each counts at its last access
 abbrev pub places_in : List Step → ℕ
@@ -65,17 +71,10 @@ branches_in ss = count_by (λ s. branches s.link) ss
 abbrev pub shape_of : List Step → Shape
 shape_of ss = record {
   loads = loads_in ss;
-  stores = count_by (λ s. cond (is_load_dir s.dir) false true) ss;
+  stores = count_by (λ s. is_store_dir s.dir) ss;
   addr = count_by (λ s. is_addr s.link) ss;
   places = places_in ss;
 }
-
--- how far the code of a thread has come: its registers, the register of the load before if the
--- access before is a load, and how many branches there were
-pub record Way : Type 0 where
-  pub regs : Taken
-  pub last : Option ℕ
-  pub label : ℕ
 
 -- the beginning of a thread
 abbrev pub setting_out : ℕ → Way

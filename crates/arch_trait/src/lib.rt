@@ -1,12 +1,24 @@
 //! What an architecture is, and the code of a thread, made once for every architecture.
 #![tactic(auto)]
 
+mod arch;
+mod cells;
+mod code;
 mod link;
+mod operand;
 mod places;
+mod reading;
 mod regs;
+mod shape;
 mod step;
+mod way;
 
+pub use arch::{Arch, Instrs, MAX_INSTRS, MAX_STEP_INSTRS, MAX_TEXT};
+pub use cells::{read_cell, register_named};
+pub use code::{Code, TooManyRegisters, compile_into, compile_thread};
 pub use link::{Link, link_of};
+pub use operand::{MAX_IMMEDIATE, immediate, inside_brackets};
 pub use places::{MAX_PLACES, Places};
+pub use reading::{InstrError, Named, Operands, Raw};
 pub use regs::{Links, MAX_REGISTERS, Regs};
 pub use step::{MAX_STEPS, Shape, Step};

@@ -2,11 +2,10 @@ ghost use Rattle.std.specs.Prelude.{◌≡◌, ◌<◌, ◌≤◌, ◌++◌, ◌
 ghost use Rattle.final_cond.specs.Names.{is_place_name};
 ghost use Rattle.arch_trait.specs.Names.{IsTable, letters, location_name, number_in, number_added, names_added};
 
+use crate::step::MAX_STEPS;
 use arrayvec::ArrayVec;
 use final_cond::{PlaceName, place_name};
 use std::marker::Model;
-
-use crate::step::MAX_STEPS;
 
 /// The most names of a table.
 pub const MAX_PLACES: usize = 64;

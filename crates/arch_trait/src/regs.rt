@@ -3,10 +3,9 @@ ghost use Rattle.arrayvec.specs.ArrayVec.{array_vec_len};
 ghost use Rattle.arch_trait.specs.Taking.{Taken, untaken, take_next, address_in, address_of, with_address};
 ghost use Rattle.arch_trait.specs.Registers.{AreWithin};
 
+use crate::step::MAX_STEPS;
 use arrayvec::ArrayVec;
 use std::marker::Model;
-
-use crate::step::MAX_STEPS;
 
 /// The most registers that an architecture has for the threads of a test.
 pub const MAX_REGISTERS: u8 = 32;

@@ -11,4 +11,4 @@ invariant_of-self c =
     c.requires.formed (ap (λ names. number_in names c.args.name.bytes) v ∙ c.requires.new)
     (omega (arith, ap length v, c.requires.room))
     (ap (λ names. map (λ name. name.bytes) names) c.push.ensures.items ∙
-      map-append (λ name. name.bytes) c.self.inside.names.items (c.args.name ∷ []))
+    map-append (λ name. name.bytes) c.self.inside.names.items (c.args.name ∷ []))

@@ -1,4 +1,4 @@
-use Rattle.std.proofs.Common.{◌≡◌, map}
+use Rattle.std.proofs.Common.{◌≡◌}
 use Rattle.arch_trait.specs.Names.{letters}
 use Rattle.arch_trait.proofs.places.Places.set_letters.Given as goal
 

@@ -1,0 +1,170 @@
+-- What an architecture shows of its accesses: they write registers that were taken for them, and none
+-- that holds an address.
+use Rattle.std.proofs.Common.{ℕ, ◌+◌, ◌<◌, ◌≤◌, ◌≡◌, ◌==◌, refl, Bool, true, false, cond, ◌||◌, List, [], ◌∷◌, ◌++◌, Some, None, ◌∙◌, sym, ap, eq-eqb, ne_eqb, append-nil, arith}
+use Rattle.relax_edges.specs.declared.kinds.Dir.TheVariants as dirs
+use Rattle.micro_ops.specs.declared.held.Held.{Held}
+use Rattle.micro_ops.specs.declared.operation.Micro.{Micro}
+use Rattle.micro_ops.specs.declared.operation.Item.TheVariants as items
+use Rattle.micro_ops.specs.Machine.{num, at_place, bit, written}
+use Rattle.micro_ops.specs.Running.{Run, At, exec}
+use Rattle.micro_ops.proofs.Rules.{after_load, after_store}
+use Rattle.arch_trait.specs.declared.link.Link.{Link}
+use Rattle.arch_trait.specs.Links.{is_addr, is_data}
+use Rattle.arch_trait.specs.Taking.{Taken, address_in, address_of, with_address}
+use Rattle.arch_trait.specs.Laws.{IsTaken, HoldsPlaces, Did, DidLoad, DidLink, access_room}
+use Rattle.arch_trait.proofs.Taking.{by_test, by_option, address_bounds, address_kept, address_added}
+
+-- registers u come from r by writes of registers that were taken between g and h, and the address
+-- registers of h hold their places
+pub record Writes (r u : ℕ → Held) (g h : Taken) : Type 0 where
+  pub below : (s : ℕ) → s < g.next → u s ≡ r s
+  pub above : (s : ℕ) → h.next ≤ s → u s ≡ r s
+  pub places : (p a : ℕ) → address_in h.links p ≡ Some a → u a ≡ at_place p
+
+pub writes_none : (r : Run) (g h : Taken) → HoldsPlaces r h →
+    Writes r.state.regs r.state.regs g h
+writes_none r g h places = record { below = λ s k. refl; above = λ s k. refl; places = places }
+
+-- a register was taken between g and h, for no address
+pub record IsSpare (g h : Taken) (d : ℕ) : Type 0 where
+  pub above : g.next ≤ d
+  pub below : d < h.next
+  pub free : (p a : ℕ) → address_in h.links p ≡ Some a → (a == d) ≡ false
+
+pub writes_more : (r u : ℕ → Held) (g h : Taken) (d : ℕ) (held : Held) → Writes r u g h →
+    IsSpare g h d → Writes r (written u d held) g h
+writes_more r u g h d held w spare = record {
+  below = λ s k. let l : g.next ≤ d = spare.above in
+      let t : (s == d) ≡ false = ne_eqb s d (λ e. omega arith) in rw t (w.below s k);
+  above = λ s k. let l : d < h.next = spare.below in
+      let t : (s == d) ≡ false = ne_eqb s d (λ e. omega arith) in rw t (w.above s k);
+  places = λ p a e. let t = spare.free p a e in rw t (w.places p a e);
+}
+
+-- a register after it was written, and another one
+pub written_same : (u : ℕ → Held) (d : ℕ) (held : Held) → written u d held d ≡ held
+written_same u d held = rw (eq-eqb d d refl) refl
+
+-- where an access takes no address register
+pub spare_plain : (g h : Taken) (d : ℕ) → IsTaken g → h.links ≡ g.links → g.next ≤ d → d < h.next →
+    IsSpare g h d
+spare_plain g h d t e above below = record {
+  above = above;
+  below = below;
+  free = λ p a f.
+      let k = address_bounds 0 g.links g.next p a t.in_order (sym (ap (λ l. address_in l p) e) ∙ f) in
+      ne_eqb a d (λ s. omega (arith, k.1));
+}
+
+-- where an access takes an address register for its place, if it has none, behind i
+pub spare_with : (g i : Taken) (p d : ℕ) → IsTaken g → i.count ≡ g.count → i.links ≡ g.links →
+    g.next ≤ d → d < i.next → IsSpare g (with_address i p) d
+spare_with g i p d t c e above below = by_option (address_in i.links p)
+    (λ a f. rw f (spare_plain g i d t e above below))
+    (λ f. rw f (record {
+      above = above;
+      below = omega arith;
+      free = λ q a k. not_next q a k;
+    }))
+  where
+    old : (q a : ℕ) → address_in i.links q ≡ Some a → (a == d) ≡ false
+    old q a k =
+        let b = address_bounds 0 g.links g.next q a t.in_order (sym (ap (λ l. address_in l q) e) ∙ k) in
+        ne_eqb a d (λ s. omega (arith, b.1))
+
+    not_next : (q a : ℕ) → address_in (i.links ++ (i.next, p) ∷ []) q ≡ Some a → (a == d) ≡ false
+    not_next q a k = by_option (address_in i.links q)
+        (λ b f. let m : Some b ≡ Some a = sym (address_kept i.links i.next p q b f) ∙ k in
+        let n : b ≡ a = cc in old q a (f ∙ ap Some n))
+        (λ f. by_test (p == q)
+        (λ u. let m : Some i.next ≡ Some a =
+        sym (ap (λ b. cond b (Some i.next) None) u) ∙ (sym (address_added i.links i.next p q f) ∙ k) in
+        let n : i.next ≡ a = cc in ne_eqb a d (λ s. omega arith))
+        (λ u. let m : None ≡ Some a =
+        sym (ap (λ b. cond b (Some i.next) None) u) ∙ (sym (address_added i.links i.next p q f) ∙ k) in
+        absurd (none_some a m)))
+      where
+        none_some : (a : ℕ) → None ≡ Some a → ⊥
+        none_some a m = cc
+
+-- the address register of a place is the one that was given or taken for it
+pub address_is : (i : Taken) (p : ℕ) → address_in (with_address i p).links p ≡ Some (address_of i p)
+address_is i p = by_option (address_in i.links p)
+    (λ a e. rw (e, e) refl)
+    (λ e. rw e (address_added i.links i.next p p e ∙ rw (eq-eqb p p refl) refl))
+
+-- it was taken
+pub address_below : (g i : Taken) (p : ℕ) → IsTaken g → i.links ≡ g.links → g.next ≤ i.next →
+    address_of i p < (with_address i p).next
+address_below g i p t e m = by_option (address_in i.links p)
+    (λ a f. let b = address_bounds 0 g.links g.next p a t.in_order (sym (ap (λ l. address_in l p) e) ∙ f) in
+    rw f (omega (arith, b.1)))
+    (λ f. rw f (omega arith))
+
+-- a run that ends with a load into a spare register
+pub did_load : (code : List Micro) (r u : Run) (g h : Taken) (d p n mask : ℕ) (vs : List ℕ) →
+    exec code (At r) ≡ At (after_load u d p n mask vs) → Writes r.state.regs u.state.regs g h →
+    u.made ≡ r.made → u.state.control ≡ r.state.control → u.state.loads ≡ r.state.loads →
+    IsSpare g h d →
+    DidLoad code r g h (items.Access dirs.R p n mask 0 r.state.control ∷ []) r.state.control
+    (r.state.loads + 1) vs d n
+did_load code r u g h d p n mask vs ran w made control loads spare =
+    let x = writes_more r.state.regs u.state.regs g h d (num n (bit u.state.loads)) w spare in
+    record {
+      did = record {
+        after = after_load u d p n mask vs;
+        ran = ran;
+        made_is =
+            ap (λ m. m ++ items.Access dirs.R p n mask 0 u.state.control ∷ []) made ∙
+            ap (λ c. r.made ++ items.Access dirs.R p n mask 0 c ∷ []) control;
+        control_is = control;
+        loads_is = ap (λ k. k + 1) loads;
+        reads_is = refl;
+        below = x.below;
+        above = x.above;
+        places = x.places;
+      };
+      got =
+          written_same u.state.regs d (num n (bit u.state.loads)) ∙ ap (λ k. num n (bit k)) loads;
+    }
+
+-- a run that ends with a store
+pub did_store : (code : List Micro) (r u : Run) (g h : Taken) (p n mask data_mask : ℕ) →
+    exec code (At r) ≡ At (after_store u p n mask data_mask) →
+    Writes r.state.regs u.state.regs g h → u.made ≡ r.made → u.state.control ≡ r.state.control →
+    u.state.loads ≡ r.state.loads → u.reads ≡ r.reads →
+    Did code r g h (items.Access dirs.W p n mask data_mask r.state.control ∷ []) r.state.control
+    r.state.loads r.reads
+did_store code r u g h p n mask data_mask ran w made control loads reads = record {
+  after = after_store u p n mask data_mask;
+  ran = ran;
+  made_is =
+      ap (λ m. m ++ items.Access dirs.W p n mask data_mask u.state.control ∷ []) made ∙
+      ap (λ c. r.made ++ items.Access dirs.W p n mask data_mask c ∷ []) control;
+  control_is = control;
+  loads_is = loads;
+  reads_is = reads;
+  below = w.below;
+  above = w.above;
+  places = w.places;
+}
+
+-- a link without code
+pub did_nothing : (r : Run) → DidLink [] r [] r.state.control
+did_nothing r = record {
+  after = r;
+  ran = refl;
+  made_is = sym (append-nil r.made);
+  control_is = refl;
+  loads_is = refl;
+  reads_is = refl;
+  regs_is = refl;
+}
+
+-- an access has room for two operations
+pub two_fit : (link : Link) → 2 ≤ access_room link
+two_fit link = of_test (is_addr link || is_data link)
+  where
+    of_test : (b : Bool) → 2 ≤ cond b 4 2
+    of_test true = omega arith
+    of_test false = omega arith

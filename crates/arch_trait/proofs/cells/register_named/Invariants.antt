@@ -1,0 +1,10 @@
+use Rattle.std.proofs.Common.{◌≡◌, drop}
+use Rattle.std.specs.List.{position_from}
+use Rattle.std.specs.Str.{bytes_eq}
+use Rattle.arch_trait.specs.Names.{number_in}
+use Rattle.arch_trait.proofs.cells.register_named.Given as goal
+
+abbrev pub invariant-loop-r : goal.invariant-loop-r
+invariant-loop-r g l =
+    position_from (λ x. bytes_eq x l.name) l.r (drop l.r g.A.Arch.writing.registers) ≡
+    number_in g.A.Arch.writing.registers l.name

@@ -1,0 +1,38 @@
+-- What the code sees of an instruction as it reads it.
+-- Source: own.
+use Rattle.std.specs.Prelude.{ℕ, ◌≡◌, List, Option, Some, None, Result, Ok, Err}
+use Rattle.micro_ops.specs.declared.operation.Micro.{Micro}
+use Rattle.arch_trait.specs.declared.reading.Operands.{Operands}
+use Rattle.arch_trait.specs.declared.reading.Operands.TheVariants as operands
+use Rattle.arch_trait.specs.declared.reading.Named.{Named}
+use Rattle.arch_trait.specs.declared.reading.Named.TheVariants as names
+use Rattle.arch_trait.specs.declared.reading.Raw.{Raw}
+use Rattle.arch_trait.specs.declared.reading.InstrError.{InstrError}
+use Rattle.arch_trait.specs.Writing.{OperandTexts, none, one, two, three, more, Name, nothing, place, label, RawInstr}
+use Rattle.arch_trait.specs.Reading.{ReadInstr}
+
+-- the texts of operands
+abbrev pub texts_of : Operands → OperandTexts
+texts_of operands.None = none
+texts_of (operands.One a) = one a.now
+texts_of (operands.Two a b) = two a.now b.now
+texts_of (operands.Three a b c) = three a.now b.now c.now
+texts_of operands.More = more
+
+-- the name that an instruction has
+abbrev pub name_seen : Named → Name
+name_seen names.Nothing = nothing
+name_seen (names.Place name) = place name.now
+name_seen (names.Label name) = label name.now
+
+-- an instruction that was read raw, if there is one
+abbrev pub raw_seen : Option Raw → Option RawInstr
+raw_seen (Some raw) = Some (record { op = raw.op; name = name_seen raw.name })
+raw_seen None = None
+
+-- an operation that was read, with the tables after it; a fault leaves them as they were
+abbrev pub Reads : Result Micro InstrError → List (List ℕ) → List (List ℕ) → List (List ℕ) → List (List ℕ) → Result ReadInstr InstrError → Type 0
+Reads (Ok op) places labels new_places new_labels read =
+    read ≡ Ok (record { op = op; places = new_places; labels = new_labels })
+Reads (Err e) places labels new_places new_labels read =
+    (read ≡ Err e) × (new_places ≡ places) × (new_labels ≡ labels)

@@ -1,0 +1,90 @@
+-- How an instruction is read from the text of its cell, and its name gets a number.
+-- Source: the litmus format of the herdtools; where blanks may stand is own.
+use Rattle.std.specs.Prelude.{ℕ, ◌==◌, Bool, cond, not, List, [], ◌∷◌, Option, Some, None, Result, Ok, Err, map}
+use Rattle.std.specs.List.{slice_split}
+use Rattle.final_cond.specs.Names.{is_place_name}
+use Rattle.final_cond.specs.Runs.{is_blank, run_of, after_run, unblanked}
+use Rattle.micro_ops.specs.declared.operation.Micro.{Micro}
+use Rattle.arch_trait.specs.declared.reading.InstrError.{InstrError}
+use Rattle.arch_trait.specs.declared.reading.InstrError.TheVariants as errors
+use Rattle.arch_trait.specs.Names.{number_added, names_added}
+use Rattle.arch_trait.specs.Writing.{OperandTexts, none, one, two, three, more, Written, Name, nothing, place, label, RawInstr, Writing, is_label_name, with_number}
+
+-- a byte before what stands behind it without blanks at its end
+abbrev pub kept_before : ℕ → List ℕ → List ℕ
+kept_before b [] = cond (is_blank b) [] (b ∷ [])
+kept_before b (c ∷ text) = b ∷ c ∷ text
+
+-- a text without the blanks at its end
+unfoldable pub before_blanks : List ℕ → List ℕ
+before_blanks [] = []
+before_blanks (b ∷ text) = kept_before b (before_blanks text)
+
+-- a text without the blanks at both ends
+abbrev pub trimmed : List ℕ → List ℕ
+trimmed text = before_blanks (unblanked text)
+
+-- a byte that isn't blank
+abbrev pub is_inked : ℕ → Bool
+is_inked b = not (is_blank b)
+
+-- the pieces of a text as operands
+abbrev pub few : List (List ℕ) → OperandTexts
+few [] = none
+few (a ∷ []) = one a
+few (a ∷ b ∷ []) = two a b
+few (a ∷ b ∷ c ∷ []) = three a b c
+few (a ∷ b ∷ c ∷ d ∷ rest) = more
+
+-- the operands in the text behind the first word: none where it is blank, else those between its
+-- commas, without the blanks around them
+abbrev pub operands_if : List ℕ → OperandTexts
+operands_if [] = none
+operands_if (b ∷ text) = few (map trimmed (slice_split (λ x. x == 44) (b ∷ text)))
+
+unfoldable pub operands_in : List ℕ → OperandTexts
+operands_in text = operands_if (trimmed text)
+
+-- an instruction as it is written in a text: blanks may stand at both ends and around commas, and one
+-- or more stand behind the first word
+abbrev pub written_in : List ℕ → Written
+written_in text = record {
+  word = run_of is_inked (unblanked text);
+  operands = operands_in (after_run is_inked (unblanked text));
+}
+
+-- an instruction that was read, and the tables of places and labels after it
+pub record ReadInstr : Type 0 where
+  pub op : Micro
+  pub places : List (List ℕ)
+  pub labels : List (List ℕ)
+
+-- the operation with the number of its place, or of its label, if there is one
+abbrev pub with_place : Micro → Option ℕ → List (List ℕ) → List (List ℕ) → Result ReadInstr InstrError
+with_place op (Some i) places labels =
+    Ok (record { op = with_number op i; places = places; labels = labels })
+with_place op None places labels = Err errors.TooManyPlaces
+
+abbrev pub with_label : Micro → Option ℕ → List (List ℕ) → List (List ℕ) → Result ReadInstr InstrError
+with_label op (Some i) places labels =
+    Ok (record { op = with_number op i; places = places; labels = labels })
+with_label op None places labels = Err errors.TooManyLabels
+
+-- an instruction whose name gets its number in the tables, where the name has its form
+abbrev pub numbered : Micro → Name → List (List ℕ) → List (List ℕ) → Result ReadInstr InstrError
+numbered op nothing places labels = Ok (record { op = op; places = places; labels = labels })
+numbered op (place name) places labels = cond (is_place_name name)
+    (with_place op (number_added places name) (names_added places name) labels)
+    (Err errors.BadInstruction)
+numbered op (label name) places labels = cond (is_label_name name)
+    (with_label op (number_added labels name) places (names_added labels name))
+    (Err errors.BadInstruction)
+
+-- what was read raw, with its number
+abbrev pub number_raw : Option RawInstr → List (List ℕ) → List (List ℕ) → Result ReadInstr InstrError
+number_raw None places labels = Err errors.BadInstruction
+number_raw (Some raw) places labels = numbered raw.op raw.name places labels
+
+-- the instruction that a text is, with the tables of places and labels before it
+abbrev pub instr_read : Writing → List ℕ → List (List ℕ) → List (List ℕ) → Result ReadInstr InstrError
+instr_read w text places labels = number_raw (w.raw (written_in text)) places labels

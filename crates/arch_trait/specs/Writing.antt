@@ -1,0 +1,156 @@
+-- How instructions are written in a test, and what they name.
+-- Source: the litmus format of the herdtools, whose cells hold one instruction each.
+use Rattle.std.specs.Prelude.{ℕ, ◌+◌, ◌-◌, ◌/◌, ◌%◌, ◌==◌, ◌≡◌, Bool, true, false, cond, not, ◌&&◌, nat_lt, nat_le, List, [], ◌∷◌, ◌++◌, Option, Some, None, get_or, take, drop, length, codes}
+use Rattle.std.specs.List.{list_all, IsDistinct}
+use Rattle.std.specs.Str.{bytes_eq}
+use Rattle.final_cond.specs.Names.{is_place_name, is_register_name}
+use Rattle.final_cond.specs.Numbers.{number_of}
+use Rattle.final_cond.specs.Runs.{is_blank}
+use Rattle.micro_ops.specs.declared.operation.Micro.{Micro}
+use Rattle.micro_ops.specs.declared.operation.Micro.TheVariants as ops
+use Rattle.arch_trait.specs.Threads.{Puts}
+
+-- the operands of an instruction: none, up to three, or more
+pub data OperandTexts : Type 0 where
+  none : OperandTexts
+  one : List ℕ → OperandTexts
+  two : List ℕ → List ℕ → OperandTexts
+  three : List ℕ → List ℕ → List ℕ → OperandTexts
+  more : OperandTexts
+
+-- an instruction as it is written: its first word and its operands
+pub record Written : Type 0 where
+  pub word : List ℕ
+  pub operands : OperandTexts
+
+-- what an instruction names: nothing, a place or a label
+pub data Name : Type 0 where
+  nothing : Name
+  place : List ℕ → Name
+  label : List ℕ → Name
+
+-- an instruction as it is read, before its name has a number: its operation, with 0 in place of the
+-- number, and the name
+pub record RawInstr : Type 0 where
+  pub op : Micro
+  pub name : Name
+
+-- how an architecture writes and reads its instructions, and the names of its registers as they stand
+-- in conditions
+pub record Writing : Type 0 where
+  pub written : (ℕ → List ℕ) → Micro → Written
+  pub raw : Written → Option RawInstr
+  pub registers : List (List ℕ)
+
+-- operands behind a blank, with commas between
+abbrev pub listed : OperandTexts → List ℕ
+listed none = []
+listed (one a) = 32 ∷ a
+listed (two a b) = 32 ∷ (a ++ 44 ∷ b)
+listed (three a b c) = 32 ∷ (a ++ 44 ∷ (b ++ 44 ∷ c))
+listed more = []
+
+-- the text of an instruction
+abbrev pub text_of : Written → List ℕ
+text_of w = w.word ++ listed w.operands
+
+-- the text of an operation, where places have these names
+abbrev pub op_text : Writing → (ℕ → List ℕ) → Micro → List ℕ
+op_text w names op = text_of (w.written names op)
+
+-- the names of a table by their numbers
+abbrev pub name_in : List (List ℕ) → ℕ → List ℕ
+name_in names i = get_or names i []
+
+-- the name of label n: LC and the number in two digits
+abbrev pub label_name : ℕ → List ℕ
+label_name n = codes "LC" ++ (48 + n / 10) ∷ (48 + n % 10) ∷ []
+
+-- the operation with another place or label
+abbrev pub with_number : Micro → ℕ → Micro
+with_number (ops.LoadAt dst _) i = ops.LoadAt dst i
+with_number (ops.StoreAt _ n) i = ops.StoreAt i n
+with_number (ops.BranchEq _) i = ops.BranchEq i
+with_number (ops.BranchNz a _) i = ops.BranchNz a i
+with_number (ops.Label _) i = ops.Label i
+with_number op _ = op
+
+-- what an operation names, where places have these names
+abbrev pub name_of : (ℕ → List ℕ) → Micro → Name
+name_of names (ops.LoadAt _ p) = place (names p)
+name_of names (ops.StoreAt p _) = place (names p)
+name_of names (ops.BranchEq l) = label (label_name l)
+name_of names (ops.BranchNz _ l) = label (label_name l)
+name_of names (ops.Label l) = label (label_name l)
+name_of _ _ = nothing
+
+-- an operation as it is read from its own text
+abbrev pub raw_of : (ℕ → List ℕ) → Micro → RawInstr
+raw_of names op = record { op = with_number op 0; name = name_of names op }
+
+-- an operation's place is below a number, if it has one
+abbrev pub place_below : ℕ → Micro → Bool
+place_below n (ops.LoadAt _ p) = nat_lt p n
+place_below n (ops.StoreAt p _) = nat_lt p n
+place_below _ _ = true
+
+-- an operation's label is below a number, if it has one
+abbrev pub label_below : ℕ → Micro → Bool
+label_below n (ops.BranchEq l) = nat_lt l n
+label_below n (ops.BranchNz _ l) = nat_lt l n
+label_below n (ops.Label l) = nat_lt l n
+label_below _ _ = true
+
+-- the name of a label has the form of a register's
+abbrev pub is_label_name : List ℕ → Bool
+is_label_name name = is_register_name name
+
+-- a name has its form, and there is room for the number of a label
+abbrev pub is_named : Name → Bool
+is_named nothing = true
+is_named (place name) = is_place_name name
+is_named (label name) = is_label_name name
+
+-- a word or an operand: one byte or more, none of them a blank or a comma
+abbrev pub is_plain : List ℕ → Bool
+is_plain [] = false
+is_plain (b ∷ text) = list_all (λ x. not (is_blank x) && not (x == 44)) (b ∷ text)
+
+abbrev pub all_plain : OperandTexts → Bool
+all_plain none = true
+all_plain (one a) = is_plain a
+all_plain (two a b) = is_plain a && is_plain b
+all_plain (three a b c) = is_plain a && (is_plain b && is_plain c)
+all_plain more = false
+
+-- an immediate: a number of at most 2,047 in decimal
+abbrev pub at_most : ℕ → Option ℕ → Option ℕ
+at_most limit None = None
+at_most limit (Some n) = cond (nat_le n limit) (Some n) None
+
+unfoldable pub immediate : List ℕ → Option ℕ
+immediate digits = at_most 2047 (number_of digits)
+
+-- a text in square brackets, and what stands in them
+abbrev pub bracketed : List ℕ → List ℕ
+bracketed text = 91 ∷ (text ++ 93 ∷ [])
+
+abbrev pub has_brackets : List ℕ → Bool
+has_brackets text =
+    nat_le 2 (length text) && (get_or text 0 0 == 91 && get_or text (length text - 1) 0 == 93)
+
+unfoldable pub inside_brackets : List ℕ → Option (List ℕ)
+inside_brackets text = cond (has_brackets text) (Some (take (length text - 2) (drop 1 text))) None
+
+-- each operation of an architecture reads back from its text, and its registers have names of their
+-- own
+pub record WritesBack (a : Puts) (w : Writing) : Type 0 where
+  pub back : (names : ℕ → List ℕ) (op : Micro) → a.has op ≡ true →
+      is_named (name_of names op) ≡ true → w.raw (w.written names op) ≡ Some (raw_of names op)
+  pub word : (names : ℕ → List ℕ) (op : Micro) → a.has op ≡ true →
+      is_named (name_of names op) ≡ true → is_plain (w.written names op).word ≡ true
+  pub operands : (names : ℕ → List ℕ) (op : Micro) → a.has op ≡ true →
+      is_named (name_of names op) ≡ true → all_plain (w.written names op).operands ≡ true
+  pub count : length w.registers ≡ a.registers
+  pub formed : list_all is_register_name w.registers ≡ true
+  pub once : IsDistinct bytes_eq w.registers

@@ -1,0 +1,148 @@
+ghost use Rattle.std.specs.Prelude.{◌≡◌, ◌<◌, ◌≤◌, ◌+◌, ◌++◌, ℕ, true, false, is_some, length};
+ghost use Rattle.arrayvec.specs.ArrayVec.{array_vec_len};
+ghost use Rattle.relax_edges.specs.declared.kinds.ArchName.{ArchName as TheName};
+ghost use Rattle.arch_trait.specs.Links.{link_is_of, depends, is_data};
+ghost use Rattle.arch_trait.specs.Threads.{Puts};
+ghost use Rattle.arch_trait.specs.Laws.{link_room, access_room, IsArch};
+ghost use Rattle.arch_trait.specs.Names.{number_in};
+ghost use Rattle.arch_trait.specs.Writing.{Writing, WritesBack, op_text, name_in, place_below, label_below};
+ghost use Rattle.arch_trait.specs.Reading.{instr_read};
+ghost use Rattle.arch_trait.specs.Pieces.{texts_of, raw_seen, Reads};
+ghost use Rattle.relax_edges.specs.EdgeTable.{is_of_arch};
+
+use crate::cells::{read_cell, register_named};
+use crate::link::Link;
+use crate::places::Places;
+use crate::reading::{InstrError, Operands, Raw};
+use crate::regs::Regs;
+use crate::step::Shape;
+use arrayvec::{ArrayString, ArrayVec};
+use final_cond::RegName;
+use micro_ops::Micro;
+use relax_edges::{ArchName, Edge};
+
+/// The most operations of one access with its link.
+pub const MAX_STEP_INSTRS: usize = 6;
+
+/// The most operations of a thread: those of `MAX_STEPS` accesses.
+pub const MAX_INSTRS: usize = 288;
+
+/// The most bytes of an instruction's text.
+pub const MAX_TEXT: usize = 40;
+
+/// The operations of a thread.
+pub type Instrs = ArrayVec<Micro, MAX_INSTRS>;
+
+/// An architecture: its edges, its registers, the code for one access, and the text of its
+/// instructions.
+pub trait Arch {
+    ghost puts: { Puts };
+
+    ghost writing: { Writing };
+
+    ghost NAME: { TheName };
+
+    ghost REGISTERS: { ℕ };
+
+    /// Its name.
+    const NAME: ArchName;
+
+    /// How many registers it has for the threads of a test.
+    const REGISTERS: u8;
+
+    /// Whether the operation is that of an instruction of the architecture, on registers that tests
+    /// use.
+    fn has(op: &Micro) -> bool
+        ensures { result ≡ puts.has op.now };
+
+    /// How many registers a thread of this shape takes.
+    fn need(shape: &Shape) -> u32
+        ensures { result ≡ puts.need shape.now };
+
+    /// Appends the code that stands before an access for its link. `from` is the register that a
+    /// dependency is on, `label` the number of the label that a branch goes to.
+    fn put_link(link: Link, from: Option<u8>, label: u8, out: &mut Instrs)
+        requires of_arch { link_is_of link puts.name ≡ true }
+        requires given { depends link ≡ true → is_some from ≡ true }
+        requires room { array_vec_len out.old + link_room link ≤ MAX_INSTRS }
+        ensures { out.new.items ≡ out.old.items ++ puts.link link from label };
+
+    /// Appends the code of a load of the place, and gives the register that it loads to.
+    fn put_load(regs: &mut Regs, link: Link, from: Option<u8>, place: u8, out: &mut Instrs) -> u8
+        requires of_arch { link_is_of link puts.name ≡ true }
+        requires to_load { is_data link ≡ false }
+        requires given { depends link ≡ true → is_some from ≡ true }
+        requires left { (puts.load regs.old link from place).regs.next ≤ regs.old.count }
+        requires room { array_vec_len out.old + access_room link ≤ MAX_INSTRS }
+        ensures register { result ≡ puts.filled regs.old link from place }
+        ensures taken { regs.new ≡ (puts.load regs.old link from place).regs }
+        ensures code { out.new.items ≡ out.old.items ++ (puts.load regs.old link from place).code };
+
+    /// Appends the code of a store of the value to the place.
+    fn put_store(
+        regs: &mut Regs,
+        link: Link,
+        from: Option<u8>,
+        place: u8,
+        value: u8,
+        out: &mut Instrs,
+    )
+        requires of_arch { link_is_of link puts.name ≡ true }
+        requires given { depends link ≡ true → is_some from ≡ true }
+        requires left { (puts.store regs.old link from place value).regs.next ≤ regs.old.count }
+        requires room { array_vec_len out.old + access_room link ≤ MAX_INSTRS }
+        ensures taken { regs.new ≡ (puts.store regs.old link from place value).regs }
+        ensures code { out.new.items ≡ out.old.items ++ (puts.store regs.old link from place value).code };
+
+    /// Makes `out` the text of an operation.
+    fn print(op: &Micro, places: &Places, out: &mut ArrayString<MAX_TEXT>)
+        requires has { puts.has op.now ≡ true }
+        requires place { place_below (length places.now) op.now ≡ true }
+        requires label { label_below 64 op.now ≡ true }
+        ensures { out.new.bytes ≡ op_text writing (name_in places.now) op.now };
+
+    /// The instruction with this first word and these operands, before its name has a number. None
+    /// where the architecture has no instruction of this form; the form of the name isn't looked at.
+    fn read_raw<'a>(word: &'a [u8], operands: Operands<'a>) -> Option<Raw<'a>>
+        ensures { raw_seen result ≡ writing.raw (record { word = word.now; operands = texts_of operands.entry }) };
+
+    /// Makes `out` the name of a register, as it stands in conditions.
+    fn register_name(r: u8, out: &mut RegName)
+        requires { r < REGISTERS }
+        ensures { out.new.bytes ≡ name_in writing.registers r };
+
+    /// Whether it has the edge.
+    final fn supports(edge: Edge) -> bool
+        ensures { result ≡ is_of_arch edge puts.name }
+    {
+        edge.of_arch(Self::NAME)
+    }
+
+    /// The register with this name. None where no register that tests use has it.
+    final fn register_of(name: &str) -> Option<u8>
+        ensures { result ≡ number_in writing.registers name.now }
+    {
+        register_named::<Self>(name.as_bytes())
+    }
+
+    /// The instruction that the text of a cell is, with blanks at both ends, behind the first word
+    /// and around commas. Its place and its label get the numbers of their names in the tables, to
+    /// which new names are added last. After a fault both tables are as they were.
+    final fn read_instr(
+        text: &str,
+        places: &mut Places,
+        labels: &mut Places,
+    ) -> Result<Micro, InstrError>
+        ensures { Reads result places.old labels.old places.new labels.new (instr_read writing text.now places.old labels.old) }
+    {
+        read_cell::<Self>(text.as_bytes(), places, labels)
+    }
+
+    ghost same_name: { puts.name ≡ NAME };
+
+    ghost same_registers: { puts.registers ≡ REGISTERS };
+
+    ghost laws: { IsArch puts };
+
+    ghost reads_back: { WritesBack puts writing };
+}

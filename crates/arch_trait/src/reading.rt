@@ -1,0 +1,142 @@
+ghost use Rattle.std.specs.Prelude.{◌≡◌, ◌==◌};
+ghost use Rattle.std.specs.List.{position, slice_split};
+ghost use Rattle.final_cond.specs.Runs.{is_blank, run_of, after_run, unblanked};
+ghost use Rattle.arch_trait.specs.Reading.{before_blanks, trimmed, is_inked, operands_in};
+ghost use Rattle.arch_trait.specs.Pieces.{texts_of};
+ghost use Rattle.arch_trait.specs.Cuts.{Cut};
+
+use micro_ops::Micro;
+
+/// Why the text of a cell is no instruction, or can't be kept.
+#[derive(Clone, Copy, Debug, PartialEq, Eq, thiserror::Error)]
+pub enum InstrError {
+    /// The architecture has no instruction of this form.
+    #[error("no such instruction")]
+    BadInstruction,
+    /// It names one place more than a test may have.
+    #[error("too many places")]
+    TooManyPlaces,
+    /// It names one label more than a thread may have.
+    #[error("too many labels")]
+    TooManyLabels,
+}
+
+/// The operands of an instruction, as they are written.
+#[derive(Clone, Copy, Debug)]
+pub enum Operands<'a> {
+    None,
+    One(&'a [u8]),
+    Two(&'a [u8], &'a [u8]),
+    Three(&'a [u8], &'a [u8], &'a [u8]),
+    /// More than three.
+    More,
+}
+
+/// What an instruction names: nothing, a place or a label.
+#[derive(Clone, Copy, Debug)]
+pub enum Named<'a> {
+    Nothing,
+    Place(&'a [u8]),
+    Label(&'a [u8]),
+}
+
+/// An instruction as it is read, before its name has a number: its operation, with 0 in place of the
+/// number, and the name.
+#[derive(Clone, Copy, Debug)]
+pub struct Raw<'a> {
+    pub op: Micro,
+    pub name: Named<'a>,
+}
+
+fn is_blank(byte: u8) -> bool
+    ensures { result ≡ is_blank byte }
+{
+    byte == b' ' || byte == b'\t'
+}
+
+/// The text without the blanks at its front.
+#[tactic(auto, using(crate::proofs::Blanks::blank_first, crate::proofs::Blanks::no_blank_first, crate::proofs::Blanks::nothing_first))]
+pub(crate) fn after_blanks(text: &[u8]) -> &[u8]
+    ensures { result.now ≡ unblanked text.now }
+{
+    let mut rest = text;
+    while let [first, behind @ ..] = rest {
+        if !is_blank(*first) {
+            break;
+        }
+        rest = behind;
+    }
+    rest
+}
+
+/// The text without the blanks at its end.
+#[tactic(auto, using(crate::proofs::Blanks::blank_last, crate::proofs::Blanks::no_blank_last, crate::proofs::Blanks::nothing_last))]
+fn before_blanks(text: &[u8]) -> &[u8]
+    ensures { result.now ≡ before_blanks text.now }
+{
+    let mut rest = text;
+    while let [front @ .., last] = rest {
+        if !is_blank(*last) {
+            break;
+        }
+        rest = front;
+    }
+    rest
+}
+
+fn trimmed(text: &[u8]) -> &[u8]
+    ensures { result.now ≡ trimmed text.now }
+{
+    before_blanks(after_blanks(text))
+}
+
+/// The first word of a text that doesn't begin with a blank, and what stands behind it.
+#[tactic(auto, using(final_cond::proofs::RunLaws::run_stops, final_cond::proofs::RunLaws::run_ends, final_cond::proofs::RunLaws::none_passed, final_cond::proofs::RunLaws::one_passed))]
+pub(crate) fn split_word(text: &[u8]) -> (&[u8], &[u8])
+    ensures word { result.0.now ≡ run_of is_inked text.now }
+    ensures rest { result.1.now ≡ after_run is_inked text.now }
+{
+    for (i, byte) in text.iter().enumerate() {
+        if is_blank(*byte) {
+            return text.split_at(i);
+        }
+    }
+    (text, &[])
+}
+
+/// The text before the first comma, and the one behind it.
+#[tactic(auto, using(crate::proofs::Blanks::cut_none, crate::proofs::Blanks::cut_some))]
+fn cut_comma(text: &[u8]) -> Option<(&[u8], &[u8])>
+    ensures { Cut result text.now }
+{
+    match comma_in(text) {
+        Some(comma) => Some((&text[..comma], &text[comma + 1..])),
+        None => None,
+    }
+}
+
+fn comma_in(text: &[u8]) -> Option<usize>
+    ensures { result ≡ position (λ b. b == 44) text.now }
+{
+    text.iter().position(|byte| *byte == b',')
+}
+
+/// The operands in the text behind the first word.
+pub(crate) fn operands_of(text: &[u8]) -> Operands<'_>
+    ensures { texts_of result ≡ operands_in text.now }
+{
+    let text = trimmed(text);
+    if text.is_empty() {
+        return Operands::None;
+    }
+    let Some((first, rest)) = cut_comma(text) else {
+        return Operands::One(trimmed(text));
+    };
+    let Some((second, rest)) = cut_comma(rest) else {
+        return Operands::Two(trimmed(first), trimmed(rest));
+    };
+    match cut_comma(rest) {
+        None => Operands::Three(trimmed(first), trimmed(second), trimmed(rest)),
+        Some(_) => Operands::More,
+    }
+}

@@ -1,0 +1,51 @@
+-- The code of X86: loads and stores at places, and MFENCE.
+-- Source: the diy tools' tests for x86.
+use Rattle.std.specs.Prelude.{ℕ, Bool, true, false, List, [], ◌∷◌, Option, nat_lt, nat_le}
+use Rattle.relax_edges.specs.declared.kinds.ArchName.TheVariants as archs
+use Rattle.relax_edges.specs.declared.kinds.FenceKind.TheVariants as fences
+use Rattle.micro_ops.specs.declared.operation.Micro.{Micro}
+use Rattle.micro_ops.specs.declared.operation.Micro.TheVariants as ops
+use Rattle.micro_ops.specs.declared.operation.Barrier.TheVariants as barriers
+use Rattle.arch_trait.specs.declared.link.Link.{Link}
+use Rattle.arch_trait.specs.declared.link.Link.TheVariants as links
+use Rattle.arch_trait.specs.declared.step.Shape.{Shape}
+use Rattle.arch_trait.specs.Taking.{Taken, take_next}
+use Rattle.arch_trait.specs.Threads.{Put, Puts}
+
+-- the operations of X86's instructions: loads into its six registers, stores of numbers up to 2,047,
+-- and MFENCE
+abbrev pub has : Micro → Bool
+has (ops.LoadAt dst _) = nat_lt dst 6
+has (ops.StoreAt _ n) = nat_le n 2047
+has (ops.Barrier (barriers.Fence fences.MFence)) = true
+has _ = false
+
+-- the code of a link: its fence, if it is one
+abbrev pub link_code : Link → Option ℕ → ℕ → List Micro
+link_code (links.Fence kind) _ _ = ops.Barrier (barriers.Fence kind) ∷ []
+link_code _ _ _ = []
+
+-- a load takes a register
+abbrev pub load : Taken → Link → Option ℕ → ℕ → Put
+load g _ _ place = record { code = ops.LoadAt g.next place ∷ []; regs = take_next g }
+
+abbrev pub filled : Taken → Link → Option ℕ → ℕ → ℕ
+filled g _ _ _ = g.next
+
+-- a store takes none
+abbrev pub store : Taken → Link → Option ℕ → ℕ → ℕ → Put
+store g _ _ place value = record { code = ops.StoreAt place value ∷ []; regs = g }
+
+-- X86, as an architecture
+abbrev pub puts : Puts
+puts = record {
+  name = archs.X86;
+  registers = 6;
+  has = has;
+  need = λ (shape : Shape). shape.loads;
+  has_addresses = false;
+  link = link_code;
+  load = load;
+  filled = filled;
+  store = store;
+}
