@@ -1,6 +1,6 @@
 -- Laws of growth, for functions that write to a sink more than once.
 use Rattle.std.proofs.Common.{◌≡◌, ℕ, ◌+◌, List, [], ◌∷◌, ◌++◌, length, cond, None, Some, refl, sym, ap, ◌∙◌, arith, append_assoc, append-nil, length-append, subst, take, drop, get_or, ◌<◌}
-use Rattle.std.specs.Prelude.{Option, ◌==◌}
+use Rattle.std.specs.Prelude.{Option, Result, Ok, Err, OnErr, ◌==◌}
 use Rattle.std.specs.Option.{option_map}
 use Rattle.std.proofs.lemmas.List.{take_more, take-append-drop}
 use Rattle.std.proofs.lemmas.List.Concat.{flat_map-append}
@@ -171,3 +171,8 @@ grew_tallied a b t u text p e f =
     ∙ ap (λ tallied. option_map (λ tally. tally_after tally text) (option_map tally_kept tallied)) e in
     let kept_is : tally_kept u ≡ tally_after (tally_kept t) text = cc in
     kept_is ∙ tally_after_kept t text
+
+-- what holds anyway holds where a call fails
+pub on_err : {A E P : Type 0} (r : Result A E) → P → OnErr r P
+on_err (Ok x) p = tt
+on_err (Err e) p = p

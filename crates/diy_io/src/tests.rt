@@ -1,4 +1,7 @@
-use crate::{Failed, MemSink, Sink, StdSink, TallySink, Words, write_pieces};
+use crate::{
+    Failed, MemSink, MemSource, Sink, Source, StdSink, StdSource, SureSource, TallySink, Words,
+    write_pieces,
+};
 use std::io;
 use std::io::{ErrorKind, Write};
 use std::test::Fail;
@@ -73,5 +76,37 @@ fn words_keep_what_was_pushed(rt: HostRuntime) -> Result<(), Fail> {
     assert_eq!(rt; words.get(0), "diyone7");
     assert_eq!(rt; words.get(1), "");
     assert_eq!(rt; words.get(2), "-arch");
+    Ok(())
+}
+
+#[test]
+fn memory_source_fails_at_the_chosen_call(rt: HostRuntime) -> Result<(), Fail> {
+    let bytes = Vec::from_slice(rt.alloc(), b"abcde")?;
+    let fail = Vec::from_slice(rt.alloc(), &[1])?;
+    let mut source = MemSource::new(bytes, 3, fail);
+    let mut buf = *b"....";
+    assert_eq!(rt; source.read(&mut buf), Ok(3));
+    assert_eq!(rt; buf.as_slice(), b"abc.".as_slice());
+    assert_eq!(rt; source.read(&mut buf), Err(Failed));
+    assert_eq!(rt; source.read(&mut buf), Ok(2));
+    assert_eq!(rt; buf.as_slice(), b"dec.".as_slice());
+    assert_eq!(rt; source.read(&mut buf), Ok(0));
+    Ok(())
+}
+
+#[test]
+fn other_sources_give_all_bytes(rt: HostRuntime) -> Result<(), Fail> {
+    let mut sure = SureSource::new(Vec::from_slice(rt.alloc(), b"xy")?, 1);
+    let mut buf = *b"....";
+    assert_eq!(rt; sure.read(&mut buf), Ok(1));
+    assert_eq!(rt; sure.read(&mut buf[1..]), Ok(1));
+    assert_eq!(rt; sure.read(&mut buf), Ok(0));
+    assert_eq!(rt; buf.as_slice(), b"xy..".as_slice());
+
+    let text: &[u8] = b"12";
+    let mut std = StdSource::new(text);
+    assert_eq!(rt; std.read(&mut buf), Ok(2));
+    assert_eq!(rt; std.read(&mut buf), Ok(0));
+    assert_eq!(rt; buf.as_slice(), b"12..".as_slice());
     Ok(())
 }

@@ -57,13 +57,13 @@ letter_ascii : (byte : ℕ) → is_ascii_alphabetic byte ≡ true → is_ascii b
 letter_ascii byte h = grind (arith, nat_tests)
 
 -- a name's first byte passes, the others pass, and they are at most 16
-record Shaped (first others : ℕ → Bool) (name : List ℕ) : Type 0 where
-  byte : ℕ
-  bytes : List ℕ
-  is : name ≡ byte ∷ bytes
-  begins : first byte ≡ true
-  goes_on : list_all others bytes ≡ true
-  short : length name ≤ 16
+pub record Shaped (first others : ℕ → Bool) (name : List ℕ) : Type 0 where
+  pub byte : ℕ
+  pub bytes : List ℕ
+  pub is : name ≡ byte ∷ bytes
+  pub begins : first byte ≡ true
+  pub goes_on : list_all others bytes ≡ true
+  pub short : length name ≤ 16
 
 shaped : (first others : ℕ → Bool) (byte : ℕ) (bytes : List ℕ) → (first byte && list_all others bytes && nat_le (length (byte ∷ bytes)) 16) ≡ true → Shaped first others (byte ∷ bytes)
 shaped first others byte bytes h =
@@ -71,17 +71,17 @@ shaped first others byte bytes h =
     let q : (first byte ≡ true) × (list_all others bytes ≡ true) = and_parts (first byte) (list_all others bytes) p.0 in
     record { byte = byte; bytes = bytes; is = refl; begins = q.0; goes_on = q.1; short = leb-true (length (byte ∷ bytes)) 16 p.1 }
 
-place_shaped : (name : List ℕ) → is_place_name name ≡ true → Shaped begins_place is_place_byte name
+pub place_shaped : (name : List ℕ) → is_place_name name ≡ true → Shaped begins_place is_place_byte name
 unfolding is_place_name
 place_shaped [] h = absurd (cc)
 place_shaped (byte ∷ bytes) h = shaped begins_place is_place_byte byte bytes h
 
-register_shaped : (name : List ℕ) → is_register_name name ≡ true → Shaped is_ascii_alphabetic is_ascii_alphanumeric name
+pub register_shaped : (name : List ℕ) → is_register_name name ≡ true → Shaped is_ascii_alphabetic is_ascii_alphanumeric name
 unfolding is_register_name
 register_shaped [] h = absurd (cc)
 register_shaped (byte ∷ bytes) h = shaped is_ascii_alphabetic is_ascii_alphanumeric byte bytes h
 
-shaped_all : (first others q : ℕ → Bool) → ((byte : ℕ) → first byte ≡ true → q byte ≡ true) → ((byte : ℕ) → others byte ≡ true → q byte ≡ true) → (name : List ℕ) → Shaped first others name → list_all q name ≡ true
+pub shaped_all : (first others q : ℕ → Bool) → ((byte : ℕ) → first byte ≡ true → q byte ≡ true) → ((byte : ℕ) → others byte ≡ true → q byte ≡ true) → (name : List ℕ) → Shaped first others name → list_all q name ≡ true
 shaped_all first others q f g name s = rw s.is (and_from (q s.byte) (list_all q s.bytes) (f s.byte s.begins) (all_weaker others q g s.bytes s.goes_on))
 
 pub place_name_short : (name : List ℕ) → is_place_name name ≡ true → length name ≤ 16

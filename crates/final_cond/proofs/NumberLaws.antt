@@ -16,7 +16,7 @@ use Rattle.std.proofs.lemmas.Str.Parse.{IsNumeralModel, numerals_by_value, parse
 use Rattle.final_cond.specs.Numbers.{number_of}
 use Rattle.final_cond.proofs.NameLaws.{all_weaker, utf8_from_ascii}
 
-own : IsNumeralModel (λ ds. list_all is_ascii_digit ds ≡ true) (digits_value 10)
+pub own : IsNumeralModel (λ ds. list_all is_ascii_digit ds ≡ true) (digits_value 10)
 own = numerals_by_value _ (search rules)
 
 -- a number is read from its decimal

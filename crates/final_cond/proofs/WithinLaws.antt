@@ -11,7 +11,7 @@ use Rattle.final_cond.specs.Names.{is_place_byte}
 use Rattle.final_cond.specs.Conditions.{LeftSeen, TermSeen, CondSeen}
 use Rattle.final_cond.specs.Numbers.{number_of}
 use Rattle.final_cond.specs.Runs.{run_of, after_run, is_blank, unblanked}
-use Rattle.final_cond.specs.Reading.{Fault, Read, ◌>>=◌, sign_at_front, sign_read, is_word_byte, found, before_text, quantifier_of, quantifier_at_front, opening_read, bracket_closed, bracketed_at_front, register_of_thread, register_at_front, left_at_front, known_left, only_known, left_read, number_at_front, value_read, term_read, and_at_front, follow_at_front, follow_read, and_further, terms_read, end_at_front, parts_read}
+use Rattle.final_cond.specs.Reading.{Fault, Read, ◌>>=◌, sign_at_front, sign_read, is_word_byte, found, before_text, quantifier_of, quantifier_at_front, opening_read, bracket_closed, bracketed_at_front, register_of_thread, register_at_front, left_at_front, known_left, only_known, left_read, value_at_front, value_read, right_read, term_read, and_at_front, follow_at_front, follow_read, and_further, terms_read, end_at_front, parts_read}
 use Rattle.final_cond.proofs.RunLaws.{by_test, after_run-le}
 
 -- the text behind what was read, or from the fault on, has at most so many bytes
@@ -93,17 +93,21 @@ value_stays : (text : List ℕ) → Stays (λ x. x.1) (length text) (value_read 
 unfolding value_read
 value_stays text =
     let u : List ℕ = unblanked text in
-    stays_wider (λ x. x.1) (length u) (length text) (number_at_front BadValue u) (unblanked-le text)
+    stays_wider (λ x. x.1) (length u) (length text) (value_at_front u) (unblanked-le text)
     (found_stays BadValue u (before_text (number_of (run_of is_ascii_digit u)) (after_run is_ascii_digit u)) (before_stays (length u) (number_of (run_of is_ascii_digit u)) (after_run is_ascii_digit u) (after_run-le is_ascii_digit u)))
+
+right_stays : (text : List ℕ) → Stays (λ x. x.1) (length text) (right_read text)
+unfolding right_read
+right_stays text =
+    stays_then (λ x. x) (λ x. x.1) (length text) (sign_read BadTerm 61 text) _ (sign_stays BadTerm 61 text)
+    (λ x k. stays_wider (λ z. z.1) (length x) (length text) (value_read x) k (value_stays x))
 
 term_stays : (known : LeftSeen → Bool) (text : List ℕ) → Stays (λ x. x.1) (length text) (term_read known text)
 unfolding term_read
 term_stays known text =
     stays_then (λ x. x.1) (λ x. x.1) (length text) (left_read known (unblanked text)) _
     (stays_wider (λ x. x.1) (length (unblanked text)) (length text) (left_read known (unblanked text)) (unblanked-le text) (left_stays known (unblanked text)))
-    (λ x l. stays_then (λ y. y) (λ y. y.1) (length text) (sign_read BadTerm 61 x.1) _
-    (stays_wider (λ y. y) (length x.1) (length text) (sign_read BadTerm 61 x.1) l (sign_stays BadTerm 61 x.1))
-    (λ y k. stays_then (λ z. z.1) (λ z. z.1) (length text) (value_read y) _ (stays_wider (λ z. z.1) (length y) (length text) (value_read y) k (value_stays y)) (λ z m. m)))
+    (λ x l. stays_then (λ y. y.1) (λ y. y.1) (length text) (right_read x.1) _ (stays_wider (λ y. y.1) (length x.1) (length text) (right_read x.1) l (right_stays x.1)) (λ y k. k))
 
 and_stays : (text rest : List ℕ) → length rest ≤ length text → Stays (λ x. x.1) (length text) (and_at_front text rest)
 and_stays text [] l = omega arith

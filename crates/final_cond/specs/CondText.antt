@@ -2,6 +2,7 @@
 -- Source: the litmus format of the herdtools manual.
 use Rattle.std.specs.Prelude.{ℕ, List, [], ◌∷◌, ◌++◌, codes}
 use Rattle.std.specs.Fmt.{decimal}
+use Rattle.std.specs.List.{flat_map}
 use Rattle.final_cond.specs.declared.cond.Quantifier.{Quantifier}
 use Rattle.final_cond.specs.declared.cond.Quantifier.TheVariants.{Exists, NotExists, Forall}
 use Rattle.final_cond.specs.Conditions.{LeftSeen, InRegister, AtPlace, TermSeen, CondSeen}
@@ -21,15 +22,14 @@ left_text (AtPlace name) = codes "[" ++ name ++ codes "]"
 unfoldable pub term_text : TermSeen → List ℕ
 term_text term = left_text term.left ++ codes "=" ++ decimal term.value
 
--- terms, each behind ` /\ `
-abbrev pub more_terms_text : List TermSeen → List ℕ
-more_terms_text [] = []
-more_terms_text (term ∷ terms) = codes " /\\ " ++ (term_text term ++ more_terms_text terms)
+-- a term behind ` /\ `
+abbrev pub further_term_text : TermSeen → List ℕ
+further_term_text term = codes " /\\ " ++ term_text term
 
 -- terms, with ` /\ ` between
 abbrev pub terms_text : List TermSeen → List ℕ
 terms_text [] = []
-terms_text (term ∷ terms) = term_text term ++ more_terms_text terms
+terms_text (term ∷ terms) = term_text term ++ flat_map further_term_text terms
 
 -- the quantifier, and the terms in parentheses
 unfoldable pub cond_text : CondSeen → List ℕ

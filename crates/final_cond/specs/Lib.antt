@@ -7,3 +7,4 @@ pub mod Reading
 pub mod Classes
 pub mod Gives
 pub mod States
+pub mod ReadBack

@@ -119,21 +119,26 @@ only_known known (Some left) = before_text (known_left known left.0) left.1
 unfoldable pub left_read : (LeftSeen → Bool) → List ℕ → Read LeftSeen
 left_read known text = found BadTerm text (only_known known (left_at_front text))
 
--- the number at the front of a text
-abbrev pub number_at_front : CondKind → List ℕ → Read ℕ
-number_at_front kind text = found kind text (before_text (number_of (run_of is_ascii_digit text)) (after_run is_ascii_digit text))
+-- a number at the front of a text
+abbrev pub value_at_front : List ℕ → Read ℕ
+value_at_front text = found BadValue text (before_text (number_of (run_of is_ascii_digit text)) (after_run is_ascii_digit text))
 
--- a value
+-- a value, before which blanks may stand
 unfoldable pub value_read : List ℕ → Read ℕ
-value_read text = number_at_front BadValue (unblanked text)
+value_read text = value_at_front (unblanked text)
+
+-- `=` and a value
+unfoldable pub right_read : List ℕ → Read ℕ
+right_read text = do
+  right ← sign_read BadTerm 61 text
+  value_read right
 
 -- a left side that passes, `=` and a value
 unfoldable pub term_read : (LeftSeen → Bool) → List ℕ → Read TermSeen
 term_read known text = do
   left ← left_read known (unblanked text)
-  right ← sign_read BadTerm 61 left.1
-  value ← value_read right
-  Ok (record { left = left.0; value = value.0 }, value.1)
+  right ← right_read left.1
+  Ok (record { left = left.0; value = right.0 }, right.1)
 
 -- the `\` of `/\`, behind the `/` with which the text begins
 abbrev pub and_at_front : List ℕ → List ℕ → Read Follow

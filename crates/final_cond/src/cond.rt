@@ -9,19 +9,24 @@ pub type PlaceName = ArrayString<16>;
 /// The most terms that a condition has.
 pub const MAX_TERMS: usize = 128;
 
-/// Which executions a condition speaks of.
+/// Which executions a condition speaks of, by the litmus format of the herdtools manual.
 #[derive(Clone, Copy, Debug, Default, PartialEq, Eq)]
 pub enum Quantifier {
+    /// `exists`: in some execution the terms hold.
     #[default]
     Exists,
+    /// `~exists`: in no execution the terms hold.
     NotExists,
+    /// `forall`: in each execution the terms hold.
     Forall,
 }
 
-/// What a term looks at: a register of a thread at its end, or a place.
+/// What a term looks at.
 #[derive(Debug, Drop)]
 pub enum Left {
+    /// A register of a thread, at the end of the thread.
     Register { thread: u8, name: RegName },
+    /// A place, at the end of all threads.
     Place { name: PlaceName },
 }
 

@@ -1,7 +1,8 @@
 ghost use Rattle.std.specs.Prelude.{◌≡◌, [], map, option_map, IfOk, IfErr};
 ghost use Rattle.final_cond.specs.Conditions.{left_view, term_view, cond_view, InRegister, AtPlace};
 ghost use Rattle.final_cond.specs.Gives.{Gives, left_and_rest, term_and_rest};
-ghost use Rattle.final_cond.specs.Reading.{sign_read, quantifier_of, opening_read, known_left, only_known, has_form, place_at_front, bracketed_at_front, register_at_front, left_at_front, left_read, value_read, term_read, follow_read, terms_read, parts_read, cond_read};
+ghost use Rattle.final_cond.specs.Runs.{unblanked};
+ghost use Rattle.final_cond.specs.Reading.{sign_read, quantifier_of, opening_read, known_left, only_known, has_form, place_at_front, bracketed_at_front, register_at_front, left_at_front, left_read, value_read, right_read, term_read, follow_read, terms_read, parts_read, cond_read};
 
 use crate::cond::{Cond, Left, MAX_TERMS, Quantifier, Term};
 use crate::errors::{CondError, CondFault, CondKind};
@@ -128,11 +129,13 @@ fn left(text: &[u8]) -> Option<(Left, &[u8])>
     }
 }
 
-/// The left side with which a text begins, and the text behind it.
+/// The left side with which a text begins, of a register of a thread below 64 or of a place, and
+/// the text behind it. Blanks may stand before it.
 #[tactic(auto, unfolding(crate::specs::Reading::left_read))]
-fn read_left(text: &[u8]) -> Result<(Left, &[u8]), CondFault<'_>>
-    ensures { Gives left_and_rest result (left_read has_form text.now) }
+pub fn read_left(text: &[u8]) -> Result<(Left, &[u8]), CondFault<'_>>
+    ensures { Gives left_and_rest result (left_read has_form (unblanked text.now)) }
 {
+    let text = without_blanks(text);
     match left(text) {
         Some(left) => Ok(left),
         None => Err(CondFault {
@@ -157,18 +160,27 @@ fn read_value(text: &[u8]) -> Result<(u32, &[u8]), CondFault<'_>>
     }
 }
 
-/// The term with which a text begins, of a register of a thread below 64 or of a place, and the
-/// text behind it. Blanks may stand before it and around its `=`.
+/// The value behind the `=` with which a text begins, and the text behind it. Blanks may stand
+/// before both.
+#[tactic(auto, unfolding(crate::specs::Reading::right_read))]
+pub fn read_right(text: &[u8]) -> Result<(u32, &[u8]), CondFault<'_>>
+    ensures { Gives (λ x. (x.0, x.1.now)) result (right_read text.now) }
+{
+    let right = read_sign(CondKind::BadTerm, b'=', text)?;
+    read_value(right)
+}
+
+/// The term with which a text begins, and the text behind it. Blanks may stand before it and around
+/// its `=`.
 #[tactic(auto, unfolding(crate::specs::Reading::term_read))]
 pub fn read_term(text: &[u8]) -> Result<(Term, &[u8]), CondFault<'_>>
     ensures { Gives term_and_rest result (term_read has_form text.now) }
 {
-    let (left, rest) = match read_left(without_blanks(text)) {
+    let (left, rest) = match read_left(text) {
         Ok(left) => left,
         Err(fault) => return Err(fault),
     };
-    let right = read_sign(CondKind::BadTerm, b'=', rest)?;
-    let (value, rest) = read_value(right)?;
+    let (value, rest) = read_right(rest)?;
     Ok((Term { left, value }, rest))
 }
 

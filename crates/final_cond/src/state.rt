@@ -3,8 +3,9 @@ ghost use Rattle.final_cond.specs.Conditions.{left_view, cond_view};
 ghost use Rattle.final_cond.specs.States.{same_left, value_in, Meets, pair_view};
 
 use crate::cond::{Cond, Left, Term};
+use diy_io::NoMemory;
 use relax_edges::Value;
-use std::alloc::{AllocError, Global};
+use std::alloc::Global;
 use std::marker::Model;
 
 impl Left {
@@ -69,7 +70,7 @@ impl Final {
     }
 
     /// Adds a value behind the others. Without memory for it the state is unchanged.
-    pub fn add(&mut self, left: Left, value: Value) -> Result<(), AllocError>
+    pub fn add(&mut self, left: Left, value: Value) -> Result<(), NoMemory>
         ensures ok { OnOk result (self.new ≡ self.old ++ (left_view left, value) ∷ []) }
         ensures err { OnErr result (self.new ≡ self.old) }
     {

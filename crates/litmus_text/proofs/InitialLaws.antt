@@ -1,12 +1,13 @@
 -- The initial state, thread by thread.
 use Rattle.std.proofs.Common.{◌≡◌, ◌≢◌, ◌<◌, ◌+◌, ℕ, List, [], ◌∷◌, ◌++◌, length, map, refl, sym, ap, ◌∙◌, arith, append_assoc, append-nil}
-use Rattle.std.specs.Prelude.{codes, Bool, true, false, nat_eq, slice_index_or}
+use Rattle.std.specs.Prelude.{codes, Bool, true, false, nat_eq}
 use Rattle.std.specs.Fmt.{decimal}
 use Rattle.std.proofs.lemmas.Bool.{eqb-true, eqb-false}
 use Rattle.std.specs.List.{flat_map, join_by, enumerate_from}
 use Rattle.std.proofs.lemmas.List.Concat.{flat_map-append}
 use Rattle.arch_trait.specs.Threads.{ThreadCode}
-use Rattle.litmus_text.specs.TestText.{Writing, item_text, items_lines, initial_lines, ended}
+use Rattle.arch_trait.specs.Writing.{Writing, name_in}
+use Rattle.litmus_text.specs.TestText.{item_text, items_lines, initial_lines, ended}
 
 pub flat_map-flat_map : {X Y : Type 0} (g : Y → List ℕ) (f : X → List Y) (xs : List X) → flat_map g (flat_map f xs) ≡ flat_map (λ x. flat_map g (f x)) xs
 flat_map-flat_map g f [] = refl
@@ -37,7 +38,7 @@ initial_is w places threads =
 -- an item, piece by piece
 pub item_built : (w : Writing) (places : List (List ℕ)) (thread : ℕ) (link : ℕ × ℕ) (start a b c d e f number register place : List ℕ)
     → start ≡ [] → a ≡ start ++ number → b ≡ a ++ codes ":" → c ≡ b ++ register → d ≡ c ++ codes "=" → e ≡ d ++ place → f ≡ e ++ codes ";"
-    → number ≡ decimal thread → register ≡ w.register_text link.0 → place ≡ slice_index_or places link.1 []
+    → number ≡ decimal thread → register ≡ name_in w.registers link.0 → place ≡ name_in places link.1
     → f ≡ item_text w places thread link
 unfolding item_text
 item_built w places thread link start a b c d e f number register place start_is a_is b_is c_is d_is e_is f_is number_is register_is place_is =

@@ -10,8 +10,9 @@ use Rattle.std.proofs.lemmas.List.Folds.{flat_map-map}
 use Rattle.micro_ops.specs.declared.operation.Micro.{Micro}
 use Rattle.arch_trait.specs.Threads.{ThreadCode}
 use Rattle.arch_trait.specs.declared.code.Code.{Code}
-use Rattle.litmus_text.specs.TestText.{Writing, column_of, columns_of, width_of, cell_text, row_line, row_count, table_lines, ended}
-use Rattle.litmus_text.specs.Tests.{thread_of}
+use Rattle.arch_trait.specs.Writing.{Writing, op_text, name_in}
+use Rattle.litmus_text.specs.TestText.{column_of, columns_of, width_of, cell_text, row_line, row_count, table_lines, ended}
+use Rattle.arch_trait.specs.Codes.{thread_of}
 use Rattle.std.proofs.lemmas.List.FromFn.{length-enumerate_from, length-range_with_len, get_or-range_with_len}
 use Rattle.std.proofs.Math.ListN.{replicate}
 use Rattle.litmus_text.specs.Wrote.{SinkSeen, WroteAll, WrotePart, Wrote}
@@ -19,31 +20,31 @@ use Rattle.litmus_text.proofs.WroteLaws.{each_step, each_stop}
 use Rattle.litmus_text.proofs.ElementLaws.{numbered_at}
 
 -- the header, piece by piece
-pub header_cell : (w : Writing) (t : ℕ × ThreadCode) (row : ℕ) (start a b number : List ℕ) → row ≡ 0
-    → start ≡ [] → a ≡ start ++ codes "P" → b ≡ a ++ number → number ≡ decimal t.0 → b ≡ get_or (column_of w t) row []
+pub header_cell : (w : Writing) (places : List (List ℕ)) (t : ℕ × ThreadCode) (row : ℕ) (start a b number : List ℕ) → row ≡ 0
+    → start ≡ [] → a ≡ start ++ codes "P" → b ≡ a ++ number → number ≡ decimal t.0 → b ≡ get_or (column_of w places t) row []
 unfolding column_of
-header_cell w t zero start a b number h start_is a_is b_is number_is =
+header_cell w places t zero start a b number h start_is a_is b_is number_is =
     b_is ∙ ap (λ x. x ++ number) (a_is ∙ ap (λ x. x ++ codes "P") start_is) ∙ ap (λ x. codes "P" ++ x) number_is
-header_cell w t (suc row) start a b number h start_is a_is b_is number_is = absurd (omega arith)
+header_cell w places t (suc row) start a b number h start_is a_is b_is number_is = absurd (omega arith)
 
 -- an instruction
-pub op_cell : (w : Writing) (t : ℕ × ThreadCode) (row i : ℕ) (op : Micro) (read : List Micro) (text : List ℕ) → row ≡ i + 1 → read ≡ t.1.instrs
-    → i < length read → op ≡ get_or read i op → text ≡ w.op_text op → text ≡ get_or (column_of w t) row []
+pub op_cell : (w : Writing) (places : List (List ℕ)) (t : ℕ × ThreadCode) (row i : ℕ) (op : Micro) (read : List Micro) (text : List ℕ) → row ≡ i + 1 → read ≡ t.1.instrs
+    → i < length read → op ≡ get_or read i op → text ≡ (op_text w (name_in places)) op → text ≡ get_or (column_of w places t) row []
 unfolding column_of
-op_cell w t row i op read text e same h is text_is =
-    let at_i : get_or (map w.op_text read) i [] ≡ w.op_text (get_or read i op) = get_or-map w.op_text read i op [] h in
-    text_is ∙ rw (e, add-one i, ← same) (ap w.op_text is ∙ sym at_i)
+op_cell w places t row i op read text e same h is text_is =
+    let at_i : get_or (map (op_text w (name_in places)) read) i [] ≡ (op_text w (name_in places)) (get_or read i op) = get_or-map (op_text w (name_in places)) read i op [] h in
+    text_is ∙ rw (e, add-one i, ← same) (ap (op_text w (name_in places)) is ∙ sym at_i)
 
 -- nothing
-pub no_cell : (w : Writing) (t : ℕ × ThreadCode) (row i : ℕ) (read : List Micro) (text : List ℕ) → row ≡ i + 1 → read ≡ t.1.instrs
-    → length read ≤ i → text ≡ [] → text ≡ get_or (column_of w t) row []
+pub no_cell : (w : Writing) (places : List (List ℕ)) (t : ℕ × ThreadCode) (row i : ℕ) (read : List Micro) (text : List ℕ) → row ≡ i + 1 → read ≡ t.1.instrs
+    → length read ≤ i → text ≡ [] → text ≡ get_or (column_of w places t) row []
 unfolding column_of
-no_cell w t row i read text e same h text_is =
-    text_is ∙ rw (e, add-one i, ← same) (sym (get_or_past (map w.op_text read) i [] (omega (arith, length-map read w.op_text))))
+no_cell w places t row i read text e same h text_is =
+    text_is ∙ rw (e, add-one i, ← same) (sym (get_or_past (map (op_text w (name_in places)) read) i [] (omega (arith, length-map read (op_text w (name_in places))))))
 
-pub length-column_of : (w : Writing) (t : ℕ × ThreadCode) → length (column_of w t) ≡ length t.1.instrs + 1
+pub length-column_of : (w : Writing) (places : List (List ℕ)) (t : ℕ × ThreadCode) → length (column_of w places t) ≡ length t.1.instrs + 1
 unfolding column_of
-length-column_of w t = omega (arith, length-map t.1.instrs w.op_text)
+length-column_of w places places t = omega (arith, length-map t.1.instrs (op_text w (name_in places)))
 
 -- the widest text so far
 abbrev pub widest : List (List ℕ) → ℕ
@@ -75,66 +76,66 @@ pub cell_within : (column : List (List ℕ)) (row : ℕ) (cell : List ℕ) (widt
 cell_within column row cell width e f = omega (arith, within_width column row, ap length e, f)
 
 -- the column of a thread
-pub column_at : (w : Writing) (codes : List Code) (i : ℕ) (code : Code) → i < length codes → code ≡ get_or codes i code → get_or (columns_of w (map thread_of codes)) i [] ≡ column_of w (i, thread_of code)
-column_at w codes i code h is =
-    get_or-map (column_of w) (enumerate_from 0 (map thread_of codes)) i (i, thread_of code) [] (omega (arith, length-enumerate_from 0 (map thread_of codes), length-map codes thread_of))
-    ∙ ap (column_of w) (numbered_at thread_of codes i code (i, thread_of code) h ∙ ap (λ c. (i, thread_of c)) (sym is))
+pub column_at : (w : Writing) (places : List (List ℕ)) (codes : List Code) (i : ℕ) (code : Code) → i < length codes → code ≡ get_or codes i code → get_or (columns_of w places (map thread_of codes)) i [] ≡ column_of w places (i, thread_of code)
+column_at w places codes i code h is =
+    get_or-map (column_of w places) (enumerate_from 0 (map thread_of codes)) i (i, thread_of code) [] (omega (arith, length-enumerate_from 0 (map thread_of codes), length-map codes thread_of))
+    ∙ ap (column_of w places) (numbered_at thread_of codes i code (i, thread_of code) h ∙ ap (λ c. (i, thread_of c)) (sym is))
 
-longest : (w : Writing) (n count : ℕ) (threads : List Code)
-    → fold (λ count code. max count (length code.instrs.items + 1)) count threads ≡ fold (λ count column. max count (length column)) count (map (column_of w) (enumerate_from n (map thread_of threads)))
-longest w n count [] = refl
-longest w n count (code ∷ threads) =
-    ap (λ m. fold (λ count code. max count (length code.instrs.items + 1)) (max count m) threads) (sym (length-column_of w (n, thread_of code)))
-    ∙ longest w (n + 1) (max count (length (column_of w (n, thread_of code)))) threads
+longest : (w : Writing) (places : List (List ℕ)) (n count : ℕ) (threads : List Code)
+    → fold (λ count code. max count (length code.instrs.items + 1)) count threads ≡ fold (λ count column. max count (length column)) count (map (column_of w places) (enumerate_from n (map thread_of threads)))
+longest w places n count [] = refl
+longest w places n count (code ∷ threads) =
+    ap (λ m. fold (λ count code. max count (length code.instrs.items + 1)) (max count m) threads) (sym (length-column_of w places places (n, thread_of code)))
+    ∙ longest w places (n + 1) (max count (length (column_of w places (n, thread_of code)))) threads
 
 -- the rows of the longest column
-pub rows_are : (w : Writing) (codes : List Code) → fold (λ count code. max count (length code.instrs.items + 1)) 0 codes ≡ row_count (columns_of w (map thread_of codes))
+pub rows_are : (w : Writing) (places : List (List ℕ)) (codes : List Code) → fold (λ count code. max count (length code.instrs.items + 1)) 0 codes ≡ row_count (columns_of w places (map thread_of codes))
 unfolding row_count
-rows_are w codes = longest w 0 0 codes
+rows_are w places codes = longest w places 0 0 codes
 
 -- the width of a column whose texts were all seen
-pub whole_width : (w : Writing) (t : ℕ × ThreadCode) (row width : ℕ) → length t.1.instrs + 1 ≤ row
-    → width ≡ widest (take row (column_of w t)) → width ≡ width_of (column_of w t)
-whole_width w t row width h e =
-    e ∙ ap widest (take_all row (column_of w t) (omega (arith, length-column_of w t))) ∙ width_is (column_of w t)
+pub whole_width : (w : Writing) (places : List (List ℕ)) (t : ℕ × ThreadCode) (row width : ℕ) → length t.1.instrs + 1 ≤ row
+    → width ≡ widest (take row (column_of w places t)) → width ≡ width_of (column_of w places t)
+whole_width w places t row width h e =
+    e ∙ ap widest (take_all row (column_of w places t) (omega (arith, length-column_of w places places t))) ∙ width_is (column_of w places t)
 
-pub length_columns : (w : Writing) (threads : List Code) → length (columns_of w (map thread_of threads)) ≡ length threads
-length_columns w threads =
-    omega (arith, length-map (enumerate_from 0 (map thread_of threads)) (column_of w), length-enumerate_from 0 (map thread_of threads), length-map threads thread_of)
+pub length_columns : (w : Writing) (places : List (List ℕ)) (threads : List Code) → length (columns_of w places (map thread_of threads)) ≡ length threads
+length_columns w places threads =
+    omega (arith, length-map (enumerate_from 0 (map thread_of threads)) (column_of w places), length-enumerate_from 0 (map thread_of threads), length-map threads thread_of)
 
 -- one more width
-pub widths_more : (w : Writing) (threads : List Code) (i : ℕ) (code : Code) (width : ℕ) (old new : List ℕ) → i < length threads → code ≡ get_or threads i code
-    → width ≡ width_of (column_of w (i, thread_of code)) → old ≡ map width_of (take i (columns_of w (map thread_of threads))) → new ≡ old ++ width ∷ []
-    → new ≡ map width_of (take (i + 1) (columns_of w (map thread_of threads)))
-widths_more w threads i code width old new h is width_is old_is new_is =
-    let long : i < length (columns_of w (map thread_of threads)) = omega (arith, length_columns w threads) in
-    new_is ∙ ap (λ v. old ++ v ∷ []) width_is ∙ ap (λ v. v ++ width_of (column_of w (i, thread_of code)) ∷ []) old_is
-    ∙ ap (λ column. map width_of (take i (columns_of w (map thread_of threads))) ++ width_of column ∷ []) (sym (column_at w threads i code h is))
-    ∙ sym (ap (map width_of) (take_more (columns_of w (map thread_of threads)) i [] long) ∙ map-append width_of (take i (columns_of w (map thread_of threads))) (get_or (columns_of w (map thread_of threads)) i [] ∷ []))
+pub widths_more : (w : Writing) (places : List (List ℕ)) (threads : List Code) (i : ℕ) (code : Code) (width : ℕ) (old new : List ℕ) → i < length threads → code ≡ get_or threads i code
+    → width ≡ width_of (column_of w places (i, thread_of code)) → old ≡ map width_of (take i (columns_of w places (map thread_of threads))) → new ≡ old ++ width ∷ []
+    → new ≡ map width_of (take (i + 1) (columns_of w places (map thread_of threads)))
+widths_more w places threads i code width old new h is width_is old_is new_is =
+    let long : i < length (columns_of w places (map thread_of threads)) = omega (arith, length_columns w places threads) in
+    new_is ∙ ap (λ v. old ++ v ∷ []) width_is ∙ ap (λ v. v ++ width_of (column_of w places (i, thread_of code)) ∷ []) old_is
+    ∙ ap (λ column. map width_of (take i (columns_of w places (map thread_of threads))) ++ width_of column ∷ []) (sym (column_at w places threads i code h is))
+    ∙ sym (ap (map width_of) (take_more (columns_of w places (map thread_of threads)) i [] long) ∙ map-append width_of (take i (columns_of w places (map thread_of threads))) (get_or (columns_of w places (map thread_of threads)) i [] ∷ []))
 
 -- all widths
-pub widths_whole : (w : Writing) (threads : List Code) (i : ℕ) (widths : List ℕ) → length threads ≤ i
-    → widths ≡ map width_of (take i (columns_of w (map thread_of threads))) → widths ≡ map width_of (columns_of w (map thread_of threads))
-widths_whole w threads i widths h e =
-    e ∙ ap (map width_of) (take_all i (columns_of w (map thread_of threads)) (omega (arith, length_columns w threads)))
+pub widths_whole : (w : Writing) (places : List (List ℕ)) (threads : List Code) (i : ℕ) (widths : List ℕ) → length threads ≤ i
+    → widths ≡ map width_of (take i (columns_of w places (map thread_of threads))) → widths ≡ map width_of (columns_of w places (map thread_of threads))
+widths_whole w places threads i widths h e =
+    e ∙ ap (map width_of) (take_all i (columns_of w places (map thread_of threads)) (omega (arith, length_columns w places threads)))
 
 -- as many widths as threads
-pub widths_long : (w : Writing) (threads : List Code) (widths : List ℕ) → widths ≡ map width_of (columns_of w (map thread_of threads)) → length widths ≡ length threads
-widths_long w threads widths e = ap length e ∙ length-map (columns_of w (map thread_of threads)) width_of ∙ length_columns w threads
+pub widths_long : (w : Writing) (places : List (List ℕ)) (threads : List Code) (widths : List ℕ) → widths ≡ map width_of (columns_of w places (map thread_of threads)) → length widths ≡ length threads
+widths_long w places threads widths e = ap length e ∙ length-map (columns_of w places (map thread_of threads)) width_of ∙ length_columns w places threads
 
 -- the width of a thread's column
-pub width_at : (w : Writing) (threads : List Code) (i : ℕ) (code : Code) (widths : List ℕ) (d : ℕ) → i < length threads → code ≡ get_or threads i code
-    → widths ≡ map width_of (columns_of w (map thread_of threads)) → get_or widths i d ≡ width_of (column_of w (i, thread_of code))
-width_at w threads i code widths d h is e =
-    let long : i < length (columns_of w (map thread_of threads)) = omega (arith, length_columns w threads) in
-    ap (λ widths. get_or widths i d) e ∙ get_or-map width_of (columns_of w (map thread_of threads)) i [] d long ∙ ap width_of (column_at w threads i code h is)
+pub width_at : (w : Writing) (places : List (List ℕ)) (threads : List Code) (i : ℕ) (code : Code) (widths : List ℕ) (d : ℕ) → i < length threads → code ≡ get_or threads i code
+    → widths ≡ map width_of (columns_of w places (map thread_of threads)) → get_or widths i d ≡ width_of (column_of w places (i, thread_of code))
+width_at w places threads i code widths d h is e =
+    let long : i < length (columns_of w places (map thread_of threads)) = omega (arith, length_columns w places threads) in
+    ap (λ widths. get_or widths i d) e ∙ get_or-map width_of (columns_of w places (map thread_of threads)) i [] d long ∙ ap width_of (column_at w places threads i code h is)
 
 -- what is written of a cell
-pub cell_is : (w : Writing) (threads : List Code) (row i : ℕ) (code : Code) (cell : List ℕ) (width : ℕ) → i < length threads → code ≡ get_or threads i code
-    → cell ≡ get_or (column_of w (i, thread_of code)) row [] → width ≡ width_of (column_of w (i, thread_of code))
-    → cell ++ replicate (width - length cell) 32 ≡ cell_text row (get_or (columns_of w (map thread_of threads)) i [])
+pub cell_is : (w : Writing) (places : List (List ℕ)) (threads : List Code) (row i : ℕ) (code : Code) (cell : List ℕ) (width : ℕ) → i < length threads → code ≡ get_or threads i code
+    → cell ≡ get_or (column_of w places (i, thread_of code)) row [] → width ≡ width_of (column_of w places (i, thread_of code))
+    → cell ++ replicate (width - length cell) 32 ≡ cell_text row (get_or (columns_of w places (map thread_of threads)) i [])
 unfolding cell_text
-cell_is w threads row i code cell width h is e f = rw (column_at w threads i code h is, e, f) refl
+cell_is w places threads row i code cell width h is e f = rw (column_at w places threads i code h is, e, f) refl
 
 -- a row, as it is written
 pub row_is : (columns : List (List (List ℕ))) (row : ℕ) → codes " " ++ (join_by (cell_text row) (codes " | ") columns ++ codes " ;\n") ≡ ended (row_line columns row)
@@ -145,12 +146,12 @@ row_is columns row = ap (λ rest. 32 ∷ rest) (sym (append_assoc (join_by (cell
 abbrev pub written_row : List (List (List ℕ)) → ℕ → List ℕ
 written_row columns row = ended (row_line columns row)
 
-pub table_is : (w : Writing) (threads : List Code) (rows : ℕ) → rows ≡ fold (λ count code. max count (length code.instrs.items + 1)) 0 threads
-    → flat_map (written_row (columns_of w (map thread_of threads))) (range_with_len 0 rows) ≡ flat_map ended (table_lines (columns_of w (map thread_of threads)))
+pub table_is : (w : Writing) (places : List (List ℕ)) (threads : List Code) (rows : ℕ) → rows ≡ fold (λ count code. max count (length code.instrs.items + 1)) 0 threads
+    → flat_map (written_row (columns_of w places (map thread_of threads))) (range_with_len 0 rows) ≡ flat_map ended (table_lines (columns_of w places (map thread_of threads)))
 unfolding table_lines
-table_is w threads rows e =
-    ap (λ n. flat_map (written_row (columns_of w (map thread_of threads))) (range_with_len 0 n)) (e ∙ rows_are w threads)
-    ∙ sym (flat_map-map ended (row_line (columns_of w (map thread_of threads))) (range_with_len 0 (row_count (columns_of w (map thread_of threads)))))
+table_is w places threads rows e =
+    ap (λ n. flat_map (written_row (columns_of w places (map thread_of threads))) (range_with_len 0 n)) (e ∙ rows_are w places threads)
+    ∙ sym (flat_map-map ended (row_line (columns_of w places (map thread_of threads))) (range_with_len 0 (row_count (columns_of w places (map thread_of threads)))))
 
 range_at : (n i d : ℕ) → i < n → get_or (range_with_len 0 n) i d ≡ i
 range_at n i d h = get_or-range_with_len 0 n i d h ∙ zero-add i

@@ -8,19 +8,10 @@ use Rattle.relax_edges.specs.declared.kinds.ArchName.{ArchName}
 use Rattle.relax_edges.specs.declared.edge.Edge.{Edge}
 use Rattle.relax_edges.specs.Architectures.{arch_word}
 use Rattle.relax_edges.specs.Words.{word_of}
-use Rattle.micro_ops.specs.declared.operation.Micro.{Micro}
 use Rattle.arch_trait.specs.Threads.{ThreadCode}
+use Rattle.arch_trait.specs.Writing.{Writing, op_text, name_in}
 use Rattle.final_cond.specs.Conditions.{CondSeen}
 use Rattle.final_cond.specs.CondText.{cond_text}
-
--- how an architecture writes operations, where the places have their names, and registers
-pub record Writing : Type 0 where
-  pub arch : ArchName
-  pub op_text : Micro → List ℕ
-  pub register_text : ℕ → List ℕ
-
-abbrev pub writing : ArchName → (Micro → List ℕ) → (ℕ → List ℕ) → Writing
-writing arch op_text register_text = record { arch = arch; op_text = op_text; register_text = register_text }
 
 -- what the text of a test shows of it
 pub record TestSeen : Type 0 where
@@ -40,7 +31,7 @@ edges_line edges = codes "\"" ++ (join_by word_of (codes " ") edges ++ codes "\"
 -- `T:REG=PLACE;` for an address register of thread T
 unfoldable pub item_text : Writing → List (List ℕ) → ℕ → ℕ × ℕ → List ℕ
 item_text w places thread link =
-    decimal thread ++ codes ":" ++ w.register_text link.0 ++ codes "=" ++ slice_index_or places link.1 [] ++ codes ";"
+    decimal thread ++ codes ":" ++ name_in w.registers link.0 ++ codes "=" ++ name_in places link.1 ++ codes ";"
 
 -- one line of items for a thread that has address registers
 abbrev pub items_lines : Writing → List (List ℕ) → ℕ → List (ℕ × ℕ) → List (List ℕ)
@@ -53,12 +44,12 @@ initial_lines w places threads =
     codes "{" ∷ (flat_map (λ t. items_lines w places t.0 t.1.links) (enumerate_from 0 threads) ++ codes "}" ∷ [])
 
 -- the texts of a thread's column: `P` and the number of the thread, then its operations
-unfoldable pub column_of : Writing → ℕ × ThreadCode → List (List ℕ)
-column_of w t = (codes "P" ++ decimal t.0) ∷ map w.op_text t.1.instrs
+unfoldable pub column_of : Writing → List (List ℕ) → ℕ × ThreadCode → List (List ℕ)
+column_of w places t = (codes "P" ++ decimal t.0) ∷ map (op_text w (name_in places)) t.1.instrs
 
 -- the columns of all threads
-abbrev pub columns_of : Writing → List ThreadCode → List (List (List ℕ))
-columns_of w threads = map (column_of w) (enumerate_from 0 threads)
+abbrev pub columns_of : Writing → List (List ℕ) → List ThreadCode → List (List (List ℕ))
+columns_of w places threads = map (column_of w places) (enumerate_from 0 threads)
 
 -- a column is as wide as its longest text
 unfoldable pub width_of : List (List ℕ) → ℕ
@@ -82,15 +73,15 @@ unfoldable pub table_lines : List (List (List ℕ)) → List (List ℕ)
 table_lines columns = map (row_line columns) (range_with_len 0 (row_count columns))
 
 -- the lines of the text of a test
-unfoldable pub test_lines : Writing → List ℕ → TestSeen → List (List ℕ)
-test_lines w name test =
-    header_line w.arch name ∷ edges_line test.edges ∷ (initial_lines w test.places test.threads
-    ++ (table_lines (columns_of w test.threads) ++ cond_text test.cond ∷ []))
+unfoldable pub test_lines : ArchName → Writing → List ℕ → TestSeen → List (List ℕ)
+test_lines arch w name test =
+    header_line arch name ∷ edges_line test.edges ∷ (initial_lines w test.places test.threads
+    ++ (table_lines (columns_of w test.places test.threads) ++ cond_text test.cond ∷ []))
 
 -- a line with its line feed
 abbrev pub ended : List ℕ → List ℕ
 ended line = line ++ codes "\n"
 
 -- the text of a test under a name
-unfoldable pub test_text : Writing → List ℕ → TestSeen → List ℕ
-test_text w name test = flat_map ended (test_lines w name test)
+unfoldable pub test_text : ArchName → Writing → List ℕ → TestSeen → List ℕ
+test_text arch w name test = flat_map ended (test_lines arch w name test)

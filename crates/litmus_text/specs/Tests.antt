@@ -3,20 +3,12 @@
 use Rattle.std.specs.Prelude.{◌≡◌, ℕ, Bool, true, List, map, length, nat_lt}
 use Rattle.std.specs.List.{list_all, All}
 use Rattle.micro_ops.specs.declared.operation.Micro.{Micro}
-use Rattle.arch_trait.specs.Threads.{ThreadCode}
-use Rattle.arch_trait.specs.Written.{is_within}
+use Rattle.arch_trait.specs.Codes.{thread_of}
+use Rattle.arch_trait.specs.Writing.{place_below, label_below}
 use Rattle.arch_trait.specs.declared.code.Code.{Code}
 use Rattle.final_cond.specs.Conditions.{cond_view}
 use Rattle.litmus_text.specs.declared.test.Test.{Test}
 use Rattle.litmus_text.specs.TestText.{TestSeen}
-
--- the code of a thread
-abbrev pub thread_of : Code → ThreadCode
-thread_of code = record {
-  instrs = code.instrs.items;
-  links = code.links.items;
-  loads = code.loads.items;
-}
 
 -- what the text of a test shows of it
 abbrev pub test_seen : Test → TestSeen
@@ -32,6 +24,7 @@ test_seen test = record {
 -- that have names
 pub record IsPrintable (is_of : Micro → Bool) (register_count place_count : ℕ) (code : Code) : Type 0 where
   pub has : list_all is_of code.instrs.items ≡ true
-  pub within : list_all (is_within place_count) code.instrs.items ≡ true
-  pub registers : list_all (λ link. nat_lt link.0 register_count) code.links.items ≡ true
-  pub places : list_all (λ link. nat_lt link.1 place_count) code.links.items ≡ true
+  pub op_places : list_all (place_below place_count) code.instrs.items ≡ true
+  pub op_labels : list_all (label_below 64) code.instrs.items ≡ true
+  pub link_registers : list_all (λ link. nat_lt link.0 register_count) code.links.items ≡ true
+  pub link_places : list_all (λ link. nat_lt link.1 place_count) code.links.items ≡ true

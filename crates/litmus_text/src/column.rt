@@ -1,15 +1,16 @@
 ghost use Rattle.std.specs.Prelude.{◌≡◌, ◌≤◌, ◌+◌, [], map, length, max, slice_index_or};
 ghost use Rattle.std.specs.List.{All, fold};
-ghost use Rattle.litmus_text.specs.TestText.{writing, column_of, columns_of, width_of};
-ghost use Rattle.litmus_text.specs.Tests.{IsPrintable, thread_of};
+ghost use Rattle.litmus_text.specs.TestText.{column_of, columns_of, width_of};
+ghost use Rattle.litmus_text.specs.Tests.{IsPrintable};
+ghost use Rattle.arch_trait.specs.Codes.{thread_of};
 
-use arch_trait::{Arch, Code, Places};
+use arch_trait::{Arch, Code, MAX_TEXT, Places};
 use arrayvec::{ArrayString, ArrayVec};
 use itoa::Buffer;
 use relax_edges::MAX_EDGES;
 
-/// The text of one cell: an instruction has at most 40 bytes.
-pub(crate) type Cell = ArrayString<40>;
+/// The text of one cell.
+pub(crate) type Cell = ArrayString<MAX_TEXT>;
 
 /// Makes `cell` the text of a thread's column in a row: its header, an instruction, or nothing.
 pub(crate) fn set_cell<A: Arch>(
@@ -20,7 +21,7 @@ pub(crate) fn set_cell<A: Arch>(
     cell: &mut Cell,
 )
     requires { IsPrintable A.puts.has A.REGISTERS (length places.now) code.now }
-    ensures { cell.new.bytes ≡ slice_index_or (column_of (writing A.NAME (A.op_text places.now) A.register_text) (thread, thread_of code.now)) row [] }
+    ensures { cell.new.bytes ≡ slice_index_or (column_of A.writing places.now (thread, thread_of code.now)) row [] }
 {
     cell.clear();
     if row == 0 {
@@ -34,8 +35,8 @@ pub(crate) fn set_cell<A: Arch>(
 /// The width of a thread's column.
 pub(crate) fn width_of<A: Arch>(thread: usize, code: &Code, places: &Places) -> usize
     requires { IsPrintable A.puts.has A.REGISTERS (length places.now) code.now }
-    ensures width { result ≡ width_of (column_of (writing A.NAME (A.op_text places.now) A.register_text) (thread, thread_of code.now)) }
-    ensures short { result ≤ 40 }
+    ensures width { result ≡ width_of (column_of A.writing places.now (thread, thread_of code.now)) }
+    ensures short { result ≤ MAX_TEXT }
 {
     let mut cell = Cell::new();
     let mut width = 0;
@@ -50,8 +51,8 @@ pub(crate) fn width_of<A: Arch>(thread: usize, code: &Code, places: &Places) -> 
 pub(crate) fn widths_of<A: Arch>(threads: &[Code], places: &Places) -> ArrayVec<usize, MAX_EDGES>
     requires printable { All (λ code. IsPrintable A.puts.has A.REGISTERS (length places.now) code) threads.now }
     requires few { length threads.now ≤ MAX_EDGES }
-    ensures widths { result.items ≡ map width_of (columns_of (writing A.NAME (A.op_text places.now) A.register_text) (map thread_of threads.now)) }
-    ensures short { All (λ width. width ≤ 40) result.items }
+    ensures widths { result.items ≡ map width_of (columns_of A.writing places.now (map thread_of threads.now)) }
+    ensures short { All (λ width. width ≤ MAX_TEXT) result.items }
 {
     let mut widths = ArrayVec::new();
     for (thread, code) in threads.iter().enumerate() {

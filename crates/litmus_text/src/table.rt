@@ -1,18 +1,19 @@
 ghost use Rattle.std.specs.Prelude.{◌≡◌, ◌≤◌, ◌-◌, ◌++◌, map, length, codes};
 ghost use Rattle.std.proofs.Math.ListN.{replicate};
 ghost use Rattle.std.specs.List.{All, flat_map, join_by};
-ghost use Rattle.litmus_text.specs.TestText.{writing, column_of, columns_of, width_of, cell_text, row_line, table_lines, ended};
-ghost use Rattle.litmus_text.specs.Tests.{IsPrintable, thread_of};
+ghost use Rattle.litmus_text.specs.TestText.{column_of, columns_of, width_of, cell_text, row_line, table_lines, ended};
+ghost use Rattle.litmus_text.specs.Tests.{IsPrintable};
+ghost use Rattle.arch_trait.specs.Codes.{thread_of};
 ghost use Rattle.litmus_text.specs.Wrote.{Wrote, sink_seen, separator_at};
 
-use arch_trait::{Arch, Code, Places};
+use arch_trait::{Arch, Code, MAX_TEXT, Places};
 use diy_io::{Failed, Sink};
 use relax_edges::MAX_EDGES;
 
 use crate::column::{Cell, row_count, set_cell, widths_of};
 use crate::write::{separator, write, write_three};
 
-const BLANKS: [u8; 40] = [b' '; 40];
+const BLANKS: [u8; MAX_TEXT] = [b' '; MAX_TEXT];
 
 pub(crate) fn print_table<A: Arch, O: Sink>(
     threads: &[Code],
@@ -21,7 +22,7 @@ pub(crate) fn print_table<A: Arch, O: Sink>(
 ) -> Result<(), Failed>
     requires printable { All (λ code. IsPrintable A.puts.has A.REGISTERS (length places.now) code) threads.now }
     requires few { length threads.now ≤ MAX_EDGES }
-    ensures { Wrote (sink_seen (O.told out.old) (O.faults out.old)) (sink_seen (O.told out.new) (O.faults out.new)) (flat_map ended (table_lines (columns_of (writing A.NAME (A.op_text places.now) A.register_text) (map thread_of threads.now)))) result }
+    ensures { Wrote (sink_seen (O.told out.old) (O.faults out.old)) (sink_seen (O.told out.new) (O.faults out.new)) (flat_map ended (table_lines (columns_of A.writing places.now (map thread_of threads.now)))) result }
 {
     let widths = widths_of::<A>(threads, places);
     for row in 0..row_count(threads) {
@@ -38,9 +39,9 @@ fn print_row<A: Arch, O: Sink>(
     out: &mut O,
 ) -> Result<(), Failed>
     requires printable { All (λ code. IsPrintable A.puts.has A.REGISTERS (length places.now) code) threads.now }
-    requires widths { widths.now ≡ map width_of (columns_of (writing A.NAME (A.op_text places.now) A.register_text) (map thread_of threads.now)) }
-    requires short { All (λ width. width ≤ 40) widths.now }
-    ensures { Wrote (sink_seen (O.told out.old) (O.faults out.old)) (sink_seen (O.told out.new) (O.faults out.new)) (ended (row_line (columns_of (writing A.NAME (A.op_text places.now) A.register_text) (map thread_of threads.now)) row)) result }
+    requires widths { widths.now ≡ map width_of (columns_of A.writing places.now (map thread_of threads.now)) }
+    requires short { All (λ width. width ≤ MAX_TEXT) widths.now }
+    ensures { Wrote (sink_seen (O.told out.old) (O.faults out.old)) (sink_seen (O.told out.new) (O.faults out.new)) (ended (row_line (columns_of A.writing places.now (map thread_of threads.now)) row)) result }
 {
     write(out, b" ")?;
     print_cells::<A, O>(row, threads, widths, places, out)?;
@@ -55,9 +56,9 @@ fn print_cells<A: Arch, O: Sink>(
     out: &mut O,
 ) -> Result<(), Failed>
     requires printable { All (λ code. IsPrintable A.puts.has A.REGISTERS (length places.now) code) threads.now }
-    requires widths { widths.now ≡ map width_of (columns_of (writing A.NAME (A.op_text places.now) A.register_text) (map thread_of threads.now)) }
-    requires short { All (λ width. width ≤ 40) widths.now }
-    ensures { Wrote (sink_seen (O.told out.old) (O.faults out.old)) (sink_seen (O.told out.new) (O.faults out.new)) (join_by (cell_text row) (codes " | ") (columns_of (writing A.NAME (A.op_text places.now) A.register_text) (map thread_of threads.now))) result }
+    requires widths { widths.now ≡ map width_of (columns_of A.writing places.now (map thread_of threads.now)) }
+    requires short { All (λ width. width ≤ MAX_TEXT) widths.now }
+    ensures { Wrote (sink_seen (O.told out.old) (O.faults out.old)) (sink_seen (O.told out.new) (O.faults out.new)) (join_by (cell_text row) (codes " | ") (columns_of A.writing places.now (map thread_of threads.now))) result }
 {
     let mut cell = Cell::new();
     for (thread, code) in threads.iter().enumerate() {
@@ -69,7 +70,7 @@ fn print_cells<A: Arch, O: Sink>(
 
 fn print_cell<O: Sink>(i: usize, cell: &[u8], width: usize, out: &mut O) -> Result<(), Failed>
     requires within { length cell.now ≤ width }
-    requires short { width ≤ 40 }
+    requires short { width ≤ MAX_TEXT }
     ensures { Wrote (sink_seen (O.told out.old) (O.faults out.old)) (sink_seen (O.told out.new) (O.faults out.new)) (separator_at (codes " | ") i ++ (cell.now ++ replicate (width - length cell.now) 32)) result }
 {
     write_three(out, separator(i, b" | "), cell, &BLANKS[..width - cell.len()])

@@ -1,5 +1,5 @@
 use Rattle.std.proofs.Common.{◌≡◌, ◌++◌, ◌∙◌, codes, refl}
-use Rattle.litmus_text.specs.TestText.{writing, item_text}
+use Rattle.litmus_text.specs.TestText.{item_text}
 use Rattle.litmus_text.specs.Wrote.{separator_at}
 use Rattle.litmus_text.proofs.InitialLaws.{item_built}
 use Rattle.litmus_text.proofs.WroteLaws.{wrote_same}
@@ -7,7 +7,7 @@ use Rattle.litmus_text.proofs.initial.print_item.Goals as goal
 
 pub returns : goal.returns
 returns g c =
-    let w = (writing g.A.Arch.NAME (g.A.Arch.op_text c.args.places.now) g.A.Arch.register_text) in
+    let w = g.A.Arch.writing in
     let built =
         item_built w c.args.places.now c.args.thread c.args.link _ _ _ _ _ _ _ _ _ _ c.new-item.ensures
         c.push_str.ensures.bytes c.push_str-2.ensures.bytes c.push_str-3.ensures.bytes c.push_str-4.ensures.bytes c.push_str-5.ensures.bytes c.push_str-6.ensures.bytes
