@@ -1,7 +1,7 @@
 -- Facts about one element of a list.
-use Rattle.std.proofs.Common.{◌≡◌, ◌≤◌, ◌∷◌, ◌++◌, [], ◌<◌, ℕ, true, List, length, map, get_or, zero, suc, subst, refl, sym, ap, ◌∙◌, arith, zero-add}
-use Rattle.std.specs.Prelude.{Bool, nat_lt, slice_index_or}
-use Rattle.std.specs.List.{list_all, enumerate_from, flat_map, All}
+use Rattle.std.proofs.Common.{◌≡◌, ◌≤◌, ◌∷◌, ◌++◌, [], ◌<◌, ℕ, true, List, length, map, get_or, zero, suc, subst, sym, arith, zero-add}
+use Rattle.std.specs.Prelude.{Bool, nat_lt}
+use Rattle.std.specs.List.{list_all, enumerate_from, All}
 use Rattle.std.proofs.lemmas.List.{get_or-map, length-map}
 use Rattle.std.proofs.lemmas.List.Elements.{All-append}
 use Rattle.std.proofs.lemmas.List.Sums.{AllPass-from_list_all}

@@ -3,3 +3,4 @@ pub mod WroteLaws
 pub mod ElementLaws
 pub mod InitialLaws
 pub mod TableLaws
+pub mod PartLaws

@@ -1,5 +1,5 @@
 -- The columns and rows of the table.
-use Rattle.std.proofs.Common.{◌≡◌, ◌≢◌, ◌≤◌, ◌<◌, ◌+◌, ◌-◌, ℕ, zero, suc, List, [], ◌∷◌, ◌++◌, length, map, take, drop, get_or, max, fold, zero-add, Ok, add-one, inl, inr, refl, sym, ap, ◌∙◌, subst, arith, append_assoc, append-nil}
+use Rattle.std.proofs.Common.{◌≡◌, ◌≤◌, ◌<◌, ◌+◌, ◌-◌, ℕ, zero, suc, List, [], ◌∷◌, ◌++◌, length, map, take, get_or, max, fold, zero-add, Ok, add-one, inl, inr, refl, sym, ap, ◌∙◌, subst, arith, append_assoc}
 use Rattle.std.specs.Prelude.{codes}
 use Rattle.std.specs.List.{flat_map, join_by, enumerate_from, range_with_len}
 use Rattle.std.specs.Fmt.{decimal}
@@ -44,7 +44,7 @@ no_cell w places t row i read text e same h text_is =
 
 pub length-column_of : (w : Writing) (places : List (List ℕ)) (t : ℕ × ThreadCode) → length (column_of w places t) ≡ length t.1.instrs + 1
 unfolding column_of
-length-column_of w places places t = omega (arith, length-map t.1.instrs (op_text w (name_in places)))
+length-column_of w places t = omega (arith, length-map t.1.instrs (op_text w (name_in places)))
 
 -- the widest text so far
 abbrev pub widest : List (List ℕ) → ℕ
@@ -85,7 +85,7 @@ longest : (w : Writing) (places : List (List ℕ)) (n count : ℕ) (threads : Li
     → fold (λ count code. max count (length code.instrs.items + 1)) count threads ≡ fold (λ count column. max count (length column)) count (map (column_of w places) (enumerate_from n (map thread_of threads)))
 longest w places n count [] = refl
 longest w places n count (code ∷ threads) =
-    ap (λ m. fold (λ count code. max count (length code.instrs.items + 1)) (max count m) threads) (sym (length-column_of w places places (n, thread_of code)))
+    ap (λ m. fold (λ count code. max count (length code.instrs.items + 1)) (max count m) threads) (sym (length-column_of w places (n, thread_of code)))
     ∙ longest w places (n + 1) (max count (length (column_of w places (n, thread_of code)))) threads
 
 -- the rows of the longest column
@@ -97,7 +97,7 @@ rows_are w places codes = longest w places 0 0 codes
 pub whole_width : (w : Writing) (places : List (List ℕ)) (t : ℕ × ThreadCode) (row width : ℕ) → length t.1.instrs + 1 ≤ row
     → width ≡ widest (take row (column_of w places t)) → width ≡ width_of (column_of w places t)
 whole_width w places t row width h e =
-    e ∙ ap widest (take_all row (column_of w places t) (omega (arith, length-column_of w places places t))) ∙ width_is (column_of w places t)
+    e ∙ ap widest (take_all row (column_of w places t) (omega (arith, length-column_of w places t))) ∙ width_is (column_of w places t)
 
 pub length_columns : (w : Writing) (places : List (List ℕ)) (threads : List Code) → length (columns_of w places (map thread_of threads)) ≡ length threads
 length_columns w places threads =

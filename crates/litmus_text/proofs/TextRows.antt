@@ -1,5 +1,5 @@
 -- Texts of tests, computed.
-use Rattle.std.proofs.Common.{◌≡◌, ℕ, List, [], ◌∷◌, ◌++◌, Some, None, refl, get_or}
+use Rattle.std.proofs.Common.{◌≡◌, ℕ, List, [], ◌∷◌, ◌++◌, Some, None, refl}
 use Rattle.std.specs.Prelude.{codes}
 use Rattle.std.specs.List.{flat_map}
 use Rattle.std.specs.Fmt.{decimal, digits}
@@ -15,43 +15,39 @@ use Rattle.micro_ops.specs.declared.operation.Micro.{Micro}
 use Rattle.micro_ops.specs.declared.operation.Micro.TheVariants as ops
 use Rattle.micro_ops.specs.declared.operation.Barrier.TheVariants.{Fence}
 use Rattle.arch_trait.specs.Threads.{ThreadCode}
+use Rattle.arch_trait.specs.Writing.{Writing, Written, none, two, three, bracketed, name_in}
 use Rattle.final_cond.specs.declared.cond.Quantifier.TheVariants.{Exists}
 use Rattle.final_cond.specs.Conditions.{LeftSeen, InRegister, AtPlace, TermSeen, CondSeen}
 use Rattle.final_cond.specs.CondText.{left_text, term_text, cond_text}
-use Rattle.litmus_text.specs.TestText.{Writing, TestSeen, header_line, edges_line, item_text, initial_lines, column_of, width_of, cell_text, row_line, row_count, table_lines, test_lines, test_text}
+use Rattle.litmus_text.specs.TestText.{TestSeen, header_line, edges_line, item_text, initial_lines, column_of, width_of, cell_text, row_line, row_count, table_lines, test_lines, test_text}
 
-x_and_y : List (List ℕ)
-unfolding digits
-x_and_y = codes "x" ∷ codes "y" ∷ []
+x86_registers : List (List ℕ)
+x86_registers = codes "EAX" ∷ codes "EBX" ∷ []
 
-place_text : ℕ → List ℕ
-place_text place = get_or (codes "x" ∷ codes "y" ∷ []) place []
-
-x86_register : ℕ → List ℕ
-x86_register r = get_or (codes "EAX" ∷ codes "EBX" ∷ []) r []
-
-x86_op : Micro → List ℕ
-x86_op (ops.LoadAt dst place) = codes "MOV " ++ x86_register dst ++ codes ",[" ++ place_text place ++ codes "]"
-x86_op (ops.StoreAt place n) = codes "MOV [" ++ place_text place ++ codes "],$" ++ decimal n
-x86_op _ = []
+x86_written : (ℕ → List ℕ) → Micro → Written
+x86_written names (ops.LoadAt dst p) = record { word = codes "MOV"; operands = two (name_in x86_registers dst) (bracketed (names p)) }
+x86_written names (ops.StoreAt p n) = record { word = codes "MOV"; operands = two (bracketed (names p)) (codes "$" ++ decimal n) }
+x86_written names _ = record { word = []; operands = none }
 
 x86 : Writing
-x86 = record { arch = X86; op_text = x86_op; register_text = x86_register }
+x86 = record { written = x86_written; raw = λ _. None; registers = x86_registers }
 
-ppc_register : ℕ → List ℕ
-ppc_register r = codes "r" ++ decimal r
+ppc_registers : List (List ℕ)
+ppc_registers = codes "r1" ∷ codes "r2" ∷ codes "r3" ∷ codes "r4" ∷ codes "r5" ∷ []
 
-ppc_op : Micro → List ℕ
-ppc_op (ops.Imm dst n) = codes "li " ++ ppc_register dst ++ codes "," ++ decimal n
-ppc_op (ops.Store src base None) = codes "stw " ++ ppc_register src ++ codes ",0(" ++ ppc_register base ++ codes ")"
-ppc_op (ops.Load dst base None) = codes "lwz " ++ ppc_register dst ++ codes ",0(" ++ ppc_register base ++ codes ")"
-ppc_op (ops.Load dst base (Some i)) = codes "lwzx " ++ ppc_register dst ++ codes "," ++ ppc_register i ++ codes "," ++ ppc_register base
-ppc_op (ops.Xor dst a b) = codes "xor " ++ ppc_register dst ++ codes "," ++ ppc_register a ++ codes "," ++ ppc_register b
-ppc_op (ops.Barrier _) = codes "lwsync"
-ppc_op _ = []
+r : ℕ → List ℕ
+r n = name_in ppc_registers n
+
+ppc_written : (ℕ → List ℕ) → Micro → Written
+ppc_written names (ops.Imm dst n) = record { word = codes "li"; operands = two (r dst) (decimal n) }
+ppc_written names (ops.Store src base None) = record { word = codes "stw"; operands = two (r src) (codes "0(" ++ r base ++ codes ")") }
+ppc_written names (ops.Load dst base None) = record { word = codes "lwz"; operands = two (r dst) (codes "0(" ++ r base ++ codes ")") }
+ppc_written names (ops.Load dst base (Some i)) = record { word = codes "lwzx"; operands = three (r dst) (r i) (r base) }
+ppc_written names (ops.Xor dst a b) = record { word = codes "xor"; operands = three (r dst) (r a) (r b) }
+ppc_written names _ = record { word = codes "lwsync"; operands = none }
 
 ppc : Writing
-ppc = record { arch = PPC; op_text = ppc_op; register_text = ppc_register }
+ppc = record { written = ppc_written; raw = λ _. None; registers = ppc_registers }
 
 thread : List Micro → List (ℕ × ℕ) → ThreadCode
 thread instrs links = record { instrs = instrs; links = links; loads = [] }
@@ -61,9 +57,6 @@ term left value = record { left = left; value = value }
 
 exists : List TermSeen → CondSeen
 exists terms = record { quantifier = Exists; terms = terms }
-
-test : TestSeen → TestSeen
-test t = t
 
 sb : TestSeen
 sb = record {
@@ -90,8 +83,8 @@ mp = record {
   edges = edges.Fenced LwSync Diff dirs.W dirs.W ∷ edges.Com Rf External ∷ edges.Dep Addr Diff dirs.R ∷ edges.Com Fr External ∷ [];
   places = codes "x" ∷ codes "y" ∷ [];
   threads =
-      thread (ops.Imm 1 1 ∷ ops.Store 1 2 None ∷ ops.Barrier (Fence LwSync) ∷ ops.Imm 3 1 ∷ ops.Store 3 4 None ∷ []) ((2, 0) ∷ (4, 1) ∷ [])
-      ∷ thread (ops.Load 1 2 None ∷ ops.Xor 3 1 1 ∷ ops.Load 4 5 (Some 3) ∷ []) ((2, 1) ∷ (5, 0) ∷ []) ∷ [];
+      thread (ops.Imm 0 1 ∷ ops.Store 0 1 None ∷ ops.Barrier (Fence LwSync) ∷ ops.Imm 2 1 ∷ ops.Store 2 3 None ∷ []) ((1, 0) ∷ (3, 1) ∷ [])
+      ∷ thread (ops.Load 0 1 None ∷ ops.Xor 2 0 0 ∷ ops.Load 3 4 (Some 2) ∷ []) ((1, 1) ∷ (4, 0) ∷ []) ∷ [];
   cond = exists (term (InRegister 1 (codes "r1")) 1 ∷ term (InRegister 1 (codes "r4")) 0 ∷ []);
 }
 
@@ -99,7 +92,7 @@ lines : List (List ℕ) → List ℕ
 lines ls = flat_map (λ line. line ++ codes "\n") ls
 
 -- the store buffering test of X86
-sb_text : test_text x86 (codes "SB") sb ≡ lines
+sb_text : test_text X86 x86 (codes "SB") sb ≡ lines
     (codes "X86 SB"
     ∷ codes "\"PodWR Fre PodWR Fre\""
     ∷ codes "{"
@@ -108,11 +101,11 @@ sb_text : test_text x86 (codes "SB") sb ≡ lines
     ∷ codes " MOV [x],$1  | MOV [y],$1  ;"
     ∷ codes " MOV EAX,[y] | MOV EAX,[x] ;"
     ∷ codes "exists (0:EAX=0 /\\ 1:EAX=0)" ∷ [])
-unfolding test_text test_lines table_lines row_count row_line cell_text width_of column_of initial_lines item_text edges_line header_line cond_text term_text left_text digits x86 x86_op x86_register place_text sb exists term thread lines
+unfolding test_text test_lines table_lines row_count row_line cell_text width_of column_of initial_lines item_text edges_line header_line cond_text term_text left_text digits x86 x86_written x86_registers sb exists term thread lines
 sb_text = refl
 
 -- two threads that write two locations in opposite order
-two_writes_text : test_text x86 (codes "2+2W") two_writes ≡ lines
+two_writes_text : test_text X86 x86 (codes "2+2W") two_writes ≡ lines
     (codes "X86 2+2W"
     ∷ codes "\"PodWW Wse PodWW Wse\""
     ∷ codes "{"
@@ -121,11 +114,11 @@ two_writes_text : test_text x86 (codes "2+2W") two_writes ≡ lines
     ∷ codes " MOV [x],$2 | MOV [y],$2 ;"
     ∷ codes " MOV [y],$1 | MOV [x],$1 ;"
     ∷ codes "exists ([x]=2 /\\ [y]=2)" ∷ [])
-unfolding test_text test_lines table_lines row_count row_line cell_text width_of column_of initial_lines item_text edges_line header_line cond_text term_text left_text digits x86 x86_op x86_register place_text two_writes exists term thread lines
+unfolding test_text test_lines table_lines row_count row_line cell_text width_of column_of initial_lines item_text edges_line header_line cond_text term_text left_text digits x86 x86_written x86_registers two_writes exists term thread lines
 two_writes_text = refl
 
 -- message passing on PPC, with address registers and threads of unequal length
-mp_text : test_text ppc (codes "MP+lwsync+addr") mp ≡ lines
+mp_text : test_text PPC ppc (codes "MP+lwsync+addr") mp ≡ lines
     (codes "PPC MP+lwsync+addr"
     ∷ codes "\"LwSyncdWW Rfe DpAddrdR Fre\""
     ∷ codes "{"
@@ -139,5 +132,5 @@ mp_text : test_text ppc (codes "MP+lwsync+addr") mp ≡ lines
     ∷ codes " li r3,1      |               ;"
     ∷ codes " stw r3,0(r4) |               ;"
     ∷ codes "exists (1:r1=1 /\\ 1:r4=0)" ∷ [])
-unfolding test_text test_lines table_lines row_count row_line cell_text width_of column_of initial_lines item_text edges_line header_line cond_text term_text left_text digits ppc ppc_op ppc_register mp exists term thread lines
+unfolding test_text test_lines table_lines row_count row_line cell_text width_of column_of initial_lines item_text edges_line header_line cond_text term_text left_text digits ppc ppc_written ppc_registers r mp exists term thread lines
 mp_text = refl

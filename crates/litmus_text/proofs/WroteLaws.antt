@@ -1,6 +1,6 @@
 -- Laws of writing one text after another.
 use Rattle.std.proofs.Common.{◌≡◌, ◌≤◌, ◌<◌, ◌≢◌, ◌+◌, ℕ, List, [], ◌∷◌, ◌++◌, Ok, Err, zero, suc, refl, sym, ap, ◌∙◌, subst, arith, length, take, drop, get_or, append_assoc, append-nil, map}
-use Rattle.std.specs.Prelude.{Result, OnOk, OnErr, IsErr}
+use Rattle.std.specs.Prelude.{Result, OnOk, OnErr}
 use Rattle.std.specs.Result.{IsErrAnd}
 use Rattle.std.specs.List.{flat_map, join_by, enumerate_from}
 use Rattle.std.proofs.lemmas.List.{take_more, take-append-drop, length-take-le, take_all, length-map}
@@ -138,10 +138,11 @@ join_take f separator xs i d h =
 -- joined elements begin with those before
 join_front : {X : Type 0} (f : X → List ℕ) (separator : List ℕ) (xs ys : List X) → (rest : List ℕ) × (join_by f separator (xs ++ ys) ≡ join_by f separator xs ++ rest)
 join_front f separator [] ys = (join_by f separator ys, refl)
-join_front f separator (x ∷ xs) ys =
-    (flat_map (λ z. separator ++ f z) ys,
-    ap (λ rest. f x ++ rest) (flat_map-append (λ z. separator ++ f z) xs ys)
-    ∙ sym (append_assoc (f x) (flat_map (λ z. separator ++ f z) xs) (flat_map (λ z. separator ++ f z) ys)))
+join_front f separator (x ∷ xs) ys = (
+  flat_map (λ z. separator ++ f z) ys,
+  ap (λ rest. f x ++ rest) (flat_map-append (λ z. separator ++ f z) xs ys)
+      ∙ sym (append_assoc (f x) (flat_map (λ z. separator ++ f z) xs) (flat_map (λ z. separator ++ f z) ys)),
+)
 
 -- joined elements: one more is written
 pub join_step : {X : Type 0} (f : X → List ℕ) (separator : List ℕ) (a b c : SinkSeen) (xs : List X) (i : ℕ) (d : X) → i < length xs

@@ -1,3 +1,4 @@
 pub mod TestText
 pub mod Tests
 pub mod Wrote
+pub mod Parts

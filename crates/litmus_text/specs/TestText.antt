@@ -1,6 +1,6 @@
 -- The text of a test.
 -- Source: the litmus format of the herdtools manual, as diy lays it out.
-use Rattle.std.specs.Prelude.{ℕ, ◌+◌, ◌-◌, List, [], ◌∷◌, ◌++◌, map, length, codes, max, slice_index_or}
+use Rattle.std.specs.Prelude.{ℕ, ◌-◌, List, [], ◌∷◌, ◌++◌, map, length, codes, max, slice_index_or}
 use Rattle.std.specs.List.{flat_map, join_by, fold, enumerate_from, range_with_len}
 use Rattle.std.specs.Fmt.{decimal}
 use Rattle.std.proofs.Math.ListN.{replicate}

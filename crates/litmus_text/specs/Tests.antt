@@ -1,7 +1,7 @@
 -- A test as a value of the program, and when it can be printed.
 -- Source: own.
-use Rattle.std.specs.Prelude.{◌≡◌, ℕ, Bool, true, List, map, length, nat_lt}
-use Rattle.std.specs.List.{list_all, All}
+use Rattle.std.specs.Prelude.{◌≡◌, ℕ, Bool, true, map, nat_lt}
+use Rattle.std.specs.List.{list_all}
 use Rattle.micro_ops.specs.declared.operation.Micro.{Micro}
 use Rattle.arch_trait.specs.Codes.{thread_of}
 use Rattle.arch_trait.specs.Writing.{place_below, label_below}

@@ -4,18 +4,13 @@ ghost use Rattle.relax_edges.specs.Words.{word_of};
 ghost use Rattle.litmus_text.specs.TestText.{header_line, edges_line, ended};
 ghost use Rattle.litmus_text.specs.Wrote.{Wrote, sink_seen, separator_at};
 
+use crate::write::{separator, write, write_three, write_two};
 use arrayvec::ArrayString;
 use diy_io::{Failed, Sink};
 use relax_edges::{ArchName, Edge};
 
-use crate::write::{separator, write, write_three, write_two};
-
 #[tactic(auto, unfolding(crate::specs::TestText::header_line))]
-pub(crate) fn print_header<O: Sink>(
-    arch: ArchName,
-    name: &str,
-    out: &mut O,
-) -> Result<(), Failed>
+pub(crate) fn print_header<O: Sink>(arch: ArchName, name: &str, out: &mut O) -> Result<(), Failed>
     ensures { Wrote (sink_seen (O.told out.old) (O.faults out.old)) (sink_seen (O.told out.new) (O.faults out.new)) (ended (header_line arch name.now)) result }
 {
     write_three(out, arch.name().as_bytes(), b" ", name.as_bytes())?;

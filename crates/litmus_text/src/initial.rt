@@ -5,13 +5,12 @@ ghost use Rattle.litmus_text.specs.Tests.{IsPrintable};
 ghost use Rattle.arch_trait.specs.Codes.{thread_of};
 ghost use Rattle.litmus_text.specs.Wrote.{Wrote, sink_seen, separator_at};
 
+use crate::write::{separator, write, write_two};
 use arch_trait::{Arch, Code, Places};
 use arrayvec::ArrayString;
 use diy_io::{Failed, Sink};
 use final_cond::RegName;
 use itoa::Buffer;
-
-use crate::write::{separator, write, write_two};
 
 pub(crate) fn print_initial<A: Arch, O: Sink>(
     threads: &[Code],

@@ -4,8 +4,10 @@
 mod column;
 mod head;
 mod initial;
+mod print;
 mod table;
 mod test;
 mod write;
 
+pub use print::print_test;
 pub use test::Test;

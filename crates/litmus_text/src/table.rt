@@ -6,12 +6,11 @@ ghost use Rattle.litmus_text.specs.Tests.{IsPrintable};
 ghost use Rattle.arch_trait.specs.Codes.{thread_of};
 ghost use Rattle.litmus_text.specs.Wrote.{Wrote, sink_seen, separator_at};
 
+use crate::column::{Cell, row_count, set_cell, widths_of};
+use crate::write::{separator, write, write_three};
 use arch_trait::{Arch, Code, MAX_TEXT, Places};
 use diy_io::{Failed, Sink};
 use relax_edges::MAX_EDGES;
-
-use crate::column::{Cell, row_count, set_cell, widths_of};
-use crate::write::{separator, write, write_three};
 
 const BLANKS: [u8; MAX_TEXT] = [b' '; MAX_TEXT];
 
@@ -73,5 +72,10 @@ fn print_cell<O: Sink>(i: usize, cell: &[u8], width: usize, out: &mut O) -> Resu
     requires short { width ≤ MAX_TEXT }
     ensures { Wrote (sink_seen (O.told out.old) (O.faults out.old)) (sink_seen (O.told out.new) (O.faults out.new)) (separator_at (codes " | ") i ++ (cell.now ++ replicate (width - length cell.now) 32)) result }
 {
-    write_three(out, separator(i, b" | "), cell, &BLANKS[..width - cell.len()])
+    write_three(
+        out,
+        separator(i, b" | "),
+        cell,
+        &BLANKS[..width - cell.len()],
+    )
 }

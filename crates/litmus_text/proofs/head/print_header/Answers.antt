@@ -1,4 +1,4 @@
-use Rattle.std.proofs.Common.{◌≡◌, ◌∷◌, ◌++◌, [], List, ℕ}
+use Rattle.std.proofs.Common.{◌≡◌, ◌∷◌, ◌++◌, []}
 use Rattle.relax_edges.specs.Architectures.{arch_word}
 use Rattle.litmus_text.specs.TestText.{header_line}
 use Rattle.litmus_text.proofs.WroteLaws.{then_wrote, part_wrote, wrote_same}

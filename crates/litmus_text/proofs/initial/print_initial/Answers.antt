@@ -1,4 +1,4 @@
-use Rattle.std.proofs.Common.{◌∷◌, ◌++◌, [], codes, map}
+use Rattle.std.proofs.Common.{codes, map}
 use Rattle.std.specs.List.{flat_map, enumerate_from}
 use Rattle.litmus_text.specs.TestText.{items_lines, ended}
 use Rattle.arch_trait.specs.Codes.{thread_of}

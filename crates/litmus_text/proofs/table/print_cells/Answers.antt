@@ -1,4 +1,4 @@
-use Rattle.std.proofs.Common.{◌++◌, ◌∙◌, codes, ap, map, arith, get_or, [], subst, sym}
+use Rattle.std.proofs.Common.{◌++◌, ◌∙◌, codes, ap, map, arith, get_or, []}
 use Rattle.litmus_text.specs.TestText.{columns_of, column_of, cell_text}
 use Rattle.arch_trait.specs.Codes.{thread_of}
 use Rattle.litmus_text.specs.Wrote.{separator_at}

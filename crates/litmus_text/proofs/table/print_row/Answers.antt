@@ -1,4 +1,4 @@
-use Rattle.std.proofs.Common.{◌∷◌, ◌++◌, [], codes, map}
+use Rattle.std.proofs.Common.{codes, map}
 use Rattle.std.specs.List.{join_by}
 use Rattle.litmus_text.specs.TestText.{columns_of, cell_text}
 use Rattle.arch_trait.specs.Codes.{thread_of}
