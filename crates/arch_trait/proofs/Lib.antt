@@ -9,3 +9,4 @@ pub mod Compiling
 pub mod Accesses
 pub mod Spelling
 pub mod Blanks
+pub mod PlainTexts

@@ -1,6 +1,6 @@
 -- How instructions are written in a test, and what they name.
 -- Source: the litmus format of the herdtools, whose cells hold one instruction each.
-use Rattle.std.specs.Prelude.{ℕ, ◌+◌, ◌/◌, ◌%◌, ◌==◌, ◌≡◌, Bool, true, false, cond, not, ◌&&◌, nat_lt, nat_le, List, [], ◌∷◌, ◌++◌, Option, Some, None, get_or, length, codes}
+use Rattle.std.specs.Prelude.{ℕ, ◌+◌, ◌-◌, ◌/◌, ◌%◌, ◌==◌, ◌≡◌, Bool, true, false, cond, not, ◌&&◌, nat_lt, nat_le, List, [], ◌∷◌, ◌++◌, Option, Some, None, get_or, take, drop, length, codes}
 use Rattle.std.specs.List.{list_all, IsDistinct}
 use Rattle.std.specs.Str.{bytes_eq}
 use Rattle.final_cond.specs.Names.{is_place_name, is_register_name}
@@ -128,8 +128,19 @@ abbrev pub at_most : ℕ → Option ℕ → Option ℕ
 at_most limit None = None
 at_most limit (Some n) = cond (nat_le n limit) (Some n) None
 
-abbrev pub immediate : List ℕ → Option ℕ
+unfoldable pub immediate : List ℕ → Option ℕ
 immediate digits = at_most 2047 (number_of digits)
+
+-- a text in square brackets, and what stands in them
+abbrev pub bracketed : List ℕ → List ℕ
+bracketed text = 91 ∷ (text ++ 93 ∷ [])
+
+abbrev pub has_brackets : List ℕ → Bool
+has_brackets text =
+    nat_le 2 (length text) && (get_or text 0 0 == 91 && get_or text (length text - 1) 0 == 93)
+
+unfoldable pub inside_brackets : List ℕ → Option (List ℕ)
+inside_brackets text = cond (has_brackets text) (Some (take (length text - 2) (drop 1 text))) None
 
 -- each operation of an architecture reads back from its text, and its registers have names of their
 -- own

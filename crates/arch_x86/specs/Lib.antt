@@ -1,2 +1,4 @@
 pub mod Puts
 pub mod Laws
+pub mod Text
+pub mod ReadsBack

@@ -1,3 +1,6 @@
+ghost use Rattle.std.specs.Prelude.{◌≡◌, []};
+ghost use Rattle.final_cond.specs.Conditions.{cond_view};
+
 use arch_trait::{Code, Places};
 use arrayvec::ArrayVec;
 use final_cond::Cond;
@@ -16,7 +19,11 @@ pub struct Test {
 
 impl Test {
     /// A test without edges, places, threads and terms.
-    pub fn new() -> Test {
+    pub fn new() -> Test
+        ensures edges { result.edges.items ≡ [] }
+        ensures places { result.places ≡ [] }
+        ensures threads { result.threads.items ≡ [] }
+    {
         Test {
             edges: ArrayVec::new(),
             places: Places::new(),

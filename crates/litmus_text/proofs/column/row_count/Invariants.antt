@@ -1,0 +1,6 @@
+use Rattle.std.proofs.Common.{◌≡◌, ◌+◌, take, max, fold, length}
+use Rattle.litmus_text.proofs.column.row_count.Given as goal
+
+-- the longest so far
+abbrev pub invariant-loop-code : goal.invariant-loop-code
+invariant-loop-code l = l.count ≡ fold (λ count code. max count (length code.instrs.items + 1)) 0 (take l.code-index l.threads)

@@ -1,0 +1,4 @@
+pub mod TestText
+pub mod Tests
+pub mod Wrote
+pub mod Parts

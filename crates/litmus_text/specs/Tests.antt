@@ -1,0 +1,30 @@
+-- A test as a value of the program, and when it can be printed.
+-- Source: own.
+use Rattle.std.specs.Prelude.{◌≡◌, ℕ, Bool, true, map, nat_lt}
+use Rattle.std.specs.List.{list_all}
+use Rattle.micro_ops.specs.declared.operation.Micro.{Micro}
+use Rattle.arch_trait.specs.Codes.{thread_of}
+use Rattle.arch_trait.specs.Writing.{place_below, label_below}
+use Rattle.arch_trait.specs.declared.code.Code.{Code}
+use Rattle.final_cond.specs.Conditions.{cond_view}
+use Rattle.litmus_text.specs.declared.test.Test.{Test}
+use Rattle.litmus_text.specs.TestText.{TestSeen}
+
+-- what the text of a test shows of it
+abbrev pub test_seen : Test → TestSeen
+test_seen test = record {
+  edges = test.edges.items;
+  places = test.places;
+  threads = map thread_of test.threads.items;
+  cond = cond_view test.cond;
+}
+
+-- the code of a thread can be printed: the architecture has its operations, their places have names
+-- and their labels are below 64, and the address registers are the architecture's and hold places
+-- that have names
+pub record IsPrintable (is_of : Micro → Bool) (register_count place_count : ℕ) (code : Code) : Type 0 where
+  pub has : list_all is_of code.instrs.items ≡ true
+  pub op_places : list_all (place_below place_count) code.instrs.items ≡ true
+  pub op_labels : list_all (label_below 64) code.instrs.items ≡ true
+  pub link_registers : list_all (λ link. nat_lt link.0 register_count) code.links.items ≡ true
+  pub link_places : list_all (λ link. nat_lt link.1 place_count) code.links.items ≡ true
