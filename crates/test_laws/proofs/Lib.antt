@@ -1,3 +1,9 @@
 pub mod StepsAt
 pub mod StepsFit
 pub mod Terms
+pub mod Visits
+pub mod VisitsAt
+pub mod Ties
+pub mod ThreadRuns
+pub mod Making
+pub mod Tying

@@ -129,7 +129,7 @@ pub link_first : (es : List Edge) (i : ℕ) → slot_of es i ≡ 0 → event_lin
 link_first es i h = cond-true {A = Link} (slot_of es i == 0) Plain (edge_link (edge_at es (event_before es i))) (eq-eqb (slot_of es i) 0 h)
 
 -- an access behind another in its thread fits
-event_fits : (es : List Edge) (arch : ArchName) (number : ℕ → ℕ) (i : ℕ) → IsResolved es → list_all (λ e. is_of_arch e arch) es ≡ true → (b : Before es i) → FitStep arch (is_load_dir (source_of (edge_at es b.event))) (event_step es number i)
+pub event_fits : (es : List Edge) (arch : ArchName) (number : ℕ → ℕ) (i : ℕ) → IsResolved es → list_all (λ e. is_of_arch e arch) es ≡ true → (b : Before es i) → FitStep arch (is_load_dir (source_of (edge_at es b.event))) (event_step es number i)
 event_fits es arch number i r a b = record {
   of_arch =
       ap (λ l. link_is_of l arch) link
