@@ -74,8 +74,8 @@ last_write es i r h v =
       same_value = same;
       before = by_less (way_place es i) (way_place es w.event) (λ l. absurd (omega (arith, same, values_grow es i w.event w.is.below (sym p.1) l p.0))) (λ g. g);
       none_between = λ x b t l. by_less (way_place es i) (way_place es x) (λ z. z) (λ g.
-      let q = write_at_parts es (location_of es i) x t in
-      absurd (omega (arith, same, values_grow es w.event x b (p.1 ∙ sym q.1) l q.0, values_up es x i q.1 g)));
+          let q = write_at_parts es (location_of es i) x t in
+          absurd (omega (arith, same, values_grow es w.event x b (p.1 ∙ sym q.1) l q.0, values_up es x i q.1 g)));
     }
 
 -- an observed location has at least two writes
