@@ -1,87 +1,145 @@
+ghost use Rattle.std.specs.Prelude.{◌≡◌, ◌<◌, ◌≤◌, ◌+◌, ◌++◌, [], ◌↔◌, true, false, cond, length, is_some, IfOk, OnOk, OnErr, IsErr};
+ghost use Rattle.arrayvec.specs.ArrayVec.{array_vec_len};
+ghost use Rattle.arch_trait.specs.Links.{depends, branches, is_data, link_is_of};
+ghost use Rattle.arch_trait.specs.Laws.{access_room};
+ghost use Rattle.arch_trait.specs.Threads.{FitStep, FitSteps, compiled, shape_of, setting_out, from_of, put_of, filled_by, further, step_code, next_filled, put_before, thread_code, thread_regs, thread_loads};
+ghost use Rattle.arch_trait.specs.Codes.{thread_of};
+
+use crate::arch::{Arch, Instrs, MAX_INSTRS, MAX_STEP_INSTRS};
+use crate::link::Link;
+use crate::regs::{Links, Regs};
+use crate::shape::shape_of;
+use crate::step::{MAX_STEPS, Step};
+use crate::way::Way;
 use arrayvec::ArrayVec;
 use relax_edges::Dir;
-
-use crate::arch::{Arch, Instrs, Shape};
-use crate::link::Link;
-use crate::regs::Regs;
-
-/// One access of a thread, and how it is tied to the one before it.
-#[derive(Clone, Copy, Debug, Default, PartialEq, Eq)]
-pub struct Step {
-    pub dir: Dir,
-    pub place: u8,
-    /// What a store writes.
-    pub value: u8,
-    pub link: Link,
-}
 
 /// The code of a thread.
 #[derive(Debug, Default, Drop)]
 pub struct Code {
+    /// Its operations.
     pub instrs: Instrs,
-    /// The address registers with their places, in the order of taking.
-    pub links: ArrayVec<(u8, u8), 48>,
+    /// Its address registers with their places, in the order of taking.
+    pub links: Links,
     /// The register of each load, in order.
-    pub loads: ArrayVec<u8, 48>,
+    pub loads: ArrayVec<u8, MAX_STEPS>,
 }
 
-/// The thread needs more registers than the architecture has.
-#[derive(Clone, Copy, Debug, PartialEq, Eq)]
+/// A thread needs more registers than the architecture has.
+#[derive(Clone, Copy, Debug, PartialEq, Eq, thiserror::Error)]
+#[error("a thread needs more registers than the architecture has")]
 pub struct TooManyRegisters;
 
-/// The code of a thread that makes these accesses in order.
-pub fn compile_thread<A: Arch>(steps: &[Step]) -> Result<Code, TooManyRegisters> {
-    if A::need(&shape_of(steps)) > u32::from(A::REGISTERS) {
-        return Err(TooManyRegisters);
-    }
+/// The code of a thread that makes these accesses in order. A thread has at most `MAX_STEPS`; each
+/// link is one of the architecture's, a dependency follows a load, and a data dependency leads to a
+/// store. Refused exactly where the thread needs more registers than the architecture has.
+pub fn compile_thread<A: Arch>(steps: &[Step]) -> Result<Code, TooManyRegisters>
+    requires fit { FitSteps A.puts.name false steps.now }
+    requires few { length steps.now ≤ MAX_STEPS }
+    ensures ok { IfOk result (λ code. thread_of code ≡ compiled A.puts steps.now) }
+    ensures refused { IsErr result ↔ (A.puts.registers < A.puts.need (shape_of steps.now)) }
+{
     let mut code = Code::default();
-    let mut regs = Regs::new(A::REGISTERS);
-    let mut last = None;
-    let mut label = 0;
-    for step in steps {
-        let from = if step.link.is_dependency() { last } else { None };
-        A::put_link(step.link, from, label, &mut code.instrs);
-        last = match step.dir {
-            Dir::R => {
-                let register = A::put_load(&mut regs, step.link, from, step.place, &mut code.instrs);
-                code.loads.push(register);
-                Some(register)
-            }
-            Dir::W => {
-                let Step { place, value, link, .. } = *step;
-                A::put_store(&mut regs, link, from, place, value, &mut code.instrs);
-                None
-            }
-        };
-        if step.link.branches() {
-            label += 1;
-        }
-    }
-    let _ = code.links.try_extend_from_slice(regs.links());
+    compile_into::<A>(steps, &mut code)?;
     Ok(code)
 }
 
-fn shape_of(steps: &[Step]) -> Shape {
-    let mut shape = Shape::default();
-    let mut seen: ArrayVec<u8, 48> = ArrayVec::new();
+/// Makes `code` the code of the thread, as `compile_thread` does. Where it is refused, `code` stays
+/// as it was.
+pub fn compile_into<A: Arch>(steps: &[Step], code: &mut Code) -> Result<(), TooManyRegisters>
+    requires fit { FitSteps A.puts.name false steps.now }
+    requires few { length steps.now ≤ MAX_STEPS }
+    ensures ok { OnOk result (thread_of code.new ≡ compiled A.puts steps.now) }
+    ensures refused { IsErr result ↔ (A.puts.registers < A.puts.need (shape_of steps.now)) }
+    ensures err { OnErr result (code.new ≡ code.old) }
+{
+    if A::need(&shape_of(steps)) > u32::from(A::REGISTERS) {
+        return Err(TooManyRegisters);
+    }
+    let way = put_steps::<A>(steps, code);
+    code.links = way.regs.into_links();
+    Ok(())
+}
+
+fn put_steps<A: Arch>(steps: &[Step], code: &mut Code) -> Way
+    requires fit { FitSteps A.puts.name false steps.now }
+    requires few { length steps.now ≤ MAX_STEPS }
+    requires left { A.puts.need (shape_of steps.now) ≤ A.puts.registers }
+    ensures regs { result.regs ≡ thread_regs A.puts (setting_out A.puts.registers) steps.now }
+    ensures instrs { code.new.instrs.items ≡ thread_code A.puts (setting_out A.puts.registers) steps.now }
+    ensures loads { code.new.loads.items ≡ thread_loads A.puts (setting_out A.puts.registers) steps.now }
+{
+    code.instrs.clear();
+    code.loads.clear();
+    let mut way = Way {
+        regs: Regs::new(A::REGISTERS),
+        last: None,
+        label: 0,
+    };
     for step in steps {
-        match step.dir {
-            Dir::R => shape.loads += 1,
-            Dir::W => shape.stores += 1,
-        }
-        if step.link == Link::Addr {
-            shape.addr += 1;
-        }
-        let mut is_new = true;
-        for place in seen.as_slice() {
-            if *place == step.place {
-                is_new = false;
-            }
-        }
-        if is_new {
-            seen.push(step.place);
-            shape.places += 1;
+        put_step::<A>(*step, &mut way, code);
+    }
+    way
+}
+
+fn put_step<A: Arch>(step: Step, way: &mut Way, code: &mut Code)
+    requires fit { FitStep A.puts.name (is_some way.old.last) step }
+    requires left { (further A.puts way.old step).regs.next ≤ way.old.regs.count }
+    requires room { array_vec_len code.old.instrs + MAX_STEP_INSTRS ≤ MAX_INSTRS }
+    requires loads_room { array_vec_len code.old.loads < MAX_STEPS }
+    requires label_room { way.old.label < 255 }
+    ensures way { way.new ≡ further A.puts way.old step }
+    ensures instrs { code.new.instrs.items ≡ code.old.instrs.items ++ step_code A.puts way.old step }
+    ensures loads { code.new.loads.items ≡ code.old.loads.items ++ put_before (next_filled A.puts way.old step) [] }
+{
+    let from = source(step.link, way.last);
+    A::put_link(step.link, from, way.label, &mut code.instrs);
+    way.last = put_access::<A>(step, from, &mut way.regs, &mut code.instrs);
+    if let Some(register) = way.last {
+        code.loads.push(register);
+    }
+    way.label = next_label(step.link, way.label);
+}
+
+fn source(link: Link, last: Option<u8>) -> Option<u8>
+    ensures { result ≡ from_of link last }
+{
+    if link.is_dependency() { last } else { None }
+}
+
+fn next_label(link: Link, label: u8) -> u8
+    requires { label < 255 }
+    ensures { result ≡ label + cond (branches link) 1 0 }
+{
+    if link.branches() { label + 1 } else { label }
+}
+
+fn put_access<A: Arch>(
+    step: Step,
+    from: Option<u8>,
+    regs: &mut Regs,
+    out: &mut Instrs,
+) -> Option<u8>
+    requires of_arch { link_is_of step.link A.puts.name ≡ true }
+    requires to_store { is_data step.link ≡ true → step.dir ≡ Dir.W }
+    requires given { depends step.link ≡ true → is_some from ≡ true }
+    requires left { (put_of A.puts regs.old from step step.dir).regs.next ≤ regs.old.count }
+    requires room { array_vec_len out.old + access_room step.link ≤ MAX_INSTRS }
+    ensures filled { result ≡ filled_by A.puts regs.old from step step.dir }
+    ensures taken { regs.new ≡ (put_of A.puts regs.old from step step.dir).regs }
+    ensures code { out.new.items ≡ out.old.items ++ (put_of A.puts regs.old from step step.dir).code }
+{
+    let Step {
+        place,
+        value,
+        link,
+        ..
+    } = step;
+    match step.dir {
+        Dir::R => Some(A::put_load(regs, link, from, place, out)),
+        Dir::W => {
+            A::put_store(regs, link, from, place, value, out);
+            None
         }
     }
-    shape
 }

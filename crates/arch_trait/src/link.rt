@@ -1,3 +1,6 @@
+ghost use Rattle.std.specs.Prelude.{◌≡◌};
+ghost use Rattle.arch_trait.specs.Links.{edge_link, depends, branches};
+
 use relax_edges::{DepKind, Edge, FenceKind};
 
 /// How an access is tied to the one before it in its thread.
@@ -20,8 +23,10 @@ pub enum Link {
     CtrlIsb,
 }
 
-/// The link that an internal edge asks for.
-pub fn link_of(edge: Edge) -> Link {
+/// The link that an edge within a thread asks for.
+pub fn link_of(edge: Edge) -> Link
+    ensures { result ≡ edge_link edge }
+{
     match edge {
         Edge::Com { .. } | Edge::Po { .. } => Link::Plain,
         Edge::Fenced { fence, .. } => Link::Fence(fence),
@@ -37,12 +42,16 @@ pub fn link_of(edge: Edge) -> Link {
 
 impl Link {
     /// Whether the access depends on the load before it.
-    pub fn is_dependency(self) -> bool {
+    pub fn is_dependency(self) -> bool
+        ensures { result ≡ depends self }
+    {
         !matches!(self, Link::Plain | Link::Fence(_))
     }
 
     /// Whether a branch stands before the access.
-    pub fn branches(self) -> bool {
+    pub fn branches(self) -> bool
+        ensures { result ≡ branches self }
+    {
         matches!(self, Link::Ctrl | Link::CtrlIsync | Link::CtrlIsb)
     }
 }

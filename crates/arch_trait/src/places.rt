@@ -1,46 +1,167 @@
-use arrayvec::ArrayVec;
-use final_cond::PlaceName;
+ghost use Rattle.std.specs.Prelude.{◌≡◌, ◌<◌, ◌≤◌, ◌++◌, ◌∷◌, ◌==◌, [], List, ℕ, map, length, slice_index_or, true, None};
+ghost use Rattle.final_cond.specs.Names.{is_place_name};
+ghost use Rattle.arch_trait.specs.Names.{IsTable, letters, location_name, number_in, number_added, names_added};
 
-/// The most places that a test names.
+use crate::step::MAX_STEPS;
+use arrayvec::ArrayVec;
+use final_cond::{PlaceName, place_name};
+use std::marker::Model;
+
+/// The most names of a table.
 pub const MAX_PLACES: usize = 64;
 
-/// The names of places, each once; the number of a place is where its name stands.
+const LETTERS: &[u8; 26] = b"xyzabcdefghijklmnopqrstuvw";
+
+/// A table of names, of places or of labels: each has the form of a place's name and stands once.
+/// The number of a name is where it stands.
 #[derive(Debug, Drop)]
 pub struct Places {
     names: ArrayVec<PlaceName, MAX_PLACES>,
 }
 
-const LETTERS: [&str; 26] = [
-    "x", "y", "z", "a", "b", "c", "d", "e", "f", "g", "h", "i", "j", "k", "l", "m", "n", "o", "p",
-    "q", "r", "s", "t", "u", "v", "w",
-];
+impl Model for Places {
+    ghost Value = { List (List ℕ) };
+
+    ghost view = { λ p. map (λ name. name.bytes) p.names.items };
+
+    ghost invariant = { λ p. IsTable (map (λ name. name.bytes) p.names.items) };
+}
 
 impl Places {
-    /// No places.
-    pub fn new() -> Places {
+    /// No names.
+    #[tactic(auto, using(crate::proofs::Tables::no_names))]
+    pub fn new() -> Places
+        ensures { result ≡ [] }
+    {
         Places {
             names: ArrayVec::new(),
         }
     }
 
-    /// The names of n locations: x, y, z, a, b and so on to w.
-    pub fn letters(n: u8) -> Places {
+    /// The names of `n` locations: x, y, z, a, b and so on to w, then x_1 and so on.
+    pub fn letters(n: u8) -> Places
+        requires { n ≤ MAX_STEPS }
+        ensures { result ≡ letters n }
+    {
         let mut places = Places::new();
-        for i in 0..n {
-            let mut name = PlaceName::new();
-            name.push_str(LETTERS[i as usize]);
-            places.names.push(name);
-        }
+        places.set_letters(n);
         places
     }
 
-    /// How many places there are.
-    pub fn len(&self) -> u8 {
+    /// Makes it the names of `n` locations.
+    #[tactic(auto, using(crate::proofs::Tables::location_new, crate::proofs::Tables::letters_more))]
+    pub fn set_letters(&mut self, n: u8)
+        requires { n ≤ MAX_STEPS }
+        ensures { self.new ≡ letters n }
+    {
+        self.clear();
+        for i in 0..n {
+            self.push(location_name(i));
+        }
+    }
+
+    /// How many names there are.
+    pub fn len(&self) -> u8
+        ensures { result ≡ length self.now }
+    {
         self.names.len() as u8
     }
 
-    /// The name of place number i.
-    pub fn get(&self, i: u8) -> &PlaceName {
-        &self.names.as_slice()[i as usize]
+    /// Whether there are none.
+    pub fn is_empty(&self) -> bool
+        ensures { result ≡ (length self.now == 0) }
+    {
+        self.names.is_empty()
     }
+
+    /// The name with this number.
+    pub fn get(&self, i: u8) -> &PlaceName
+        requires { i < length self.now }
+        ensures { result.now.bytes ≡ slice_index_or self.now i [] }
+    {
+        &self.names.as_slice()[usize::from(i)]
+    }
+
+    /// The number of a name, which is added last if it is new. None where it is new and there are
+    /// `MAX_PLACES` names.
+    pub fn add(&mut self, name: &str) -> Option<u8>
+        requires { is_place_name name.now ≡ true }
+        ensures number { result ≡ number_added self.old name.now }
+        ensures names { self.new ≡ names_added self.old name.now }
+    {
+        self.add_bytes(name.as_bytes())
+    }
+
+    /// The same of a name's bytes.
+    pub fn add_bytes(&mut self, name: &[u8]) -> Option<u8>
+        requires { is_place_name name.now ≡ true }
+        ensures number { result ≡ number_added self.old name.now }
+        ensures names { self.new ≡ names_added self.old name.now }
+    {
+        if let Some(number) = number_in(self.names.as_slice(), name) {
+            return Some(number);
+        }
+        if self.names.is_full() {
+            return None;
+        }
+        let number = self.len();
+        match place_name(name) {
+            Some(name) => self.push(name),
+            None => unreachable!(),
+        }
+        Some(number)
+    }
+
+    #[tactic(auto, using(crate::proofs::Tables::no_names))]
+    fn clear(&mut self)
+        ensures { self.new ≡ [] }
+    {
+        self.names.clear();
+    }
+
+    #[tactic(auto, using(crate::proofs::Tables::one_name))]
+    fn push(&mut self, name: PlaceName)
+        requires formed { is_place_name name.bytes ≡ true }
+        requires new { number_in self.old name.bytes ≡ None }
+        requires room { length self.old < MAX_PLACES }
+        ensures { self.new ≡ self.old ++ name.bytes ∷ [] }
+    {
+        self.names.push(name);
+    }
+}
+
+fn number_in(names: &[PlaceName], name: &[u8]) -> Option<u8>
+    requires { length names.now ≤ MAX_PLACES }
+    ensures { result ≡ number_in (map (λ x. x.bytes) names.now) name.now }
+{
+    for (i, known) in names.iter().enumerate() {
+        if known.as_str().as_bytes() == name {
+            return Some(i as u8);
+        }
+    }
+    None
+}
+
+#[tactic(auto, using(crate::proofs::Tables::name_plain, crate::proofs::Tables::name_marked, crate::proofs::Tables::letter_ascii))]
+fn location_name(i: u8) -> PlaceName
+    requires { i ≤ MAX_STEPS }
+    ensures { result.bytes ≡ location_name i }
+{
+    let mut name = PlaceName::new();
+    push_ascii(&mut name, LETTERS[usize::from(i % 26)]);
+    let lap = i / 26;
+    if lap > 0 {
+        push_ascii(&mut name, b'_');
+        push_ascii(&mut name, b'0' + lap);
+    }
+    name
+}
+
+#[tactic(auto, using(std::proofs::lemmas::Str::encode_ascii))]
+fn push_ascii(name: &mut PlaceName, byte: u8)
+    requires ascii { byte < 128 }
+    requires room { length name.old.bytes < 16 }
+    ensures { name.new.bytes ≡ name.old.bytes ++ byte ∷ [] }
+{
+    name.push(char::from(byte));
 }

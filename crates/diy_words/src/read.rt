@@ -1,133 +1,111 @@
-use arrayvec::ArrayVec;
-use diy_io::Words;
-use relax_edges::{ArchName, Edge, MAX_EDGES, read_edge};
+ghost use Rattle.std.specs.Prelude.{◌≡◌, ◌<◌, ◌+◌, ◌^◌, length, Ok};
+ghost use Rattle.diy_words.specs.Requests.{asked_of};
+ghost use Rattle.diy_words.specs.Given.{Gives, Steps, IsPlain, IsOption, held, saying_from, shown, finished_with, all_absorbed, nothing_held};
 
-use crate::request::{DiyOne, EdgeList, MAX_NAME, TestName};
+use crate::options::{OptionName, Tool, option_named, tool_named};
+use crate::request::DiyOne;
+use crate::said::{Said, unvalued};
 use crate::usage::{Usage, UsageKind};
+use diy_io::Words;
 
-/// The request that the words make, or the first fault among them.
-pub fn read_request(words: &Words) -> Result<DiyOne, Usage> {
+/// The request that the words make, or the first fault among them: words are judged from left to
+/// right, an option with its value, and then all of them.
+pub fn read_request(words: &Words) -> Result<DiyOne, Usage>
+    ensures { Gives result (asked_of words.now) }
+{
     if words.len() == 0 {
-        return Err(fault(0, UsageKind::UnknownTool));
+        return Err(Usage {
+            word: 0,
+            kind: UsageKind::UnknownTool,
+        });
     }
-    match words.get(0) {
-        "diyone7" => read_diyone(words),
-        "diy7" | "diycross7" | "norm7" | "classify7" | "msum7" | "demo" => {
-            Err(fault(0, UsageKind::NotBuilt))
-        }
-        _ => Err(fault(0, UsageKind::UnknownTool)),
+    match tool_named(words.get(0)) {
+        Some(Tool::DiyOne) => read_diyone(words),
+        Some(Tool::Later) => Err(Usage {
+            word: 0,
+            kind: UsageKind::NotBuilt,
+        }),
+        None => Err(Usage {
+            word: 0,
+            kind: UsageKind::UnknownTool,
+        }),
     }
 }
 
-fn fault(word: usize, kind: UsageKind) -> Usage {
-    Usage { word, kind }
-}
-
-/// What the words of diyone7 have said so far.
-#[derive(Drop)]
-struct Said {
-    arch: Option<ArchName>,
-    name: Option<usize>,
-    edges: EdgeList,
-}
-
-fn read_diyone(words: &Words) -> Result<DiyOne, Usage> {
-    let mut said = Said {
-        arch: None,
-        name: None,
-        edges: EdgeList::Whole(ArrayVec::new()),
-    };
+fn read_diyone(words: &Words) -> Result<DiyOne, Usage>
+    requires { 0 < length words.now }
+    ensures { shown result ≡ finished_with (length words.now) (all_absorbed (Ok nothing_held) (saying_from words.now 1)) }
+{
+    let mut said = Said::new();
     let mut at = 1;
     while at < words.len() {
-        at = read_word(words, at, &mut said)?;
+        at = read_part(words, at, &mut said)?;
     }
+    finish(words.len(), said)
+}
+
+/// Takes in the part of the words that begins at place `at`, and gives the place behind it.
+fn read_part(words: &Words, at: usize, said: &mut Said) -> Result<usize, Usage>
+    requires { at < length words.now }
+    ensures { Steps words.now at (held said.old) (held said.new) result }
+{
+    match option_named(words.get(at)) {
+        None => read_operand_at(words, at, said),
+        Some(option) => read_option_at(words, at, option, said),
+    }
+}
+
+fn read_operand_at(words: &Words, at: usize, said: &mut Said) -> Result<usize, Usage>
+    requires within { at < length words.now }
+    requires operand { IsPlain words.now at }
+    ensures { Steps words.now at (held said.old) (held said.new) result }
+{
+    let _count = words.len();
+    match said.take_operand(at, words.get(at)) {
+        Ok(()) => Ok(at + 1),
+        Err(usage) => Err(usage),
+    }
+}
+
+fn read_option_at(
+    words: &Words,
+    at: usize,
+    option: OptionName,
+    said: &mut Said,
+) -> Result<usize, Usage>
+    requires within { at < length words.now }
+    requires named { IsOption words.now at option }
+    ensures { Steps words.now at (held said.old) (held said.new) result }
+{
+    let count = words.len();
+    if count - at == 1 {
+        return Err(unvalued(option, at));
+    }
+    match said.take_value(option, at, words.get(at + 1)) {
+        Ok(()) => Ok(at + 2),
+        Err(usage) => Err(usage),
+    }
+}
+
+/// The request that was held at the end of `count` words.
+fn finish(count: usize, said: Said) -> Result<DiyOne, Usage>
+    ensures { shown result ≡ finished_with count (Ok (held said)) }
+{
     let Some(arch) = said.arch else {
-        return Err(fault(words.len(), UsageKind::MissingArch));
+        return Err(Usage {
+            word: count,
+            kind: UsageKind::MissingArch,
+        });
     };
-    let Some(named) = said.name else {
-        return Err(fault(words.len(), UsageKind::NotBuilt));
+    let Some(name) = said.name else {
+        return Err(Usage {
+            word: count,
+            kind: UsageKind::NotBuilt,
+        });
     };
-    let mut name = TestName::new();
-    let _ = name.try_push_str(words.get(named));
     Ok(DiyOne {
         arch,
         name,
         edges: said.edges,
     })
-}
-
-/// Reads the word `at` with its value, and gives the place of the next one.
-fn read_word(words: &Words, at: usize, said: &mut Said) -> Result<usize, Usage> {
-    match words.get(at) {
-        "-arch" => {
-            let value = value_of(words, at)?;
-            said.arch = Some(read_arch(words, value)?);
-            Ok(value + 1)
-        }
-        "-name" => {
-            let value = value_of(words, at)?;
-            if !is_name(words.get(value)) {
-                return Err(fault(value, UsageKind::BadName));
-            }
-            said.name = Some(value);
-            Ok(value + 1)
-        }
-        "-obs" => Err(fault(at, UsageKind::NotBuilt)),
-        word if word.as_bytes().first() == Some(&b'-') => Err(fault(at, UsageKind::UnknownOption)),
-        word => match read_edges(word, &mut said.edges) {
-            true => Ok(at + 1),
-            false => Err(fault(at, UsageKind::UnknownEdge)),
-        },
-    }
-}
-
-fn value_of(words: &Words, at: usize) -> Result<usize, Usage> {
-    if at + 1 < words.len() {
-        Ok(at + 1)
-    } else {
-        Err(fault(at, UsageKind::MissingValue))
-    }
-}
-
-fn read_arch(words: &Words, at: usize) -> Result<ArchName, Usage> {
-    match words.get(at) {
-        "X86" => Ok(ArchName::X86),
-        "PPC" | "AArch64" | "RISCV" => Err(fault(at, UsageKind::NotBuilt)),
-        _ => Err(fault(at, UsageKind::UnknownArch)),
-    }
-}
-
-fn is_name(text: &str) -> bool {
-    !text.is_empty() && text.len() <= MAX_NAME && text.as_bytes().iter().all(|b| is_name_byte(*b))
-}
-
-fn is_name_byte(byte: u8) -> bool {
-    byte.is_ascii_alphanumeric() || matches!(byte, b'+' | b'-' | b'.' | b'_')
-}
-
-fn is_blank(byte: u8) -> bool {
-    matches!(byte, b' ' | b'\t')
-}
-
-/// Appends the edges of an operand; false where a word in it is no edge.
-fn read_edges(text: &str, edges: &mut EdgeList) -> bool {
-    for word in text.split([' ', '\t']) {
-        if !word.is_empty() {
-            match read_edge(word) {
-                Ok(edge) => push_edge(edge, edges),
-                Err(_) => return false,
-            }
-        }
-    }
-    true
-}
-
-fn push_edge(edge: Edge, edges: &mut EdgeList) {
-    if let EdgeList::Whole(list) = edges {
-        if list.is_full() {
-            *edges = EdgeList::TooLong;
-        } else {
-            list.push(edge);
-        }
-    }
 }

@@ -1,3 +1,5 @@
+ghost use Rattle.std.specs.Prelude.{◌≡◌};
+
 use arrayvec::{ArrayString, ArrayVec};
 use relax_edges::{ArchName, Edge, MAX_EDGES};
 
@@ -8,7 +10,7 @@ pub const MAX_NAME: usize = 800;
 pub type TestName = ArrayString<MAX_NAME>;
 
 /// The edges that operands hold.
-#[derive(Debug, Drop)]
+#[derive(Drop)]
 pub enum EdgeList {
     /// All of them.
     Whole(ArrayVec<Edge, MAX_EDGES>),
@@ -16,10 +18,30 @@ pub enum EdgeList {
     TooLong,
 }
 
+impl EdgeList {
+    ghost use Rattle.diy_words.specs.Kept.{pushed};
+
+    /// Keeps one edge more.
+    pub(crate) fn push(&mut self, edge: Edge)
+        ensures { self.new ≡ pushed self.old edge }
+    {
+        if let EdgeList::Whole(list) = self {
+            if list.is_full() {
+                *self = EdgeList::TooLong;
+            } else {
+                list.push(edge);
+            }
+        }
+    }
+}
+
 /// What diyone7 is asked for.
-#[derive(Debug, Drop)]
+#[derive(Drop)]
 pub struct DiyOne {
+    /// The architecture of the test.
     pub arch: ArchName,
+    /// Its name.
     pub name: TestName,
+    /// The edges of its cycle, as given.
     pub edges: EdgeList,
 }

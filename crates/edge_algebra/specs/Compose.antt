@@ -1,10 +1,13 @@
 -- What a list of edges makes: a cycle, or the first thing that is wrong with it.
-use Rattle.std.specs.Prelude.{ℕ, cond, List, [], ◌∷◌, ◌++◌, length, Option, Some, None, Result, Ok, Err, nat_lt}
+use Rattle.std.specs.Prelude.{ℕ, ◌+◌, cond, List, [], ◌∷◌, ◌++◌, length, Option, Some, None, Result, Ok, Err, nat_lt}
 use Rattle.relax_edges.specs.declared.TheConstants.{MAX_EDGES}
 use Rattle.relax_edges.specs.declared.edge.Edge.{Edge}
 use Rattle.edge_algebra.specs.declared.errors.CycleError.{CycleError}
 use Rattle.edge_algebra.specs.declared.errors.CycleError.TheVariants.{Empty, TooLong, DoesNotCompose}
-use Rattle.walk_laws.specs.Composable.{first_break}
+use Rattle.edge_algebra.specs.declared.errors.JoinError.{JoinError}
+use Rattle.edge_algebra.specs.declared.errors.JoinError.TheVariants as joins
+use Rattle.edge_algebra.specs.declared.errors.NotClosed.{NotClosed}
+use Rattle.walk_laws.specs.Composable.{first_break, last_joins}
 
 -- the list itself where no edge breaks the cycle, and else the first place that does
 abbrev pub unbroken : List Edge → Option ℕ → Result (List Edge) CycleError
@@ -16,3 +19,12 @@ abbrev pub composed : List Edge → Result (List Edge) CycleError
 composed [] = Err Empty
 composed (e ∷ u) =
     cond (nat_lt MAX_EDGES (length (e ∷ u))) (Err TooLong) (unbroken (e ∷ u) (first_break ((e ∷ u) ++ e ∷ [])))
+
+-- the path that two paths make, one behind the other
+abbrev pub joined : List Edge → List Edge → Result (List Edge) JoinError
+joined u v =
+    cond (nat_lt MAX_EDGES (length u + length v)) (Err joins.TooLong) (cond (last_joins u v) (Ok (u ++ v)) (Err joins.DoesNotCompose))
+
+-- the cycle that a path makes
+abbrev pub closed : List Edge → Result (List Edge) NotClosed
+closed u = cond (last_joins u u) (Ok u) (Err (record {}))

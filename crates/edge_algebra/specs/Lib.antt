@@ -1,1 +1,2 @@
 pub mod Compose
+pub mod Laws

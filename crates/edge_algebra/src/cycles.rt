@@ -1,7 +1,11 @@
-ghost use Rattle.std.specs.Prelude.{◌≡◌, ◌+◌, ◌<◌, ◌≤◌, List, [], ◌∷◌, ◌++◌, length, IfOk, IfSome, Option, slice_get, slice_index_or};
-ghost use Rattle.walk_laws.specs.Composable.{IsCycle, first_break};
+ghost use Rattle.std.specs.Prelude.{◌≡◌, ◌<◌, ◌≤◌, ◌↔◌, ◌==◌, length, Some, slice_get, IsTrue};
+ghost use Rattle.std.proofs.Common.{rules};
+ghost use Rattle.std.specs.Cmp.Rules.{comparing};
+ghost use Rattle.std.specs.Cmp.Lexicographic.{pointwise};
+ghost use Rattle.std.specs.Ordering.{on};
+ghost use Rattle.relax_edges.specs.Order.{rank_of};
+ghost use Rattle.walk_laws.specs.Composable.{IsCycle};
 ghost use Rattle.walk_laws.specs.Rotation.{rotated};
-ghost use Rattle.edge_algebra.specs.Compose.{composed};
 
 use arrayvec::ArrayVec;
 use relax_edges::{Edge, MAX_EDGES};
@@ -28,7 +32,7 @@ impl Model for Cycle {
     ghost invariant = { λ c. IsCycle c.edges.items };
 }
 
-fn copied(edges: &[Edge]) -> ArrayVec<Edge, MAX_EDGES>
+pub(crate) fn copied(edges: &[Edge]) -> ArrayVec<Edge, MAX_EDGES>
     requires { length edges.now ≤ MAX_EDGES }
     ensures { result.items ≡ edges.now }
 {
@@ -85,4 +89,29 @@ impl Cycle {
             Err(_) => unreachable!(),
         }
     }
+
+    /// A second value of the same list of edges.
+    pub fn copied(&self) -> Cycle
+        ensures { result ≡ self.now }
+    {
+        Cycle::of(self.edges())
+    }
+}
+
+/// Two cycles are equal where their lists of edges are: `same` is true of their rotations too.
+impl PartialEq for Cycle {
+    ghost eq = { pointwise (on rank_of ◌==◌) };
+
+    ghost laws = { Prim.search (comparing, rules) };
+
+    fn eq(&self, other: &Cycle) -> bool
+        ensures value { result ≡ pointwise (on rank_of ◌==◌) self.now other.now }
+        ensures same { IsTrue result ↔ (self.now ≡ other.now) }
+    {
+        self.edges() == other.edges()
+    }
+}
+
+impl Eq for Cycle {
+    ghost laws = { Prim.search (comparing, rules) };
 }

@@ -11,3 +11,19 @@ pub enum CycleError {
     #[error("edge {at} doesn't join the next one")]
     DoesNotCompose { at: u8 },
 }
+
+/// Why two paths make no path.
+#[derive(Clone, Copy, Debug, PartialEq, Eq, thiserror::Error)]
+pub enum JoinError {
+    /// The two have more than `MAX_EDGES` edges.
+    #[error("a path has too many edges")]
+    TooLong,
+    /// The last edge of the one doesn't join the first of the other.
+    #[error("the last edge of a path doesn't join the first of the next")]
+    DoesNotCompose,
+}
+
+/// The last edge of a path doesn't join its first.
+#[derive(Clone, Copy, Debug, PartialEq, Eq, thiserror::Error)]
+#[error("the last edge of a path doesn't join its first")]
+pub struct NotClosed;

@@ -4,7 +4,16 @@
 mod compose;
 mod cycles;
 mod errors;
+mod laws;
+mod normal;
+mod paths;
 
 pub use compose::cycle;
 pub use cycles::Cycle;
-pub use errors::CycleError;
+pub use errors::{CycleError, JoinError, NotClosed};
+pub use laws::{composes_exactly, joining_is_associative};
+pub use normal::may_begin;
+pub use paths::Path;
+
+#[cfg(test)]
+mod tests;

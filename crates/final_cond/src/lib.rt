@@ -2,7 +2,23 @@
 #![tactic(auto)]
 
 mod cond;
+mod errors;
+mod law;
+mod names;
+mod numbers;
 mod print;
+mod read;
+mod runs;
+mod state;
 
-pub use cond::{Cond, Left, PlaceName, Quantifier, RegName, Term};
+pub use cond::{Cond, Left, MAX_TERMS, PlaceName, Quantifier, RegName, Term};
+pub use errors::{CondError, CondFault, CondKind};
+pub use law::printed_reads_back;
+pub use names::{MAX_NAME, is_place_name, is_register_name, place_name, register_name};
+pub use numbers::number_of;
 pub use print::print_cond;
+pub use read::{Follow, read_cond, read_follow, read_left, read_opening, read_right, read_term};
+pub use state::{Final, holds};
+
+#[cfg(test)]
+mod tests;

@@ -1,16 +1,14 @@
 -- The rules in the form in which a list of operations is run, one after another, from `At r`.
-use Rattle.std.proofs.Common.{ℕ, zero, suc, ◌+◌, ◌^◌, ◌<◌, ◌≡◌, ◌==◌, refl, Bool, true, false, cond, not, nat_lt, bit_or, bit_xor, List, [], ◌∷◌, ◌++◌, Option, Some, None, ◌∙◌, sym, ap, eq-eqb, lt-ltb}
+use Rattle.std.proofs.Common.{ℕ, zero, suc, ◌+◌, ◌^◌, ◌<◌, ◌≡◌, ◌==◌, refl, Bool, true, false, bit_or, bit_xor, List, [], ◌∷◌, ◌++◌, Some, None, ◌∙◌, ap, eq-eqb, lt-ltb}
 use Rattle.std.proofs.Math.Dec.{eqb-suc-zero}
 use Rattle.relax_edges.specs.declared.kinds.Dir.TheVariants as dirs
-use Rattle.relax_edges.specs.declared.kinds.Value.TheVariants.{Num, Place}
+use Rattle.relax_edges.specs.declared.kinds.Value.TheVariants.{Num}
 use Rattle.micro_ops.specs.declared.held.Held.{Held}
-use Rattle.micro_ops.specs.declared.operation.Micro.{Micro}
 use Rattle.micro_ops.specs.declared.operation.Micro.TheVariants as ops
 use Rattle.micro_ops.specs.declared.operation.Barrier.{Barrier}
-use Rattle.micro_ops.specs.declared.operation.Item.{Item}
 use Rattle.micro_ops.specs.declared.operation.Item.TheVariants as items
-use Rattle.micro_ops.specs.Machine.{State, num, address, at_place, bit, put, step, loading, storing, place_at, branching_on}
-use Rattle.micro_ops.specs.Running.{Run, Point, At, Past, Wants, Stuck, go, exec, taken, led}
+use Rattle.micro_ops.specs.Machine.{num, address, at_place, bit, put, loading, storing, place_at, branching_on}
+use Rattle.micro_ops.specs.Running.{Run, At, Past, Wants, go, exec, taken, led}
 use Rattle.micro_ops.proofs.Masks.{or_zero, zero_or, or_same}
 
 -- a run in which a register was written
@@ -136,6 +134,10 @@ run_cmp_two a b m n i j r e f g = rw (e, f, g) refl
 pub run_branch_eq : (l : ℕ) (r : Run) → r.state.flag ≡ true →
     go (ops.BranchEq l) (At r) ≡ Past l (after_branch r r.state.flag_mask)
 run_branch_eq l r e = rw e refl
+
+pub run_branch_eq_on : (l : ℕ) (r : Run) → r.state.flag ≡ false →
+    go (ops.BranchEq l) (At r) ≡ At (after_branch r r.state.flag_mask)
+run_branch_eq_on l r e = rw e refl
 
 -- a label that is passed, and one that a jump leads to
 pub run_label : (l : ℕ) (r : Run) → go (ops.Label l) (At r) ≡ At r

@@ -1,2 +1,4 @@
 pub mod Machine
+pub mod Machines
 pub mod Running
+pub mod Threads

@@ -1,8 +1,7 @@
 -- The machine of one thread: what it holds, and the rule of each operation.
 -- Source: the instruction manuals of x86, Power, Arm and RISC-V, cut to the instructions that litmus
 -- tests use; what depends on a load, through registers, after those manuals' syntactic dependencies.
-use Rattle.std.specs.Prelude.{ℕ, zero, suc, ◌+◌, ◌^◌, Bool, true, false, cond, not, ◌==◌, nat_lt, bit_or, bit_xor, Option, Some, None}
-use Rattle.relax_edges.specs.declared.kinds.Dir.{Dir}
+use Rattle.std.specs.Prelude.{ℕ, zero, ◌+◌, ◌^◌, Bool, true, cond, not, ◌==◌, nat_lt, bit_or, bit_xor, Option, Some, None}
 use Rattle.relax_edges.specs.declared.kinds.Dir.TheVariants as dirs
 use Rattle.relax_edges.specs.declared.kinds.Value.{Value}
 use Rattle.relax_edges.specs.declared.kinds.Value.TheVariants.{Num, Place}

@@ -1,12 +1,13 @@
 -- The run of a thread: a list of operations, on the numbers that its loads read.
 -- Source: own.
-use Rattle.std.specs.Prelude.{ℕ, ◌==◌, Bool, true, false, cond, ◌||◌, ◌&&◌, List, [], ◌∷◌, ◌++◌, Option, Some, None, ◌≡◌}
+use Rattle.std.specs.Prelude.{ℕ, ◌<◌, ◌^◌, ◌==◌, Bool, true, false, cond, ◌||◌, ◌&&◌, List, [], ◌∷◌, ◌++◌, count_by, Option, Some, None, ◌≡◌}
 use Rattle.relax_edges.specs.declared.kinds.Value.{Value}
-use Rattle.relax_edges.specs.declared.kinds.Value.TheVariants.{Num, Place}
 use Rattle.micro_ops.specs.declared.held.Held.{Held}
 use Rattle.micro_ops.specs.declared.operation.Micro.{Micro}
 use Rattle.micro_ops.specs.declared.operation.Micro.TheVariants as ops
 use Rattle.micro_ops.specs.declared.operation.Item.{Item}
+use Rattle.micro_ops.specs.declared.operation.Item.TheVariants as items
+use Rattle.relax_edges.specs.declared.kinds.Dir.TheVariants as dirs
 use Rattle.micro_ops.specs.Machine.{State, Told, step, num}
 
 -- a run as far as it has come: the state, the numbers that are left to read, the items made
@@ -107,13 +108,19 @@ starting [] _ = num 0 0
 starting (named ∷ init) r =
     cond (r == named.0) (record { value = named.1; mask = 0 }) (starting init r)
 
+-- what a thread holds before its first operation
+abbrev pub initial : List (ℕ × Value) → State
+initial init = record {
+  regs = starting init;
+  flag = false;
+  flag_mask = 0;
+  control = 0;
+  loads = 0;
+}
+
 -- a thread before its first operation
 abbrev pub beginning : List (ℕ × Value) → List ℕ → Run
-beginning init reads = record {
-  state = record { regs = starting init; flag = false; flag_mask = 0; control = 0; loads = 0 };
-  reads = reads;
-  made = [];
-}
+beginning init reads = record { state = initial init; reads = reads; made = [] }
 
 -- how a run ends: with its items and the values of its registers, all reads used; at its end with
 -- reads left; at a load that lacks a read; or where no rule fits, or a label is missing
@@ -138,3 +145,64 @@ outcome Stuck = NoRule
 -- the run of a thread: its code, from its initial registers, on the numbers that its loads read
 abbrev pub runs : List Micro → List (ℕ × Value) → List ℕ → Outcome
 runs code init reads = outcome (exec code (At (beginning init reads)))
+
+-- a run is on the way to a label
+abbrev pub is_past : Point → Bool
+is_past (Past _ _) = true
+is_past _ = false
+
+-- the register that an operation writes
+abbrev pub writes : Micro → Option ℕ
+writes (ops.Imm dst _) = Some dst
+writes (ops.Xor dst _ _) = Some dst
+writes (ops.AddImm dst _ _) = Some dst
+writes (ops.OrImm dst _ _) = Some dst
+writes (ops.Add dst _ _) = Some dst
+writes (ops.Load dst _ _) = Some dst
+writes (ops.LoadAt dst _) = Some dst
+writes _ = None
+
+-- a register is the one that is named
+abbrev pub is_named : ℕ → Option ℕ → Bool
+is_named r (Some named) = r == named
+is_named _ None = false
+
+-- some operation writes a register
+abbrev pub is_written : ℕ → List Micro → Bool
+is_written _ [] = false
+is_written r (op ∷ code) = is_named r (writes op) || is_written r code
+
+-- an item is a read
+abbrev pub is_read : Item → Bool
+is_read (items.Access dirs.R _ _ _ _ _) = true
+is_read _ = false
+
+-- a state whose masks name loads that were stepped, and no others
+pub record MasksNameLoads (s : State) : Type 0 where
+  pub in_regs : (r : ℕ) → (s.regs r).mask < 2 ^ s.loads
+  pub in_flag : s.flag_mask < 2 ^ s.loads
+  pub in_control : s.control < 2 ^ s.loads
+
+-- an item whose masks name only loads below a number
+abbrev pub NamesLoads : ℕ → Item → Type 0
+NamesLoads loads (items.Access _ _ _ addr_mask data_mask ctrl_mask) =
+    (addr_mask < 2 ^ loads) × (data_mask < 2 ^ loads) × (ctrl_mask < 2 ^ loads)
+NamesLoads loads (items.Barrier _ ctrl_mask) = ctrl_mask < 2 ^ loads
+
+-- items whose masks name only loads below a number
+abbrev pub AllNameLoads : ℕ → List Item → Type 0
+AllNameLoads loads [] = Unit {0}
+AllNameLoads loads (item ∷ made) = NamesLoads loads item × AllNameLoads loads made
+
+-- a run whose masks name loads that were stepped, and whose state counts the loads among its items
+pub record RunNamesLoads (r : Run) : Type 0 where
+  pub masks : MasksNameLoads r.state
+  pub items : AllNameLoads r.state.loads r.made
+  pub loads : r.state.loads ≡ count_by is_read r.made
+
+-- a fact of the run that a point has, where it isn't stuck
+abbrev pub OnRun : (Run → Type 0) → Point → Type 0
+OnRun P (At r) = P r
+OnRun P (Past _ r) = P r
+OnRun P (Wants r) = P r
+OnRun P Stuck = Unit {0}

@@ -2,7 +2,16 @@
 #![tactic(auto)]
 
 mod held;
+mod machine;
+mod operand;
 mod operation;
+mod run;
+pub mod run_laws;
 
 pub use held::Held;
+pub use machine::{Machine, Stepped, Stuck};
 pub use operation::{Barrier, Item, Micro};
+pub use run::{RunError, Trace, run_thread};
+
+#[cfg(test)]
+mod tests;

@@ -2,3 +2,9 @@ pub mod EdgeTable
 pub mod Order
 pub mod Words
 pub mod AllEdges
+pub mod Spelling
+pub mod Reading
+pub mod Architectures
+pub mod RelaxText
+pub mod Relaxations
+pub mod RelaxSearch

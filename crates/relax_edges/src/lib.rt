@@ -1,13 +1,23 @@
 //! The edges of a cycle: what each one joins, its printed word, and the order of the words.
 #![tactic(auto)]
 
+mod arch;
 mod edge;
 mod kinds;
 mod order;
+mod read;
+mod relax;
+mod relax_error;
+mod relax_words;
+mod word;
 
+pub use arch::read_arch;
 pub use edge::Edge;
 pub use kinds::{ArchName, Com, DepKind, Dir, FenceKind, ObsMode, Pick, Reach, Sd, Value};
 pub use order::EDGES;
+pub use read::{UnknownEdge, read_edge, read_edge_bytes};
+pub use relax::{Relax, Relaxes};
+pub use relax_error::{RelaxError, RelaxKind};
 
 /// The most edges that a cycle has.
 pub const MAX_EDGES: usize = 24;

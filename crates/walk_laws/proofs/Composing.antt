@@ -1,11 +1,11 @@
 -- Laws of composable lists: parts, rotations, the first break.
-use Rattle.std.proofs.Common.{◌≡◌, ℕ, ◌+◌, ◌<◌, ◌≤◌, Bool, true, false, ◌&&◌, cond, List, [], ◌∷◌, ◌++◌, length, take, drop, Option, Some, None, refl, sym, ◌∙◌, ap, arith, append_assoc, length-append, slice_get}
+use Rattle.std.proofs.Common.{◌≡◌, ℕ, suc, ◌-◌, ◌+◌, ◌<◌, ◌≤◌, Bool, true, false, ◌&&◌, cond, List, [], ◌∷◌, ◌++◌, length, take, drop, Option, Some, None, refl, sym, ◌∙◌, ap, arith, append_assoc, length-append, slice_get, get_or}
 use Rattle.std.proofs.lemmas.List.{append-nil, take-append-drop}
 use Rattle.std.proofs.lemmas.Bool.{and_parts, and_from}
 use Rattle.relax_edges.specs.declared.TheConstants.{MAX_EDGES}
 use Rattle.relax_edges.specs.declared.edge.Edge.{Edge}
 use Rattle.relax_edges.specs.EdgeTable.{joins_to}
-use Rattle.walk_laws.specs.Composable.{joins_first, is_joined, is_closed, IsCycle, first_break, one_later}
+use Rattle.walk_laws.specs.Composable.{joins_first, is_joined, is_closed, IsPath, IsCycle, first_break, one_later, last_joins}
 use Rattle.walk_laws.specs.Rotation.{rotated}
 
 and_assoc : (x y z : Bool) → ((x && y) && z) ≡ (x && (y && z))
@@ -103,3 +103,57 @@ unbroken_cycle (f ∷ u) e s l h = record {
   few = l;
   closed = let z : e ≡ f = cc in joined_unbroken ((f ∷ u) ++ f ∷ []) (rw z at h);
 }
+
+-- two lists, one behind the other, are joined where each is, and the last edge of one joins the first of the other
+pub joined_parts : (u v : List Edge) → is_joined (u ++ v) ≡ (is_joined u && (last_joins u v && is_joined v))
+joined_parts [] v = refl
+joined_parts (e ∷ []) v = refl
+joined_parts (e ∷ f ∷ u) v =
+    ap (λ b. joins_to e f && b) (joined_parts (f ∷ u) v) ∙ sym (and_assoc (joins_to e f) (is_joined (f ∷ u)) (last_joins (f ∷ u) v && is_joined v))
+
+joins_first_one : (e : Edge) (u : List Edge) → joins_first e (take 1 u) ≡ joins_first e u
+joins_first_one e [] = refl
+joins_first_one e (f ∷ u) = refl
+
+last_joins_one : (u v : List Edge) → last_joins u (take 1 v) ≡ last_joins u v
+last_joins_one [] v = refl
+last_joins_one (e ∷ []) v = joins_first_one e v
+last_joins_one (e ∷ f ∷ u) v = last_joins_one (f ∷ u) v
+
+one_joined : (u : List Edge) → is_joined (take 1 u) ≡ true
+one_joined [] = refl
+one_joined (e ∷ u) = refl
+
+-- a list closes where it is joined and its last edge joins its first
+pub closed_parts : (u : List Edge) → is_closed u ≡ (is_joined u && last_joins u u)
+closed_parts u =
+    joined_parts u (take 1 u) ∙ ap (λ b. is_joined u && b) (ap (λ b. last_joins u (take 1 u) && b) (one_joined u) ∙ and_true (last_joins u (take 1 u)) ∙ last_joins_one u u)
+  where
+    and_true : (b : Bool) → (b && true) ≡ b
+    and_true true = refl
+    and_true false = refl
+
+-- what the last edge of a list and the first of another say
+pub last_joins_at : (u v : List Edge) (d e : Edge) → 0 < length u → 0 < length v → last_joins u v ≡ joins_to (get_or u (length u - 1) d) (get_or v 0 e)
+last_joins_at [] v d e h k = absurd (omega arith)
+last_joins_at (x ∷ []) [] d e h k = absurd (omega arith)
+last_joins_at (x ∷ []) (y ∷ v) d e h k = refl
+last_joins_at (x ∷ y ∷ u) v d e h k =
+    let n : length (x ∷ y ∷ u) - 1 ≡ suc (length (y ∷ u) - 1) = omega arith in
+    rw n (last_joins_at (y ∷ u) v d e (omega arith) k)
+
+-- two paths that aren't too long, of which one joins the other, are a path
+pub path_joined : (u v : List Edge) → IsPath u → IsPath v → length u + length v ≤ MAX_EDGES → last_joins u v ≡ true → IsPath (u ++ v)
+path_joined u v p q l h = record {
+  some = omega (arith, p.some, length-append u v);
+  few = omega (arith, length-append u v);
+  joined = joined_parts u v ∙ rw (p.joined, h, q.joined) refl;
+}
+
+-- a path whose last edge joins its first is a cycle
+pub path_closed : (u : List Edge) → IsPath u → last_joins u u ≡ true → IsCycle u
+path_closed u p h = record { some = p.some; few = p.few; closed = closed_parts u ∙ rw (p.joined, h) refl }
+
+-- one edge is a path
+pub path_one : (e : Edge) → IsPath (e ∷ [])
+path_one e = record { some = omega arith; few = omega arith; joined = refl }

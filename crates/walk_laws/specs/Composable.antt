@@ -1,6 +1,6 @@
 -- When edges compose, as a path and as a cycle.
 -- Source: the diy part of the herdtools manual, "Candidate relaxations".
-use Rattle.std.specs.Prelude.{◌≡◌, ℕ, ◌+◌, ◌<◌, ◌≤◌, Bool, true, ◌&&◌, cond, List, [], ◌∷◌, ◌++◌, length, take, Option, Some, None}
+use Rattle.std.specs.Prelude.{◌≡◌, ℕ, ◌+◌, ◌<◌, ◌≤◌, Bool, true, ◌&&◌, cond, List, [], ◌∷◌, ◌++◌, length, take, Option, Some, None, slice_get, ◌%◌}
 use Rattle.relax_edges.specs.declared.TheConstants.{MAX_EDGES}
 use Rattle.relax_edges.specs.declared.edge.Edge.{Edge}
 use Rattle.relax_edges.specs.EdgeTable.{joins_to}
@@ -40,3 +40,14 @@ one_later (Some i) = Some (i + 1)
 abbrev pub first_break : List Edge → Option ℕ
 first_break [] = None
 first_break (e ∷ u) = cond (joins_first e u) (one_later (first_break u)) (Some 0)
+
+-- the last edge of a list joins the first of another, where each has one
+abbrev pub last_joins : List Edge → List Edge → Bool
+last_joins [] _ = true
+last_joins (e ∷ []) v = joins_first e v
+last_joins (_ ∷ f ∷ u) v = last_joins (f ∷ u) v
+
+-- the edge at place i of a list joins the next one, that behind the last being the first
+abbrev pub JoinsNext : List Edge → ℕ → Type 0
+JoinsNext u i =
+    (e f : Edge) → slice_get u i ≡ Some e → slice_get u ((i + 1) % length u) ≡ Some f → joins_to e f ≡ true

@@ -1,2 +1,5 @@
+pub mod Beginning
 pub mod Composable
+pub mod Laws
+pub mod Order
 pub mod Rotation

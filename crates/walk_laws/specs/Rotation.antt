@@ -2,13 +2,13 @@
 use Rattle.std.specs.Prelude.{◌≡◌, ℕ, List, ◌++◌, take, drop}
 use Rattle.relax_edges.specs.declared.edge.Edge.{Edge}
 
--- v is a rotation of u: a front and a back part of u are exchanged in it
+-- v is a rotation of u, the same cycle: a front and a back part of u are exchanged in it
 pub record IsRotation (u v : List Edge) : Type 0 where
   pub front : List Edge
   pub back : List Edge
   pub from : u ≡ front ++ back
   pub to : v ≡ back ++ front
 
--- the rotation of u that begins at place k
-abbrev pub rotated : ℕ → List Edge → List Edge
+-- the rotation of a list that begins at place k
+abbrev pub rotated : {A : Type 0} → ℕ → List A → List A
 rotated k u = drop k u ++ take k u

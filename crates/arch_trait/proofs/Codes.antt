@@ -1,0 +1,309 @@
+-- What stands in a thread's code: its operations and labels, their number, and the registers of its
+-- loads.
+use Rattle.std.proofs.Common.{◌⊎◌, inl, inr, eqb-true, eq-eqb, ℕ, suc, ◌+◌, ◌*◌, ◌<◌, ◌≤◌, ◌≡◌, ◌==◌, refl, Bool, true, false, cond, ◌||◌, List, [], ◌∷◌, ◌++◌, Option, Some, None, is_some, length, ◌∙◌, sym, ap, length-append, append-nil, arith}
+use Rattle.std.proofs.lemmas.Bool.{and_from, and_parts, or_left, or_right, or_cases}
+use Rattle.std.proofs.lemmas.List.Folds.{list_all-append}
+use Rattle.std.proofs.lemmas.List.Sums.{sum_by-cons}
+use Rattle.std.specs.List.{list_all, range_with_len}
+use Rattle.relax_edges.specs.declared.kinds.Dir.{Dir}
+use Rattle.relax_edges.specs.declared.kinds.Dir.TheVariants as dirs
+use Rattle.micro_ops.specs.declared.operation.Micro.{Micro}
+use Rattle.micro_ops.specs.declared.operation.Micro.TheVariants as ops
+use Rattle.micro_ops.specs.Running.{lands, labels_of}
+use Rattle.micro_ops.proofs.Laws.{labels_append, lands_append}
+use Rattle.arch_trait.specs.declared.link.Link.{Link}
+use Rattle.arch_trait.specs.declared.link.Link.TheVariants as links
+use Rattle.arch_trait.specs.declared.step.Step.{Step}
+use Rattle.arch_trait.specs.declared.way.Way.{Way}
+use Rattle.arch_trait.specs.Links.{depends, branches}
+use Rattle.arch_trait.specs.Taking.{address_in, has_address}
+use Rattle.arch_trait.specs.Threads.{Puts, FitStep, FitSteps, is_load_dir, loads_in, branches_in, visits, from_of, put_of, filled_by, next_put, next_filled, further, step_code, thread_code, thread_regs, thread_loads, put_before}
+use Rattle.arch_trait.specs.Laws.{IsTaken, AddsAddress, IsUsable, HasLink, MakesAccess, IsArch, is_at, access_room, link_room, link_labels}
+use Rattle.arch_trait.proofs.Taking.{by_option, address_added}
+use Rattle.arch_trait.proofs.Runs.{step_takes, step_grew, thread_grew, step_filled, IsWithin}
+
+-- the most operations of an access with its link
+both_rooms : (link : Link) → link_room link + access_room link ≤ 6
+both_rooms links.Plain = omega arith
+both_rooms (links.Fence kind) = omega arith
+both_rooms links.Addr = omega arith
+both_rooms links.Data = omega arith
+both_rooms links.Ctrl = omega arith
+both_rooms links.CtrlIsync = omega arith
+both_rooms links.CtrlIsb = omega arith
+
+-- the laws of an access, of a load and a store alike
+pub put_laws : (a : Puts) → IsArch a → (s : Step) → s.value < 256 → (d : Dir) →
+    MakesAccess a d (λ g link from p. put_of a g from (record s { link = link; place = p }) d)
+put_laws a laws s v dirs.R = laws.loads.access
+put_laws a laws s v dirs.W = laws.stores.access s.value v
+
+pub step_short : (a : Puts) → IsArch a → (w : Way) (s : Step) → s.value < 256 →
+    length (step_code a w s) ≤ 6
+step_short a laws w s v =
+    let from = from_of s.link w.last in
+    omega (
+      arith,
+      length-append (a.link s.link from w.label) (next_put a w s).code,
+      laws.links.room s.link from w.label,
+      (put_laws a laws s v s.dir).room w.regs s.link from s.place,
+      both_rooms s.link,
+    )
+
+-- a thread has at most six operations for each access
+pub thread_short : (a : Puts) → IsArch a → (b : Bool) (w : Way) (ss : List Step) →
+    FitSteps a.name b ss → length (thread_code a w ss) ≤ 6 * length ss
+thread_short a laws b w [] fit = omega arith
+thread_short a laws b w (s ∷ ss) fit =
+    omega (
+      arith,
+      length-append (step_code a w s) (thread_code a (further a w s) ss),
+      step_short a laws w s fit.0.value,
+      thread_short a laws (is_load_dir s.dir) (further a w s) ss fit.1,
+    )
+
+-- a dependency has its register
+abbrev pub IsGiven : Bool → Option ℕ → Type 0
+IsGiven b last = b ≡ true → is_some last ≡ true
+
+given_from : (link : Link) (b : Bool) (last : Option ℕ) → (depends link ≡ true → b ≡ true) →
+    IsGiven b last → depends link ≡ true → is_some (from_of link last) ≡ true
+given_from link b last after given e =
+    ap (λ d. is_some (cond d last None)) e ∙ given (after e)
+
+pub given_after : (a : Puts) (w : Way) (s : Step) → IsGiven (is_load_dir s.dir) (next_filled a w s)
+given_after a w s = of_dir s.dir
+  where
+    of_dir : (d : Dir) → is_load_dir d ≡ true → is_some (filled_by a w.regs (from_of s.link w.last) s d) ≡ true
+    of_dir dirs.R e = refl
+    of_dir dirs.W e = cc
+
+pub has_link : (a : Puts) (w : Way) (s : Step) (b : Bool) → FitStep a.name b s → IsGiven b w.last →
+    HasLink a s.link (from_of s.link w.last)
+has_link a w s b fit given = record {
+  of_arch = fit.of_arch;
+  given = given_from s.link b w.last fit.after given;
+}
+
+step_labels : (a : Puts) → IsArch a → (w : Way) (s : Step) (b : Bool) → FitStep a.name b s →
+    IsGiven b w.last → labels_of (step_code a w s) ≡ link_labels s.link w.label
+step_labels a laws w s b fit given =
+    let from = from_of s.link w.last in
+    labels_append (a.link s.link from w.label) (next_put a w s).code ∙
+    (ap (λ l. l ++ labels_of (next_put a w s).code)
+    (laws.links.labels s.link from w.label (has_link a w s b fit given)) ∙
+    (ap (λ l. link_labels s.link w.label ++ l)
+    ((put_laws a laws s fit.value s.dir).no_label w.regs s.link from s.place) ∙
+    append-nil (link_labels s.link w.label)))
+
+-- the labels of a thread are numbered in order
+pub thread_labels : (a : Puts) → IsArch a → (b : Bool) (w : Way) (ss : List Step) →
+    FitSteps a.name b ss → IsGiven b w.last →
+    labels_of (thread_code a w ss) ≡ range_with_len w.label (branches_in ss)
+thread_labels a laws b w [] fit given = refl
+thread_labels a laws b w (s ∷ ss) fit given =
+    labels_append (step_code a w s) (thread_code a (further a w s) ss) ∙
+    (ap (λ l. l ++ labels_of (thread_code a (further a w s) ss)) (step_labels a laws w s b fit.0 given) ∙
+    (ap (λ l. link_labels s.link w.label ++ l)
+    (thread_labels a laws (is_load_dir s.dir) (further a w s) ss fit.1 (given_after a w s)) ∙
+    (one_more w.label (branches s.link) (branches_in ss) ∙
+    ap (λ n. range_with_len w.label n) (sym (sum_by-cons (λ t. cond (branches t.link) 1 0) s ss)))))
+  where
+    one_more : (n : ℕ) (t : Bool) (k : ℕ) →
+        cond t (n ∷ []) [] ++ range_with_len (n + cond t 1 0) k ≡ range_with_len n (cond t 1 0 + k)
+    one_more n true k = let e : 1 + k ≡ suc k = omega arith in rw e refl
+    one_more n false k =
+        let e : 0 + k ≡ k = omega arith in let f : n + 0 ≡ n = omega arith in rw (e, f) refl
+
+step_lands : (a : Puts) → IsArch a → (w : Way) (s : Step) → s.value < 256 →
+    lands (step_code a w s) ≡ true
+step_lands a laws w s v =
+    let from = from_of s.link w.last in
+    lands_append (a.link s.link from w.label) (next_put a w s).code
+    (laws.links.jumps s.link from w.label)
+    ((put_laws a laws s v s.dir).no_jump w.regs s.link from s.place)
+
+-- each branch of a thread has its label behind it
+pub thread_lands : (a : Puts) → IsArch a → (b : Bool) (w : Way) (ss : List Step) →
+    FitSteps a.name b ss → lands (thread_code a w ss) ≡ true
+thread_lands a laws b w [] fit = refl
+thread_lands a laws b w (s ∷ ss) fit =
+    lands_append (step_code a w s) (thread_code a (further a w s) ss)
+    (step_lands a laws w s fit.0.value)
+    (thread_lands a laws (is_load_dir s.dir) (further a w s) ss fit.1)
+
+both_pass : (p : Micro → Bool) (xs ys : List Micro) → list_all p xs ≡ true → list_all p ys ≡ true →
+    list_all p (xs ++ ys) ≡ true
+both_pass p xs ys e f = list_all-append p xs ys ∙ and_from (list_all p xs) (list_all p ys) e f
+
+usable_from : (registers : ℕ) (link : Link) (last : Option ℕ) → IsUsable registers last →
+    IsUsable registers (from_of link last)
+usable_from registers link last h = of_test (depends link)
+  where
+    of_test : (d : Bool) → IsUsable registers (cond d last None)
+    of_test true = h
+    of_test false = tt
+
+step_has : (a : Puts) → IsArch a → (w : Way) (s : Step) (b : Bool) → FitStep a.name b s →
+    IsGiven b w.last → IsUsable a.registers w.last → IsTaken w.regs →
+    (further a w s).regs.next ≤ a.registers → list_all a.has (step_code a w s) ≡ true
+step_has a laws w s b fit given usable taken room =
+    let from = from_of s.link w.last in
+    let link = has_link a w s b fit given in
+    let usable = usable_from a.registers s.link w.last usable in
+    both_pass a.has (a.link s.link from w.label) (next_put a w s).code
+    (laws.links.has s.link from w.label link usable)
+    ((put_laws a laws s fit.value s.dir).has w.regs s.link from s.place link usable taken room)
+
+usable_after : (a : Puts) → IsArch a → (w : Way) (s : Step) →
+    (further a w s).regs.next ≤ a.registers → IsUsable a.registers (next_filled a w s)
+usable_after a laws w s room = of_filled (next_filled a w s) (step_filled a laws w s)
+  where
+    of_filled : (q : Option ℕ) → IsWithin w.regs.next (further a w s).regs.next q →
+        IsUsable a.registers q
+    of_filled None h = tt
+    of_filled (Some q) h = omega (arith, h.1)
+
+-- each operation of a thread that has registers enough is one of the architecture's
+pub thread_has : (a : Puts) → IsArch a → (b : Bool) (w : Way) (ss : List Step) →
+    FitSteps a.name b ss → IsGiven b w.last → IsUsable a.registers w.last → IsTaken w.regs →
+    (thread_regs a w ss).next ≤ a.registers → list_all a.has (thread_code a w ss) ≡ true
+thread_has a laws b w [] fit given usable taken room = refl
+thread_has a laws b w (s ∷ ss) fit given usable taken room =
+    let more = (thread_grew a laws (is_load_dir s.dir) (further a w s) ss fit.1).more in
+    let here : (further a w s).regs.next ≤ a.registers = omega arith in
+    both_pass a.has (step_code a w s) (thread_code a (further a w s) ss)
+    (step_has a laws w s b fit.0 given usable taken here)
+    (thread_has a laws (is_load_dir s.dir) (further a w s) ss fit.1 (given_after a w s)
+    (usable_after a laws w s here) ((step_grew a laws w s fit.0.value).taken taken) room)
+
+-- an operation names none but the places of the accesses
+abbrev pub is_within : List Step → Micro → Bool
+is_within ss (ops.LoadAt _ q) = visits q ss
+is_within ss (ops.StoreAt q _) = visits q ss
+is_within ss _ = true
+
+-- an operation at one of the places, or with none
+visit_one : (s : Step) (ss : List Step) (op : Micro) → is_at s.place op ≡ true →
+    is_within (s ∷ ss) op ≡ true
+visit_one s ss (ops.LoadAt d q) e = at_place q e
+  where
+    at_place : (q : ℕ) → (q == s.place) ≡ true → (s.place == q || visits q ss) ≡ true
+    at_place q e = let f : q ≡ s.place = eqb-true q s.place e in or_left (s.place == q) (visits q ss) (eq-eqb s.place q (sym f))
+visit_one s ss (ops.StoreAt q n) e = at_place q e
+  where
+    at_place : (q : ℕ) → (q == s.place) ≡ true → (s.place == q || visits q ss) ≡ true
+    at_place q e = let f : q ≡ s.place = eqb-true q s.place e in or_left (s.place == q) (visits q ss) (eq-eqb s.place q (sym f))
+visit_one s ss (ops.Imm d n) e = refl
+visit_one s ss (ops.Xor d x y) e = refl
+visit_one s ss (ops.AddImm d x n) e = refl
+visit_one s ss (ops.OrImm d x n) e = refl
+visit_one s ss (ops.Add d x y) e = refl
+visit_one s ss (ops.Load d b i) e = refl
+visit_one s ss (ops.Store d b i) e = refl
+visit_one s ss (ops.Cmp x y) e = refl
+visit_one s ss (ops.BranchEq l) e = refl
+visit_one s ss (ops.BranchNz x l) e = refl
+visit_one s ss (ops.Label l) e = refl
+visit_one s ss (ops.Barrier kind) e = refl
+
+visit_more : (s : Step) (ss : List Step) (op : Micro) → is_within ss op ≡ true →
+    is_within (s ∷ ss) op ≡ true
+visit_more s ss (ops.LoadAt d q) e = or_right (s.place == q) (visits q ss) e
+visit_more s ss (ops.StoreAt q n) e = or_right (s.place == q) (visits q ss) e
+visit_more s ss (ops.Imm d n) e = refl
+visit_more s ss (ops.Xor d x y) e = refl
+visit_more s ss (ops.AddImm d x n) e = refl
+visit_more s ss (ops.OrImm d x n) e = refl
+visit_more s ss (ops.Add d x y) e = refl
+visit_more s ss (ops.Load d b i) e = refl
+visit_more s ss (ops.Store d b i) e = refl
+visit_more s ss (ops.Cmp x y) e = refl
+visit_more s ss (ops.BranchEq l) e = refl
+visit_more s ss (ops.BranchNz x l) e = refl
+visit_more s ss (ops.Label l) e = refl
+visit_more s ss (ops.Barrier kind) e = refl
+
+all_pass : (p q : Micro → Bool) → ((op : Micro) → p op ≡ true → q op ≡ true) → (code : List Micro) →
+    list_all p code ≡ true → list_all q code ≡ true
+all_pass p q h [] e = refl
+all_pass p q h (op ∷ code) e =
+    let parts = and_parts (p op) (list_all p code) e in
+    and_from (q op) (list_all q code) (h op parts.0) (all_pass p q h code parts.1)
+
+-- each operation of a thread names none but the places of its accesses
+pub thread_places : (a : Puts) → IsArch a → (b : Bool) (w : Way) (ss : List Step) →
+    FitSteps a.name b ss → list_all (is_within ss) (thread_code a w ss) ≡ true
+thread_places a laws b w [] fit = refl
+thread_places a laws b w (s ∷ ss) fit =
+    let from = from_of s.link w.last in
+    both_pass (is_within (s ∷ ss)) (step_code a w s) (thread_code a (further a w s) ss)
+    (all_pass (is_at s.place) (is_within (s ∷ ss)) (visit_one s ss) (step_code a w s)
+    (both_pass (is_at s.place) (a.link s.link from w.label) (next_put a w s).code
+    (laws.links.no_place s.link from w.label s.place)
+    ((put_laws a laws s fit.0.value s.dir).at_place w.regs s.link from s.place)))
+    (all_pass (is_within ss) (is_within (s ∷ ss)) (visit_more s ss) (thread_code a (further a w s) ss)
+    (thread_places a laws (is_load_dir s.dir) (further a w s) ss fit.1))
+
+-- each address register is for one of the places, or was one before
+pub thread_addresses : (a : Puts) → IsArch a → (b : Bool) (w : Way) (ss : List Step) (q : ℕ) →
+    FitSteps a.name b ss → has_address (thread_regs a w ss) q ≡ true →
+    (visits q ss || has_address w.regs q) ≡ true
+thread_addresses a laws b w [] q fit e = e
+thread_addresses a laws b w (s ∷ ss) q fit e =
+    of_cases (or_cases (visits q ss) (has_address (further a w s).regs q)
+    (thread_addresses a laws (is_load_dir s.dir) (further a w s) ss q fit.1 e))
+  where
+    of_links : (by_test_links : ((further a w s).regs.links ≡ w.regs.links) ⊎ AddsAddress w.regs (further a w s).regs s.place) →
+        has_address (further a w s).regs q ≡ true → ((s.place == q || visits q ss) || has_address w.regs q) ≡ true
+    of_links (inl f) h =
+        or_right (s.place == q || visits q ss) (has_address w.regs q)
+        (sym (ap (λ l. is_some (address_in l q)) f) ∙ h)
+    of_links (inr d) h = by_option (address_in w.regs.links q)
+        (λ x f. or_right (s.place == q || visits q ss) (has_address w.regs q) (ap is_some f))
+        (λ f. or_left (s.place == q || visits q ss) (has_address w.regs q)
+        (or_left (s.place == q) (visits q ss)
+        (some_if (s.place == q) d.register
+        (sym (ap is_some (address_added w.regs.links d.register s.place q f)) ∙
+        (sym (ap (λ l. is_some (address_in l q)) d.links) ∙ h)))))
+      where
+        some_if : (t : Bool) (x : ℕ) → is_some (cond t (Some x) None) ≡ true → t ≡ true
+        some_if true x e = refl
+        some_if false x e = e
+
+    of_cases : (visits q ss ≡ true) ⊎ (has_address (further a w s).regs q ≡ true) →
+        ((s.place == q || visits q ss) || has_address w.regs q) ≡ true
+    of_cases (inl f) = or_left (s.place == q || visits q ss) (has_address w.regs q) (or_right (s.place == q) (visits q ss) f)
+    of_cases (inr f) = of_links (step_takes a laws w s fit.0.value).links f
+
+-- the loads' registers are registers that the thread takes, one for each load
+abbrev pub AllBelow : ℕ → List ℕ → Type 0
+AllBelow n [] = Unit {0}
+AllBelow n (q ∷ qs) = (q < n) × AllBelow n qs
+
+pub thread_loads_below : (a : Puts) → IsArch a → (b : Bool) (w : Way) (ss : List Step) →
+    FitSteps a.name b ss → AllBelow (thread_regs a w ss).next (thread_loads a w ss)
+thread_loads_below a laws b w [] fit = tt
+thread_loads_below a laws b w (s ∷ ss) fit =
+    of_filled (next_filled a w s) (step_filled a laws w s) (thread_loads a (further a w s) ss)
+    (thread_regs a w (s ∷ ss)).next
+    (thread_loads_below a laws (is_load_dir s.dir) (further a w s) ss fit.1)
+    (thread_grew a laws (is_load_dir s.dir) (further a w s) ss fit.1).more
+  where
+    of_filled : (q : Option ℕ) → IsWithin w.regs.next (further a w s).regs.next q →
+        (qs : List ℕ) (n : ℕ) → AllBelow n qs → (further a w s).regs.next ≤ n → AllBelow n (put_before q qs)
+    of_filled None h qs n rest m = rest
+    of_filled (Some q) h qs n rest m = (omega (arith, h.1), rest)
+
+pub thread_loads_length : (a : Puts) (w : Way) (ss : List Step) →
+    length (thread_loads a w ss) ≡ loads_in ss
+thread_loads_length a w [] = refl
+thread_loads_length a w (s ∷ ss) =
+    of_dir s.dir (thread_loads a (further a w s) ss) (loads_in ss)
+    (thread_loads_length a (further a w s) ss) ∙
+    sym (sum_by-cons (λ t. cond (is_load_dir t.dir) 1 0) s ss)
+  where
+    of_dir : (d : Dir) (qs : List ℕ) (n : ℕ) → length qs ≡ n →
+        length (put_before (filled_by a w.regs (from_of s.link w.last) s d) qs) ≡ cond (is_load_dir d) 1 0 + n
+    of_dir dirs.R qs n e = omega arith
+    of_dir dirs.W qs n e = omega arith

@@ -1,0 +1,8 @@
+pub mod Taking
+pub mod Runs
+pub mod Codes
+pub mod Shapes
+pub mod Whole
+pub mod Items
+pub mod Tables
+pub mod Compiling

@@ -1,0 +1,166 @@
+-- How many registers a thread takes: as many as its shape needs.
+use Rattle.std.proofs.Common.{ℕ, ◌+◌, ◌<◌, ◌≡◌, ◌==◌, refl, Bool, true, false, cond, not, ◌&&◌, ◌||◌, List, [], ◌∷◌, ◌∙◌, sym, ap, subst, eqb-true, eq-eqb, ne_eqb, count_by, arith}
+use Rattle.std.proofs.lemmas.Bool.{eqb-false}
+use Rattle.std.proofs.lemmas.List.Sums.{sum_by-cons}
+use Rattle.arch_trait.specs.declared.step.Step.{Step}
+use Rattle.arch_trait.specs.declared.way.Way.{Way}
+use Rattle.arch_trait.specs.declared.step.Shape.{Shape}
+use Rattle.arch_trait.specs.Links.{is_addr}
+use Rattle.arch_trait.specs.Taking.{Taken, has_address}
+use Rattle.arch_trait.specs.Threads.{Puts, FitSteps, is_load_dir, is_store_dir, loads_in, visits, places_in, shape_of, setting_out, from_of, further, thread_regs}
+use Rattle.arch_trait.specs.Laws.{IsArch, grown, no_shape}
+use Rattle.arch_trait.proofs.Taking.{by_test, tracks}
+use Rattle.arch_trait.proofs.Runs.{step_takes}
+use Rattle.arch_trait.proofs.Codes.{IsGiven, given_after, has_link, put_laws}
+
+-- at how many locations the accesses are that aren't among those seen: each counts at its last
+-- access, or at its first
+abbrev pub last_seen : (ℕ → Bool) → List Step → ℕ
+last_seen seen [] = 0
+last_seen seen (s ∷ ss) = cond (seen s.place || visits s.place ss) 0 1 + last_seen seen ss
+
+abbrev pub first_seen : (ℕ → Bool) → List Step → ℕ
+first_seen seen [] = 0
+first_seen seen (s ∷ ss) =
+    cond (seen s.place) 0 1 + first_seen (λ q. s.place == q || seen q) ss
+
+one_less : (seen : ℕ → Bool) (p : ℕ) (ss : List Step) →
+    last_seen seen ss ≡
+    cond (not (seen p) && visits p ss) 1 0 + last_seen (λ q. p == q || seen q) ss
+one_less seen p [] = nothing (seen p)
+  where
+    nothing : (b : Bool) → 0 ≡ cond (not b && false) 1 0 + 0
+    nothing true = omega arith
+    nothing false = omega arith
+one_less seen p (s ∷ ss) = by_test (p == s.place)
+    (λ t. subst (Less seen s ss) (sym (eqb-true p s.place t))
+    (rw (eq-eqb s.place s.place refl)
+    (same_place (seen s.place) (visits s.place ss) (last_seen seen ss)
+    (last_seen (λ q. s.place == q || seen q) ss) (one_less seen s.place ss))))
+    (λ t. let u : (s.place == p) ≡ false = ne_eqb s.place p (λ e. eqb-false p s.place t (sym e)) in
+    rw (t, u) (other_place (cond (seen s.place || visits s.place ss) 0 1)
+    (cond (not (seen p) && visits p ss) 1 0) (last_seen seen ss)
+    (last_seen (λ q. p == q || seen q) ss) (one_less seen p ss)))
+  where
+    Less : (ℕ → Bool) → Step → List Step → ℕ → Type 0
+    Less seen s ss p =
+        last_seen seen (s ∷ ss) ≡
+        cond (not (seen p) && visits p (s ∷ ss)) 1 0 + last_seen (λ q. p == q || seen q) (s ∷ ss)
+
+    same_place : (a b : Bool) (x y : ℕ) → x ≡ cond (not a && b) 1 0 + y →
+        cond (a || b) 0 1 + x ≡ cond (not a && true) 1 0 + (0 + y)
+    same_place true b x y e = omega arith
+    same_place false true x y e = omega arith
+    same_place false false x y e = omega arith
+
+    other_place : (c d x y : ℕ) → x ≡ d + y → c + x ≡ d + (c + y)
+    other_place c d x y e = omega arith
+
+-- both counts are one
+pub last_is_first : (seen : ℕ → Bool) (ss : List Step) → last_seen seen ss ≡ first_seen seen ss
+last_is_first seen [] = refl
+last_is_first seen (s ∷ ss) =
+    counts (seen s.place) (visits s.place ss) (last_seen seen ss)
+    (last_seen (λ q. s.place == q || seen q) ss) (one_less seen s.place ss) ∙
+    ap (λ n. cond (seen s.place) 0 1 + n) (last_is_first (λ q. s.place == q || seen q) ss)
+  where
+    counts : (a b : Bool) (x y : ℕ) → x ≡ cond (not a && b) 1 0 + y →
+        cond (a || b) 0 1 + x ≡ cond a 0 1 + y
+    counts true b x y e = omega arith
+    counts false true x y e = omega arith
+    counts false false x y e = omega arith
+
+places_last : (ss : List Step) → places_in ss ≡ last_seen (λ q. false) ss
+places_last [] = refl
+places_last (s ∷ ss) = ap (λ n. cond (visits s.place ss) 0 1 + n) (places_last ss)
+
+-- each location counts at its first access
+pub places_first : (ss : List Step) → places_in ss ≡ first_seen (λ q. false) ss
+places_first ss = places_last ss ∙ last_is_first (λ q. false) ss
+
+-- a shape with further accesses, at further locations where they aren't seen
+abbrev pub more_steps : Shape → (ℕ → Bool) → List Step → Shape
+more_steps h seen ss = record {
+  loads = h.loads + loads_in ss;
+  stores = h.stores + count_by (λ s. is_store_dir s.dir) ss;
+  addr = h.addr + count_by (λ s. is_addr s.link) ss;
+  places = h.places + first_seen seen ss;
+}
+
+same_shape : (h i : Shape) → h.loads ≡ i.loads → h.stores ≡ i.stores → h.addr ≡ i.addr →
+    h.places ≡ i.places → h ≡ i
+same_shape h i e f g k =
+    ap (λ n. made n h.stores h.addr h.places) e ∙
+    (ap (λ n. made i.loads n h.addr h.places) f ∙
+    (ap (λ n. made i.loads i.stores n h.places) g ∙
+    ap (λ n. made i.loads i.stores i.addr n) k))
+  where
+    made : ℕ → ℕ → ℕ → ℕ → Shape
+    made l s a p = record { loads = l; stores = s; addr = a; places = p }
+
+more_none : (h : Shape) (seen : ℕ → Bool) → more_steps h seen [] ≡ h
+more_none h seen =
+    same_shape (more_steps h seen []) h (omega arith) (omega arith) (omega arith) (omega arith)
+
+more_cons : (h : Shape) (seen : ℕ → Bool) (s : Step) (ss : List Step) →
+    more_steps h seen (s ∷ ss) ≡
+    more_steps (grown h s.dir s.link (not (seen s.place))) (λ q. s.place == q || seen q) ss
+more_cons h seen s ss =
+    same_shape (more_steps h seen (s ∷ ss))
+    (more_steps (grown h s.dir s.link (not (seen s.place))) (λ q. s.place == q || seen q) ss)
+    (omega (arith, sum_by-cons (λ t. cond (is_load_dir t.dir) 1 0) s ss))
+    (omega (arith, sum_by-cons (λ t. cond (is_store_dir t.dir) 1 0) s ss))
+    (omega (arith, sum_by-cons (λ t. cond (is_addr t.link) 1 0) s ss))
+    (let e = of_seen (seen s.place) in omega (arith, e))
+  where
+    of_seen : (b : Bool) → ◌≡◌ {A = ℕ} (cond (not b) 1 0) (cond b 0 1)
+    of_seen true = refl
+    of_seen false = refl
+
+-- the places that have address registers are those seen, where accesses name address registers
+abbrev pub Tracks : Puts → Taken → (ℕ → Bool) → Type 0
+Tracks a g seen = a.has_addresses ≡ true → (q : ℕ) → has_address g q ≡ seen q
+
+tracks_on : (a : Puts) → IsArch a → (w : Way) (s : Step) (seen : ℕ → Bool) → s.value < 256 →
+    Tracks a w.regs seen → Tracks a (further a w s).regs (λ q. s.place == q || seen q)
+tracks_on a laws w s seen v h e q =
+    tracks w.regs (further a w s).regs s.place (step_takes a laws w s v)
+    ((put_laws a laws s v s.dir).addressed w.regs s.link (from_of s.link w.last) s.place e) q ∙
+    ap (λ b. s.place == q || b) (h e q)
+
+-- the registers that a thread takes are as many as the need of its shape grows
+pub taken_is : (a : Puts) → IsArch a → (b : Bool) (w : Way) (ss : List Step) (h : Shape)
+    (seen : ℕ → Bool) → FitSteps a.name b ss → IsGiven b w.last → Tracks a w.regs seen →
+    (thread_regs a w ss).next + a.need h ≡ w.regs.next + a.need (more_steps h seen ss)
+taken_is a laws b w [] h seen fit given follows =
+    ap (λ i. w.regs.next + a.need i) (sym (more_none h seen))
+taken_is a laws b w (s ∷ ss) h seen fit given follows =
+    let seen_after : ℕ → Bool = λ q. s.place == q || seen q in
+    let h_after = grown h s.dir s.link (not (seen s.place)) in
+    let rest = taken_is a laws (is_load_dir s.dir) (further a w s) ss h_after seen_after fit.1
+    (given_after a w s) (tracks_on a laws w s seen fit.0.value follows) in
+    let here = (put_laws a laws s fit.0.value s.dir).need w.regs s.link (from_of s.link w.last) s.place
+    (not (seen s.place)) h (has_link a w s b fit.0 given)
+    (λ e. ap not (sym (follows e s.place))) in
+    joined (thread_regs a w (s ∷ ss)).next (further a w s).regs.next w.regs.next (a.need h)
+    (a.need h_after) (a.need (more_steps h_after seen_after ss)) rest here ∙
+    ap (λ i. w.regs.next + a.need i) (sym (more_cons h seen s ss))
+  where
+    joined : (t u w h i m : ℕ) → t + i ≡ u + m → u + h ≡ w + i → t + h ≡ w + m
+    joined t u w h i m e f = omega arith
+
+shape_is : (ss : List Step) → more_steps no_shape (λ q. false) ss ≡ shape_of ss
+shape_is ss =
+    same_shape (more_steps no_shape (λ q. false) ss) (shape_of ss) (omega arith) (omega arith)
+    (omega arith) (omega (arith, places_first ss))
+
+-- a thread takes exactly as many registers as its shape needs
+pub need_is : (a : Puts) → IsArch a → (n : ℕ) (ss : List Step) → FitSteps a.name false ss →
+    (thread_regs a (setting_out n) ss).next ≡ a.need (shape_of ss)
+need_is a laws n ss fit =
+    omega (
+      arith,
+      taken_is a laws false (setting_out n) ss no_shape (λ q. false) fit (λ e. cc) (λ e q. refl),
+      laws.shapes.none,
+      ap a.need (shape_is ss),
+    )

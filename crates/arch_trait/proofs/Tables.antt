@@ -1,0 +1,127 @@
+-- Tables of names.
+use Rattle.std.proofs.Common.{ℕ, zero, suc, ◌+◌, ◌/◌, ◌%◌, ◌<◌, ◌≡◌, refl, Bool, true, false, cond, nat_lt, ◌==◌, List, [], ◌∷◌, ◌++◌, Option, Some, None, is_none, ◌&&◌, length, get_or, length-append, ◌∙◌, sym, ap, subst, arith}
+use Rattle.std.proofs.lemmas.Bool.{and_from, and_parts, eqb-true, eqb-false, ltb-true}
+use Rattle.std.proofs.lemmas.List.Folds.{list_all-append}
+use Rattle.std.proofs.lemmas.List.FromFn.{map-range_with_len_more, length-map-range_with_len}
+use Rattle.std.specs.List.{list_all, position_from, IsDistinct, AllByRecursion}
+use Rattle.std.specs.Str.{bytes_eq}
+use Rattle.final_cond.specs.Names.{is_place_name}
+use Rattle.arch_trait.specs.Names.{IsTable, number_in, location_letters, lap_mark, location_name, letters}
+use Rattle.arch_trait.proofs.Taking.{by_test}
+
+distinct_none : IsDistinct bytes_eq []
+unfolding IsDistinct
+distinct_none = tt
+
+pub no_names : (names : List (List ℕ)) → names ≡ [] → IsTable names
+no_names names e =
+    let P : List (List ℕ) → Type 0 = IsTable in
+    subst P (sym e) (record { formed = refl; once = distinct_none; few = omega arith })
+
+none_passes : (t : List ℕ → Bool) (i : ℕ) (names : List (List ℕ)) → position_from t i names ≡ None →
+    AllByRecursion (λ x. t x ≡ false) names
+none_passes t i [] e = tt
+none_passes t i (x ∷ names) e = by_test (t x)
+    (λ f. absurd (some_none (sym (ap (λ b. cond b (Some i) (position_from t (i + 1) names)) f) ∙ e)))
+    (λ f. (
+      f,
+      none_passes t (i + 1) names
+          (sym (ap (λ b. cond b (Some i) (position_from t (i + 1) names)) f) ∙ e),
+    ))
+  where
+    some_none : Some i ≡ None → ⊥
+    some_none e = cc
+
+all_push : (P : List ℕ → Type 0) (names : List (List ℕ)) (name : List ℕ) → AllByRecursion P names →
+    P name → AllByRecursion P (names ++ name ∷ [])
+all_push P [] name h p = (p, tt)
+all_push P (x ∷ names) name h p = (h.0, all_push P names name h.1 p)
+
+distinct_push : (names : List (List ℕ)) (name : List ℕ) → IsDistinct bytes_eq names →
+    AllByRecursion (λ x. bytes_eq x name ≡ false) names → IsDistinct bytes_eq (names ++ name ∷ [])
+unfolding IsDistinct
+distinct_push [] name d h = (tt, tt)
+distinct_push (x ∷ names) name d h =
+    (all_push (λ y. bytes_eq x y ≡ false) names name d.0 h.0, distinct_push names name d.1 h.1)
+
+pub one_name : (names : List (List ℕ)) (name : List ℕ) (after : List (List ℕ)) → IsTable names →
+    is_place_name name ≡ true → number_in names name ≡ None → length names < 64 →
+    after ≡ names ++ name ∷ [] → IsTable after
+one_name names name after t formed new room e =
+    let P : List (List ℕ) → Type 0 = IsTable in
+    subst P (sym e) (record {
+      formed = list_all-append is_place_name names (name ∷ []) ∙
+          and_from (list_all is_place_name names) (list_all is_place_name (name ∷ [])) t.formed
+          (and_from (is_place_name name) true formed refl);
+      once = distinct_push names name t.once (none_passes (λ x. bytes_eq x name) 0 names new);
+      few = omega (arith, length-append names (name ∷ []));
+    })
+
+-- the locations' names have the form of names and differ, as computed for the first 48
+abbrev pub new_below : ℕ → Bool
+new_below zero = true
+new_below (suc k) =
+    is_place_name (location_name k) && (is_none (number_in (letters k) (location_name k)) && new_below k)
+
+new_48 : new_below 48 ≡ true
+unfolding location_name is_place_name
+new_48 = refl
+
+-- a location's name has the form of a name, and differs from those of the locations before it
+pub record IsNew (k : ℕ) : Type 0 where
+  pub formed : is_place_name (location_name k) ≡ true
+  pub new : number_in (letters k) (location_name k) ≡ None
+
+new_at : (n k : ℕ) → new_below n ≡ true → k < n → IsNew k
+new_at zero k e h = absurd (omega arith)
+new_at (suc n) k e h =
+    let parts = and_parts (is_place_name (location_name n))
+    (is_none (number_in (letters n) (location_name n)) && new_below n) e in
+    let later = and_parts (is_none (number_in (letters n) (location_name n))) (new_below n) parts.1 in
+    by_test (k == n)
+    (λ t. let P : ℕ → Type 0 = IsNew in
+    subst P (sym (eqb-true k n t))
+    (record { formed = parts.0; new = none_is (number_in (letters n) (location_name n)) later.0 }))
+    (λ t. let d : k ≡ n → ⊥ = eqb-false k n t in new_at n k later.1 (omega arith))
+  where
+    none_is : (o : Option ℕ) → is_none o ≡ true → o ≡ None
+    none_is None e = refl
+    none_is (Some i) e = cc
+
+pub location_new : (k : ℕ) → k < 48 → IsNew k
+location_new k h = new_at 48 k new_48 h
+
+pub letters_more : (n : ℕ) → letters (n + 1) ≡ letters n ++ location_name n ∷ []
+letters_more n = map-range_with_len_more location_name 0 n n (omega arith)
+
+pub length-letters : (n : ℕ) → length (letters n) ≡ n
+length-letters n = length-map-range_with_len location_name 0 n
+
+-- the letters are ASCII
+all_ascii : list_all (λ b. nat_lt b 128) location_letters ≡ true
+all_ascii = refl
+
+pub letter_ascii : (k : ℕ) → get_or location_letters k 0 < 128
+letter_ascii k = at k location_letters all_ascii
+  where
+    at : (k : ℕ) (bytes : List ℕ) → list_all (λ b. nat_lt b 128) bytes ≡ true → get_or bytes k 0 < 128
+    at k [] e = omega arith
+    at zero (b ∷ bytes) e = ltb-true b 128 (and_parts (nat_lt b 128) (list_all (λ b. nat_lt b 128) bytes) e).0
+    at (suc k) (b ∷ bytes) e = at k bytes (and_parts (nat_lt b 128) (list_all (λ b. nat_lt b 128) bytes) e).1
+
+-- the name of a location without a mark, and with one
+pub name_plain : (k : ℕ) → k / 26 ≡ 0 → location_name k ≡ get_or location_letters (k % 26) 0 ∷ []
+unfolding location_name
+name_plain k e = rw e refl
+
+pub name_marked : (k : ℕ) → 0 < k / 26 →
+    location_name k ≡ get_or location_letters (k % 26) 0 ∷ 95 ∷ (48 + k / 26) ∷ []
+unfolding location_name
+name_marked k h = marked (k / 26) h
+  where
+    marked : (n : ℕ) → 0 < n →
+        get_or location_letters (k % 26) 0 ∷ lap_mark n ≡ get_or location_letters (k % 26) 0 ∷ 95 ∷ (48 + n) ∷ []
+    marked zero h = absurd (omega arith)
+    marked (suc n) h =
+        let e : suc n + 48 ≡ 48 + suc n = omega arith in
+        ap (λ c. get_or location_letters (k % 26) 0 ∷ 95 ∷ c ∷ []) e

@@ -1,0 +1,14 @@
+use Rattle.std.proofs.Common.{[], ◌∷◌, ◌∙◌, ap, map, length, arith}
+use Rattle.std.proofs.lemmas.List.{map-append}
+use Rattle.arch_trait.specs.Names.{number_in}
+use Rattle.arch_trait.proofs.Tables.{one_name}
+use Rattle.arch_trait.proofs.places.Places.push.Goals as goal
+
+pub invariant_of-self : goal.invariant_of-self
+invariant_of-self c =
+    let v = c.self.view_is in
+    one_name (map (λ name. name.bytes) c.self.inside.names.items) c.args.name.bytes _ c.self.invariant
+    c.requires.formed (ap (λ names. number_in names c.args.name.bytes) v ∙ c.requires.new)
+    (omega (arith, ap length v, c.requires.room))
+    (ap (λ names. map (λ name. name.bytes) names) c.push.ensures.items ∙
+    map-append (λ name. name.bytes) c.self.inside.names.items (c.args.name ∷ []))

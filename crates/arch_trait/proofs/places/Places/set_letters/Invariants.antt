@@ -1,0 +1,6 @@
+use Rattle.std.proofs.Common.{◌≡◌}
+use Rattle.arch_trait.specs.Names.{letters}
+use Rattle.arch_trait.proofs.places.Places.set_letters.Given as goal
+
+abbrev pub invariant-loop-i : goal.invariant-loop-i
+invariant-loop-i l = l.self ≡ letters l.i

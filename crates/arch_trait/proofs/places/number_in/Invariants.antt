@@ -1,0 +1,10 @@
+use Rattle.std.proofs.Common.{◌≡◌, drop, map}
+use Rattle.std.specs.List.{position_from}
+use Rattle.std.specs.Str.{bytes_eq}
+use Rattle.arch_trait.specs.Names.{number_in}
+use Rattle.arch_trait.proofs.places.number_in.Given as goal
+
+abbrev pub invariant-loop-i : goal.invariant-loop-i
+invariant-loop-i l =
+    position_from (λ x. bytes_eq x l.name) l.i (map (λ x. x.bytes) (drop l.i l.names)) ≡
+    number_in (map (λ x. x.bytes) l.names) l.name

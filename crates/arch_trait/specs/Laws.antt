@@ -1,0 +1,223 @@
+-- What the code of every architecture keeps: the laws of links and accesses, over any run.
+-- Source: own.
+use Rattle.std.specs.Prelude.{ℕ, ◌+◌, ◌==◌, ◌<◌, ◌≤◌, ◌≡◌, ◌⊎◌, Bool, true, false, cond, not, ◌||◌, List, [], ◌∷◌, ◌++◌, Option, Some, None, is_some, length}
+use Rattle.std.specs.List.{list_all}
+use Rattle.relax_edges.specs.declared.kinds.Dir.{Dir}
+use Rattle.relax_edges.specs.declared.kinds.Dir.TheVariants as dirs
+use Rattle.micro_ops.specs.declared.operation.Micro.{Micro}
+use Rattle.micro_ops.specs.declared.operation.Micro.TheVariants as ops
+use Rattle.micro_ops.specs.declared.operation.Item.{Item}
+use Rattle.micro_ops.specs.declared.operation.Item.TheVariants as items
+use Rattle.micro_ops.specs.Machine.{num, at_place, bit}
+use Rattle.micro_ops.specs.Running.{Run, Point, At, Wants, exec, labels_of, lands}
+use Rattle.arch_trait.specs.declared.link.Link.{Link}
+use Rattle.arch_trait.specs.declared.step.Shape.{Shape}
+use Rattle.arch_trait.specs.Links.{link_is_of, depends, branches, is_addr, is_data, mask_if, link_control, link_items}
+use Rattle.arch_trait.specs.Taking.{Taken, address_in, has_address}
+use Rattle.arch_trait.specs.Threads.{Put, Puts, is_load_dir, is_store_dir}
+
+-- address registers in the order of taking: ascending, from low on and below high
+abbrev pub InOrder : ℕ → List (ℕ × ℕ) → ℕ → Type 0
+InOrder low [] high = low ≤ high
+InOrder low (link ∷ links) high = (low ≤ link.0) × InOrder (link.0 + 1) links high
+
+-- registers as they can be: each address register was taken, and once
+pub record IsTaken (g : Taken) : Type 0 where
+  pub in_order : InOrder 0 g.links g.next
+
+-- a place that had no address register got one that was taken for it
+pub record AddsAddress (g h : Taken) (p : ℕ) : Type 0 where
+  pub register : ℕ
+  pub is_new : address_in g.links p ≡ None
+  pub above : g.next ≤ register
+  pub below : register < h.next
+  pub links : h.links ≡ g.links ++ (register, p) ∷ []
+
+-- registers after an access of a place are those before it and some more, one of them perhaps the
+-- address register of the place
+pub record Takes (g h : Taken) (p : ℕ) : Type 0 where
+  pub count : h.count ≡ g.count
+  pub more : g.next ≤ h.next
+  pub links : (h.links ≡ g.links) ⊎ AddsAddress g h p
+
+-- each address register holds its place and depends on no load
+abbrev pub HoldsPlaces : Run → Taken → Type 0
+HoldsPlaces r g = (p a : ℕ) → address_in g.links p ≡ Some a → r.state.regs a ≡ at_place p
+
+-- a register is given that holds a number which depends on load number k alone
+pub record HasSource (r : Run) (from : Option ℕ) (k : ℕ) : Type 0 where
+  pub register : ℕ
+  pub value : ℕ
+  pub is : from ≡ Some register
+  pub holds : r.state.regs register ≡ num value (bit k)
+
+-- a run is ready for an access with the registers g before it and h after it: the address registers,
+-- those that the access takes too, hold their places, and a dependency has its load number k
+pub record Ready (r : Run) (g h : Taken) (link : Link) (from : Option ℕ) (k : ℕ) : Type 0 where
+  pub taken : IsTaken g
+  pub places : HoldsPlaces r h
+  pub source : depends link ≡ true → HasSource r from k
+
+-- a run of code comes to its end: it makes the items, leaves the control mask, the number of loads
+-- and the reads as told, writes only registers that were taken in it, and no address register
+pub record Did (code : List Micro) (r : Run) (g h : Taken) (made : List Item) (control loads : ℕ)
+    (reads : List ℕ) : Type 0 where
+  pub after : Run
+  pub ran : exec code (At r) ≡ At after
+  pub made_is : after.made ≡ r.made ++ made
+  pub control_is : after.state.control ≡ control
+  pub loads_is : after.state.loads ≡ loads
+  pub reads_is : after.reads ≡ reads
+  pub below : (s : ℕ) → s < g.next → after.state.regs s ≡ r.state.regs s
+  pub above : (s : ℕ) → h.next ≤ s → after.state.regs s ≡ r.state.regs s
+  pub places : HoldsPlaces after h
+
+-- the same for a load: its register holds the number read, which depends on this load alone
+pub record DidLoad (code : List Micro) (r : Run) (g h : Taken) (made : List Item)
+    (control loads : ℕ) (reads : List ℕ) (register value : ℕ) : Type 0 where
+  pub did : Did code r g h made control loads reads
+  pub got : did.after.state.regs register ≡ num value (bit r.state.loads)
+
+-- a run of a link's code comes to its end, and changes no register
+pub record DidLink (code : List Micro) (r : Run) (made : List Item) (control : ℕ) : Type 0 where
+  pub after : Run
+  pub ran : exec code (At r) ≡ At after
+  pub made_is : after.made ≡ r.made ++ made
+  pub control_is : after.state.control ≡ control
+  pub loads_is : after.state.loads ≡ r.state.loads
+  pub reads_is : after.reads ≡ r.reads
+  pub regs_is : after.state.regs ≡ r.state.regs
+
+-- a run wants a number to read and has none
+pub record IsWanting (p : Point) : Type 0 where
+  pub run : Run
+  pub is : p ≡ Wants run
+
+-- the most operations of a link, and of an access
+abbrev pub link_room : Link → ℕ
+link_room link = cond (branches link) 4 (cond (depends link) 0 1)
+
+abbrev pub access_room : Link → ℕ
+access_room link = cond (is_addr link || is_data link) 4 2
+
+-- the labels of a link that branches to label n
+abbrev pub link_labels : Link → ℕ → List ℕ
+link_labels link n = cond (branches link) (n ∷ []) []
+
+-- a register is one of the architecture's, if it is given
+abbrev pub IsUsable : ℕ → Option ℕ → Type 0
+IsUsable registers (Some register) = register < registers
+IsUsable registers None = Unit {0}
+
+-- an operation names this place or none
+abbrev pub is_at : ℕ → Micro → Bool
+is_at place (ops.LoadAt _ q) = q == place
+is_at place (ops.StoreAt q _) = q == place
+is_at place _ = true
+
+-- a shape with one more access, which is at a further location if is_new
+abbrev pub grown : Shape → Dir → Link → Bool → Shape
+grown h d link is_new = record {
+  loads = h.loads + cond (is_load_dir d) 1 0;
+  stores = h.stores + cond (is_store_dir d) 1 0;
+  addr = h.addr + cond (is_addr link) 1 0;
+  places = h.places + cond is_new 1 0;
+}
+
+-- the shape of no access
+abbrev pub no_shape : Shape
+no_shape = record { loads = 0; stores = 0; addr = 0; places = 0 }
+
+-- one shape is within another
+pub record Within (h i : Shape) : Type 0 where
+  pub loads : h.loads ≤ i.loads
+  pub stores : h.stores ≤ i.stores
+  pub addr : h.addr ≤ i.addr
+  pub places : h.places ≤ i.places
+
+-- where accesses name address registers, it counts whether the place has one already
+abbrev pub IsFresh : Puts → Taken → ℕ → Bool → Type 0
+IsFresh a g p is_new = a.has_addresses ≡ true → is_new ≡ not (has_address g p)
+
+-- a link of the architecture, and for a dependency a register that it is on
+pub record HasLink (a : Puts) (link : Link) (from : Option ℕ) : Type 0 where
+  pub of_arch : link_is_of link a.name ≡ true
+  pub given : depends link ≡ true → is_some from ≡ true
+
+-- the code of a link makes exactly the link's barriers, and the branches before the access then
+-- depend on the load of a control link; it has its branch's label, once and behind the branch
+pub record MakesLinks (a : Puts) : Type 0 where
+  pub runs : (link : Link) (from : Option ℕ) (n : ℕ) (r : Run) (k : ℕ) →
+      link_is_of link a.name ≡ true → (depends link ≡ true → HasSource r from k) →
+      DidLink (a.link link from n) r (link_items link k r.state.control)
+      (link_control link k r.state.control)
+  pub room : (link : Link) (from : Option ℕ) (n : ℕ) →
+      length (a.link link from n) ≤ link_room link
+  pub labels : (link : Link) (from : Option ℕ) (n : ℕ) → HasLink a link from →
+      labels_of (a.link link from n) ≡ link_labels link n
+  pub jumps : (link : Link) (from : Option ℕ) (n : ℕ) → lands (a.link link from n) ≡ true
+  pub no_place : (link : Link) (from : Option ℕ) (n p : ℕ) →
+      list_all (is_at p) (a.link link from n) ≡ true
+  pub has : (link : Link) (from : Option ℕ) (n : ℕ) → HasLink a link from →
+      IsUsable a.registers from → list_all a.has (a.link link from n) ≡ true
+
+-- the code of an access, whatever it does: it takes registers for it alone, as many as the need of
+-- the thread grows, and has no label
+pub record MakesAccess (a : Puts) (d : Dir) (put : Taken → Link → Option ℕ → ℕ → Put) : Type 0 where
+  pub room : (g : Taken) (link : Link) (from : Option ℕ) (p : ℕ) →
+      length (put g link from p).code ≤ access_room link
+  pub takes : (g : Taken) (link : Link) (from : Option ℕ) (p : ℕ) →
+      Takes g (put g link from p).regs p
+  pub addressed : (g : Taken) (link : Link) (from : Option ℕ) (p : ℕ) →
+      a.has_addresses ≡ true → has_address (put g link from p).regs p ≡ true
+  pub need : (g : Taken) (link : Link) (from : Option ℕ) (p : ℕ) (is_new : Bool) (h : Shape) →
+      HasLink a link from → IsFresh a g p is_new →
+      (put g link from p).regs.next + a.need h ≡ g.next + a.need (grown h d link is_new)
+  pub no_label : (g : Taken) (link : Link) (from : Option ℕ) (p : ℕ) →
+      labels_of (put g link from p).code ≡ []
+  pub no_jump : (g : Taken) (link : Link) (from : Option ℕ) (p : ℕ) →
+      lands (put g link from p).code ≡ true
+  pub at_place : (g : Taken) (link : Link) (from : Option ℕ) (p : ℕ) →
+      list_all (is_at p) (put g link from p).code ≡ true
+  pub has : (g : Taken) (link : Link) (from : Option ℕ) (p : ℕ) → HasLink a link from →
+      IsUsable a.registers from → IsTaken g → (put g link from p).regs.next ≤ a.registers →
+      list_all a.has (put g link from p).code ≡ true
+
+-- the code of a load makes one read of the place, which depends as the link says, and its register,
+-- taken for it, holds the number read
+pub record MakesLoads (a : Puts) : Type 0 where
+  pub access : MakesAccess a dirs.R a.load
+  pub runs : (g : Taken) (link : Link) (from : Option ℕ) (p : ℕ) (r : Run) (k v : ℕ)
+      (vs : List ℕ) → link_is_of link a.name ≡ true → is_data link ≡ false →
+      Ready r g (a.load g link from p).regs link from k → r.reads ≡ v ∷ vs →
+      DidLoad (a.load g link from p).code r g (a.load g link from p).regs
+      (items.Access dirs.R p v (mask_if (is_addr link) k) 0 r.state.control ∷ [])
+      r.state.control (r.state.loads + 1) vs (a.filled g link from p) v
+  pub wants : (g : Taken) (link : Link) (from : Option ℕ) (p : ℕ) (r : Run) (k : ℕ) →
+      link_is_of link a.name ≡ true → is_data link ≡ false →
+      Ready r g (a.load g link from p).regs link from k → r.reads ≡ [] →
+      IsWanting (exec (a.load g link from p).code (At r))
+  pub fills : (g : Taken) (link : Link) (from : Option ℕ) (p : ℕ) →
+      (g.next ≤ a.filled g link from p) × (a.filled g link from p < (a.load g link from p).regs.next)
+
+-- the code of a store of a byte makes one write of it to the place, which depends as the link says
+pub record MakesStores (a : Puts) : Type 0 where
+  pub access : (v : ℕ) → v < 256 → MakesAccess a dirs.W (λ g link from p. a.store g link from p v)
+  pub runs : (g : Taken) (link : Link) (from : Option ℕ) (p v : ℕ) (r : Run) (k : ℕ) → v < 256 →
+      link_is_of link a.name ≡ true → Ready r g (a.store g link from p v).regs link from k →
+      Did (a.store g link from p v).code r g (a.store g link from p v).regs
+      (items.Access dirs.W p v (mask_if (is_addr link) k) (mask_if (is_data link) k) r.state.control ∷ [])
+      r.state.control r.state.loads r.reads
+
+-- the need of registers: none for no access, and no less for more accesses
+pub record NeedsRegisters (a : Puts) : Type 0 where
+  pub none : a.need no_shape ≡ 0
+  pub grows : (h i : Shape) → Within h i → a.need h ≤ a.need i
+
+-- what every architecture keeps
+pub record IsArch (a : Puts) : Type 0 where
+  pub few : a.registers ≤ 32
+  pub links : MakesLinks a
+  pub loads : MakesLoads a
+  pub stores : MakesStores a
+  pub shapes : NeedsRegisters a

@@ -1,0 +1,76 @@
+-- How an access is tied to the one before it: the barriers and masks that each link asks for.
+-- Source: the diy part of the herdtools manual, "Candidate relaxations".
+use Rattle.std.specs.Prelude.{ℕ, Bool, true, false, cond, bit_or, List, [], ◌∷◌}
+use Rattle.relax_edges.specs.declared.kinds.ArchName.{ArchName}
+use Rattle.relax_edges.specs.declared.kinds.FenceKind.TheVariants as fences
+use Rattle.relax_edges.specs.declared.kinds.DepKind.TheVariants as deps
+use Rattle.relax_edges.specs.declared.edge.Edge.{Edge}
+use Rattle.relax_edges.specs.declared.edge.Edge.TheVariants as edges
+use Rattle.relax_edges.specs.EdgeTable.{fence_is_of, dependency_is_of, data_is_of}
+use Rattle.micro_ops.specs.declared.operation.Barrier.TheVariants as barriers
+use Rattle.micro_ops.specs.declared.operation.Item.{Item}
+use Rattle.micro_ops.specs.declared.operation.Item.TheVariants as items
+use Rattle.micro_ops.specs.Machine.{bit}
+use Rattle.arch_trait.specs.declared.link.Link.{Link}
+use Rattle.arch_trait.specs.declared.link.Link.TheVariants as links
+
+-- the link that an edge within a thread asks for
+abbrev pub edge_link : Edge → Link
+edge_link (edges.Com _ _) = links.Plain
+edge_link (edges.Po _ _ _) = links.Plain
+edge_link (edges.Fenced fence _ _ _) = links.Fence fence
+edge_link (edges.Dep deps.Addr _ _) = links.Addr
+edge_link (edges.Dep deps.Ctrl _ _) = links.Ctrl
+edge_link (edges.Dep deps.CtrlIsync _ _) = links.CtrlIsync
+edge_link (edges.Dep deps.CtrlIsb _ _) = links.CtrlIsb
+edge_link (edges.Data _) = links.Data
+
+-- an architecture has an edge that asks for the link
+abbrev pub link_is_of : Link → ArchName → Bool
+link_is_of links.Plain _ = true
+link_is_of (links.Fence kind) arch = fence_is_of kind arch
+link_is_of links.Addr arch = dependency_is_of deps.Addr arch
+link_is_of links.Data arch = data_is_of arch
+link_is_of links.Ctrl arch = dependency_is_of deps.Ctrl arch
+link_is_of links.CtrlIsync arch = dependency_is_of deps.CtrlIsync arch
+link_is_of links.CtrlIsb arch = dependency_is_of deps.CtrlIsb arch
+
+-- the access depends on the load before it
+abbrev pub depends : Link → Bool
+depends links.Plain = false
+depends (links.Fence _) = false
+depends _ = true
+
+-- a branch stands before the access
+abbrev pub branches : Link → Bool
+branches links.Ctrl = true
+branches links.CtrlIsync = true
+branches links.CtrlIsb = true
+branches _ = false
+
+-- the address of the access depends on the load before it
+abbrev pub is_addr : Link → Bool
+is_addr links.Addr = true
+is_addr _ = false
+
+-- the value that the access stores depends on the load before it
+abbrev pub is_data : Link → Bool
+is_data links.Data = true
+is_data _ = false
+
+-- the mask of load number k, for a link that depends on it, else none
+abbrev pub mask_if : Bool → ℕ → ℕ
+mask_if on k = cond on (bit k) 0
+
+-- the loads that branches depended on, after those of a link: before them they are c, and load
+-- number k stands before the link
+abbrev pub link_control : Link → ℕ → ℕ → ℕ
+link_control link k c = cond (branches link) (bit_or c (bit k)) c
+
+-- the barriers of a link, in order, each with the branches that it depends on
+abbrev pub link_items : Link → ℕ → ℕ → List Item
+link_items (links.Fence kind) k c = items.Barrier (barriers.Fence kind) c ∷ []
+link_items links.CtrlIsync k c =
+    items.Barrier (barriers.Fence fences.ISync) (link_control links.CtrlIsync k c) ∷ []
+link_items links.CtrlIsb k c = items.Barrier barriers.Isb (link_control links.CtrlIsb k c) ∷ []
+link_items _ k c = []

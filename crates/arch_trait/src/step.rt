@@ -1,0 +1,28 @@
+use crate::link::Link;
+use relax_edges::Dir;
+
+/// The most accesses of a thread that code is made for.
+pub const MAX_STEPS: usize = 48;
+
+/// One access of a thread, and how it is tied to the one before it.
+#[derive(Clone, Copy, Debug, Default, PartialEq, Eq)]
+pub struct Step {
+    pub dir: Dir,
+    pub place: u8,
+    /// What a store writes.
+    pub value: u8,
+    pub link: Link,
+}
+
+/// What the accesses of a thread need registers for.
+#[derive(Clone, Copy, Debug, Default, PartialEq, Eq)]
+pub struct Shape {
+    /// How many accesses load.
+    pub loads: u8,
+    /// How many accesses store.
+    pub stores: u8,
+    /// How many accesses an address dependency reaches.
+    pub addr: u8,
+    /// At how many locations the accesses are.
+    pub places: u8,
+}

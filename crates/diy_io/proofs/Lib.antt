@@ -1,0 +1,4 @@
+pub mod MemSinkLemmas
+pub mod PiecesLemmas
+pub mod StdSinkLemmas
+pub mod SureSourceLemmas

@@ -1,0 +1,13 @@
+-- What a sink of bounded room keeps.
+use Rattle.std.proofs.Common.{◌≡◌, ℕ, ◌+◌, ◌≤◌, List, ◌++◌, length, take, subst, arith, length-append}
+use Rattle.std.proofs.lemmas.List.{take_all}
+use Rattle.std.proofs.Math.Seq.{take-append-add}
+
+-- a text that fits is kept whole
+pub took_all : (room : ℕ) (taken text : List ℕ) → length taken + length text ≤ room → take room (taken ++ text) ≡ taken ++ text
+took_all room taken text h = take_all room (taken ++ text) (omega (arith, length-append taken text))
+
+-- of another text what fits is kept
+pub took_front : (room n : ℕ) (taken text : List ℕ) → length taken + n ≡ room → take room (taken ++ text) ≡ taken ++ take n text
+took_front room n taken text h =
+    subst (λ m. take m (taken ++ text) ≡ taken ++ take n text) h (take-append-add taken text n)

@@ -1,0 +1,18 @@
+-- Counts of 64 bits, which stand still at their last value.
+use Rattle.std.specs.Prelude.{ℕ, ◌+◌, ◌-◌, ◌^◌, ◌≤◌, min}
+
+-- the last value of a count
+abbrev pub last_count : ℕ
+last_count = 2 ^ 64 - 1
+
+-- a number as a count keeps it
+abbrev pub count_of : ℕ → ℕ
+count_of n = min n last_count
+
+-- a count after one more
+abbrev pub next_count : ℕ → ℕ
+next_count n = count_of (n + 1)
+
+-- a count rose by one at least, or stands at its last value
+abbrev pub Rose : ℕ → ℕ → Type 0
+Rose old new = next_count old ≤ new

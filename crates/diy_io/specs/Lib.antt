@@ -1,0 +1,9 @@
+pub mod Count
+pub mod MemSink
+pub mod MemSource
+pub mod Pieces
+pub mod Sink
+pub mod SinkLaws
+pub mod StdSink
+pub mod StdSource
+pub mod SureSource

@@ -1,0 +1,22 @@
+-- A sink in memory, of bounded room.
+use Rattle.std.specs.Prelude.{ℕ, ◌+◌, List, ◌++◌, length, take, nat_le, if◌then◌else◌}
+use Rattle.diy_io.specs.Count.{next_count}
+use Rattle.diy_io.specs.Sink.{Told, written_told}
+
+-- how many bytes it takes in all, those that it has taken, and how many writes failed
+pub record MemSinkState : Type 0 where
+  pub room : ℕ
+  pub bytes : List ℕ
+  pub faults : ℕ
+
+-- the room and the bytes after a write of a text, which is cut off where the room ends, and the count of faults
+abbrev pub mem_sink_after : MemSinkState → List ℕ → MemSinkState
+mem_sink_after sink text = record {
+  room = sink.room;
+  bytes = take sink.room (sink.bytes ++ text);
+  faults = if nat_le (length sink.bytes + length text) sink.room then sink.faults else next_count sink.faults;
+}
+
+-- it tells the bytes that it has taken
+abbrev pub mem_sink_told : MemSinkState → Told
+mem_sink_told sink = written_told sink.bytes

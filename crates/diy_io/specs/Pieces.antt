@@ -1,0 +1,7 @@
+-- Pieces of a text, one after another.
+use Rattle.std.specs.Prelude.{ℕ, List, [], ◌++◌, fold}
+use Rattle.std.specs.Borrow.{Bor}
+
+-- the text that the pieces make together
+abbrev pub joined_text : List (Bor (List ℕ)) → List ℕ
+joined_text pieces = fold (λ text piece. text ++ piece.now) [] pieces

@@ -1,0 +1,178 @@
+-- Laws of growth, for functions that write to a sink more than once.
+use Rattle.std.proofs.Common.{◌≡◌, ℕ, ◌+◌, List, [], ◌∷◌, ◌++◌, length, cond, None, Some, refl, sym, ap, ◌∙◌, arith, append_assoc, append-nil, length-append, subst, take, drop, get_or, ◌<◌}
+use Rattle.std.specs.Prelude.{Option, Result, Ok, Err, OnErr, ◌==◌}
+use Rattle.std.specs.Option.{option_map}
+use Rattle.std.proofs.lemmas.List.{take_more, take-append-drop}
+use Rattle.std.proofs.lemmas.List.Concat.{flat_map-append}
+use Rattle.std.proofs.lemmas.List.Sums.{sum_by-append}
+use Rattle.std.specs.List.{flat_map}
+use Rattle.diy_io.specs.Count.{count_of}
+use Rattle.diy_io.specs.Sink.{Tally, Told, line_feed_count, tally_of, tally_kept, tally_after, told_kept, told_after, Grew, EndsWithin, GrewByPrefix, written_told, tally_told, nothing_told}
+
+line_feed_count-append : (xs ys : List ℕ) → line_feed_count (xs ++ ys) ≡ line_feed_count xs + line_feed_count ys
+line_feed_count-append xs ys = sum_by-append (λ byte. cond (byte == 10) 1 0) xs ys
+
+counted_once : (a : ℕ) → count_of (count_of a) ≡ count_of a
+counted_once a = omega arith
+
+counted_kept : (a b : ℕ) → count_of (count_of a + b) ≡ count_of (a + b)
+counted_kept a b = omega arith
+
+counted_both : (a b c : ℕ) → count_of (count_of (a + b) + c) ≡ count_of (a + (b + c))
+counted_both a b c = omega arith
+
+tally_equal : (a b c d : ℕ) → a ≡ c → b ≡ d → tally_of a b ≡ tally_of c d
+tally_equal a b c d p q = rw (p, q)
+
+tally_after_kept : (t : Tally) (x : List ℕ) → tally_after (tally_kept t) x ≡ tally_after t x
+tally_after_kept t x =
+    tally_equal _ _ _ _ (counted_kept t.bytes (length x)) (counted_kept t.line_feeds (line_feed_count x))
+
+tally_kept_after : (t : Tally) (x : List ℕ) → tally_kept (tally_after t x) ≡ tally_after t x
+tally_kept_after t x =
+    tally_equal _ _ _ _ (counted_once (t.bytes + length x)) (counted_once (t.line_feeds + line_feed_count x))
+
+tally_both : (t : Tally) (x y : List ℕ) → tally_after (tally_after t x) y ≡ tally_after t (x ++ y)
+tally_both t x y =
+    tally_equal _ _ _ _
+    (counted_both t.bytes (length x) (length y) ∙ ap (λ n. count_of (t.bytes + n)) (sym (length-append x y)))
+    (counted_both t.line_feeds (line_feed_count x) (line_feed_count y) ∙ ap (λ n. count_of (t.line_feeds + n)) (sym (line_feed_count-append x y)))
+
+tally_nothing : (t : Tally) → tally_after (tally_kept t) [] ≡ tally_kept t
+tally_nothing t = tally_equal _ _ _ _ (omega arith) (omega arith)
+
+written_both : (a : Option (List ℕ)) (x y : List ℕ) → option_map (λ taken. taken ++ y) (option_map (λ taken. taken ++ x) a) ≡ option_map (λ taken. taken ++ (x ++ y)) a
+written_both None x y = refl
+written_both (Some taken) x y = ap Some (append_assoc taken x y)
+
+tallied_both : (a : Option Tally) (x y : List ℕ) → option_map (λ t. tally_after t y) (option_map (λ t. tally_after t x) a) ≡ option_map (λ t. tally_after t (x ++ y)) a
+tallied_both None x y = refl
+tallied_both (Some t) x y = ap Some (tally_both t x y)
+
+written_nothing : (a : Option (List ℕ)) → option_map (λ taken. taken ++ []) a ≡ a
+written_nothing None = refl
+written_nothing (Some taken) = ap Some (append-nil taken)
+
+tallied_nothing : (a : Option Tally) → option_map (λ t. tally_after t []) (option_map tally_kept a) ≡ option_map tally_kept a
+tallied_nothing None = refl
+tallied_nothing (Some t) = ap Some (tally_nothing t)
+
+-- a text and then another is both
+pub told_after_both : (a : Told) (x y : List ℕ) → told_after (told_after a x) y ≡ told_after a (x ++ y)
+unfolding told_after
+told_after_both a x y = rw (written_both a.written x y, tallied_both a.tallied x y)
+
+-- nothing more
+pub told_after_nothing : (a : Told) → told_after (told_kept a) [] ≡ told_kept a
+unfolding told_after told_kept
+told_after_nothing a = rw (written_nothing a.written, tallied_nothing a.tallied)
+
+-- growth by nothing
+pub grew_nothing : (a : Told) → Grew a a []
+grew_nothing a = sym (told_after_nothing a)
+
+-- growth by a text and then by another is growth by both
+pub grew_both : (a b c : Told) (x y : List ℕ) → Grew a b x → Grew b c y → Grew a c (x ++ y)
+grew_both a b c x y p q = q ∙ ap (λ t. told_after t y) p ∙ told_after_both (told_kept a) x y
+
+-- a front of what stands behind a text is a front of both
+pub within_after : (s u : Told) (x y : List ℕ) → EndsWithin (told_after s x) u y → EndsWithin s u (x ++ y)
+within_after s u x y p = record {
+  front = x ++ p.front;
+  rest = p.rest;
+  parts = ap (λ text. x ++ text) p.parts ∙ sym (append_assoc x p.front p.rest);
+  grew = p.grew ∙ told_after_both s x p.front;
+}
+
+-- a front of a text is a front of that text and more
+pub within_more : (s u : Told) (x y : List ℕ) → EndsWithin s u x → EndsWithin s u (x ++ y)
+within_more s u x y p = record {
+  front = p.front;
+  rest = p.rest ++ y;
+  parts = ap (λ text. text ++ y) p.parts ∙ append_assoc p.front p.rest y;
+  grew = p.grew;
+}
+
+-- nothing is a front of any text
+pub prefix_nothing : (a : Told) (x : List ℕ) → GrewByPrefix a a x
+prefix_nothing a x = record { front = []; rest = x; parts = refl; grew = grew_nothing a }
+
+-- a whole text is a front of itself
+pub prefix_whole : (a b : Told) (x : List ℕ) → Grew a b x → GrewByPrefix a b x
+prefix_whole a b x p = record { front = x; rest = []; parts = sym (append-nil x); grew = p }
+
+-- growth by a text and then by a front of another is growth by a front of both
+pub prefix_after : (a b c : Told) (x y : List ℕ) → Grew a b x → GrewByPrefix b c y → GrewByPrefix a c (x ++ y)
+prefix_after a b c x y p q = within_after (told_kept a) (told_kept c) x y (subst (λ s. EndsWithin s (told_kept c) y) p q)
+
+flat_map_more : {X : Type 0} (f : X → List ℕ) (xs : List X) (i : ℕ) (d : X) → i < length xs → flat_map f (take (i + 1) xs) ≡ flat_map f (take i xs) ++ f (get_or xs i d)
+flat_map_more f xs i d h =
+    rw (take_more xs i d h, flat_map-append f (take i xs) (get_or xs i d ∷ []), append-nil (f (get_or xs i d)))
+
+flat_map_at : {X : Type 0} (f : X → List ℕ) (xs : List X) (i : ℕ) (d : X) → i < length xs → flat_map f xs ≡ (flat_map f (take i xs) ++ f (get_or xs i d)) ++ flat_map f (drop (i + 1) xs)
+flat_map_at f xs i d h =
+    ap (flat_map f) (sym (take-append-drop (i + 1) xs)) ∙ flat_map-append f (take (i + 1) xs) (drop (i + 1) xs)
+    ∙ ap (λ front. front ++ flat_map f (drop (i + 1) xs)) (flat_map_more f xs i d h)
+
+-- the texts of a list's elements one after another: one more is written
+pub each_written : {X : Type 0} (f : X → List ℕ) (a b c : Told) (xs : List X) (i : ℕ) (d : X) → i < length xs
+    → Grew a b (flat_map f (take i xs)) → Grew b c (f (get_or xs i d)) → Grew a c (flat_map f (take (i + 1) xs))
+each_written f a b c xs i d h p q =
+    subst (Grew a c) (sym (flat_map_more f xs i d h)) (grew_both a b c (flat_map f (take i xs)) (f (get_or xs i d)) p q)
+
+-- the texts of a list's elements one after another: one is written in part, and then none
+pub each_stopped : {X : Type 0} (f : X → List ℕ) (a b c : Told) (xs : List X) (i : ℕ) (d : X) → i < length xs
+    → Grew a b (flat_map f (take i xs)) → GrewByPrefix b c (f (get_or xs i d)) → GrewByPrefix a c (flat_map f xs)
+each_stopped f a b c xs i d h p q =
+    let front = prefix_after a b c (flat_map f (take i xs)) (f (get_or xs i d)) p q in
+    let more = within_more (told_kept a) (told_kept c) (flat_map f (take i xs) ++ f (get_or xs i d)) (flat_map f (drop (i + 1) xs)) front in
+    subst (GrewByPrefix a c) (sym (flat_map_at f xs i d h)) more
+
+-- a sink that tells its bytes grew by a text where that stands behind them
+pub written_grew : (taken text : List ℕ) → Grew (written_told taken) (written_told (taken ++ text)) text
+unfolding told_after told_kept
+written_grew taken text = refl
+
+-- a sink that tells its bytes grew by a front of a text where that front stands behind them
+pub written_stopped : (taken text : List ℕ) (n : ℕ) → GrewByPrefix (written_told taken) (written_told (taken ++ take n text)) text
+written_stopped taken text n = record {
+  front = take n text;
+  rest = drop n text;
+  parts = sym (take-append-drop n text);
+  grew = written_grew taken (take n text);
+}
+
+-- a sink that tells a tally grew by a text where that is tallied
+pub tally_grew : (tally : Tally) (text : List ℕ) → Grew (tally_told tally) (tally_told (tally_after tally text)) text
+unfolding told_after told_kept
+tally_grew tally text =
+    ap tally_told (tally_kept_after tally text ∙ sym (tally_after_kept tally text))
+
+-- a sink that tells nothing grew by any text
+pub nothing_grew : (text : List ℕ) → Grew nothing_told nothing_told text
+unfolding told_after told_kept
+nothing_grew text = refl
+
+-- and by a front of any text
+pub nothing_stopped : (text : List ℕ) → GrewByPrefix nothing_told nothing_told text
+nothing_stopped text = prefix_nothing nothing_told text
+
+-- where a sink tells its bytes, growth by a text is that text behind them
+pub grew_written : (a b : Told) (taken text : List ℕ) → Grew a b text → a.written ≡ Some taken → b.written ≡ Some (taken ++ text)
+unfolding told_after told_kept
+grew_written a b taken text p e = ap (λ t. t.written) p ∙ ap (option_map (λ bytes. bytes ++ text)) e
+
+-- where a sink tells a tally, growth by a text is that text tallied
+pub grew_tallied : (a b : Told) (t u : Tally) (text : List ℕ) → Grew a b text → a.tallied ≡ Some t → b.tallied ≡ Some u → tally_kept u ≡ tally_after t text
+unfolding told_after told_kept
+grew_tallied a b t u text p e f =
+    let kept_u : Some (tally_kept u) ≡ Some (tally_after (tally_kept t) text) =
+    ap (option_map tally_kept) (sym f) ∙ ap (λ told. told.tallied) p
+    ∙ ap (λ tallied. option_map (λ tally. tally_after tally text) (option_map tally_kept tallied)) e in
+    let kept_is : tally_kept u ≡ tally_after (tally_kept t) text = cc in
+    kept_is ∙ tally_after_kept t text
+
+-- what holds anyway holds where a call fails
+pub on_err : {A E P : Type 0} (r : Result A E) → P → OnErr r P
+on_err (Ok x) p = tt
+on_err (Err e) p = p

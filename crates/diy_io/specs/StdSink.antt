@@ -1,0 +1,19 @@
+-- A sink over a writer of the standard library.
+use Rattle.std.specs.Prelude.{ℕ, List, ◌++◌, ◌≡◌, Option}
+use Rattle.std.specs.Io.KnownBytes.{Appends}
+use Rattle.diy_io.specs.declared.std_sink.StdSink.{StdSink}
+
+-- the writer below
+abbrev pub writer_of : {W : Type 0} → StdSink W → W
+writer_of sink = sink.writer
+
+-- how often a write failed
+abbrev pub std_sink_faults : {W : Type 0} → StdSink W → ℕ
+std_sink_faults sink = sink.faults
+
+-- the bytes that a writer holds, where it says them, grew by a front of a text
+pub record AppendsPrefix (old new : Option (List ℕ)) (text : List ℕ) : Type 0 where
+  pub front : List ℕ
+  pub rest : List ℕ
+  pub parts : text ≡ front ++ rest
+  pub appends : Appends old new front

@@ -1,0 +1,15 @@
+-- A source over a reader of the standard library.
+use Rattle.std.specs.Prelude.{ℕ}
+use Rattle.diy_io.specs.declared.std_source.StdSource.{StdSource}
+
+-- the reader below
+abbrev pub reader_of : {R : Type 0} → StdSource R → R
+reader_of source = source.reader
+
+-- how often a read failed
+abbrev pub std_source_faults : {R : Type 0} → StdSource R → ℕ
+std_source_faults source = source.faults
+
+-- how many bytes were taken
+abbrev pub std_source_taken : {R : Type 0} → StdSource R → ℕ
+std_source_taken source = source.taken

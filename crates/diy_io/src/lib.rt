@@ -1,0 +1,27 @@
+//! The outside of the tools: where their bytes come from and go to, and the words that they are given.
+#![tactic(auto)]
+
+mod errors;
+mod mem_sink;
+mod mem_source;
+mod sink;
+mod source;
+mod std_sink;
+mod std_source;
+mod sure_source;
+mod tally_sink;
+mod words;
+
+pub use errors::{Failed, NoMemory};
+pub use mem_sink::MemSink;
+pub use mem_source::MemSource;
+pub use sink::{Sink, write_pieces};
+pub use source::Source;
+pub use std_sink::StdSink;
+pub use std_source::StdSource;
+pub use sure_source::SureSource;
+pub use tally_sink::TallySink;
+pub use words::Words;
+
+#[cfg(test)]
+mod tests;

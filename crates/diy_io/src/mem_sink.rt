@@ -1,0 +1,75 @@
+ghost use Rattle.std.specs.Prelude.{◌≡◌, ◌+◌, ◌≤◌, ◌↔◌, ℕ, [], length, vec_len, vec_capacity, IsOk, IfOk, OnOk, OnErr};
+ghost use Rattle.diy_io.specs.Count.{Rose};
+ghost use Rattle.diy_io.specs.MemSink.{MemSinkState, mem_sink_after, mem_sink_told};
+ghost use Rattle.diy_io.specs.Sink.{Grew, GrewByPrefix};
+
+use crate::errors::{Failed, NoMemory};
+use crate::sink::Sink;
+use std::alloc::Global;
+use std::marker::Model;
+
+/// A sink that keeps its bytes in memory, as many as it has room for.
+///
+/// It takes its memory when it is made, and none when it is written to.
+#[derive(Debug, Drop)]
+pub struct MemSink {
+    room: usize,
+    bytes: Vec<u8>,
+    faults: u64,
+}
+
+impl Model for MemSink {
+    ghost Value = { MemSinkState };
+
+    ghost view = { λ sink. record { room = sink.room; bytes = sink.bytes.items; faults = sink.faults } };
+
+    ghost invariant = { λ sink. (vec_len sink.bytes ≤ sink.room) × (sink.room ≤ vec_capacity sink.bytes) };
+}
+
+impl MemSink {
+    /// An empty sink with room for `room` bytes in all. The error comes for want of memory alone.
+    pub fn new(alloc: Global, room: usize) -> Result<MemSink, NoMemory>
+        ensures { IfOk result (λ sink. sink ≡ record { room = room; bytes = []; faults = 0 }) }
+    {
+        Ok(MemSink {
+            room,
+            bytes: Vec::with_capacity(alloc, room)?,
+            faults: 0,
+        })
+    }
+
+    /// The bytes that it has taken.
+    pub fn bytes(&self) -> &[u8]
+        ensures { result.now ≡ self.now.bytes }
+    {
+        self.bytes.as_slice()
+    }
+}
+
+#[tactic(auto, using(crate::proofs::MemSinkLemmas::took_all, crate::proofs::MemSinkLemmas::took_front, crate::specs::SinkLaws::written_grew, crate::specs::SinkLaws::written_stopped))]
+impl Sink for MemSink {
+    ghost told = { mem_sink_told };
+
+    ghost faults = { λ sink. sink.faults };
+
+    /// Fails exactly where the bytes would pass the room, and then takes those that still fit.
+    fn write_all(&mut self, bytes: &[u8]) -> Result<(), Failed>
+        ensures after { self.new ≡ mem_sink_after self.old bytes.now }
+        ensures answer { IsOk result ↔ (length self.old.bytes + length bytes.now ≤ self.old.room) }
+
+        ensures ok { OnOk result (Grew (mem_sink_told self.old) (mem_sink_told self.new) bytes.now) }
+        ensures failed { OnErr result (GrewByPrefix (mem_sink_told self.old) (mem_sink_told self.new) bytes.now) }
+        ensures no_fault { OnOk result (self.new.faults ≡ self.old.faults) }
+        ensures fault { OnErr result (Rose self.old.faults self.new.faults) }
+        ensures never_falls { self.old.faults ≤ self.new.faults }
+    {
+        let free = self.room - self.bytes.len();
+        if bytes.len() <= free {
+            self.bytes.extend_from_slice(bytes).unwrap();
+            return Ok(());
+        }
+        self.bytes.extend_from_slice(&bytes[..free]).unwrap();
+        self.faults = self.faults.saturating_add(1);
+        Err(Failed)
+    }
+}

@@ -1,0 +1,76 @@
+ghost use Rattle.std.specs.Prelude.{◌≡◌, ◌+◌, ◌≤◌, ◌++◌, ◌↔◌, ℕ, Some, drop, take, length, Contains, IfOk, IsErr, OnOk, OnErr};
+ghost use Rattle.std.specs.Io.KnownBytes.{ReadConsumes};
+ghost use Rattle.diy_io.specs.Count.{count_of, Rose};
+ghost use Rattle.diy_io.specs.MemSource.{MemSourceState, mem_source_after, mem_source_failed};
+ghost use Rattle.diy_io.specs.SureSource.{given_count};
+
+use crate::errors::Failed;
+use crate::source::Source;
+use crate::sure_source::SureSource;
+use std::marker::Model;
+
+/// A source of bytes in memory, which fails at chosen calls.
+///
+/// Calls are numbered from 0, and the number stands still at the last value of its type.
+#[derive(Debug, Drop)]
+pub struct MemSource {
+    source: SureSource,
+    fail: Vec<u64>,
+    calls: u64,
+    faults: u64,
+}
+
+impl Model for MemSource {
+    ghost Value = { MemSourceState };
+
+    ghost view = { λ it. record { source = it.source; fail = it.fail.items; calls = it.calls; faults = it.faults } };
+}
+
+impl MemSource {
+    /// A source of `bytes`, which gives at most `piece` of them in a call. The calls whose numbers are
+    /// in `fail` are the ones that fail.
+    pub fn new(bytes: Vec<u8>, piece: usize, fail: Vec<u64>) -> MemSource
+        requires { 1 ≤ piece }
+        ensures { result ≡ record { source = record { left = bytes.items; piece = piece; taken = 0 }; fail = fail.items; calls = 0; faults = 0 } }
+    {
+        MemSource {
+            source: SureSource::new(bytes, piece),
+            fail,
+            calls: 0,
+            faults: 0,
+        }
+    }
+}
+
+impl Source for MemSource {
+    ghost left = { λ it. Some it.source.left };
+
+    ghost taken = { λ it. it.source.taken };
+
+    ghost faults = { λ it. it.faults };
+
+    /// Fails exactly where the call's number is one that is to fail.
+    fn read(&mut self, buf: &mut [u8]) -> Result<usize, Failed>
+        ensures answer { IsErr result ↔ Contains self.old.fail self.old.calls }
+        ensures count { IfOk result (λ n. n ≡ given_count self.old.source (length buf.old)) }
+        ensures after { OnOk result (self.new ≡ mem_source_after self.old (length buf.old)) }
+        ensures copied { IfOk result (λ n. buf.new ≡ take n self.old.source.left ++ drop n buf.old) }
+        ensures unchanged { OnErr result ((self.new ≡ mem_source_failed self.old) × (buf.new ≡ buf.old)) }
+
+        ensures bound { IfOk result (λ n. n ≤ length buf.new) }
+        ensures bytes { ReadConsumes (Some self.old.source.left) (Some self.new.source.left) result buf.new }
+        ensures counted { IfOk result (λ n. self.new.source.taken ≡ count_of (self.old.source.taken + n)) }
+        ensures uncounted { OnErr result (self.new.source.taken ≡ self.old.source.taken) }
+        ensures no_fault { OnOk result (self.new.faults ≡ self.old.faults) }
+        ensures fault { OnErr result (Rose self.old.faults self.new.faults) }
+        ensures never_falls { self.old.faults ≤ self.new.faults }
+    {
+        let call = self.calls;
+        self.calls = self.calls.saturating_add(1);
+        if self.fail.contains(&call) {
+            self.faults = self.faults.saturating_add(1);
+            return Err(Failed);
+        }
+        self.source.read(buf)
+    }
+}

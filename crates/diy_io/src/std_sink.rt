@@ -1,0 +1,78 @@
+ghost use Rattle.std.specs.Prelude.{◌≡◌, ◌≤◌, ℕ, OnOk, OnErr};
+ghost use Rattle.std.specs.Io.KnownBytes.{Appends};
+ghost use Rattle.diy_io.specs.Count.{next_count};
+ghost use Rattle.diy_io.specs.Sink.{Grew, GrewByPrefix, nothing_told};
+
+use crate::errors::Failed;
+use crate::sink::Sink;
+use std::io::Write;
+
+/// A sink over a writer of the standard library.
+///
+/// It tells nothing of the bytes, since no program knows what becomes of them outside. It keeps none
+/// back: a write is done once the writer has taken all of it and has flushed. Each error of the
+/// writer is a fault, and so is a write that takes nothing.
+#[derive(Debug, Drop)]
+pub struct StdSink<W> {
+    writer: W,
+    faults: u64,
+}
+
+impl<W: Write> StdSink<W> {
+    ghost use Rattle.diy_io.specs.StdSink.{writer_of, std_sink_faults};
+
+    /// A sink over `inner`, with no fault so far.
+    pub fn new(inner: W) -> StdSink<W>
+        ensures writer { writer_of result ≡ inner }
+        ensures faults { std_sink_faults result ≡ 0 }
+    {
+        StdSink {
+            writer: inner,
+            faults: 0,
+        }
+    }
+
+    // The answer where the writer failed.
+    fn count_fault(&mut self) -> Failed
+        ensures writer { writer_of self.new ≡ writer_of self.old }
+        ensures counted { std_sink_faults self.new ≡ next_count (std_sink_faults self.old) }
+        ensures never_falls { std_sink_faults self.old ≤ std_sink_faults self.new }
+    {
+        self.faults = self.faults.saturating_add(1);
+        Failed
+    }
+}
+
+impl<W: Write> Sink for StdSink<W> {
+    ghost use Rattle.diy_io.specs.StdSink.{writer_of, std_sink_faults, AppendsPrefix};
+
+    ghost told = { λ _. nothing_told };
+
+    ghost faults = { std_sink_faults };
+
+    #[tactic(auto, using(crate::specs::SinkLaws::nothing_grew, crate::specs::SinkLaws::nothing_stopped, crate::proofs::StdSinkLemmas::took_more, crate::proofs::StdSinkLemmas::took_all, crate::proofs::StdSinkLemmas::took_front))]
+    fn write_all(&mut self, bytes: &[u8]) -> Result<(), Failed>
+        ensures ok { OnOk result (Grew nothing_told nothing_told bytes.now) }
+        ensures failed { OnErr result (GrewByPrefix nothing_told nothing_told bytes.now) }
+
+        // What the writer below holds, where it says that, as a writer in memory does.
+        ensures written { OnOk result (Appends (W.contents (writer_of self.old)) (W.contents (writer_of self.new)) bytes.now) }
+        ensures cut_off { OnErr result (AppendsPrefix (W.contents (writer_of self.old)) (W.contents (writer_of self.new)) bytes.now) }
+
+        ensures no_fault { OnOk result (std_sink_faults self.new ≡ std_sink_faults self.old) }
+        ensures one_fault { OnErr result (std_sink_faults self.new ≡ next_count (std_sink_faults self.old)) }
+        ensures never_falls { std_sink_faults self.old ≤ std_sink_faults self.new }
+    {
+        let mut rest = bytes;
+        while !rest.is_empty() {
+            match self.writer.write(rest) {
+                Ok(0) | Err(_) => return Err(self.count_fault()),
+                Ok(n) => rest = &rest[n..],
+            }
+        }
+        match self.writer.flush() {
+            Ok(()) => Ok(()),
+            Err(_) => Err(self.count_fault()),
+        }
+    }
+}

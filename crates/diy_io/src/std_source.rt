@@ -1,0 +1,68 @@
+ghost use Rattle.std.specs.Prelude.{◌≡◌, ◌+◌, ◌≤◌, ℕ, None, length, IfOk, OnOk, OnErr};
+ghost use Rattle.std.specs.Io.KnownBytes.{ReadConsumes};
+ghost use Rattle.diy_io.specs.Count.{count_of, next_count};
+
+use crate::errors::Failed;
+use crate::source::Source;
+use std::io::Read;
+
+/// A source over a reader of the standard library.
+///
+/// It tells nothing of the bytes to come, since no program knows them. Each error of the reader is a
+/// fault.
+#[derive(Debug, Drop)]
+pub struct StdSource<R> {
+    reader: R,
+    taken: u64,
+    faults: u64,
+}
+
+impl<R: Read> StdSource<R> {
+    ghost use Rattle.diy_io.specs.StdSource.{reader_of, std_source_faults, std_source_taken};
+
+    /// A source over `inner`, with nothing taken and no fault so far.
+    pub fn new(inner: R) -> StdSource<R>
+        ensures reader { reader_of result ≡ inner }
+        ensures taken { std_source_taken result ≡ 0 }
+        ensures faults { std_source_faults result ≡ 0 }
+    {
+        StdSource {
+            reader: inner,
+            taken: 0,
+            faults: 0,
+        }
+    }
+}
+
+impl<R: Read> Source for StdSource<R> {
+    ghost use Rattle.diy_io.specs.StdSource.{reader_of, std_source_faults, std_source_taken};
+
+    ghost left = { λ _. None };
+
+    ghost taken = { std_source_taken };
+
+    ghost faults = { std_source_faults };
+
+    fn read(&mut self, buf: &mut [u8]) -> Result<usize, Failed>
+        ensures bound { IfOk result (λ n. n ≤ length buf.new) }
+        // What the reader below has left, where it says that, as a reader in memory does.
+        ensures read { ReadConsumes (R.remaining (reader_of self.old)) (R.remaining (reader_of self.new)) result buf.new }
+
+        ensures counted { IfOk result (λ n. std_source_taken self.new ≡ count_of (std_source_taken self.old + n)) }
+        ensures uncounted { OnErr result (std_source_taken self.new ≡ std_source_taken self.old) }
+        ensures no_fault { OnOk result (std_source_faults self.new ≡ std_source_faults self.old) }
+        ensures one_fault { OnErr result (std_source_faults self.new ≡ next_count (std_source_faults self.old)) }
+        ensures never_falls { std_source_faults self.old ≤ std_source_faults self.new }
+    {
+        match self.reader.read(buf) {
+            Ok(count) => {
+                self.taken = self.taken.saturating_add(count as u64);
+                Ok(count)
+            }
+            Err(_) => {
+                self.faults = self.faults.saturating_add(1);
+                Err(Failed)
+            }
+        }
+    }
+}

@@ -1,0 +1,76 @@
+ghost use Rattle.std.specs.Prelude.{◌≡◌, ◌+◌, ◌≤◌, ◌++◌, ℕ, Some, Ok, drop, take, length, vec_len, IfOk, IsOk};
+ghost use Rattle.std.specs.Io.KnownBytes.{ReadConsumes};
+ghost use Rattle.diy_io.specs.Count.{count_of};
+ghost use Rattle.diy_io.specs.SureSource.{SureSourceState, given_count, sure_source_after};
+
+use crate::errors::Failed;
+use crate::source::Source;
+use std::marker::Model;
+
+/// A source of bytes in memory, which never fails.
+#[derive(Debug, Drop)]
+pub struct SureSource {
+    bytes: Vec<u8>,
+    at: usize,
+    piece: usize,
+    taken: u64,
+}
+
+impl Model for SureSource {
+    ghost Value = { SureSourceState };
+
+    ghost view = { λ source. record { left = drop source.at source.bytes.items; piece = source.piece; taken = source.taken } };
+
+    ghost invariant = { λ source. (source.at ≤ vec_len source.bytes) × (1 ≤ source.piece) };
+}
+
+impl SureSource {
+    /// A source of `bytes`, which gives at most `piece` of them in a call.
+    pub fn new(bytes: Vec<u8>, piece: usize) -> SureSource
+        requires { 1 ≤ piece }
+        ensures { result ≡ record { left = bytes.items; piece = piece; taken = 0 } }
+    {
+        SureSource {
+            bytes,
+            at: 0,
+            piece,
+            taken: 0,
+        }
+    }
+
+    // Gives as many bytes as the buffer, a piece and the rest allow.
+    fn give(&mut self, buf: &mut [u8]) -> usize
+        ensures count { result ≡ given_count self.old (length buf.old) }
+        ensures after { self.new ≡ sure_source_after self.old (length buf.old) }
+        ensures copied { buf.new ≡ take result self.old.left ++ drop result buf.old }
+        ensures piece { 1 ≤ self.old.piece }
+    {
+        let rest = &self.bytes[self.at..];
+        let count = buf.len().min(self.piece).min(rest.len());
+        buf[..count].copy_from_slice(&rest[..count]);
+        self.at += count;
+        self.taken = self.taken.saturating_add(count as u64);
+        count
+    }
+}
+
+#[tactic(auto, using(crate::proofs::SureSourceLemmas::gives_front, crate::proofs::SureSourceLemmas::gives_none))]
+impl Source for SureSource {
+    ghost left = { λ source. Some source.left };
+
+    ghost taken = { λ source. source.taken };
+
+    ghost faults = { λ _. 0 };
+
+    /// Gives as many bytes as the buffer, a piece and the rest allow.
+    fn read(&mut self, buf: &mut [u8]) -> Result<usize, Failed>
+        ensures answer { result ≡ Ok (given_count self.old (length buf.old)) }
+        ensures after { self.new ≡ sure_source_after self.old (length buf.old) }
+        ensures copied { IfOk result (λ n. buf.new ≡ take n self.old.left ++ drop n buf.old) }
+
+        ensures bound { IfOk result (λ n. n ≤ length buf.new) }
+        ensures bytes { ReadConsumes (Some self.old.left) (Some self.new.left) result buf.new }
+    {
+        Ok(self.give(buf))
+    }
+}

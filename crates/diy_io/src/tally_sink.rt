@@ -1,0 +1,61 @@
+ghost use Rattle.std.specs.Prelude.{◌≡◌, IsOk, OnOk};
+ghost use Rattle.diy_io.specs.Sink.{Tally, tally_after, tally_told, Grew};
+
+use crate::errors::Failed;
+use crate::sink::Sink;
+use std::marker::Model;
+
+/// A sink that keeps the numbers of its bytes and of its line feeds alone. It never fails.
+#[derive(Debug, Default, Drop)]
+pub struct TallySink {
+    bytes: u64,
+    lines: u64,
+}
+
+impl Model for TallySink {
+    ghost Value = { Tally };
+
+    ghost view = { λ sink. record { bytes = sink.bytes; line_feeds = sink.lines } };
+}
+
+impl TallySink {
+    pub fn new() -> TallySink
+        ensures { result ≡ record { bytes = 0; line_feeds = 0 } }
+    {
+        TallySink { bytes: 0, lines: 0 }
+    }
+
+    /// How many bytes it has taken, up to the last value of the type.
+    pub fn bytes(&self) -> u64
+        ensures { result ≡ self.now.bytes }
+    {
+        self.bytes
+    }
+
+    /// How many line feeds it has taken, up to the last value of the type.
+    pub fn lines(&self) -> u64
+        ensures { result ≡ self.now.line_feeds }
+    {
+        self.lines
+    }
+}
+
+#[tactic(auto, using(crate::specs::SinkLaws::tally_grew))]
+impl Sink for TallySink {
+    ghost told = { tally_told };
+
+    ghost faults = { λ _. 0 };
+
+    /// Never fails.
+    fn write_all(&mut self, bytes: &[u8]) -> Result<(), Failed>
+        ensures after { self.new ≡ tally_after self.old bytes.now }
+        ensures answer { IsOk result }
+
+        ensures ok { OnOk result (Grew (tally_told self.old) (tally_told self.new) bytes.now) }
+    {
+        let line_feeds = bytes.iter().filter(|byte| **byte == b'\n').count();
+        self.bytes = self.bytes.saturating_add(bytes.len() as u64);
+        self.lines = self.lines.saturating_add(line_feeds as u64);
+        Ok(())
+    }
+}

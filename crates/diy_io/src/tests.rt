@@ -1,0 +1,112 @@
+use crate::{
+    Failed, MemSink, MemSource, Sink, Source, StdSink, StdSource, SureSource, TallySink, Words,
+    write_pieces,
+};
+use std::io;
+use std::io::{ErrorKind, Write};
+use std::test::Fail;
+
+// A writer that takes three bytes a call, fails at call 2 and takes nothing at call 4.
+#[derive(Drop)]
+struct Unsteady {
+    calls: u8,
+    taken: Vec<u8>,
+}
+
+impl Write for Unsteady {
+    fn write(&mut self, buf: &[u8]) -> io::Result<usize> {
+        let call = self.calls;
+        self.calls = self.calls.saturating_add(1);
+        if call == 2 {
+            return Err(io::Error::from(ErrorKind::Other));
+        }
+        if call == 4 {
+            return Ok(0);
+        }
+        let count = buf.len().min(3);
+        self.taken.extend_from_slice(&buf[..count])?;
+        Ok(count)
+    }
+
+    fn flush(&mut self) -> io::Result<()> {
+        Ok(())
+    }
+}
+
+#[test]
+fn memory_sink_cuts_off_at_its_room(rt: HostRuntime) -> Result<(), Fail> {
+    let mut sink = MemSink::new(rt.alloc(), 20)?;
+    assert_eq!(rt; sink.write_all(b"X86 SB\n"), Ok(()));
+    let pieces: [&[u8]; 2] = [b"\"PodWR Fre ", b"PodWR Fre\"\n"];
+    assert_eq!(rt; write_pieces(&mut sink, &pieces), Err(Failed));
+    assert_eq!(rt; sink.bytes(), b"X86 SB\n\"PodWR Fre Po".as_slice());
+    Ok(())
+}
+
+#[test]
+fn tally_sink_counts_bytes_and_lines(rt: HostRuntime) {
+    let mut sink = TallySink::new();
+    assert_eq!(rt; sink.write_all(b"X86 SB\n"), Ok(()));
+    assert_eq!(rt; sink.write_all(b"{\n}\n"), Ok(()));
+    assert_eq!(rt; sink.bytes(), 11);
+    assert_eq!(rt; sink.lines(), 3);
+}
+
+#[test]
+fn std_sink_writes_until_the_writer_fails(rt: HostRuntime) {
+    let mut writer = Unsteady {
+        calls: 0,
+        taken: Vec::new(rt.alloc()),
+    };
+    let mut sink = StdSink::new(&mut writer);
+    assert_eq!(rt; sink.write_all(b"abcd"), Ok(()));
+    assert_eq!(rt; sink.write_all(b"efgh"), Err(Failed));
+    assert_eq!(rt; sink.write_all(b"ijklm"), Err(Failed));
+    assert_eq!(rt; writer.taken.as_slice(), b"abcdijk".as_slice());
+}
+
+#[test]
+fn words_keep_what_was_pushed(rt: HostRuntime) -> Result<(), Fail> {
+    let mut words = Words::new(rt.alloc());
+    assert!(rt; words.is_empty());
+    words.push("diyone7")?;
+    words.push("")?;
+    words.push("-arch")?;
+    assert_eq!(rt; words.len(), 3);
+    assert_eq!(rt; words.get(0), "diyone7");
+    assert_eq!(rt; words.get(1), "");
+    assert_eq!(rt; words.get(2), "-arch");
+    Ok(())
+}
+
+#[test]
+fn memory_source_fails_at_the_chosen_call(rt: HostRuntime) -> Result<(), Fail> {
+    let bytes = Vec::from_slice(rt.alloc(), b"abcde")?;
+    let fail = Vec::from_slice(rt.alloc(), &[1])?;
+    let mut source = MemSource::new(bytes, 3, fail);
+    let mut buf = *b"....";
+    assert_eq!(rt; source.read(&mut buf), Ok(3));
+    assert_eq!(rt; buf.as_slice(), b"abc.".as_slice());
+    assert_eq!(rt; source.read(&mut buf), Err(Failed));
+    assert_eq!(rt; source.read(&mut buf), Ok(2));
+    assert_eq!(rt; buf.as_slice(), b"dec.".as_slice());
+    assert_eq!(rt; source.read(&mut buf), Ok(0));
+    Ok(())
+}
+
+#[test]
+fn other_sources_give_all_bytes(rt: HostRuntime) -> Result<(), Fail> {
+    let mut sure = SureSource::new(Vec::from_slice(rt.alloc(), b"xy")?, 1);
+    let mut buf = *b"....";
+    assert_eq!(rt; sure.read(&mut buf), Ok(1));
+    assert_eq!(rt; sure.read(&mut buf[1..]), Ok(1));
+    assert_eq!(rt; sure.read(&mut buf), Ok(0));
+    assert_eq!(rt; buf.as_slice(), b"xy..".as_slice());
+
+    let text: &[u8] = b"12";
+    let mut std = StdSource::new(text);
+    assert_eq!(rt; std.read(&mut buf), Ok(2));
+    assert_eq!(rt; std.read(&mut buf), Ok(0));
+    assert_eq!(rt; buf.as_slice(), b"12..".as_slice());
+    Ok(())
+}

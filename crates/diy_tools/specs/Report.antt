@@ -1,0 +1,54 @@
+-- The line on standard error that tells a status.
+-- Source: own.
+use Rattle.std.specs.Prelude.{ℕ, ◌+◌, List, [], ◌∷◌, ◌++◌, codes, slice_get, Option, Some, None}
+use Rattle.std.specs.Fmt.{decimal}
+use Rattle.arch_trait.specs.Names.{location_name}
+use Rattle.diy_words.specs.declared.usage.UsageKind.{UsageKind}
+use Rattle.diy_words.specs.declared.usage.UsageKind.TheVariants as usages
+use Rattle.diy_tools.specs.declared.status.Status.{Status}
+use Rattle.diy_tools.specs.declared.status.Status.TheVariants as statuses
+use Rattle.diy_tools.specs.declared.status.Refusal.{Refusal}
+use Rattle.diy_tools.specs.declared.status.Refusal.TheVariants as refusals
+use Rattle.diy_tools.specs.declared.status.Device.{Device}
+use Rattle.diy_tools.specs.declared.status.Device.TheVariants as devices
+
+-- the text of a refusal
+abbrev pub refusal_text : Refusal → List ℕ
+refusal_text refusals.Empty = codes "Empty"
+refusal_text refusals.TooLong = codes "TooLong"
+refusal_text (refusals.NotOfArch at) = codes "NotOfArch " ++ decimal at
+refusal_text (refusals.DoesNotCompose at) = codes "DoesNotCompose " ++ decimal at
+refusal_text refusals.TooFewThreads = codes "TooFewThreads"
+refusal_text refusals.CoherenceOnly = codes "CoherenceOnly"
+refusal_text (refusals.NeedsObserver location event) =
+    codes "NeedsObserver " ++ location_name location ++ codes " " ++ decimal event
+refusal_text refusals.NotBuilt = codes "NotBuilt"
+refusal_text (refusals.TooManyRegisters thread) = codes "TooManyRegisters " ++ decimal thread
+
+-- the name of what is wrong with words
+abbrev pub usage_text : UsageKind → List ℕ
+usage_text usages.UnknownTool = codes "UnknownTool"
+usage_text usages.UnknownOption = codes "UnknownOption"
+usage_text usages.MissingValue = codes "MissingValue"
+usage_text usages.UnknownArch = codes "UnknownArch"
+usage_text usages.BadName = codes "BadName"
+usage_text usages.UnknownEdge = codes "UnknownEdge"
+usage_text usages.MissingArch = codes "MissingArch"
+usage_text usages.NotBuilt = codes "NotBuilt"
+
+-- a word that shows a fault, where there is one
+abbrev pub shown_word : Option (List ℕ) → List ℕ
+shown_word (Some word) = codes ": " ++ word
+shown_word None = []
+
+-- the name of a device
+abbrev pub device_text : Device → List ℕ
+device_text devices.Out = codes "out"
+
+-- the line of a status, which Done has none of
+abbrev pub status_line : List (List ℕ) → Status → List ℕ
+status_line words statuses.Done = []
+status_line words (statuses.Refused refusal) = codes "diy: refused " ++ refusal_text refusal ++ codes "\n"
+status_line words (statuses.Usage word kind) =
+    codes "diy: usage " ++ usage_text kind ++ shown_word (slice_get words word) ++ codes "\n"
+status_line words (statuses.WriteFault device) = codes "diy: write fault: " ++ device_text device ++ codes "\n"

@@ -1,0 +1,6 @@
+pub mod Names
+pub mod Edges
+pub mod Parts
+pub mod Requests
+pub mod Kept
+pub mod Given

@@ -1,0 +1,61 @@
+-- The words behind the tool's name: options, each with the word behind it as its value, and operands.
+use Rattle.std.specs.Prelude.{ℕ, ◌+◌, List, [], ◌∷◌, Option, Some, None, codes, if◌then◌else◌}
+use Rattle.std.specs.Str.{bytes_eq}
+use Rattle.relax_edges.specs.declared.kinds.ArchName.TheVariants.{X86}
+use Rattle.diy_words.specs.declared.options.Tool.{Tool}
+use Rattle.diy_words.specs.declared.options.Tool.TheVariants as tools
+use Rattle.diy_words.specs.declared.options.OptionName.{OptionName}
+use Rattle.diy_words.specs.declared.options.OptionName.TheVariants as opts
+use Rattle.diy_words.specs.declared.options.Spoken.{Spoken}
+use Rattle.diy_words.specs.declared.options.Spoken.TheVariants.{Built, Later}
+
+-- the first of some named things whose name is the text
+abbrev pub named : {X : Type 0} → List (List ℕ × X) → List ℕ → Option X
+named [] text = None
+named (row ∷ rows) text = if bytes_eq text row.0 then Some row.1 else named rows text
+
+-- the tools by their names
+abbrev pub tool_named : List ℕ → Option Tool
+tool_named = named ((codes "diyone7", tools.DiyOne) ∷ (codes "diy7", tools.Later) ∷ (codes "diycross7", tools.Later) ∷
+    (codes "norm7", tools.Later) ∷ (codes "classify7", tools.Later) ∷ (codes "msum7", tools.Later) ∷ (codes "demo", tools.Later) ∷ [])
+
+-- the options of diyone7
+abbrev pub option_named : List ℕ → Option OptionName
+option_named = named ((codes "-arch", opts.Arch) ∷ (codes "-name", opts.Name) ∷ (codes "-obs", opts.Obs) ∷ [])
+
+-- the architectures by their names
+abbrev pub arch_spoken : List ℕ → Option Spoken
+arch_spoken = named ((codes "X86", Built X86) ∷ (codes "PPC", Later) ∷ (codes "AArch64", Later) ∷ (codes "RISCV", Later) ∷ [])
+
+-- a part of the words: an operand at its place, or an option at its place with its value, if there is one
+pub data Part : Type 0 where
+  Operand : ℕ → List ℕ → Part
+  Valued : OptionName → ℕ → List ℕ → Part
+  Unvalued : OptionName → ℕ → Part
+
+-- an option that waits for its value, and where it stands
+pub data Waiting : Type 0 where
+  Ready : Waiting
+  Waits : OptionName → ℕ → Waiting
+
+-- what waits behind a word at its place
+abbrev pub waiting_at : Option OptionName → ℕ → Waiting
+waiting_at (Some option) at = Waits option at
+waiting_at None at = Ready
+
+-- a word that is no option is an operand before the rest
+abbrev pub operand_before : Option OptionName → ℕ → List ℕ → List Part → List Part
+operand_before (Some _) at word rest = rest
+operand_before None at word rest = Operand at word ∷ rest
+
+-- the parts of words, the first of which stands at a place, behind an option that waits
+abbrev pub parts_from : Waiting → ℕ → List (List ℕ) → List Part
+parts_from Ready at [] = []
+parts_from (Waits option place) at [] = Unvalued option place ∷ []
+parts_from (Waits option place) at (value ∷ words) = Valued option place value ∷ parts_from Ready (at + 1) words
+parts_from Ready at (word ∷ words) =
+    operand_before (option_named word) at word (parts_from (waiting_at (option_named word) at) (at + 1) words)
+
+-- the parts of words, the first of which stands at a place
+abbrev pub parts_of : ℕ → List (List ℕ) → List Part
+parts_of at words = parts_from Ready at words

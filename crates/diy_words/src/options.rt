@@ -1,0 +1,69 @@
+ghost use Rattle.std.specs.Prelude.{◌≡◌};
+ghost use Rattle.diy_words.specs.Parts.{tool_named, option_named, arch_spoken};
+
+use relax_edges::ArchName;
+
+/// The tools that a first word can name.
+#[derive(Clone, Copy)]
+pub enum Tool {
+    DiyOne,
+    /// A tool that isn't built yet.
+    Later,
+}
+
+/// The options of diyone7.
+#[derive(Clone, Copy)]
+pub enum OptionName {
+    Arch,
+    Name,
+    Obs,
+}
+
+/// What the value of `-arch` names.
+#[derive(Clone, Copy)]
+pub enum Spoken {
+    Built(ArchName),
+    /// An architecture that isn't built yet.
+    Later,
+}
+
+/// The tool with this name.
+pub fn tool_named(text: &str) -> Option<Tool>
+    ensures { result ≡ tool_named text.now }
+{
+    match text {
+        "diyone7" => Some(Tool::DiyOne),
+        "diy7" => Some(Tool::Later),
+        "diycross7" => Some(Tool::Later),
+        "norm7" => Some(Tool::Later),
+        "classify7" => Some(Tool::Later),
+        "msum7" => Some(Tool::Later),
+        "demo" => Some(Tool::Later),
+        _ => None,
+    }
+}
+
+/// The option of diyone7 with this name.
+pub fn option_named(text: &str) -> Option<OptionName>
+    ensures { result ≡ option_named text.now }
+{
+    match text {
+        "-arch" => Some(OptionName::Arch),
+        "-name" => Some(OptionName::Name),
+        "-obs" => Some(OptionName::Obs),
+        _ => None,
+    }
+}
+
+/// The architecture with this name.
+pub fn arch_spoken(text: &str) -> Option<Spoken>
+    ensures { result ≡ arch_spoken text.now }
+{
+    match text {
+        "X86" => Some(Spoken::Built(ArchName::X86)),
+        "PPC" => Some(Spoken::Later),
+        "AArch64" => Some(Spoken::Later),
+        "RISCV" => Some(Spoken::Later),
+        _ => None,
+    }
+}

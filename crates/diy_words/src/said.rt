@@ -1,0 +1,133 @@
+ghost use Rattle.std.specs.Prelude.{◌≡◌};
+ghost use Rattle.diy_words.specs.Parts.{Part, Operand, Valued, Unvalued};
+ghost use Rattle.std.specs.Prelude.{◌<◌, ◌+◌, ◌^◌, Err};
+ghost use Rattle.diy_words.specs.declared.usage.UsageKind.TheVariants.{NotBuilt};
+ghost use Rattle.diy_words.specs.Parts.{arch_spoken};
+ghost use Rattle.diy_words.specs.Requests.{said_by, arch_said, name_said, begins_option};
+
+use crate::name::name_of;
+use crate::operand::read_operand;
+use crate::options::{OptionName, Spoken, arch_spoken};
+use crate::request::{EdgeList, TestName};
+use crate::usage::{Usage, UsageKind};
+use arrayvec::ArrayVec;
+use relax_edges::ArchName;
+
+/// What the words of diyone7 have said so far.
+#[derive(Drop)]
+pub struct Said {
+    pub arch: Option<ArchName>,
+    pub name: Option<TestName>,
+    pub edges: EdgeList,
+}
+
+impl Said {
+    ghost use Rattle.diy_words.specs.Given.{held, nothing_held, absorbed, left_by};
+
+    pub fn new() -> Said
+        ensures { held result ≡ nothing_held }
+    {
+        Said {
+            arch: None,
+            name: None,
+            edges: EdgeList::Whole(ArrayVec::new()),
+        }
+    }
+
+    /// Takes in an option at place `at` with its value, which stands behind it.
+    pub fn take_value(&mut self, option: OptionName, at: usize, value: &str) -> Result<(), Usage>
+        requires { at + 1 < 2 ^ 64 }
+        ensures { left_by result (held self.new) ≡ absorbed (held self.old) (said_by (Valued option at value.now)) }
+    {
+        match option {
+            OptionName::Arch => self.take_arch(at + 1, value),
+            OptionName::Name => self.take_name(at + 1, value),
+            OptionName::Obs => Err(not_built(at)),
+        }
+    }
+
+    fn take_arch(&mut self, at: usize, value: &str) -> Result<(), Usage>
+        ensures { left_by result (held self.new) ≡ absorbed (held self.old) (arch_said at (arch_spoken value.now)) }
+    {
+        match arch_spoken(value) {
+            Some(Spoken::Built(arch)) => {
+                self.arch = Some(arch);
+                Ok(())
+            }
+            Some(Spoken::Later) => Err(not_built(at)),
+            None => Err(Usage {
+                word: at,
+                kind: UsageKind::UnknownArch,
+            }),
+        }
+    }
+
+    fn take_name(&mut self, at: usize, value: &str) -> Result<(), Usage>
+        ensures { left_by result (held self.new) ≡ absorbed (held self.old) (name_said at value.now) }
+    {
+        match name_of(value) {
+            Some(name) => {
+                self.name = Some(name);
+                Ok(())
+            }
+            None => Err(Usage {
+                word: at,
+                kind: UsageKind::BadName,
+            }),
+        }
+    }
+
+    /// Takes in an operand at place `at`.
+    pub fn take_operand(&mut self, at: usize, text: &str) -> Result<(), Usage>
+        ensures { left_by result (held self.new) ≡ absorbed (held self.old) (said_by (Operand at text.now)) }
+    {
+        if begins_option(text.as_bytes()) {
+            return Err(Usage {
+                word: at,
+                kind: UsageKind::UnknownOption,
+            });
+        }
+        match read_operand(text, &mut self.edges) {
+            Ok(()) => Ok(()),
+            Err(_) => Err(Usage {
+                word: at,
+                kind: UsageKind::UnknownEdge,
+            }),
+        }
+    }
+}
+
+/// What is wrong with an option at place `at` that is the last word.
+pub fn unvalued(option: OptionName, at: usize) -> Usage
+    ensures { said_by (Unvalued option at) ≡ Err result }
+{
+    match option {
+        OptionName::Obs => not_built(at),
+        OptionName::Arch => Usage {
+            word: at,
+            kind: UsageKind::MissingValue,
+        },
+        OptionName::Name => Usage {
+            word: at,
+            kind: UsageKind::MissingValue,
+        },
+    }
+}
+
+fn not_built(at: usize) -> Usage
+    ensures { result ≡ record { word = at; kind = NotBuilt } }
+{
+    Usage {
+        word: at,
+        kind: UsageKind::NotBuilt,
+    }
+}
+
+fn begins_option(text: &[u8]) -> bool
+    ensures { result ≡ begins_option text.now }
+{
+    match text {
+        [byte, ..] => *byte == b'-',
+        [] => false,
+    }
+}

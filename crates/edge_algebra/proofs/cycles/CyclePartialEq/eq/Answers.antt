@@ -1,0 +1,7 @@
+use Rattle.std.proofs.Common.{rules}
+use Rattle.std.proofs.lemmas.Slice.Eq.{slice_eq-Decides}
+use Rattle.relax_edges.proofs.Ranks.{rank_decides}
+use Rattle.edge_algebra.proofs.cycles.CyclePartialEq.eq.Goals as goal
+
+pub returns-clause-same : goal.returns-clause-same
+returns-clause-same c = slice_eq-Decides rank_decides c.args.self.now c.args.other.now c.eq.result (search rules)

@@ -1,0 +1,15 @@
+use Rattle.std.proofs.Common.{◌≡◌, ◌+◌, ◌≤◌, ◌++◌, length, true, rules, arith, ap}
+use Rattle.relax_edges.specs.declared.TheConstants.{MAX_EDGES}
+use Rattle.walk_laws.specs.Composable.{last_joins}
+use Rattle.walk_laws.proofs.Composing.{path_joined}
+use Rattle.edge_algebra.proofs.paths.Path.join.Goals as goal
+
+pub invariant_of-result : goal.invariant_of-result
+invariant_of-result c =
+    let front = c.edges-front.ensures in
+    let back = c.edges-back.ensures in
+    let whole : c.try_extend_from_slice.new.self.items ≡ c.args.self.now ++ c.args.next.now = search rules in
+    let few : length c.args.self.now + length c.args.next.now ≤ MAX_EDGES =
+    omega (arith, ap length front.value, ap length back.value, c.if-front-back-gt-MAX_EDGES.false) in
+    let meets : last_joins c.args.self.now c.args.next.now ≡ true = search rules in
+    rw whole (path_joined c.args.self.now c.args.next.now front.composable back.composable few meets)

@@ -1,0 +1,6 @@
+use Rattle.std.proofs.Common.{sym, ◌∙◌}
+use Rattle.walk_laws.proofs.Composing.{last_joins_at}
+use Rattle.edge_algebra.proofs.paths.joins.Goals as goal
+
+pub returns : goal.returns
+returns c = c.joins.ensures ∙ sym (last_joins_at c.args.edges.now c.args.next.now _ _ c.requires.some c.requires.next_some)

@@ -1,0 +1,25 @@
+-- The laws of composing edges, as statements.
+use Rattle.std.specs.Prelude.{◌≡◌, ◌<◌, ◌≤◌, ◌↔◌, ℕ, List, length, Ok, Err}
+use Rattle.relax_edges.specs.declared.TheConstants.{MAX_EDGES}
+use Rattle.relax_edges.specs.declared.edge.Edge.{Edge}
+use Rattle.walk_laws.specs.Composable.{IsPath, IsCycle, JoinsNext}
+use Rattle.edge_algebra.specs.declared.errors.CycleError.TheVariants.{Empty, TooLong, DoesNotCompose}
+use Rattle.edge_algebra.specs.Compose.{composed, joined}
+
+-- the edge at this place, the first such, doesn't join the next one, cyclically
+pub record IsFirstBreak (u : List Edge) (at_place : ℕ) : Type 0 where
+  pub within : at_place < length u
+  pub breaks : JoinsNext u at_place → ⊥
+  pub before : (j : ℕ) → j < at_place → JoinsNext u j
+
+-- what a list of edges makes, each answer exactly where it is due
+pub record ComposesExactly : Type 0 where
+  pub cycle : (u : List Edge) → (composed u ≡ Ok u) ↔ IsCycle u
+  pub empty : (u : List Edge) → (composed u ≡ Err Empty) ↔ (length u ≡ 0)
+  pub long : (u : List Edge) → (composed u ≡ Err TooLong) ↔ (MAX_EDGES < length u)
+  pub broken : (u : List Edge) (i : ℕ) → (composed u ≡ Err (DoesNotCompose i)) ↔ (length u ≤ MAX_EDGES × IsFirstBreak u i)
+
+-- joining is associative: where a path joins the next and that one a third, it doesn't matter which are joined first
+abbrev pub JoiningIsAssociative : Type 0
+JoiningIsAssociative =
+    (u v w front back : List Edge) → IsPath v → joined u v ≡ Ok front → joined v w ≡ Ok back → joined front w ≡ joined u back

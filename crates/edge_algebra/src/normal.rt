@@ -1,0 +1,112 @@
+ghost use Rattle.std.specs.Prelude.{◌≡◌, ◌+◌, ◌<◌, ◌≤◌, ◌↔◌, ◌++◌, length, map, IsTrue};
+ghost use Rattle.relax_edges.specs.Order.{rank_of};
+ghost use Rattle.walk_laws.specs.Beginning.{may_begin, none_below};
+ghost use Rattle.walk_laws.specs.Order.{IsLeast, IsNormal, ranks_below};
+ghost use Rattle.walk_laws.specs.Rotation.{IsRotation, rotated};
+
+use crate::Cycle;
+use arrayvec::ArrayVec;
+use relax_edges::{Edge, MAX_EDGES};
+
+const TWICE: usize = 2 * MAX_EDGES;
+
+impl Cycle {
+    /// The normal form of the cycle: its least rotation, lists of edges compared edge by edge in
+    /// the byte order of their printed words.
+    pub fn least(&self) -> Cycle
+        ensures { IsLeast self.now result }
+    {
+        let place = least_place(self.edges());
+        self.rotate(place)
+    }
+
+    /// Whether the cycle is a normal form: no rotation of it is less.
+    pub fn is_normal(&self) -> bool
+        ensures { IsTrue result ↔ IsNormal self.now }
+    {
+        least_place(self.edges()) == 0
+    }
+
+    /// Whether the other cycle is the same: a rotation of this one.
+    pub fn same(&self, other: &Cycle) -> bool
+        ensures { IsTrue result ↔ IsRotation self.now other.now }
+    {
+        self.least() == other.least()
+    }
+}
+
+/// Whether a list of edges may begin a normal form: no back part of it is less than the list
+/// itself, at a place that both have. No normal form begins with a list that may not.
+pub fn may_begin(edges: &[Edge]) -> bool
+    requires { length edges.now ≤ MAX_EDGES }
+    ensures { result ≡ may_begin edges.now }
+{
+    let mut ranks = ArrayVec::new();
+    push_ranks(&mut ranks, edges);
+    none_below(ranks.as_slice(), ranks.as_slice())
+}
+
+/// Whether no back part of the second list of ranks is less than the first list.
+fn none_below(ranks: &[u8], back: &[u8]) -> bool
+    ensures { result ≡ none_below ranks.now back.now }
+{
+    match back {
+        [] => true,
+        [_, rest @ ..] => !is_below(back, ranks) && none_below(ranks, rest),
+    }
+}
+
+/// The first place at which the least rotation begins.
+fn least_place(edges: &[Edge]) -> u8
+    requires some { 0 < length edges.now }
+    requires few { length edges.now ≤ MAX_EDGES }
+    ensures within { result < length edges.now }
+    ensures least { IsNormal (rotated result edges.now) }
+    ensures stays { IsNormal edges.now → result ≡ 0 }
+{
+    let ranks = ranks_twice(edges);
+    let ranks = ranks.as_slice();
+    let len = edges.len();
+    let mut least = 0;
+    for place in 1..len {
+        if is_below(&ranks[place..place + len], &ranks[least..least + len]) {
+            least = place;
+        }
+    }
+    least as u8
+}
+
+/// The ranks of the edges, twice over: each rotation is a part of it.
+fn ranks_twice(edges: &[Edge]) -> ArrayVec<u8, TWICE>
+    requires { length edges.now ≤ MAX_EDGES }
+    ensures { result.items ≡ map rank_of edges.now ++ map rank_of edges.now }
+{
+    let mut ranks = ArrayVec::new();
+    push_ranks(&mut ranks, edges);
+    push_ranks(&mut ranks, edges);
+    ranks
+}
+
+fn push_ranks(ranks: &mut ArrayVec<u8, TWICE>, edges: &[Edge])
+    requires { length ranks.old.items + length edges.now ≤ TWICE }
+    ensures { ranks.new.items ≡ ranks.old.items ++ map rank_of edges.now }
+{
+    for edge in edges {
+        ranks.push(edge.rank());
+    }
+}
+
+/// Whether the first list of ranks is less at the first place where they differ, which both have.
+fn is_below(ranks: &[u8], others: &[u8]) -> bool
+    ensures { result ≡ ranks_below ranks.now others.now }
+{
+    match ranks {
+        [] => false,
+        [rank, ranks_left @ ..] => match others {
+            [] => false,
+            [other, others_left @ ..] => {
+                rank < other || rank == other && is_below(ranks_left, others_left)
+            }
+        },
+    }
+}

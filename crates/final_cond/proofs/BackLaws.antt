@@ -1,0 +1,211 @@
+-- Printed conditions read back, part by part, whatever follows a part, and whichever left sides pass beside those of their form.
+use Rattle.std.proofs.Common.{◌≡◌, ℕ, zero, suc, ◌^◌, ◌<◌, ◌≤◌, List, [], ◌∷◌, ◌++◌, length, refl, sym, ap, ◌∙◌, arith, append_assoc, append-nil}
+use Rattle.std.specs.Prelude.{Bool, true, false, not, codes, nat_eq, nat_lt, Some, Ok}
+use Rattle.std.specs.Char.{is_ascii_alphabetic, is_ascii_alphanumeric, is_ascii_digit}
+use Rattle.std.specs.Fmt.{decimal}
+use Rattle.std.specs.List.{AllByRecursion, list_all}
+use Rattle.std.proofs.lemmas.Bool.{and_parts, ltb-true, not-true}
+use Rattle.std.proofs.lemmas.Bool.Decides.{nat_tests}
+use Rattle.std.proofs.lemmas.Fmt.{decimal_nonempty, digits_decimal}
+use Rattle.final_cond.specs.declared.cond.Quantifier.{Quantifier}
+use Rattle.final_cond.specs.declared.cond.Quantifier.TheVariants.{Exists, NotExists, Forall}
+use Rattle.final_cond.specs.declared.cond.TheConstants.{MAX_TERMS}
+use Rattle.final_cond.specs.declared.errors.CondKind.TheVariants.{BadTerm}
+use Rattle.final_cond.specs.declared.read.Follow.TheVariants as follows
+use Rattle.final_cond.specs.Names.{is_place_byte, begins_place, is_register_name}
+use Rattle.final_cond.specs.Conditions.{LeftSeen, InRegister, AtPlace, TermSeen, CondSeen}
+use Rattle.final_cond.specs.CondText.{quantifier_word, left_text, term_text, terms_text, cond_text}
+use Rattle.final_cond.specs.Runs.{run_of, after_run, is_blank, unblanked}
+use Rattle.final_cond.specs.ReadBack.{IsFormedTerm, IsFormed}
+use Rattle.final_cond.specs.Reading.{sign_read, opening_read, left_at_front, register_at_front, has_form, left_read, value_read, right_read, term_read, follow_read, terms_read, parts_read, cond_read}
+use Rattle.final_cond.proofs.NameLaws.{place_shaped, register_shaped, shaped_all}
+use Rattle.final_cond.proofs.NumberLaws.{own, number_of-decimal}
+
+-- no byte that passes stands at the front
+abbrev pub stops : (ℕ → Bool) → List ℕ → Bool
+stops passes [] = true
+stops passes (byte ∷ text) = not (passes byte)
+
+-- a word of bytes that pass, and then one that doesn't: the word is the run
+pub record IsRun (passes : ℕ → Bool) (word rest : List ℕ) : Type 0 where
+  pub run : run_of passes (word ++ rest) ≡ word
+  pub after : after_run passes (word ++ rest) ≡ rest
+
+pub whole_run : (passes : ℕ → Bool) (word rest : List ℕ) → list_all passes word ≡ true → stops passes rest ≡ true → IsRun passes word rest
+unfolding run_of after_run
+whole_run passes [] [] h s = record { run = refl; after = refl }
+whole_run passes [] (byte ∷ rest) h s =
+    let p : passes byte ≡ false = not-true (passes byte) s in
+    record { run = rw p refl; after = rw p refl }
+whole_run passes (byte ∷ word) rest h s =
+    let p : (passes byte ≡ true) × (list_all passes word ≡ true) = and_parts (passes byte) (list_all passes word) h in
+    let r : IsRun passes word rest = whole_run passes word rest p.1 s in
+    record { run = rw p.0 (ap (λ w. byte ∷ w) r.run); after = rw p.0 r.after }
+
+-- a text that begins with a byte of a word isn't changed where blanks are passed over
+digits_unblanked : (digits rest : List ℕ) → list_all is_ascii_digit digits ≡ true → 0 < length digits → unblanked (digits ++ rest) ≡ digits ++ rest
+unfolding after_run
+digits_unblanked [] rest h n = absurd (omega arith)
+digits_unblanked (byte ∷ digits) rest h n =
+    let d : is_ascii_digit byte ≡ true = (and_parts (is_ascii_digit byte) (list_all is_ascii_digit digits) h).0 in
+    let b : is_blank byte ≡ false = grind (arith, nat_tests) in
+    rw b refl
+
+digits_left : (digits rest : List ℕ) → list_all is_ascii_digit digits ≡ true → 0 < length digits → left_at_front (digits ++ rest) ≡ register_at_front (digits ++ rest)
+unfolding left_at_front
+digits_left [] rest h n = absurd (omega arith)
+digits_left (byte ∷ digits) rest h n =
+    let d : is_ascii_digit byte ≡ true = (and_parts (is_ascii_digit byte) (list_all is_ascii_digit digits) h).0 in
+    let b : nat_eq byte 91 ≡ false = grind (arith, nat_tests) in
+    rw (b, d) refl
+
+-- the digits of a number
+record Digits (n : ℕ) : Type 0 where
+  all : list_all is_ascii_digit (decimal n) ≡ true
+  some : 0 < length (decimal n)
+
+digits_of : (n : ℕ) → n < 2 ^ 32 → Digits n
+digits_of n h = record { all = digits_decimal own n (omega arith); some = decimal_nonempty n (omega arith) }
+
+register_text : (digits name rest : List ℕ) → ((digits ++ 58 ∷ []) ++ name) ++ rest ≡ digits ++ (58 ∷ (name ++ rest))
+register_text digits name rest = simp append_assoc
+
+-- what the form of a register says
+record Named (thread : ℕ) (name : List ℕ) : Type 0 where
+  few : thread < 64
+  bytes : list_all is_ascii_alphanumeric name ≡ true
+
+named : (thread : ℕ) (name : List ℕ) → has_form (InRegister thread name) ≡ true → Named thread name
+named thread name h =
+    let p : (nat_lt thread 64 ≡ true) × (is_register_name name ≡ true) = and_parts (nat_lt thread 64) (is_register_name name) h in
+    record {
+      few = ltb-true thread 64 p.0;
+      bytes = shaped_all is_ascii_alphabetic is_ascii_alphanumeric is_ascii_alphanumeric (λ byte l. grind (arith, nat_tests)) (λ byte l. l) name (register_shaped name p.1);
+    }
+
+place_bytes : (name : List ℕ) → has_form (AtPlace name) ≡ true → list_all is_place_byte name ≡ true
+place_bytes name h = shaped_all begins_place is_place_byte is_place_byte (λ byte l. grind (arith, nat_tests)) (λ byte l. l) name (place_shaped name h)
+
+left_unblanked : (left : LeftSeen) (rest : List ℕ) → has_form left ≡ true → unblanked (left_text left ++ rest) ≡ left_text left ++ rest
+unfolding left_text after_run
+left_unblanked (InRegister thread name) rest h =
+    let t : thread < 64 = (named thread name h).few in
+    let d : Digits thread = digits_of thread (omega arith) in
+    rw register_text (digits_unblanked (decimal thread) (58 ∷ (name ++ rest)) d.all d.some)
+left_unblanked (AtPlace name) rest h = refl
+
+register_back : (thread : ℕ) (name rest : List ℕ) → Named thread name → stops is_ascii_alphanumeric rest ≡ true → left_at_front (decimal thread ++ (58 ∷ (name ++ rest))) ≡ Some (InRegister thread name, rest)
+register_back thread name rest n s =
+    let t : thread < 64 = n.few in
+    let d : Digits thread = digits_of thread (omega arith) in
+    let r : IsRun is_ascii_digit (decimal thread) (58 ∷ (name ++ rest)) = whole_run is_ascii_digit (decimal thread) (58 ∷ (name ++ rest)) d.all refl in
+    let q : IsRun is_ascii_alphanumeric name rest = whole_run is_ascii_alphanumeric name rest n.bytes s in
+    digits_left (decimal thread) (58 ∷ (name ++ rest)) d.all d.some
+    ∙ rw (r.run, r.after, number_of-decimal thread (omega arith)) (rw (q.run, q.after) refl)
+
+place_text : (name rest : List ℕ) → (name ++ 93 ∷ []) ++ rest ≡ name ++ (93 ∷ rest)
+place_text name rest = append_assoc name (93 ∷ []) rest
+
+place_back : (name rest : List ℕ) → list_all is_place_byte name ≡ true → left_at_front (91 ∷ (name ++ (93 ∷ rest))) ≡ Some (AtPlace name, rest)
+unfolding left_at_front
+place_back name rest h =
+    let r : IsRun is_place_byte name (93 ∷ rest) = whole_run is_place_byte name (93 ∷ rest) h refl in
+    rw (r.run, r.after) refl
+
+-- a left side reads back
+pub left_back : (known : LeftSeen → Bool) (left : LeftSeen) (rest : List ℕ) → has_form left ≡ true → known left ≡ true → stops is_ascii_alphanumeric rest ≡ true → left_read known (left_text left ++ rest) ≡ Ok (left, rest)
+unfolding left_read left_text
+left_back known (InRegister thread name) rest h k s = rw register_text (rw (register_back thread name rest (named thread name h) s, k) refl)
+left_back known (AtPlace name) rest h k s = rw place_text (rw (place_back name rest (place_bytes name h), k) refl)
+
+value_back : (n : ℕ) (rest : List ℕ) → n < 2 ^ 32 → stops is_ascii_digit rest ≡ true → value_read (decimal n ++ rest) ≡ Ok (n, rest)
+unfolding value_read
+value_back n rest h s =
+    let d : Digits n = digits_of n h in
+    let r : IsRun is_ascii_digit (decimal n) rest = whole_run is_ascii_digit (decimal n) rest d.all s in
+    rw (digits_unblanked (decimal n) rest d.all d.some) (rw (r.run, r.after, number_of-decimal n h) refl)
+
+equals_back : (rest : List ℕ) → sign_read BadTerm 61 (61 ∷ rest) ≡ Ok rest
+unfolding sign_read after_run
+equals_back rest = refl
+
+-- `=` and a value read back
+pub right_back : (n : ℕ) (rest : List ℕ) → n < 2 ^ 32 → stops is_ascii_digit rest ≡ true → right_read (61 ∷ (decimal n ++ rest)) ≡ Ok (n, rest)
+unfolding right_read
+right_back n rest h s = rw (equals_back (decimal n ++ rest), value_back n rest h s) refl
+
+term_parts : (left value rest : List ℕ) → ((left ++ 61 ∷ []) ++ value) ++ rest ≡ left ++ (61 ∷ (value ++ rest))
+term_parts left value rest = simp append_assoc
+
+-- a term reads back
+pub term_back : (known : LeftSeen → Bool) (term : TermSeen) (rest : List ℕ) → IsFormedTerm term → known term.left ≡ true → stops is_ascii_digit rest ≡ true → term_read known (term_text term ++ rest) ≡ Ok (term, rest)
+unfolding term_read term_text
+term_back known term rest f k s =
+    rw term_parts (rw (left_unblanked term.left (61 ∷ (decimal term.value ++ rest)) f.form, left_back known term.left (61 ∷ (decimal term.value ++ rest)) f.form k refl)
+    (rw (right_back term.value rest f.value s) refl))
+
+-- a blank before a term, or before terms, changes nothing
+term_blank : (known : LeftSeen → Bool) (text : List ℕ) → term_read known (32 ∷ text) ≡ term_read known text
+unfolding term_read after_run
+term_blank known text = refl
+
+terms_blank : (known : LeftSeen → Bool) (room : ℕ) (text : List ℕ) → terms_read known room (32 ∷ text) ≡ terms_read known room text
+unfolding terms_read after_run
+terms_blank known zero text = rw term_blank refl
+terms_blank known (suc room) text = rw term_blank refl
+
+closing : (rest : List ℕ) → follow_read (41 ∷ rest) ≡ Ok (follows.End, rest)
+unfolding follow_read after_run
+closing rest = refl
+
+joining : (rest : List ℕ) → follow_read (32 ∷ 47 ∷ 92 ∷ rest) ≡ Ok (follows.Term, rest)
+unfolding follow_read after_run
+joining rest = refl
+
+-- the terms of a list pass
+abbrev pub Known : (LeftSeen → Bool) → List TermSeen → Type 0
+Known known terms = AllByRecursion (λ term. known term.left ≡ true) terms
+
+-- terms read back, up to the `)` behind them
+pub terms_back : (known : LeftSeen → Bool) (room : ℕ) (term : TermSeen) (terms : List TermSeen) (rest : List ℕ) → length terms < room
+    → AllByRecursion IsFormedTerm (term ∷ terms) → Known known (term ∷ terms) → terms_read known room (terms_text (term ∷ terms) ++ 41 ∷ rest) ≡ Ok (term ∷ terms, rest)
+unfolding terms_read
+terms_back known zero term terms rest few f k = absurd (omega arith)
+terms_back known (suc room) term [] rest few f k =
+    rw (append-nil (term_text term), term_back known term (41 ∷ rest) f.0 k.0 refl, closing rest) refl
+terms_back known (suc room) term (next ∷ terms) rest few f k =
+    let more : List ℕ = terms_text (next ∷ terms) in
+    let text : List ℕ = more ++ 41 ∷ rest in
+    rw (append_assoc (term_text term) (32 ∷ 47 ∷ 92 ∷ 32 ∷ more) (41 ∷ rest), term_back known term (32 ∷ 47 ∷ 92 ∷ 32 ∷ text) f.0 k.0 refl, joining (32 ∷ text))
+    (rw (terms_blank known room text, terms_back known room next terms rest (omega arith) f.1 k.1) refl)
+
+opening_back : (quantifier : Quantifier) (text : List ℕ) → opening_read ((quantifier_word quantifier ++ codes " (") ++ text) ≡ Ok (quantifier, text)
+unfolding opening_read sign_read run_of after_run
+opening_back Exists text = refl
+opening_back NotExists text = refl
+opening_back Forall text = refl
+
+cond_parts : (opening terms rest : List ℕ) → ((opening ++ terms) ++ 41 ∷ []) ++ rest ≡ opening ++ (terms ++ (41 ∷ rest))
+cond_parts opening terms rest = simp append_assoc
+
+all_terms_back : (known : LeftSeen → Bool) (room : ℕ) (terms : List TermSeen) (rest : List ℕ) → 0 < length terms → length terms ≤ room
+    → AllByRecursion IsFormedTerm terms → Known known terms → terms_read known room (terms_text terms ++ 41 ∷ rest) ≡ Ok (terms, rest)
+all_terms_back known room [] rest some few f k = absurd (omega arith)
+all_terms_back known room (term ∷ terms) rest some few f k = terms_back known room term terms rest (omega arith) f k
+
+-- a whole condition reads back, with blanks behind it
+pub parts_back : (known : LeftSeen → Bool) (condition : CondSeen) (blanks : List ℕ) → IsFormed condition → Known known condition.terms → unblanked blanks ≡ [] → parts_read known (cond_text condition ++ blanks) ≡ Ok condition
+unfolding parts_read cond_text
+parts_back known condition blanks f k b =
+    rw cond_parts (rw opening_back (rw (all_terms_back known MAX_TERMS condition.terms blanks f.some f.few f.terms k, b) refl))
+
+formed_known : (terms : List TermSeen) → AllByRecursion IsFormedTerm terms → Known has_form terms
+formed_known [] f = tt
+formed_known (term ∷ terms) f = (f.0.form, formed_known terms f.1)
+
+-- the text of a condition reads as the condition
+pub read_back : (condition : CondSeen) → IsFormed condition → cond_read (cond_text condition) ≡ Ok condition
+unfolding cond_read after_run
+read_back condition f =
+    let p : parts_read has_form (cond_text condition) ≡ Ok condition = ap (parts_read has_form) (sym (append-nil (cond_text condition))) ∙ parts_back has_form condition [] f (formed_known condition.terms f.terms) refl in
+    rw p refl

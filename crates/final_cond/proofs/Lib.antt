@@ -1,0 +1,11 @@
+mod ReadingRows
+pub mod RunLaws
+pub mod NameLaws
+pub mod NumberLaws
+pub mod LeftLaws
+pub mod TermLaws
+pub mod WithinLaws
+pub mod StateLaws
+pub mod BackLaws
+pub mod PrintLaws
+pub mod KnownLaws

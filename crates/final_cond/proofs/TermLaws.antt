@@ -1,0 +1,57 @@
+-- A walk over the terms of a text: those read so far, before what the definition reads in the rest.
+use Rattle.std.proofs.Common.{◌≡◌, ℕ, zero, suc, ◌+◌, ◌<◌, List, [], ◌∷◌, ◌++◌, refl, sym, ap, ◌∙◌, arith, append_assoc}
+use Rattle.std.specs.Prelude.{Bool, Ok, Err}
+use Rattle.final_cond.specs.declared.errors.CondKind.TheVariants.{BadEnd}
+use Rattle.final_cond.specs.declared.read.Follow.{Follow}
+use Rattle.final_cond.specs.declared.read.Follow.TheVariants as follows
+use Rattle.final_cond.specs.Conditions.{LeftSeen, TermSeen}
+use Rattle.final_cond.specs.Runs.{unblanked}
+use Rattle.final_cond.specs.Reading.{Fault, Read, ◌>>=◌, fault, term_read, follow_read, terms_read, before_terms}
+
+-- terms, and those that are read behind them
+abbrev pub behind : List TermSeen → Read (List TermSeen) → Read (List TermSeen)
+behind front (Ok terms) = Ok (front ++ terms.0, terms.1)
+behind front (Err f) = Err f
+
+pub nothing_behind : (read : Read (List TermSeen)) → behind [] read ≡ read
+nothing_behind (Ok terms) = refl
+nothing_behind (Err f) = refl
+
+pub stops_at_term : (known : LeftSeen → Bool) (room : ℕ) (text : List ℕ) (front : List TermSeen) (f : Fault) (whole : Read (List TermSeen))
+    → term_read known text ≡ Err f → behind front (terms_read known room text) ≡ whole → whole ≡ Err f
+unfolding terms_read
+stops_at_term known zero text front f whole e h = sym h ∙ rw e refl
+stops_at_term known (suc room) text front f whole e h = sym h ∙ rw e refl
+
+pub stops_at_full : (known : LeftSeen → Bool) (room : ℕ) (text : List ℕ) (front : List TermSeen) (t : TermSeen × List ℕ) (whole : Read (List TermSeen))
+    → room ≡ 0 → term_read known text ≡ Ok t → behind front (terms_read known room text) ≡ whole → whole ≡ fault BadEnd (unblanked text)
+unfolding terms_read
+stops_at_full known zero text front t whole full e h = sym h ∙ rw e refl
+stops_at_full known (suc room) text front t whole full e h = absurd (omega arith)
+
+pub stops_at_follow : (known : LeftSeen → Bool) (room : ℕ) (text : List ℕ) (front : List TermSeen) (t : TermSeen × List ℕ) (f : Fault) (whole : Read (List TermSeen))
+    → 0 < room → term_read known text ≡ Ok t → follow_read t.1 ≡ Err f → behind front (terms_read known room text) ≡ whole → whole ≡ Err f
+unfolding terms_read
+stops_at_follow known zero text front t f whole more e k h = absurd (omega arith)
+stops_at_follow known (suc room) text front t f whole more e k h = sym h ∙ rw (e, k) refl
+
+pub ends_at_follow : (known : LeftSeen → Bool) (room : ℕ) (text : List ℕ) (front front' : List TermSeen) (t : TermSeen × List ℕ) (step : Follow) (rest : List ℕ) (whole : Read (List TermSeen))
+    → 0 < room → front' ≡ front ++ t.0 ∷ [] → term_read known text ≡ Ok t → follow_read t.1 ≡ Ok (step, rest) → step ≡ follows.End
+    → behind front (terms_read known room text) ≡ whole → whole ≡ Ok (front', rest)
+unfolding terms_read
+ends_at_follow known zero text front front' t step rest whole more f e k d h = absurd (omega arith)
+ends_at_follow known (suc room) text front front' t step rest whole more f e k d h = sym h ∙ rw (e, k, d, f) refl
+
+behind_more : (front : List TermSeen) (t : TermSeen) (read : Read (List TermSeen)) → behind (front ++ t ∷ []) read ≡ behind front (read >>= λ others. Ok (before_terms t others))
+behind_more front t (Ok terms) = ap (λ ts. Ok (ts, terms.1)) (append_assoc front (t ∷ []) terms.0)
+behind_more front t (Err f) = refl
+
+pub goes_on : (known : LeftSeen → Bool) (room room' : ℕ) (text : List ℕ) (front front' : List TermSeen) (t : TermSeen × List ℕ) (step : Follow) (rest : List ℕ) (whole : Read (List TermSeen))
+    → room ≡ room' + 1 → front' ≡ front ++ t.0 ∷ [] → term_read known text ≡ Ok t → follow_read t.1 ≡ Ok (step, rest) → step ≡ follows.Term
+    → behind front (terms_read known room text) ≡ whole → behind front' (terms_read known room' rest) ≡ whole
+unfolding terms_read
+goes_on known zero room' text front front' t step rest whole more f e k d h = absurd (omega arith)
+goes_on known (suc room) room' text front front' t step rest whole more f e k d h =
+    let n : room' ≡ room = omega arith in
+    let s : behind front (terms_read known (suc room) text) ≡ behind front (terms_read known room rest >>= λ others. Ok (before_terms t.0 others)) = rw (e, k, d) refl in
+    rw (n, f) (behind_more front t.0 (terms_read known room rest) ∙ sym s ∙ h)

@@ -1,0 +1,7 @@
+use Rattle.final_cond.specs.Gives.{fault_view}
+use Rattle.final_cond.specs.Reading.{has_form}
+use Rattle.final_cond.proofs.WithinLaws.{fault_within}
+use Rattle.final_cond.proofs.read.read_cond.Goals as goal
+
+pub overflow_sub-result : goal.overflow_sub-result
+overflow_sub-result c = fault_within has_form c.as_bytes-bytes.result.now (fault_view c.in-Err.fault) c.in-Err.ensures

@@ -1,0 +1,9 @@
+use Rattle.std.specs.Prelude.{◌↔◌}
+use Rattle.std.proofs.Common.{drop}
+use Rattle.final_cond.specs.States.{value_in}
+use Rattle.final_cond.proofs.StateLaws.{AllMet}
+use Rattle.final_cond.proofs.state.holds.Given as goal
+
+-- the terms before the place hold
+abbrev pub invariant-loop-term : goal.invariant-loop-term
+invariant-loop-term l = AllMet (value_in l.state) (drop l.term-index l.cond.terms.items) ↔ AllMet (value_in l.state) l.cond.terms.items

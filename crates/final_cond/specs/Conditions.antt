@@ -1,0 +1,35 @@
+-- A condition as contracts see it: its names are lists of bytes.
+use Rattle.std.specs.Prelude.{ℕ, List, map}
+use Rattle.final_cond.specs.declared.cond.Quantifier.{Quantifier}
+use Rattle.final_cond.specs.declared.cond.Left.{Left}
+use Rattle.final_cond.specs.declared.cond.Left.TheVariants.{Register, Place}
+use Rattle.final_cond.specs.declared.cond.Term.{Term}
+use Rattle.final_cond.specs.declared.cond.Cond.{Cond}
+
+-- what a term looks at: a register of a thread, by its name, or a place, by its name
+pub data LeftSeen : Type 0 where
+  InRegister : (thread : ℕ) (name : List ℕ) → LeftSeen
+  AtPlace : (name : List ℕ) → LeftSeen
+
+-- a left side and the value that it is to have
+pub record TermSeen : Type 0 where
+  pub left : LeftSeen
+  pub value : ℕ
+
+-- the terms that are to hold together, under a quantifier
+pub record CondSeen : Type 0 where
+  pub quantifier : Quantifier
+  pub terms : List TermSeen
+
+-- a left side with its name as bytes
+abbrev pub left_view : Left → LeftSeen
+left_view (Register thread name) = InRegister thread name.bytes
+left_view (Place name) = AtPlace name.bytes
+
+-- a term with its name as bytes
+abbrev pub term_view : Term → TermSeen
+term_view term = record { left = left_view term.left; value = term.value }
+
+-- a condition with its names as bytes
+abbrev pub cond_view : Cond → CondSeen
+cond_view cond = record { quantifier = cond.quantifier; terms = map term_view cond.terms.items }

@@ -1,0 +1,32 @@
+-- Final states, and when one meets a condition.
+-- Source: own, as the litmus format reads the terms of a condition.
+use Rattle.std.specs.Prelude.{◌≡◌, Bool, false, ◌&&◌, ◌==◌, cond, List, [], ◌∷◌, Option, Some, None}
+use Rattle.std.specs.List.{AllByRecursion}
+use Rattle.std.specs.Str.{bytes_eq}
+use Rattle.relax_edges.specs.declared.kinds.Value.{Value}
+use Rattle.relax_edges.specs.declared.kinds.Value.TheVariants.{Num}
+use Rattle.final_cond.specs.declared.cond.Left.{Left}
+use Rattle.final_cond.specs.Conditions.{LeftSeen, InRegister, AtPlace, CondSeen, left_view}
+
+-- two left sides are the same
+abbrev pub same_left : LeftSeen → LeftSeen → Bool
+same_left (InRegister thread name) (InRegister thread' name') = thread == thread' && bytes_eq name name'
+same_left (AtPlace name) (AtPlace name') = bytes_eq name name'
+same_left _ _ = false
+
+-- a state as a list of left sides and their values
+abbrev pub State : Type 0
+State = List (LeftSeen × Value)
+
+-- the value of a left side in a state: that of the first pair with this left side
+abbrev pub value_in : State → LeftSeen → Option Value
+value_in [] left = None
+value_in (pair ∷ state) left = cond (same_left pair.0 left) (Some pair.1) (value_in state left)
+
+-- A final state, which gives left sides their values, meets a condition where each term's left side has the term's value there. The quantifier isn't looked at.
+abbrev pub Meets : (LeftSeen → Option Value) → CondSeen → Type 0
+Meets final condition = AllByRecursion (λ term. final term.left ≡ Some (Num term.value)) condition.terms
+
+-- a pair of a state, with the name of its left side as bytes
+abbrev pub pair_view : Left × Value → LeftSeen × Value
+pair_view pair = (left_view pair.0, pair.1)

@@ -1,0 +1,23 @@
+ghost use Rattle.std.specs.Prelude.{◌≡◌};
+ghost use Rattle.final_cond.specs.Numbers.{number_of};
+
+use crate::runs::Class;
+use std::str;
+
+/// The number that these bytes write in decimal. There is none where they aren't digits, have a
+/// leading zero, or write more than `u32::MAX`.
+#[tactic(auto, using(crate::proofs::NumberLaws::not_digits, crate::proofs::NumberLaws::leading_zero, crate::proofs::NumberLaws::parsed, crate::proofs::NumberLaws::digits_ascii))]
+pub fn number_of(digits: &[u8]) -> Option<u32>
+    ensures { result ≡ number_of digits.now }
+{
+    if !Class::Digit.has_all(digits) {
+        return None;
+    }
+    if let [b'0', _, ..] = digits {
+        return None;
+    }
+    match str::from_utf8(digits) {
+        Ok(text) => text.parse().ok(),
+        Err(_) => unreachable!(),
+    }
+}

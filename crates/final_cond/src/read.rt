@@ -1,0 +1,267 @@
+ghost use Rattle.std.specs.Prelude.{◌≡◌, [], map, option_map, IfOk, IfErr};
+ghost use Rattle.final_cond.specs.Conditions.{left_view, term_view, cond_view, InRegister, AtPlace};
+ghost use Rattle.final_cond.specs.Gives.{Gives, left_and_rest, term_and_rest};
+ghost use Rattle.final_cond.specs.Runs.{unblanked};
+ghost use Rattle.final_cond.specs.Reading.{sign_read, quantifier_of, opening_read, known_left, only_known, has_form, place_at_front, bracketed_at_front, register_at_front, left_at_front, left_read, value_read, right_read, term_read, follow_read, terms_read, parts_read, cond_read};
+
+use crate::cond::{Cond, Left, MAX_TERMS, Quantifier, Term};
+use crate::errors::{CondError, CondFault, CondKind};
+use crate::names::{place_name, register_name};
+use crate::numbers::number_of;
+use crate::runs::{Class, split_run, without_blanks};
+use arrayvec::ArrayVec;
+
+/// What follows a term of a condition.
+#[derive(Clone, Copy, Debug, PartialEq, Eq)]
+pub enum Follow {
+    /// `/\`, and one more term.
+    Term,
+    /// `)`.
+    End,
+}
+
+#[tactic(auto, unfolding(crate::specs::Reading::sign_read))]
+fn read_sign(kind: CondKind, sign: u8, text: &[u8]) -> Result<&[u8], CondFault<'_>>
+    ensures { Gives (λ rest. rest.now) result (sign_read kind sign text.now) }
+{
+    let text = without_blanks(text);
+    match text {
+        [byte, rest @ ..] if *byte == sign => Ok(rest),
+        _ => Err(CondFault { kind, rest: text }),
+    }
+}
+
+fn quantifier_of(word: &[u8]) -> Option<Quantifier>
+    ensures { result ≡ quantifier_of word.now }
+{
+    if word == b"exists".as_slice() {
+        Some(Quantifier::Exists)
+    } else if word == b"~exists".as_slice() {
+        Some(Quantifier::NotExists)
+    } else if word == b"forall".as_slice() {
+        Some(Quantifier::Forall)
+    } else {
+        None
+    }
+}
+
+/// The quantifier and the `(` with which the text of a condition begins, and the text behind them.
+#[tactic(auto, unfolding(crate::specs::Reading::opening_read))]
+pub fn read_opening(text: &[u8]) -> Result<(Quantifier, &[u8]), CondFault<'_>>
+    ensures { Gives (λ x. (x.0, x.1.now)) result (opening_read text.now) }
+{
+    let text = without_blanks(text);
+    let (word, rest) = split_run(Class::Word, text);
+    let Some(quantifier) = quantifier_of(word) else {
+        return Err(CondFault {
+            kind: CondKind::BadQuantifier,
+            rest: text,
+        });
+    };
+    let inside = read_sign(CondKind::BadQuantifier, b'(', rest)?;
+    Ok((quantifier, inside))
+}
+
+fn place_left(name: &[u8]) -> Option<Left>
+    ensures { option_map left_view result ≡ known_left has_form (AtPlace name.now) }
+{
+    let name = place_name(name)?;
+    Some(Left::Place { name })
+}
+
+/// The most threads that a test has.
+const MAX_THREADS: u32 = 64;
+
+fn register_left(thread: u32, name: &[u8]) -> Option<Left>
+    ensures { option_map left_view result ≡ known_left has_form (InRegister thread name.now) }
+{
+    if thread >= MAX_THREADS {
+        return None;
+    }
+    let name = register_name(name)?;
+    Some(Left::Register {
+        thread: thread as u8,
+        name,
+    })
+}
+
+fn place(text: &[u8]) -> Option<(Left, &[u8])>
+    ensures { option_map left_and_rest result ≡ only_known has_form (place_at_front text.now) }
+{
+    let (name, rest) = split_run(Class::PlaceName, text);
+    let left = place_left(name)?;
+    Some((left, rest))
+}
+
+fn bracketed(text: &[u8]) -> Option<(Left, &[u8])>
+    ensures { option_map left_and_rest result ≡ only_known has_form (bracketed_at_front text.now) }
+{
+    let (name, rest) = split_run(Class::PlaceName, text);
+    let [b']', behind @ ..] = rest else {
+        return None;
+    };
+    let left = place_left(name)?;
+    Some((left, behind))
+}
+
+fn register(text: &[u8]) -> Option<(Left, &[u8])>
+    ensures { option_map left_and_rest result ≡ only_known has_form (register_at_front text.now) }
+{
+    let (digits, rest) = split_run(Class::Digit, text);
+    let thread = number_of(digits)?;
+    let [b':', behind @ ..] = rest else {
+        return None;
+    };
+    let (name, rest) = split_run(Class::RegisterName, behind);
+    let left = register_left(thread, name)?;
+    Some((left, rest))
+}
+
+#[tactic(auto, using(crate::proofs::LeftLaws::left_of_nothing, crate::proofs::LeftLaws::left_of_bracket, crate::proofs::LeftLaws::left_of_digit, crate::proofs::LeftLaws::left_of_other))]
+fn left(text: &[u8]) -> Option<(Left, &[u8])>
+    ensures { option_map left_and_rest result ≡ only_known has_form (left_at_front text.now) }
+{
+    match text {
+        [] => None,
+        [b'[', inner @ ..] => bracketed(inner),
+        [b'0'..=b'9', ..] => register(text),
+        _ => place(text),
+    }
+}
+
+/// The left side with which a text begins, of a register of a thread below 64 or of a place, and
+/// the text behind it. Blanks may stand before it.
+#[tactic(auto, unfolding(crate::specs::Reading::left_read))]
+pub fn read_left(text: &[u8]) -> Result<(Left, &[u8]), CondFault<'_>>
+    ensures { Gives left_and_rest result (left_read has_form (unblanked text.now)) }
+{
+    let text = without_blanks(text);
+    match left(text) {
+        Some(left) => Ok(left),
+        None => Err(CondFault {
+            kind: CondKind::BadTerm,
+            rest: text,
+        }),
+    }
+}
+
+#[tactic(auto, unfolding(crate::specs::Reading::value_read))]
+fn read_value(text: &[u8]) -> Result<(u32, &[u8]), CondFault<'_>>
+    ensures { Gives (λ x. (x.0, x.1.now)) result (value_read text.now) }
+{
+    let text = without_blanks(text);
+    let (digits, rest) = split_run(Class::Digit, text);
+    match number_of(digits) {
+        Some(value) => Ok((value, rest)),
+        None => Err(CondFault {
+            kind: CondKind::BadValue,
+            rest: text,
+        }),
+    }
+}
+
+/// The value behind the `=` with which a text begins, and the text behind it. Blanks may stand
+/// before both.
+#[tactic(auto, unfolding(crate::specs::Reading::right_read))]
+pub fn read_right(text: &[u8]) -> Result<(u32, &[u8]), CondFault<'_>>
+    ensures { Gives (λ x. (x.0, x.1.now)) result (right_read text.now) }
+{
+    let right = read_sign(CondKind::BadTerm, b'=', text)?;
+    read_value(right)
+}
+
+/// The term with which a text begins, and the text behind it. Blanks may stand before it and around
+/// its `=`.
+#[tactic(auto, unfolding(crate::specs::Reading::term_read))]
+pub fn read_term(text: &[u8]) -> Result<(Term, &[u8]), CondFault<'_>>
+    ensures { Gives term_and_rest result (term_read has_form text.now) }
+{
+    let (left, rest) = match read_left(text) {
+        Ok(left) => left,
+        Err(fault) => return Err(fault),
+    };
+    let (value, rest) = read_right(rest)?;
+    Ok((Term { left, value }, rest))
+}
+
+/// What follows a term, and the text behind it. Blanks may stand before it.
+#[tactic(auto, unfolding(crate::specs::Reading::follow_read))]
+pub fn read_follow(text: &[u8]) -> Result<(Follow, &[u8]), CondFault<'_>>
+    ensures { Gives (λ x. (x.0, x.1.now)) result (follow_read text.now) }
+{
+    let text = without_blanks(text);
+    match text {
+        [b')', rest @ ..] => Ok((Follow::End, rest)),
+        [b'/', b'\\', rest @ ..] => Ok((Follow::Term, rest)),
+        _ => Err(CondFault {
+            kind: CondKind::BadEnd,
+            rest: text,
+        }),
+    }
+}
+
+/// Puts the terms of a text into `terms`, which is empty, up to the `)` behind the last.
+#[tactic(auto, using(crate::proofs::TermLaws::nothing_behind))]
+fn read_terms<'a>(
+    text: &'a [u8],
+    terms: &mut ArrayVec<Term, MAX_TERMS>,
+) -> Result<&'a [u8], CondFault<'a>>
+    requires { terms.old.items ≡ [] }
+    ensures { Gives (λ rest. (map term_view terms.new.items, rest.now)) result (terms_read has_form MAX_TERMS text.now) }
+{
+    let mut rest = text;
+    'terms: loop {
+        let (term, after) = match read_term(rest) {
+            Ok(term) => term,
+            Err(fault) => return Err(fault),
+        };
+        if terms.is_full() {
+            return Err(CondFault {
+                kind: CondKind::BadEnd,
+                rest: without_blanks(rest),
+            });
+        }
+        terms.push(term);
+        match read_follow(after)? {
+            (Follow::Term, behind) => rest = behind,
+            (Follow::End, behind) => return Ok(behind),
+        }
+    }
+}
+
+#[tactic(auto, unfolding(crate::specs::Reading::parts_read))]
+fn read_parts(text: &[u8]) -> Result<Cond, CondFault<'_>>
+    ensures { Gives cond_view result (parts_read has_form text.now) }
+{
+    let (quantifier, inside) = read_opening(text)?;
+    let mut terms = ArrayVec::new();
+    let behind = read_terms(inside, &mut terms)?;
+    let end = without_blanks(behind);
+    if !end.is_empty() {
+        return Err(CondFault {
+            kind: CondKind::BadEnd,
+            rest: end,
+        });
+    }
+    Ok(Cond { quantifier, terms })
+}
+
+/// The condition that a text writes: a quantifier, `(`, terms with `/\` between, and `)`. Blanks
+/// may stand anywhere but inside a word, a left side or a number.
+///
+/// There are 1 to `MAX_TERMS` terms, threads are below 64, and names are of their forms. Else the
+/// answer is the first fault from the left, and its place.
+#[tactic(auto, unfolding(crate::specs::Reading::cond_read))]
+pub fn read_cond(text: &str) -> Result<Cond, CondError>
+    ensures ok { IfOk result (λ cond. cond_read text.now ≡ Ok (cond_view cond)) }
+    ensures err { IfErr result (λ error. cond_read text.now ≡ Err error) }
+{
+    let bytes = text.as_bytes();
+    match read_parts(bytes) {
+        Ok(cond) => Ok(cond),
+        Err(fault) => Err(CondError {
+            at: bytes.len() - fault.rest.len(),
+            kind: fault.kind,
+        }),
+    }
+}

@@ -1,0 +1,110 @@
+ghost use Rattle.std.specs.Prelude.{◌≡◌, ◌↔◌, [], ◌∷◌, ◌++◌, IsTrue, map, OnOk, OnErr};
+ghost use Rattle.final_cond.specs.Conditions.{left_view, cond_view};
+ghost use Rattle.final_cond.specs.States.{same_left, value_in, Meets, pair_view};
+
+use crate::cond::{Cond, Left, Term};
+use diy_io::NoMemory;
+use relax_edges::Value;
+use std::alloc::Global;
+use std::marker::Model;
+
+impl Left {
+    /// Whether the two are the same register of the same thread, or the same place.
+    pub fn is_same(&self, other: &Left) -> bool
+        ensures { result ≡ same_left (left_view self.now) (left_view other.now) }
+    {
+        match (self, other) {
+            (
+                Left::Register { thread, name },
+                Left::Register {
+                    thread: other_thread,
+                    name: other_name,
+                },
+            ) => thread == other_thread && name.as_str() == other_name.as_str(),
+            (Left::Place { name }, Left::Place { name: other_name }) => {
+                name.as_str() == other_name.as_str()
+            }
+            _ => false,
+        }
+    }
+}
+
+/// A final state: the values of registers and places.
+///
+/// Contracts see the list of its pairs, with names as bytes. The first pair for a register or place
+/// has its value.
+#[derive(Drop)]
+pub struct Final {
+    pairs: Vec<(Left, Value)>,
+}
+
+impl Model for Final {
+    ghost use Rattle.std.specs.Prelude.{map};
+    ghost use Rattle.final_cond.specs.States.{State, pair_view};
+
+    ghost Value = { State };
+
+    ghost view = { λ state. map pair_view state.pairs.items };
+}
+
+#[tactic(auto, using(crate::proofs::StateLaws::first_is, crate::proofs::StateLaws::first_is_later))]
+fn value_of(pairs: &[(Left, Value)], left: &Left) -> Option<Value>
+    ensures { result ≡ value_in (map pair_view pairs.now) (left_view left.now) }
+{
+    for (other, value) in pairs {
+        if other.is_same(left) {
+            return Some(*value);
+        }
+    }
+    None
+}
+
+impl Final {
+    /// A state without values.
+    pub fn new(alloc: Global) -> Final
+        ensures { result ≡ [] }
+    {
+        Final {
+            pairs: Vec::new(alloc),
+        }
+    }
+
+    /// Adds a value behind the others. Without memory for it the state is unchanged.
+    pub fn add(&mut self, left: Left, value: Value) -> Result<(), NoMemory>
+        ensures ok { OnOk result (self.new ≡ self.old ++ (left_view left, value) ∷ []) }
+        ensures err { OnErr result (self.new ≡ self.old) }
+    {
+        self.pairs.push((left, value))?;
+        Ok(())
+    }
+
+    /// The first value that was added for this register or place.
+    pub fn get(&self, left: &Left) -> Option<Value>
+        ensures { result ≡ value_in self.now (left_view left.now) }
+    {
+        value_of(self.pairs.as_slice(), left)
+    }
+}
+
+fn term_holds(term: &Term, state: &Final) -> bool
+    ensures { IsTrue result ↔ (value_in state.now (left_view term.now.left) ≡ Some (Value.Num term.now.value)) }
+{
+    match state.get(&term.left) {
+        Some(Value::Num(value)) => value == term.value,
+        _ => false,
+    }
+}
+
+/// Whether each term's register or place has the term's value in the state. The quantifier isn't
+/// looked at.
+#[tactic(auto, using(crate::proofs::StateLaws::one_more_met, crate::proofs::StateLaws::one_not_met))]
+pub fn holds(cond: &Cond, state: &Final) -> bool
+    ensures { IsTrue result ↔ Meets (value_in state.now) (cond_view cond.now) }
+{
+    for term in cond.terms.as_slice() {
+        if !term_holds(term, state) {
+            return false;
+        }
+    }
+    true
+}

@@ -1,0 +1,329 @@
+-- What each step keeps: where it may jump, the registers that it leaves alone, what its masks name.
+use Rattle.std.proofs.Common.{add-zero, sym, eq-eqb, ℕ, suc, ◌+◌, ◌^◌, ◌<◌, ◌≡◌, ◌==◌, refl, Bool, true, false, cond, not, Option, Some, None, ◌⊎◌, inl, inr, arith, lt_of_lt_of_le, pow-suc}
+use Rattle.std.proofs.lemmas.Nat.{or_lt, pow_pos}
+use Rattle.std.proofs.Math.Pow.{pow_mono}
+use Rattle.relax_edges.specs.declared.kinds.Value.{Value}
+use Rattle.relax_edges.specs.declared.kinds.Value.TheVariants.{Num, Place}
+use Rattle.micro_ops.specs.declared.held.Held.{Held}
+use Rattle.micro_ops.specs.declared.operation.Micro.{Micro}
+use Rattle.micro_ops.specs.declared.operation.Micro.TheVariants as ops
+use Rattle.micro_ops.specs.declared.operation.Item.{Item}
+use Rattle.micro_ops.specs.Machine.{State, Told, num, bit, put, step, writing, becomes, loading, storing, comparing, branching, branching_on, xored, same_number, place_of, address_mask, both_masks, plus, ored, summed}
+use Rattle.micro_ops.specs.Running.{is_load, target, writes, is_named, is_read, MasksNameLoads, NamesLoads}
+
+-- a fact of what a rule leads to, where there is a rule
+abbrev pub OnTold : (Told → Type 0) → Option Told → Type 0
+OnTold P (Some told) = P told
+OnTold P None = Unit {0}
+
+-- a fact of both branches of a choice
+pub either_told : (P : Told → Type 0) (b : Bool) (x y : Option Told) → OnTold P x → OnTold P y →
+    OnTold P (cond b x y)
+either_told P true x y h k = h
+either_told P false x y h k = k
+
+-- a fact of each register's write
+pub on_writing : (P : Told → Type 0) (s : State) (dst mask : ℕ) (value : Option Value) →
+    ((v : Value) → OnTold P (becomes (put s dst (record { value = v; mask = mask })))) →
+    OnTold P (writing s dst mask value)
+on_writing P s dst mask (Some v) h = h v
+on_writing P s dst mask None h = tt
+
+-- a fact of each load
+pub on_loading : (P : Told → Type 0) (s : State) (dst : ℕ) (place : Option ℕ) (mask : ℕ)
+    (read : Option ℕ) →
+    ((p n : ℕ) → OnTold P (loading s dst (Some p) mask (Some n))) →
+    OnTold P (loading s dst place mask read)
+on_loading P s dst (Some p) mask (Some n) h = h p n
+on_loading P s dst (Some p) mask None h = tt
+on_loading P s dst None mask read h = tt
+
+-- a fact of each store
+pub on_storing : (P : Told → Type 0) (s : State) (place : Option ℕ) (mask : ℕ) (value : Value)
+    (data_mask : ℕ) →
+    ((p n : ℕ) → OnTold P (storing s (Some p) mask (Num n) data_mask)) →
+    OnTold P (storing s place mask value data_mask)
+on_storing P s (Some p) mask (Num n) data_mask h = h p n
+on_storing P s (Some p) mask (Place q) data_mask h = tt
+on_storing P s None mask value data_mask h = tt
+
+-- a fact of each comparison
+pub on_comparing : (P : Told → Type 0) (s : State) (mask : ℕ) (equal : Option Bool) →
+    ((b : Bool) → OnTold P (comparing s mask (Some b))) →
+    OnTold P (comparing s mask equal)
+on_comparing P s mask (Some b) h = h b
+on_comparing P s mask None h = tt
+
+-- a fact of each branch on a register
+pub on_branching : (P : Told → Type 0) (s : State) (mask : ℕ) (value : Value) (label : ℕ) →
+    ((b : Bool) → OnTold P (branching s mask b label)) →
+    OnTold P (branching_on s mask value label)
+on_branching P s mask (Num n) label h = h (not (n == 0))
+on_branching P s mask (Place p) label h = tt
+
+-- a step jumps nowhere, or to the label of its operation
+abbrev pub JumpsTo : Option ℕ → Told → Type 0
+JumpsTo label told = (told.jump ≡ None) ⊎ (told.jump ≡ label)
+
+taken_or_not : (b : Bool) (l : ℕ) →
+    (cond b (Some l) None ≡ None) ⊎ (cond b (Some l) None ≡ Some l)
+taken_or_not true l = inr refl
+taken_or_not false l = inl refl
+
+pub step_jumps : (op : Micro) (s : State) (read : Option ℕ) →
+    OnTold (JumpsTo (target op)) (step op s read)
+step_jumps (ops.Imm d n) s read = inl refl
+step_jumps (ops.Xor d a b) s read =
+    let P = JumpsTo None in
+    either_told P (a == b) _ _ (inl refl)
+    (on_writing P s d (both_masks s a b) (xored (s.regs a).value (s.regs b).value) (λ v. inl refl))
+step_jumps (ops.AddImm d a n) s read =
+    on_writing (JumpsTo None) s d (s.regs a).mask (plus (s.regs a).value n) (λ v. inl refl)
+step_jumps (ops.OrImm d a n) s read =
+    on_writing (JumpsTo None) s d (s.regs a).mask (ored (s.regs a).value n) (λ v. inl refl)
+step_jumps (ops.Add d a b) s read =
+    on_writing (JumpsTo None) s d (both_masks s a b) (summed (s.regs a).value (s.regs b).value)
+    (λ v. inl refl)
+step_jumps (ops.Load d base index) s read =
+    on_loading (JumpsTo None) s d (place_of s base index) (address_mask s base index) read
+    (λ p n. inl refl)
+step_jumps (ops.LoadAt d p) s read =
+    on_loading (JumpsTo None) s d (Some p) 0 read (λ p n. inl refl)
+step_jumps (ops.Store src base index) s read =
+    on_storing (JumpsTo None) s (place_of s base index) (address_mask s base index)
+    (s.regs src).value (s.regs src).mask (λ p n. inl refl)
+step_jumps (ops.StoreAt p n) s read = inl refl
+step_jumps (ops.Cmp a b) s read =
+    on_comparing (JumpsTo None) s (both_masks s a b)
+    (cond (a == b) (Some true) (same_number (s.regs a).value (s.regs b).value)) (λ b. inl refl)
+step_jumps (ops.BranchEq l) s read = taken_or_not s.flag l
+step_jumps (ops.BranchNz a l) s read =
+    on_branching (JumpsTo (Some l)) s (s.regs a).mask (s.regs a).value l (λ b. taken_or_not b l)
+step_jumps (ops.Label l) s read = inl refl
+step_jumps (ops.Barrier kind) s read = inl refl
+
+-- a step keeps what a register holds
+abbrev pub Keeps : State → ℕ → Told → Type 0
+Keeps s r told = told.state.regs r ≡ s.regs r
+
+-- a register that was written, and one that was not
+pub put_same : (s : State) (d : ℕ) (h : Held) → (put s d h).regs d ≡ h
+put_same s d h = rw (eq-eqb d d refl) refl
+
+pub put_other : (s : State) (r d : ℕ) (h : Held) → (r == d) ≡ false → (put s d h).regs r ≡ s.regs r
+put_other s r d h e = rw e refl
+
+pub step_keeps : (op : Micro) (s : State) (read : Option ℕ) (r : ℕ) →
+    is_named r (writes op) ≡ false → OnTold (Keeps s r) (step op s read)
+step_keeps (ops.Imm d n) s read r e = put_other s r d (num n 0) e
+step_keeps (ops.Xor d a b) s read r e =
+    let P = Keeps s r in
+    either_told P (a == b) _ _ (put_other s r d (num 0 (s.regs a).mask) e)
+    (on_writing P s d (both_masks s a b) (xored (s.regs a).value (s.regs b).value)
+    (λ v. put_other s r d (record { value = v; mask = both_masks s a b }) e))
+step_keeps (ops.AddImm d a n) s read r e =
+    on_writing (Keeps s r) s d (s.regs a).mask (plus (s.regs a).value n)
+    (λ v. put_other s r d (record { value = v; mask = (s.regs a).mask }) e)
+step_keeps (ops.OrImm d a n) s read r e =
+    on_writing (Keeps s r) s d (s.regs a).mask (ored (s.regs a).value n)
+    (λ v. put_other s r d (record { value = v; mask = (s.regs a).mask }) e)
+step_keeps (ops.Add d a b) s read r e =
+    on_writing (Keeps s r) s d (both_masks s a b) (summed (s.regs a).value (s.regs b).value)
+    (λ v. put_other s r d (record { value = v; mask = both_masks s a b }) e)
+step_keeps (ops.Load d base index) s read r e =
+    on_loading (Keeps s r) s d (place_of s base index) (address_mask s base index) read
+    (λ p n. put_other s r d (num n (bit s.loads)) e)
+step_keeps (ops.LoadAt d p) s read r e =
+    on_loading (Keeps s r) s d (Some p) 0 read (λ p n. put_other s r d (num n (bit s.loads)) e)
+step_keeps (ops.Store src base index) s read r e =
+    on_storing (Keeps s r) s (place_of s base index) (address_mask s base index)
+    (s.regs src).value (s.regs src).mask (λ p n. refl)
+step_keeps (ops.StoreAt p n) s read r e = refl
+step_keeps (ops.Cmp a b) s read r e =
+    on_comparing (Keeps s r) s (both_masks s a b)
+    (cond (a == b) (Some true) (same_number (s.regs a).value (s.regs b).value)) (λ b. refl)
+step_keeps (ops.BranchEq l) s read r e = refl
+step_keeps (ops.BranchNz a l) s read r e =
+    on_branching (Keeps s r) s (s.regs a).mask (s.regs a).value l (λ b. refl)
+step_keeps (ops.Label l) s read r e = refl
+step_keeps (ops.Barrier kind) s read r e = refl
+
+-- an item names only loads below a number, if there is one
+abbrev pub ItemNames : ℕ → Option Item → Type 0
+ItemNames loads (Some item) = NamesLoads loads item
+ItemNames loads None = Unit {0}
+
+-- how many loads an item is
+abbrev pub reads_in : Option Item → ℕ
+reads_in (Some item) = cond (is_read item) 1 0
+reads_in None = 0
+
+-- a step whose masks name loads that were stepped, and which counts those loads
+pub record Named (s : State) (told : Told) : Type 0 where
+  pub masks : MasksNameLoads told.state
+  pub item : ItemNames told.state.loads told.item
+  pub loads : told.state.loads ≡ s.loads + reads_in told.item
+
+empty_mask : (loads : ℕ) → 0 < 2 ^ loads
+empty_mask loads = pow_pos loads
+
+wider : (m k : ℕ) → m < 2 ^ k → m < 2 ^ (k + 1)
+wider m k h = lt_of_lt_of_le h (pow_mono (omega arith))
+
+named_put : (s : State) (d : ℕ) (v : Value) (mask : ℕ) → MasksNameLoads s → mask < 2 ^ s.loads →
+    MasksNameLoads (put s d (record { value = v; mask = mask }))
+named_put s d v mask h k = record {
+  in_regs = λ r. in_either (r == d) r;
+  in_flag = h.in_flag;
+  in_control = h.in_control;
+}
+  where
+    in_either : (b : Bool) (r : ℕ) →
+        (cond b (let x : Held = record { value = v; mask = mask } in x) (s.regs r)).mask < 2 ^ s.loads
+    in_either true r = k
+    in_either false r = h.in_regs r
+
+named_write : (s : State) (d : ℕ) (v : Value) (mask : ℕ) → MasksNameLoads s → mask < 2 ^ s.loads →
+    OnTold (Named s) (becomes (put s d (record { value = v; mask = mask })))
+named_write s d v mask h k = record {
+  masks = named_put s d v mask h k;
+  item = tt;
+  loads = omega arith;
+}
+
+pub named_place : (s : State) (base : ℕ) (index : Option ℕ) → MasksNameLoads s →
+    address_mask s base index < 2 ^ s.loads
+named_place s base None h = h.in_regs base
+named_place s base (Some index) h = or_lt s.loads _ _ (h.in_regs base) (h.in_regs index)
+
+named_both : (s : State) (a b : ℕ) → MasksNameLoads s → both_masks s a b < 2 ^ s.loads
+named_both s a b h = or_lt s.loads _ _ (h.in_regs a) (h.in_regs b)
+
+bit_below : (k : ℕ) → bit k < 2 ^ (k + 1)
+bit_below k =
+    let e : k + 1 ≡ suc k = omega arith in rw e (omega (arith, pow-suc 2 k, pow_pos k))
+
+named_load : (s : State) (d p n mask : ℕ) → MasksNameLoads s → mask < 2 ^ s.loads →
+    OnTold (Named s) (loading s d (Some p) mask (Some n))
+named_load s d p n mask h k = record {
+  masks = record {
+    in_regs = λ r. in_either (r == d) r;
+    in_flag = wider s.flag_mask s.loads h.in_flag;
+    in_control = wider s.control s.loads h.in_control;
+  };
+  item = (wider mask s.loads k, empty_mask (s.loads + 1), wider s.control s.loads h.in_control);
+  loads = refl;
+}
+  where
+    in_either : (b : Bool) (r : ℕ) →
+        (cond b (num n (bit s.loads)) (s.regs r)).mask < 2 ^ (s.loads + 1)
+    in_either true r = bit_below s.loads
+    in_either false r = wider (s.regs r).mask s.loads (h.in_regs r)
+
+named_store : (s : State) (p n mask data_mask : ℕ) → MasksNameLoads s → mask < 2 ^ s.loads →
+    data_mask < 2 ^ s.loads →
+    OnTold (Named s) (storing s (Some p) mask (Num n) data_mask)
+named_store s p n mask data_mask h k j = record {
+  masks = h;
+  item = (k, j, h.in_control);
+  loads = omega arith;
+}
+
+named_cmp : (s : State) (mask : ℕ) (equal : Bool) → MasksNameLoads s → mask < 2 ^ s.loads →
+    OnTold (Named s) (comparing s mask (Some equal))
+named_cmp s mask equal h k = record {
+  masks = record { in_regs = h.in_regs; in_flag = k; in_control = h.in_control };
+  item = tt;
+  loads = omega arith;
+}
+
+named_branch : (s : State) (mask : ℕ) (b : Bool) (l : ℕ) → MasksNameLoads s → mask < 2 ^ s.loads →
+    OnTold (Named s) (branching s mask b l)
+named_branch s mask b l h k = record {
+  masks = record {
+    in_regs = h.in_regs;
+    in_flag = h.in_flag;
+    in_control = or_lt s.loads _ _ h.in_control k;
+  };
+  item = tt;
+  loads = omega arith;
+}
+
+pub step_named : (op : Micro) (s : State) (read : Option ℕ) → MasksNameLoads s →
+    OnTold (Named s) (step op s read)
+step_named (ops.Imm d n) s read h = named_write s d (Num n) 0 h (empty_mask s.loads)
+step_named (ops.Xor d a b) s read h =
+    let P = Named s in
+    either_told P (a == b) _ _ (named_write s d (Num 0) (s.regs a).mask h (h.in_regs a))
+    (on_writing P s d (both_masks s a b) (xored (s.regs a).value (s.regs b).value)
+    (λ v. named_write s d v (both_masks s a b) h (named_both s a b h)))
+step_named (ops.AddImm d a n) s read h =
+    on_writing (Named s) s d (s.regs a).mask (plus (s.regs a).value n)
+    (λ v. named_write s d v (s.regs a).mask h (h.in_regs a))
+step_named (ops.OrImm d a n) s read h =
+    on_writing (Named s) s d (s.regs a).mask (ored (s.regs a).value n)
+    (λ v. named_write s d v (s.regs a).mask h (h.in_regs a))
+step_named (ops.Add d a b) s read h =
+    on_writing (Named s) s d (both_masks s a b) (summed (s.regs a).value (s.regs b).value)
+    (λ v. named_write s d v (both_masks s a b) h (named_both s a b h))
+step_named (ops.Load d base index) s read h =
+    on_loading (Named s) s d (place_of s base index) (address_mask s base index) read
+    (λ p n. named_load s d p n (address_mask s base index) h (named_place s base index h))
+step_named (ops.LoadAt d p) s read h =
+    on_loading (Named s) s d (Some p) 0 read
+    (λ p n. named_load s d p n 0 h (empty_mask s.loads))
+step_named (ops.Store src base index) s read h =
+    on_storing (Named s) s (place_of s base index) (address_mask s base index)
+    (s.regs src).value (s.regs src).mask
+    (λ p n. named_store s p n (address_mask s base index) (s.regs src).mask h
+    (named_place s base index h) (h.in_regs src))
+step_named (ops.StoreAt p n) s read h =
+    named_store s p n 0 0 h (empty_mask s.loads) (empty_mask s.loads)
+step_named (ops.Cmp a b) s read h =
+    on_comparing (Named s) s (both_masks s a b)
+    (cond (a == b) (Some true) (same_number (s.regs a).value (s.regs b).value))
+    (λ equal. named_cmp s (both_masks s a b) equal h (named_both s a b h))
+step_named (ops.BranchEq l) s read h = named_branch s s.flag_mask s.flag l h h.in_flag
+step_named (ops.BranchNz a l) s read h =
+    on_branching (Named s) s (s.regs a).mask (s.regs a).value l
+    (λ b. named_branch s (s.regs a).mask b l h (h.in_regs a))
+step_named (ops.Label l) s read h = record { masks = h; item = tt; loads = omega arith }
+step_named (ops.Barrier kind) s read h =
+    record { masks = h; item = h.in_control; loads = omega arith }
+
+-- a step counts a load, and no other operation
+abbrev pub Counts : State → ℕ → Told → Type 0
+Counts s more told = told.state.loads ≡ s.loads + more
+
+pub step_counts : (op : Micro) (s : State) (read : Option ℕ) →
+    OnTold (Counts s (cond (is_load op) 1 0)) (step op s read)
+step_counts (ops.Imm d n) s read = sym (add-zero s.loads)
+step_counts (ops.Xor d a b) s read =
+    let P = Counts s 0 in
+    either_told P (a == b) _ _ (sym (add-zero s.loads))
+    (on_writing P s d (both_masks s a b) (xored (s.regs a).value (s.regs b).value)
+    (λ v. sym (add-zero s.loads)))
+step_counts (ops.AddImm d a n) s read =
+    on_writing (Counts s 0) s d (s.regs a).mask (plus (s.regs a).value n) (λ v. sym (add-zero s.loads))
+step_counts (ops.OrImm d a n) s read =
+    on_writing (Counts s 0) s d (s.regs a).mask (ored (s.regs a).value n) (λ v. sym (add-zero s.loads))
+step_counts (ops.Add d a b) s read =
+    on_writing (Counts s 0) s d (both_masks s a b) (summed (s.regs a).value (s.regs b).value)
+    (λ v. sym (add-zero s.loads))
+step_counts (ops.Load d base index) s read =
+    on_loading (Counts s 1) s d (place_of s base index) (address_mask s base index) read
+    (λ p n. refl)
+step_counts (ops.LoadAt d p) s read = on_loading (Counts s 1) s d (Some p) 0 read (λ p n. refl)
+step_counts (ops.Store src base index) s read =
+    on_storing (Counts s 0) s (place_of s base index) (address_mask s base index)
+    (s.regs src).value (s.regs src).mask (λ p n. sym (add-zero s.loads))
+step_counts (ops.StoreAt p n) s read = sym (add-zero s.loads)
+step_counts (ops.Cmp a b) s read =
+    on_comparing (Counts s 0) s (both_masks s a b)
+    (cond (a == b) (Some true) (same_number (s.regs a).value (s.regs b).value))
+    (λ b. sym (add-zero s.loads))
+step_counts (ops.BranchEq l) s read = sym (add-zero s.loads)
+step_counts (ops.BranchNz a l) s read =
+    on_branching (Counts s 0) s (s.regs a).mask (s.regs a).value l (λ b. sym (add-zero s.loads))
+step_counts (ops.Label l) s read = sym (add-zero s.loads)
+step_counts (ops.Barrier kind) s read = sym (add-zero s.loads)

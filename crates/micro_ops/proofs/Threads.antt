@@ -1,0 +1,102 @@
+-- The run of a thread in code, which goes through the operations once.
+use Rattle.std.proofs.Common.{ℕ, ◌≡◌, ◌+◌, ◌<◌, ◌≤◌, refl, true, false, cond, List, [], ◌∷◌, length, take, get_or, Option, Some, None, ◌∙◌, sym, ap, arith, count_by, subst, Result, Ok, Err, IfErr}
+use Rattle.std.proofs.lemmas.List.{take_more, take_all}
+use Rattle.std.proofs.lemmas.List.Sums.{count_by_more_yes, sum_by-take-le}
+use Rattle.relax_edges.specs.declared.kinds.Value.{Value}
+use Rattle.micro_ops.specs.declared.operation.Micro.{Micro}
+use Rattle.micro_ops.specs.declared.run.Runner.{Runner}
+use Rattle.micro_ops.specs.declared.run.Trace.{Trace}
+use Rattle.micro_ops.specs.declared.run.RunError.{RunError}
+use Rattle.micro_ops.specs.declared.run.RunError.TheVariants as errors
+use Rattle.micro_ops.specs.declared.run.Halt.{Halt}
+use Rattle.micro_ops.specs.declared.run.Halt.TheVariants as halts
+use Rattle.micro_ops.specs.Machines.{state_of}
+use Rattle.micro_ops.specs.Running.{Run, Point, At, go, exec, is_load, is_past, lands, landing, beginning, outcome, runs, ReadsLeft, OnRun}
+use Rattle.micro_ops.specs.Threads.{goes_on, StopsAt, point_of, CausedBy, error_of}
+use Rattle.micro_ops.proofs.Laws.{exec_append, never_past, loads_within}
+
+-- one operation more
+pub exec_more : (code : List Micro) (i : ℕ) (d : Micro) (p q : Point) → i < length code →
+    q ≡ exec (take i code) p → go (get_or code i d) q ≡ exec (take (i + 1) code) p
+exec_more code i d p q h e =
+    ap (go (get_or code i d)) e ∙
+    sym (exec_append (take i code) (get_or code i d ∷ []) p) ∙
+    ap (λ ops. exec ops p) (sym (take_more code i d h))
+
+-- a runner before or past an operation goes on
+pub runner_goes_on : (runner : Runner) → goes_on (point_of runner) ≡ true
+runner_goes_on runner = on_landing runner.past _
+  where
+    on_landing : (j : Option ℕ) (r : Run) → goes_on (landing j r) ≡ true
+    on_landing None r = refl
+    on_landing (Some l) r = refl
+
+runner_loads : (runner : Runner) (n : ℕ) → OnRun (λ r. r.state.loads ≤ n) (point_of runner) →
+    (state_of runner.machine).loads ≤ n
+runner_loads runner n h = on_landing runner.past _ h
+  where
+    on_landing : (j : Option ℕ) (r : Run) → OnRun (λ r. r.state.loads ≤ n) (landing j r) →
+        r.state.loads ≤ n
+    on_landing None r h = h
+    on_landing (Some l) r h = h
+
+-- before a load of code with at most 64 loads, fewer than 64 were stepped
+pub room_left : (code : List Micro) (init : List (ℕ × Value)) (reads : List ℕ) (i : ℕ) (d : Micro)
+    (runner : Runner) → i < length code →
+    point_of runner ≡ exec (take i code) (At (beginning init reads)) →
+    count_by is_load code ≤ 64 → is_load (get_or code i d) ≡ true →
+    (state_of runner.machine).loads < 64
+room_left code init reads i d runner h e few is_one =
+    let within = runner_loads runner (count_by is_load (take i code))
+    (subst (OnRun (λ r. r.state.loads ≤ count_by is_load (take i code))) (sym e)
+    (loads_within (take i code) init reads)) in
+    omega (
+      arith,
+      within,
+      count_by_more_yes is_load code i d h is_one,
+      sum_by-take-le (λ x. cond (is_load x) 1 0) code (i + 1),
+    )
+
+-- where a runner is stuck, the run stops
+pub stops : (code : List Micro) (init : List (ℕ × Value)) (reads : List ℕ) (i : ℕ) (d : Micro)
+    (runner : Runner) → i < length code →
+    point_of runner ≡ exec (take i code) (At (beginning init reads)) →
+    goes_on (go (get_or code i d) (point_of runner)) ≡ false →
+    StopsAt code (At (beginning init reads)) i
+stops code init reads i d runner h e stuck = record {
+  within = h;
+  before = ap goes_on (sym e) ∙ runner_goes_on runner;
+  behind = ap goes_on (sym (exec_more code i d _ _ h e)) ∙ stuck;
+}
+
+-- a runner that went through all the code is on the way to no label
+pub runner_ends : (code : List Micro) (init : List (ℕ × Value)) (reads : List ℕ) (n : ℕ) (p : Point) →
+    length code ≤ n → p ≡ exec (take n code) (At (beginning init reads)) → lands code ≡ true →
+    is_past p ≡ false
+runner_ends code init reads n p h e l =
+    ap is_past e ∙ ap (λ ops. is_past (exec ops (At (beginning init reads)))) (take_all n code h) ∙
+    never_past code (beginning init reads) l
+
+pub runner_runs : (code : List Micro) (init : List (ℕ × Value)) (reads : List ℕ) (n : ℕ) (p : Point) →
+    length code ≤ n → p ≡ exec (take n code) (At (beginning init reads)) →
+    outcome p ≡ runs code init reads
+runner_runs code init reads n p h e =
+    ap outcome e ∙ ap (λ ops. outcome (exec ops (At (beginning init reads)))) (take_all n code h)
+
+-- why a run that its runner could not finish has no trace
+pub halt_cause : (code : List Micro) (init : List (ℕ × Value)) (reads : List ℕ) (i : ℕ) (halt : Halt)
+    (error : RunError) → error ≡ error_of halt i →
+    (halt ≡ halts.Stuck → StopsAt code (At (beginning init reads)) i) →
+    CausedBy error code init reads
+halt_cause code init reads i halts.Stuck error e h =
+    subst (λ x. CausedBy x code init reads) (sym e) (h refl)
+halt_cause code init reads i halts.NoMemory error e h =
+    subst (λ x. CausedBy x code init reads) (sym e) tt
+
+pub left_cause : (code : List Micro) (init : List (ℕ × Value)) (reads : List ℕ) (p : Point)
+    (result : Result Trace RunError) → outcome p ≡ runs code init reads →
+    IfErr result (λ error. (error ≡ errors.ReadsLeft) × (outcome p ≡ ReadsLeft)) →
+    IfErr result (λ error. CausedBy error code init reads)
+left_cause code init reads p (Ok trace) e h = tt
+left_cause code init reads p (Err error) e h =
+    subst (λ x. CausedBy x code init reads) (sym h.0) (sym e ∙ h.1)

@@ -1,0 +1,7 @@
+use Rattle.std.proofs.Common.{◌≡◌, drop}
+use Rattle.micro_ops.specs.Machines.{held_in}
+use Rattle.micro_ops.specs.Running.{starting}
+use Rattle.micro_ops.proofs.machine.name_registers.Given as goal
+
+abbrev pub invariant-loop-k : goal.invariant-loop-k
+invariant-loop-k l = held_in l.registers ≡ starting (drop l.k l.init)

@@ -1,0 +1,339 @@
+ghost use Rattle.std.specs.Prelude.{◌≡◌, ◌<◌, All, OnErr, IfSome, true, replicate};
+ghost use Rattle.micro_ops.specs.Machine.{num, step, writing, loading, storing, branching, place_of, address_mask};
+ghost use Rattle.micro_ops.specs.Running.{initial, is_load, starting};
+ghost use Rattle.micro_ops.specs.Machines.{state_of, held_in, told, InRange};
+
+use crate::held::Held;
+use crate::operand::{add_immediate, equal, exclusive_or, or_immediate, place, sum};
+use crate::operation::{Barrier, Item, Micro};
+use relax_edges::{Dir, Value};
+use thiserror::Error;
+
+/// The machine of one thread, between two operations.
+#[derive(Clone, Copy, Debug)]
+pub struct Machine {
+    registers: [Held; 32],
+    flag: bool,
+    flag_mask: u64,
+    control: u64,
+    loads: u8,
+}
+
+/// What a step leads to: the item that it makes, and the label that it jumps to.
+#[derive(Clone, Copy, Debug, PartialEq, Eq)]
+pub struct Stepped {
+    pub item: Option<Item>,
+    pub jump: Option<u8>,
+}
+
+/// No rule fits the operands, or a load has nothing to read.
+#[derive(Clone, Copy, Debug, PartialEq, Eq, Error)]
+#[error("no rule fits the operands, or a load has nothing to read")]
+pub struct Stuck;
+
+/// Registers that hold the number 0 and depend on no load.
+fn blank_registers() -> [Held; 32]
+    ensures { result ≡ replicate 32 (num 0 0) }
+{
+    [Held {
+        value: Value::Num(0),
+        mask: 0,
+    }; 32]
+}
+
+/// Gives each register that `init` names the value of its first entry.
+fn name_registers(registers: &mut [Held], init: &[(u8, Value)])
+    requires blank { registers.old ≡ replicate 32 (num 0 0) }
+    requires in_range { All (λ named. named.0 < 32) init.now }
+    ensures { held_in registers.new ≡ starting init.now }
+{
+    for k in (0..init.len()).rev() {
+        let (register, value) = init[k];
+        registers[usize::from(register)] = Held { value, mask: 0 };
+    }
+}
+
+impl Stepped {
+    /// A step that makes no item and doesn't jump.
+    fn quiet() -> Stepped
+        ensures { result ≡ record { item = None; jump = None } }
+    {
+        Stepped {
+            item: None,
+            jump: None,
+        }
+    }
+
+    /// A step that makes an item.
+    fn makes(item: Item) -> Stepped
+        ensures { result ≡ record { item = Some item; jump = None } }
+    {
+        Stepped {
+            item: Some(item),
+            jump: None,
+        }
+    }
+}
+
+impl Machine {
+    /// The machine of a thread before its first operation: the registers that `init` names hold
+    /// the values that it gives them (where it names one twice, the first), the others the number
+    /// 0, and no mask names a load.
+    pub fn new(init: &[(u8, Value)]) -> Machine
+        requires { All (λ named. named.0 < 32) init.now }
+        ensures { state_of result ≡ initial init.now }
+    {
+        let mut registers = blank_registers();
+        name_registers(&mut registers, init);
+        Machine {
+            registers,
+            flag: false,
+            flag_mask: 0,
+            control: 0,
+            loads: 0,
+        }
+    }
+
+    /// How many loads were stepped so far.
+    pub fn loads(&self) -> u8
+        ensures { result ≡ (state_of self.now).loads }
+    {
+        self.loads
+    }
+
+    /// What a register holds.
+    pub fn held(&self, register: u8) -> Held
+        requires { register < 32 }
+        ensures { result ≡ (state_of self.now).regs register }
+    {
+        self.registers[usize::from(register)]
+    }
+
+    /// Steps one operation by its rule; a load reads `read`. It is stuck exactly where no rule
+    /// fits the operands, or a load has nothing to read, and then the machine is unchanged.
+    pub fn step(&mut self, op: Micro, read: Option<u32>) -> Result<Stepped, Stuck>
+        requires in_range { InRange op }
+        requires room { is_load op ≡ true → (state_of self.old).loads < 64 }
+        ensures gives { told result (state_of self.new) ≡ step op (state_of self.old) read }
+        ensures unchanged { OnErr result (self.new ≡ self.old) }
+    {
+        match op {
+            Micro::Imm { dst, n } => self.write(dst, 0, Some(Value::Num(n))),
+            Micro::Xor { dst, a, b } => self.exclusive_or(dst, a, b),
+            Micro::AddImm { dst, a, n } => self.add_immediate(dst, a, n),
+            Micro::OrImm { dst, a, n } => self.or_immediate(dst, a, n),
+            Micro::Add { dst, a, b } => self.add(dst, a, b),
+            Micro::Load { dst, base, index } => {
+                self.load(
+                    dst,
+                    self.place(base, index),
+                    self.address_mask(base, index),
+                    read,
+                )
+            }
+            Micro::LoadAt { dst, place } => self.load(dst, Some(place), 0, read),
+            Micro::Store { src, base, index } => {
+                self.store(
+                    self.place(base, index),
+                    self.address_mask(base, index),
+                    self.held(src),
+                )
+            }
+            Micro::StoreAt { place, n } => self.store(
+                Some(place),
+                0,
+                Held {
+                    value: Value::Num(n),
+                    mask: 0,
+                },
+            ),
+            Micro::Cmp { a, b } => self.compare(a, b),
+            Micro::BranchEq { label } => Ok(self.branch(self.flag_mask, self.flag, label)),
+            Micro::BranchNz { a, label } => self.branch_on(a, label),
+            Micro::Label { .. } => Ok(Stepped::quiet()),
+            Micro::Barrier { kind } => Ok(self.barrier(kind)),
+        }
+    }
+
+    /// The place of an access.
+    fn place(&self, base: u8, index: Option<u8>) -> Option<u8>
+        requires base { base < 32 }
+        requires index { IfSome index (λ i. i < 32) }
+        ensures { result ≡ place_of (state_of self.now) base index }
+    {
+        match index {
+            None => place(self.held(base).value, Value::Num(0)),
+            Some(index) => place(self.held(base).value, self.held(index).value),
+        }
+    }
+
+    /// The loads that the address of an access depends on.
+    fn address_mask(&self, base: u8, index: Option<u8>) -> u64
+        requires base { base < 32 }
+        requires index { IfSome index (λ i. i < 32) }
+        ensures { result ≡ address_mask (state_of self.now) base index }
+    {
+        match index {
+            None => self.held(base).mask,
+            Some(index) => self.held(base).mask | self.held(index).mask,
+        }
+    }
+
+    fn write(&mut self, register: u8, mask: u64, value: Option<Value>) -> Result<Stepped, Stuck>
+        requires { register < 32 }
+        ensures gives { told result (state_of self.new) ≡ writing (state_of self.old) register mask value }
+        ensures unchanged { OnErr result (self.new ≡ self.old) }
+    {
+        let Some(value) = value else {
+            return Err(Stuck);
+        };
+        self.registers[usize::from(register)] = Held { value, mask };
+        Ok(Stepped::quiet())
+    }
+
+    fn exclusive_or(&mut self, register: u8, a: u8, b: u8) -> Result<Stepped, Stuck>
+        requires { InRange (Micro.Xor register a b) }
+        ensures gives { told result (state_of self.new) ≡ step (Micro.Xor register a b) (state_of self.old) None }
+        ensures unchanged { OnErr result (self.new ≡ self.old) }
+    {
+        let left = self.held(a);
+        if a == b {
+            return self.write(register, left.mask, Some(Value::Num(0)));
+        }
+        let right = self.held(b);
+        self.write(
+            register,
+            left.mask | right.mask,
+            exclusive_or(left.value, right.value),
+        )
+    }
+
+    fn add_immediate(&mut self, register: u8, a: u8, n: u32) -> Result<Stepped, Stuck>
+        requires { InRange (Micro.AddImm register a n) }
+        ensures gives { told result (state_of self.new) ≡ step (Micro.AddImm register a n) (state_of self.old) None }
+        ensures unchanged { OnErr result (self.new ≡ self.old) }
+    {
+        let held = self.held(a);
+        self.write(register, held.mask, add_immediate(held.value, n))
+    }
+
+    fn or_immediate(&mut self, register: u8, a: u8, n: u32) -> Result<Stepped, Stuck>
+        requires { InRange (Micro.OrImm register a n) }
+        ensures gives { told result (state_of self.new) ≡ step (Micro.OrImm register a n) (state_of self.old) None }
+        ensures unchanged { OnErr result (self.new ≡ self.old) }
+    {
+        let held = self.held(a);
+        self.write(register, held.mask, or_immediate(held.value, n))
+    }
+
+    fn add(&mut self, register: u8, a: u8, b: u8) -> Result<Stepped, Stuck>
+        requires { InRange (Micro.Add register a b) }
+        ensures gives { told result (state_of self.new) ≡ step (Micro.Add register a b) (state_of self.old) None }
+        ensures unchanged { OnErr result (self.new ≡ self.old) }
+    {
+        let left = self.held(a);
+        let right = self.held(b);
+        self.write(
+            register,
+            left.mask | right.mask,
+            sum(left.value, right.value),
+        )
+    }
+
+    #[tactic(auto, using(std::proofs::lemmas::Nat::one_shl))]
+    fn load(
+        &mut self,
+        register: u8,
+        place: Option<u8>,
+        mask: u64,
+        read: Option<u32>,
+    ) -> Result<Stepped, Stuck>
+        requires register { register < 32 }
+        requires room { (state_of self.old).loads < 64 }
+        ensures gives { told result (state_of self.new) ≡ loading (state_of self.old) register place mask read }
+        ensures unchanged { OnErr result (self.new ≡ self.old) }
+    {
+        let (Some(place), Some(value)) = (place, read) else {
+            return Err(Stuck);
+        };
+        let item = Item::Access {
+            dir: Dir::R,
+            place,
+            value,
+            addr_mask: mask,
+            data_mask: 0,
+            ctrl_mask: self.control,
+        };
+        self.registers[usize::from(register)] = Held {
+            value: Value::Num(value),
+            mask: 1 << self.loads,
+        };
+        self.loads += 1;
+        Ok(Stepped::makes(item))
+    }
+
+    fn store(&self, place: Option<u8>, mask: u64, source: Held) -> Result<Stepped, Stuck>
+        ensures { told result (state_of self.now) ≡ storing (state_of self.now) place mask source.value source.mask }
+    {
+        let (Some(place), Value::Num(value)) = (place, source.value) else {
+            return Err(Stuck);
+        };
+        Ok(Stepped::makes(Item::Access {
+            dir: Dir::W,
+            place,
+            value,
+            addr_mask: mask,
+            data_mask: source.mask,
+            ctrl_mask: self.control,
+        }))
+    }
+
+    fn compare(&mut self, a: u8, b: u8) -> Result<Stepped, Stuck>
+        requires { InRange (Micro.Cmp a b) }
+        ensures gives { told result (state_of self.new) ≡ step (Micro.Cmp a b) (state_of self.old) None }
+        ensures unchanged { OnErr result (self.new ≡ self.old) }
+    {
+        let left = self.held(a);
+        let right = self.held(b);
+        let same = if a == b {
+            Some(true)
+        } else {
+            equal(left.value, right.value)
+        };
+        let Some(flag) = same else {
+            return Err(Stuck);
+        };
+        self.flag = flag;
+        self.flag_mask = left.mask | right.mask;
+        Ok(Stepped::quiet())
+    }
+
+    fn branch(&mut self, mask: u64, taken: bool, label: u8) -> Stepped
+        ensures { told (Ok result) (state_of self.new) ≡ branching (state_of self.old) mask taken label }
+    {
+        self.control |= mask;
+        Stepped {
+            item: None,
+            jump: if taken { Some(label) } else { None },
+        }
+    }
+
+    fn branch_on(&mut self, a: u8, label: u8) -> Result<Stepped, Stuck>
+        requires { a < 32 }
+        ensures gives { told result (state_of self.new) ≡ step (Micro.BranchNz a label) (state_of self.old) None }
+        ensures unchanged { OnErr result (self.new ≡ self.old) }
+    {
+        let held = self.held(a);
+        let Value::Num(n) = held.value else {
+            return Err(Stuck);
+        };
+        Ok(self.branch(held.mask, n != 0, label))
+    }
+
+    fn barrier(&self, kind: Barrier) -> Stepped
+        ensures { told (Ok result) (state_of self.now) ≡ step (Micro.Barrier kind) (state_of self.now) None }
+    {
+        let ctrl_mask = self.control;
+        Stepped::makes(Item::Barrier { kind, ctrl_mask })
+    }
+}

@@ -1,0 +1,51 @@
+//! The laws of runs: each function does nothing, and its contract is the law.
+ghost use Rattle.std.specs.Prelude.{◌≡◌, ℕ, ◌⊎◌, ◌++◌, ◌∷◌, [], List, Option, false, true};
+ghost use Rattle.relax_edges.specs.declared.kinds.Value.{Value};
+ghost use Rattle.micro_ops.specs.declared.operation.Micro.{Micro};
+ghost use Rattle.micro_ops.specs.declared.operation.Item.{Item};
+ghost use Rattle.micro_ops.specs.declared.held.Held.{Held};
+ghost use Rattle.micro_ops.specs.Running.{Run, Point, At, Past, go, exec, stands, lands, is_past, is_written, beginning, OnRun, RunNamesLoads};
+ghost use Rattle.micro_ops.specs.Threads.{StopsAt, goes_on};
+
+/// A run of one list of operations and then another is a run of the second from where the first
+/// led.
+#[tactic(auto, using(crate::proofs::Laws::exec_append))]
+pub fn runs_append()
+    ensures { (code after : List Micro) → (p : Point) → exec (code ++ after) p ≡ exec after (exec code p) }
+{}
+
+/// A jump goes on after its label.
+#[tactic(auto, using(crate::proofs::Laws::jump_lands))]
+pub fn jumps_land()
+    ensures { (before after : List Micro) → (label : ℕ) → (r : Run) → stands label before ≡ false → exec (before ++ (Micro.Label label ∷ after)) (Past label r) ≡ exec after (At r) }
+{}
+
+/// Where each branch's label stands later, no run ends on the way to a label.
+#[tactic(auto, using(crate::proofs::Laws::never_past))]
+pub fn no_jump_is_open()
+    ensures { (code : List Micro) → (r : Run) → lands code ≡ true → is_past (exec code (At r)) ≡ false }
+{}
+
+/// A register that no operation writes keeps what it holds.
+#[tactic(auto, using(crate::proofs::Laws::unwritten_kept))]
+pub fn unwritten_registers_stay()
+    ensures { (code : List Micro) → (register : ℕ) → (held : Held) → (p : Point) → is_written register code ≡ false → OnRun (λ r. r.state.regs register ≡ held) p → OnRun (λ r. r.state.regs register ≡ held) (exec code p) }
+{}
+
+/// An operation makes at most one item.
+#[tactic(auto, using(crate::proofs::Laws::one_item))]
+pub fn one_item_an_operation()
+    ensures { (op : Micro) → (r : Run) → OnRun (λ after. (after.made ≡ r.made) ⊎ ((item : Item) × (after.made ≡ r.made ++ (item ∷ [])))) (go op (At r)) }
+{}
+
+/// Each mask of a run, in registers and items, names only loads that were stepped.
+#[tactic(auto, using(crate::proofs::Laws::runs_name_loads))]
+pub fn masks_name_stepped_loads()
+    ensures { (code : List Micro) → (init : List (ℕ × Value)) → (reads : List ℕ) → OnRun RunNamesLoads (exec code (At (beginning init reads))) }
+{}
+
+/// A run that stops at an operation doesn't go on behind it.
+#[tactic(auto, using(crate::proofs::Laws::stops_for_good))]
+pub fn stopped_runs_stay_stopped()
+    ensures { (code : List Micro) → (start : Point) → (op : ℕ) → StopsAt code start op → goes_on (exec code start) ≡ false }
+{}

@@ -1,0 +1,218 @@
+ghost use Rattle.std.specs.Prelude.{◌≡◌, ◌<◌, ◌≤◌, ◌^◌, length, All, count_by, true};
+ghost use Rattle.micro_ops.specs.Machines.{InRange};
+ghost use Rattle.micro_ops.specs.Running.{is_load, lands};
+
+use crate::{Barrier, Item, Machine, Micro, RunError, Stuck, run_thread};
+use relax_edges::{Dir, Value};
+
+fn read(place: u8, value: u32, addr_mask: u64, ctrl_mask: u64) -> Item {
+    Item::Access {
+        dir: Dir::R,
+        place,
+        value,
+        addr_mask,
+        data_mask: 0,
+        ctrl_mask,
+    }
+}
+
+fn write(place: u8, value: u32, addr_mask: u64, data_mask: u64, ctrl_mask: u64) -> Item {
+    Item::Access {
+        dir: Dir::W,
+        place,
+        value,
+        addr_mask,
+        data_mask,
+        ctrl_mask,
+    }
+}
+
+#[test]
+fn a_reader_of_message_passing(rt: HostRuntime) {
+    // On Power: lwz r1,0(r2); xor r3,r1,r1; lwzx r4,r3,r5, where r2 has y and r5 has x.
+    let code = [
+        Micro::Load {
+            dst: 0,
+            base: 1,
+            index: None,
+        },
+        Micro::Xor { dst: 2, a: 0, b: 0 },
+        Micro::Load {
+            dst: 3,
+            base: 4,
+            index: Some(2),
+        },
+    ];
+    let init = [(1, Value::Place(1)), (4, Value::Place(0))];
+    let trace = run_thread(rt.alloc(), &code, &init, &[1, 0]).expect(&rt, "two reads are enough");
+    assert_eq!(rt;
+        trace.items(),
+        [read(1, 1, 0, 0), read(0, 0, 1, 0)].as_slice()
+    );
+    assert_eq!(rt; trace.register(0), Value::Num(1));
+    assert_eq!(rt; trace.register(2), Value::Num(0));
+    assert_eq!(rt; trace.register(3), Value::Num(0));
+    assert_eq!(rt; trace.register(4), Value::Place(0));
+    assert!(rt;
+        matches!(
+            run_thread(rt.alloc(), &code, &init, &[1]),
+            Err(RunError::Stuck { at: 2 })
+        )
+    );
+    assert!(rt;
+        matches!(
+            run_thread(rt.alloc(), &code, &init, &[1, 0, 0]),
+            Err(RunError::ReadsLeft)
+        )
+    );
+    let number = [Micro::Load {
+        dst: 0,
+        base: 2,
+        index: None,
+    }];
+    assert!(rt;
+        matches!(
+            run_thread(rt.alloc(), &number, &init, &[1]),
+            Err(RunError::Stuck { at: 0 })
+        )
+    );
+}
+
+#[test]
+fn each_operation_with_its_masks(rt: HostRuntime) {
+    let code = [
+        Micro::LoadAt { dst: 0, place: 0 },
+        Micro::LoadAt { dst: 1, place: 0 },
+        Micro::Xor { dst: 2, a: 0, b: 1 },
+        Micro::Store {
+            src: 2,
+            base: 9,
+            index: None,
+        },
+        Micro::AddImm { dst: 3, a: 0, n: 7 },
+        Micro::Store {
+            src: 3,
+            base: 9,
+            index: None,
+        },
+        Micro::OrImm { dst: 4, a: 1, n: 8 },
+        Micro::Store {
+            src: 4,
+            base: 9,
+            index: None,
+        },
+        Micro::Add { dst: 5, a: 0, b: 1 },
+        Micro::Store {
+            src: 5,
+            base: 9,
+            index: None,
+        },
+        Micro::Imm { dst: 0, n: 4 },
+        Micro::Store {
+            src: 0,
+            base: 9,
+            index: None,
+        },
+        Micro::Xor { dst: 6, a: 1, b: 1 },
+        Micro::Add { dst: 7, a: 6, b: 9 },
+        Micro::Store {
+            src: 3,
+            base: 7,
+            index: None,
+        },
+        Micro::Store {
+            src: 3,
+            base: 6,
+            index: Some(9),
+        },
+        Micro::Load {
+            dst: 8,
+            base: 9,
+            index: Some(6),
+        },
+        Micro::Cmp { a: 1, b: 3 },
+        Micro::BranchEq { label: 1 },
+        Micro::StoreAt { place: 1, n: 7 },
+        Micro::Label { label: 1 },
+        Micro::BranchNz { a: 8, label: 2 },
+        Micro::StoreAt { place: 1, n: 8 },
+        Micro::Label { label: 2 },
+        Micro::Barrier { kind: Barrier::Isb },
+    ];
+    let trace = run_thread(rt.alloc(), &code, &[(9, Value::Place(2))], &[5, 3, 1]).expect(
+        &rt,
+        "three reads are enough",
+    );
+    let items = [
+        read(0, 5, 0, 0),
+        read(0, 3, 0, 0),
+        write(2, 6, 0, 3, 0),
+        write(2, 12, 0, 1, 0),
+        write(2, 11, 0, 2, 0),
+        write(2, 8, 0, 3, 0),
+        write(2, 4, 0, 0, 0),
+        write(2, 12, 2, 1, 0),
+        write(2, 12, 2, 1, 0),
+        read(2, 1, 2, 0),
+        write(1, 7, 0, 0, 3),
+        Item::Barrier {
+            kind: Barrier::Isb,
+            ctrl_mask: 7,
+        },
+    ];
+    assert_eq!(rt; trace.items(), items.as_slice());
+}
+
+/// Register 0 has an address, register 1 the number 1, register 2 the greatest number.
+fn is_stuck(op: Micro) -> bool
+    requires { InRange op }
+{
+    let mut machine = Machine::new(&[
+        (0, Value::Place(0)),
+        (1, Value::Num(1)),
+        (2, Value::Num(u32::MAX)),
+    ]);
+    machine.step(op, None) == Err(Stuck)
+}
+
+#[test]
+fn operands_that_no_rule_fits(rt: HostRuntime) {
+    assert!(rt; is_stuck(Micro::Xor { dst: 3, a: 0, b: 1 }));
+    assert!(rt; is_stuck(Micro::AddImm { dst: 3, a: 0, n: 0 }));
+    assert!(rt; is_stuck(Micro::AddImm { dst: 3, a: 2, n: 1 }));
+    assert!(rt; is_stuck(Micro::OrImm { dst: 3, a: 0, n: 0 }));
+    assert!(rt; is_stuck(Micro::Add { dst: 3, a: 2, b: 1 }));
+    assert!(rt; is_stuck(Micro::Add { dst: 3, a: 0, b: 1 }));
+    assert!(rt;
+        is_stuck(Micro::Load {
+            dst: 3,
+            base: 0,
+            index: None
+        })
+    );
+    assert!(rt;
+        is_stuck(Micro::Store {
+            src: 1,
+            base: 1,
+            index: None
+        })
+    );
+    assert!(rt;
+        is_stuck(Micro::Store {
+            src: 1,
+            base: 0,
+            index: Some(1)
+        })
+    );
+    assert!(rt;
+        is_stuck(Micro::Store {
+            src: 0,
+            base: 0,
+            index: None
+        })
+    );
+    assert!(rt; is_stuck(Micro::Cmp { a: 0, b: 1 }));
+    assert!(rt; is_stuck(Micro::BranchNz { a: 0, label: 0 }));
+    assert!(rt; !is_stuck(Micro::Xor { dst: 3, a: 0, b: 0 }));
+    assert!(rt; !is_stuck(Micro::Cmp { a: 0, b: 0 }));
+}

@@ -1,0 +1,6 @@
+pub mod Accesses
+pub mod Executions
+pub mod Coherence
+pub mod Programs
+pub mod Standing
+pub mod Intended

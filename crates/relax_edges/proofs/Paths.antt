@@ -1,0 +1,123 @@
+-- How paths grow edge by edge, and how relaxations are kept one after another.
+use Rattle.std.specs.Prelude.{ℕ, ◌≡◌, ◌<◌, ◌≤◌, ◌+◌, ◌&&◌, ◌||◌, Bool, true, false, not, nat_lt, cond, Result, Ok, Err, List, [], ◌∷◌, ◌++◌, length, filter, map}
+use Rattle.std.specs.List.{flat_map, list_any}
+use Rattle.std.proofs.Common.{refl, arith, ap, subst, sym, ◌∙◌, append_assoc}
+use Rattle.std.proofs.lemmas.Bool.{ltb-true, ltb-false, lt-ltb, le-ltb}
+use Rattle.std.proofs.lemmas.List.{map-append, append-nil, length-append}
+use Rattle.std.proofs.lemmas.List.Elements.{filter-append}
+use Rattle.relax_edges.specs.declared.edge.Edge.{Edge}
+use Rattle.relax_edges.specs.declared.relax_error.RelaxKind.{RelaxKind}
+use Rattle.relax_edges.specs.declared.relax_error.RelaxKind.TheVariants.{TooManyRelaxes}
+use Rattle.relax_edges.specs.EdgeTable.{joins_to}
+use Rattle.relax_edges.specs.RelaxText.{is_empty}
+use Rattle.relax_edges.specs.Relaxations.{joins_on, is_path, choices, is_same, keep, keep_all, at_most_64}
+use Rattle.relax_edges.specs.RelaxSearch.{paths_behind}
+
+by_test : {G : Type 0} (b : Bool) → (b ≡ true → G) → (b ≡ false → G) → G
+by_test true yes_case no_case = yes_case refl
+by_test false yes_case no_case = no_case refl
+
+abbrev Answer : Type 0
+Answer = Result (List (List Edge)) RelaxKind
+
+and_true : (b : Bool) → (b && true) ≡ b
+and_true true = refl
+and_true false = refl
+
+no_true : false ≡ true → ⊥
+no_true e = cc
+
+-- a path that goes on with an edge goes on behind one edge more
+moved : (front : List Edge) (edge : Edge) (paths : List (List Edge))
+    → map (λ path. front ++ path) (map (λ path. edge ∷ path) paths) ≡ map (λ path. (front ++ edge ∷ []) ++ path) paths
+moved front edge [] = refl
+moved front edge (path ∷ paths) = cc (append_assoc front (edge ∷ []) path, moved front edge paths)
+
+-- the paths behind some edges, by the next edge
+pub paths_behind-cons : (front : List Edge) (edges : List Edge) (lists : List (List Edge))
+    → paths_behind front (edges ∷ lists) ≡ flat_map (λ edge. paths_behind (front ++ edge ∷ []) lists) edges
+unfolding paths_behind
+paths_behind-cons front [] lists = refl
+paths_behind-cons front (edge ∷ edges) lists =
+    rw (map-append (λ path. front ++ path) (map (λ path. edge ∷ path) (choices lists)) (choices (edges ∷ lists)),
+        filter-append is_path (map (λ path. front ++ path) (map (λ path. edge ∷ path) (choices lists))) (map (λ path. front ++ path) (choices (edges ∷ lists))),
+        moved front edge (choices lists))
+        (ap (λ paths. filter is_path (map (λ path. (front ++ edge ∷ []) ++ path) (choices lists)) ++ paths) (paths_behind-cons front edges lists))
+
+-- behind no edge the paths are all paths
+pub paths_behind-nil : (lists : List (List Edge)) → paths_behind [] lists ≡ filter is_path (choices lists)
+unfolding paths_behind
+paths_behind-nil lists = ap (filter is_path) (unmoved (choices lists))
+  where
+    unmoved : (paths : List (List Edge)) → map (λ path. [] ++ path) paths ≡ paths
+    unmoved [] = refl
+    unmoved (path ∷ paths) = ap (λ ps. path ∷ ps) (unmoved paths)
+
+-- behind a path that goes on no further there is that path
+pub paths_behind-end : (front : List Edge) → is_path front ≡ true → paths_behind front [] ≡ front ∷ []
+unfolding paths_behind
+paths_behind-end front path = rw (append-nil front, path) refl
+
+-- what begins with no path is no path
+joins_on-false : (edge : Edge) (behind more : List Edge) → joins_on edge behind ≡ false → joins_on edge (behind ++ more) ≡ false
+joins_on-false edge [] more f = cc
+joins_on-false edge (next ∷ behind) more f =
+    by_test (joins_to edge next) (λ t. rw t (joins_on-false next behind more (rw t at f))) (λ n. rw n refl)
+
+pub paths_behind-none : (front : List Edge) (lists : List (List Edge)) → is_path front ≡ false → paths_behind front lists ≡ []
+unfolding paths_behind
+paths_behind-none front lists none = all_fail (choices lists)
+  where
+    fails : (front path : List Edge) → is_path front ≡ false → is_path (front ++ path) ≡ false
+    fails [] path f = cc
+    fails (edge ∷ behind) path f = joins_on-false edge behind path f
+
+    all_fail : (paths : List (List Edge)) → filter is_path (map (λ path. front ++ path) paths) ≡ []
+    all_fail [] = refl
+    all_fail (path ∷ paths) = rw (fails front path none) (all_fail paths)
+
+joins_on-end : (first : Edge) (front : List Edge) (last edge : Edge) → joins_on first (front ++ last ∷ []) ≡ true
+    → joins_on first ((front ++ last ∷ []) ++ edge ∷ []) ≡ joins_to last edge
+joins_on-end first [] last edge path = by_test (joins_to first last) (λ t. rw t (and_true (joins_to last edge))) (λ f. absurd (no_true (rw f at path)))
+joins_on-end first (next ∷ front) last edge path =
+    by_test (joins_to first next) (λ t. rw t (joins_on-end next front last edge (rw t at path))) (λ f. absurd (no_true (rw f at path)))
+
+-- a path goes on with an edge that its last edge joins
+pub is_path-end : (front : List Edge) (last edge : Edge) → is_path (front ++ last ∷ []) ≡ true → is_path ((front ++ last ∷ []) ++ edge ∷ []) ≡ joins_to last edge
+is_path-end [] last edge path = and_true (joins_to last edge)
+is_path-end (first ∷ front) last edge path = joins_on-end first front last edge path
+
+-- keeping one after another
+pub keep_all-append : (kept paths more : List (List Edge)) → keep_all kept (paths ++ more) ≡ keep_all (keep_all kept paths) more
+keep_all-append kept [] more = refl
+keep_all-append kept (path ∷ paths) more = keep_all-append (keep kept path) paths more
+
+length-keep : (kept : List (List Edge)) (path : List Edge) → length kept ≤ length (keep kept path)
+length-keep kept path =
+    by_test (list_any (is_same path) kept) (λ t. rw t (omega arith)) (λ f. rw f (omega (arith, length-append kept (path ∷ []))))
+
+pub length-keep_all : (kept paths : List (List Edge)) → length kept ≤ length (keep_all kept paths)
+length-keep_all kept [] = omega arith
+length-keep_all kept (path ∷ paths) = omega (arith, length-keep kept path, length-keep_all (keep kept path) paths)
+
+-- within 64 all are kept
+pub at_most_64-ok : (kept : List (List Edge)) → length kept ≤ 64 → at_most_64 kept ≡ Ok kept
+at_most_64-ok kept few = by_test (nat_lt 64 (length kept)) (λ t. absurd (omega (arith, ltb-true 64 (length kept) t))) (λ f. rw f refl)
+
+pub at_most_64-is : (kept more : List (List Edge)) → at_most_64 kept ≡ Ok more → kept ≡ more
+at_most_64-is kept more ok =
+    by_test (nat_lt 64 (length kept))
+        (λ t. let e : ◌≡◌ {A = Answer} (Err TooManyRelaxes) (Ok more) = rw t at ok in cc)
+        (λ f. let e : ◌≡◌ {A = Answer} (Ok kept) (Ok more) = rw f at ok in cc)
+
+-- once there are too many, there are too many behind more paths
+pub at_most_64-err : (kept paths more : List (List Edge)) (kind : RelaxKind) → at_most_64 (keep_all kept paths) ≡ Err kind → at_most_64 (keep_all kept (paths ++ more)) ≡ Err kind
+at_most_64-err kept paths more kind err =
+    by_test (nat_lt 64 (length (keep_all kept paths)))
+        (λ t.
+            let e : ◌≡◌ {A = Answer} (Err TooManyRelaxes) (Err kind) = rw t at err in
+            let many : nat_lt 64 (length (keep_all kept (paths ++ more))) ≡ true =
+                lt-ltb 64 (length (keep_all kept (paths ++ more)))
+                    (rw (keep_all-append kept paths more) (omega (arith, ltb-true 64 (length (keep_all kept paths)) t, length-keep_all (keep_all kept paths) more))) in
+            rw many e)
+        (λ f. let e : ◌≡◌ {A = Answer} (Ok (keep_all kept paths)) (Err kind) = rw f at err in cc)

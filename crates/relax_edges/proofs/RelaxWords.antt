@@ -1,0 +1,120 @@
+-- The first word of a text without brackets, and a text that is one word.
+use Rattle.std.specs.Prelude.{ℕ, ◌≡◌, ◌<◌, ◌≤◌, ◌+◌, ◌&&◌, ◌||◌, ◌==◌, Bool, true, false, not, cond, List, [], ◌∷◌, ◌++◌, length, filter, take, drop}
+use Rattle.std.specs.List.{before_first, position, position_or_len, slice_split, onto_first, list_all}
+use Rattle.std.specs.Option.{unwrap_or}
+use Rattle.std.proofs.lemmas.Bool.{ltb-false}
+use Rattle.std.proofs.lemmas.List.Sums.{prefix_len-le-length}
+use Rattle.std.proofs.Common.{suc, nat_lt, refl, arith, ap, subst, sym, ◌∙◌}
+use Rattle.relax_edges.specs.RelaxText.{is_separator, is_bracket, ends_word, is_empty, words_of}
+
+by_test : {G : Type 0} (b : Bool) → (b ≡ true → G) → (b ≡ false → G) → G
+by_test true yes_case no_case = yes_case refl
+by_test false yes_case no_case = no_case refl
+
+no_true : false ≡ true → ⊥
+no_true e = cc
+
+one_more : (n : ℕ) → 1 + n ≡ suc n
+one_more n = omega arith
+
+-- the parts of a text that are not empty, by the test that splits it
+abbrev words_by : (ℕ → Bool) → List ℕ → List (List ℕ)
+words_by test text = filter (λ word. not (is_empty word)) (slice_split test text)
+
+words_by-yes : (test : ℕ → Bool) (byte : ℕ) (behind : List ℕ) → test byte ≡ true → words_by test (byte ∷ behind) ≡ words_by test behind
+words_by-yes test byte behind s = rw s refl
+
+before_first-yes : (test : ℕ → Bool) (byte : ℕ) (behind : List ℕ) → test byte ≡ true → before_first test (byte ∷ behind) ≡ []
+before_first-yes test byte behind s = rw s refl
+
+position_or_len-yes : (test : ℕ → Bool) (byte : ℕ) (behind : List ℕ) → test byte ≡ true → position_or_len test (byte ∷ behind) ≡ 0
+position_or_len-yes test byte behind s = rw s refl
+
+before_first-no : (test : ℕ → Bool) (byte : ℕ) (behind : List ℕ) → test byte ≡ false → before_first test (byte ∷ behind) ≡ byte ∷ before_first test behind
+before_first-no test byte behind n = rw (n, one_more (position_or_len test behind)) refl
+
+position_or_len-no : (test : ℕ → Bool) (byte : ℕ) (behind : List ℕ) → test byte ≡ false → position_or_len test (byte ∷ behind) ≡ suc (position_or_len test behind)
+position_or_len-no test byte behind n = rw (n, one_more (position_or_len test behind)) refl
+
+-- a text is split into what stands before its first separator, and parts that have the words behind it
+record FirstPart (test : ℕ → Bool) (text : List ℕ) : Type 0 where
+  parts : List (List ℕ)
+  split : slice_split test text ≡ before_first test text ∷ parts
+  words : filter (λ word. not (is_empty word)) parts ≡ words_by test (drop (position_or_len test text) text)
+
+first_part : (test : ℕ → Bool) (text : List ℕ) → FirstPart test text
+first_part test [] = record { parts = []; split = refl; words = refl }
+first_part test (byte ∷ behind) =
+    by_test (test byte)
+        (λ s. record {
+          parts = slice_split test behind;
+          split = rw (before_first-yes test byte behind s) (rw s refl);
+          words = rw (position_or_len-yes test byte behind s) (sym (words_by-yes test byte behind s))
+        })
+        (λ n. let p = first_part test behind in
+            record {
+              parts = p.parts;
+              split = rw (before_first-no test byte behind n) (rw n (ap (onto_first byte) p.split));
+              words = rw (position_or_len-no test byte behind n) p.words
+            })
+
+kept_first : (word : List ℕ) (parts : List (List ℕ)) → is_empty word ≡ false
+    → filter (λ word. not (is_empty word)) (word ∷ parts) ≡ word ∷ filter (λ word. not (is_empty word)) parts
+kept_first word parts some = rw some refl
+
+words_by-no : (test : ℕ → Bool) (byte : ℕ) (behind : List ℕ) → test byte ≡ false
+    → words_by test (byte ∷ behind) ≡ before_first test (byte ∷ behind) ∷ words_by test (drop (position_or_len test (byte ∷ behind)) (byte ∷ behind))
+words_by-no test byte behind n =
+    let p = first_part test (byte ∷ behind) in
+    let first = before_first test (byte ∷ behind) in
+    ap (filter (λ word. not (is_empty word))) p.split
+    ∙ kept_first first p.parts (rw (before_first-no test byte behind n) refl)
+    ∙ ap (λ words. first ∷ words) p.words
+
+-- a separator before a text adds no word
+pub words_of_separator : (byte : ℕ) (behind : List ℕ) → is_separator byte ≡ true → words_of (byte ∷ behind) ≡ words_of behind
+words_of_separator byte behind s = words_by-yes is_separator byte behind s
+
+-- the first word of a text that begins with one
+pub words_of_word : (byte : ℕ) (behind : List ℕ) → is_separator byte ≡ false
+    → words_of (byte ∷ behind) ≡ before_first is_separator (byte ∷ behind) ∷ words_of (drop (position_or_len is_separator (byte ∷ behind)) (byte ∷ behind))
+words_of_word byte behind n = words_by-no is_separator byte behind n
+
+-- the first word has a byte at least
+pub word_len_some : (byte : ℕ) (behind : List ℕ) → is_separator byte ≡ false → 0 < position_or_len is_separator (byte ∷ behind)
+word_len_some byte behind n = rw n (omega arith)
+
+-- what stands before the end of a word holds no separator
+none_before : (test : ℕ → Bool) (behind : List ℕ) → ((byte : ℕ) → ends_word byte ≡ false → test byte ≡ false)
+    → list_all (λ byte. not (test byte)) (before_first ends_word behind) ≡ true
+none_before test [] fails = refl
+none_before test (byte ∷ behind) fails =
+    by_test (ends_word byte)
+        (λ e. rw (before_first-yes ends_word byte behind e) refl)
+        (λ n. rw (before_first-no ends_word byte behind n) (rw (fails byte n) (none_before test behind fails)))
+
+one_part : (test : ℕ → Bool) (text : List ℕ) → list_all (λ byte. not (test byte)) text ≡ true → slice_split test text ≡ text ∷ []
+one_part test [] none = refl
+one_part test (byte ∷ behind) none =
+    by_test (test byte) (λ s. absurd (no_true (rw s at none))) (λ n. rw n (ap (onto_first byte) (one_part test behind (rw n at none))))
+
+not_separator : (byte : ℕ) → ends_word byte ≡ false → is_separator byte ≡ false
+not_separator byte n = first_false (is_separator byte) (is_bracket byte) n
+  where
+    first_false : (a b : Bool) → (a || b) ≡ false → a ≡ false
+    first_false true b f = absurd (no_true (sym f))
+    first_false false b f = refl
+
+-- a word that ends where a word ends is the one word of its text
+pub words_of_run : (byte : ℕ) (behind : List ℕ) → is_separator byte ≡ false
+    → words_of (byte ∷ before_first ends_word behind) ≡ (byte ∷ before_first ends_word behind) ∷ []
+words_of_run byte behind n =
+    ap (filter (λ word. not (is_empty word)))
+        (one_part is_separator (byte ∷ before_first ends_word behind) (rw n (none_before is_separator behind not_separator)))
+
+-- the place of the first byte that passes, or the length
+pub position_unwrapped : (test : ℕ → Bool) (text : List ℕ) → unwrap_or (position test text) (length text) ≡ position_or_len test text
+position_unwrapped test text =
+    by_test (nat_lt (position_or_len test text) (length text))
+        (λ t. rw t refl)
+        (λ f. rw f (omega (arith, ltb-false (position_or_len test text) (length text) f, prefix_len-le-length (λ x. not (test x)) text)))

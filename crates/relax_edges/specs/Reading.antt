@@ -1,0 +1,124 @@
+-- How a spelling is read from its end: what stands before the last bytes, and what each of those names.
+use Rattle.std.specs.Prelude.{ℕ, Bool, true, false, Option, Some, None, List, [], ◌∷◌, reverse, codes}
+use Rattle.std.specs.List.{find}
+use Rattle.std.specs.Option.{option_or}
+use Rattle.std.specs.Str.{bytes_eq}
+use Rattle.relax_edges.specs.declared.kinds.Dir.{Dir}
+use Rattle.relax_edges.specs.declared.kinds.Dir.TheVariants as dirs
+use Rattle.relax_edges.specs.declared.kinds.Sd.{Sd}
+use Rattle.relax_edges.specs.declared.kinds.Sd.TheVariants.{Same, Diff}
+use Rattle.relax_edges.specs.declared.kinds.Reach.{Reach}
+use Rattle.relax_edges.specs.declared.kinds.Reach.TheVariants.{Internal, External}
+use Rattle.relax_edges.specs.declared.kinds.Com.{Com}
+use Rattle.relax_edges.specs.declared.kinds.Com.TheVariants as coms
+use Rattle.relax_edges.specs.declared.kinds.Pick.TheVariants as picks
+use Rattle.relax_edges.specs.declared.kinds.FenceKind.{FenceKind}
+use Rattle.relax_edges.specs.declared.kinds.FenceKind.TheVariants as fences
+use Rattle.relax_edges.specs.declared.kinds.DepKind.{DepKind}
+use Rattle.relax_edges.specs.declared.kinds.DepKind.TheVariants as deps
+use Rattle.relax_edges.specs.declared.edge.Edge.{Edge}
+use Rattle.relax_edges.specs.declared.edge.Edge.TheVariants as edges
+use Rattle.relax_edges.specs.Words.{dir_word, sd_word, reach_word, com_word, fence_word, dependency_word}
+
+-- the first of some kinds whose word is a text
+abbrev pub named : {K : Type 0} → (K → List ℕ) → List K → List ℕ → Option K
+named word kinds text = find (λ kind. bytes_eq text (word kind)) kinds
+
+abbrev pub dirs_read : List Dir
+dirs_read = dirs.R ∷ dirs.W ∷ []
+
+abbrev pub dir_named : List ℕ → Option Dir
+dir_named = named dir_word dirs_read
+
+abbrev pub places_read : List Sd
+places_read = Same ∷ Diff ∷ []
+
+abbrev pub sd_named : List ℕ → Option Sd
+sd_named = named sd_word places_read
+
+abbrev pub reaches_read : List Reach
+reaches_read = Internal ∷ External ∷ []
+
+abbrev pub reach_named : List ℕ → Option Reach
+reach_named = named reach_word reaches_read
+
+abbrev pub communications_read : List Com
+communications_read = coms.Rf ∷ coms.Fr ∷ coms.Ws ∷ []
+
+-- `Co` names `Ws` too
+abbrev pub com_named : List ℕ → Option Com
+com_named text = option_or (named com_word communications_read text) (named (λ _. codes "Co") (coms.Ws ∷ []) text)
+
+abbrev pub dependencies_read : List DepKind
+dependencies_read = deps.Addr ∷ deps.Ctrl ∷ deps.CtrlIsync ∷ deps.CtrlIsb ∷ []
+
+abbrev pub dependency_named : List ℕ → Option DepKind
+dependency_named = named dependency_word dependencies_read
+
+abbrev pub riscv_fences_read : List FenceKind
+riscv_fences_read =
+    fences.Fence picks.R picks.R ∷ fences.Fence picks.R picks.W ∷ fences.Fence picks.R picks.RW
+    ∷ fences.Fence picks.W picks.R ∷ fences.Fence picks.W picks.W ∷ fences.Fence picks.W picks.RW
+    ∷ fences.Fence picks.RW picks.R ∷ fences.Fence picks.RW picks.W ∷ fences.Fence picks.RW picks.RW ∷ []
+
+abbrev pub riscv_fence_named : List ℕ → Option FenceKind
+riscv_fence_named = named fence_word riscv_fences_read
+
+abbrev pub plain_fences_read : List FenceKind
+plain_fences_read =
+    fences.MFence ∷ fences.Sync ∷ fences.LwSync ∷ fences.Eieio ∷ fences.ISync ∷ fences.DmbSy ∷ fences.DmbLd ∷ fences.DmbSt ∷ []
+
+abbrev pub plain_fence_named : List ℕ → Option FenceKind
+plain_fence_named = named fence_word plain_fences_read
+
+abbrev pub fence_named : List ℕ → Option FenceKind
+fence_named text = option_or (plain_fence_named text) (riscv_fence_named text)
+
+-- the edge of a communication and a reach
+abbrev pub communication : Option Com → Option Reach → Option Edge
+communication (Some kind) (Some reach) = Some (edges.Com kind reach)
+communication _ _ = None
+
+-- the edge that three bytes spell
+unfoldable pub communication_of : ℕ → ℕ → ℕ → Option Edge
+communication_of first second reach = communication (com_named (first ∷ second ∷ [])) (reach_named (reach ∷ []))
+
+-- the edge of a place, two directions, and program order or else a fence
+abbrev pub two_sided : Option Sd → Option Dir → Option Dir → Bool → Option FenceKind → Option Edge
+two_sided (Some sd) (Some from) (Some to) true _ = Some (edges.Po sd from to)
+two_sided (Some sd) (Some from) (Some to) false (Some kind) = Some (edges.Fenced kind sd from to)
+two_sided _ _ _ _ _ = None
+
+-- the edge that a text spells whose last three bytes name a place and two directions
+unfoldable pub two_sided_of : List ℕ → ℕ → ℕ → ℕ → Option Edge
+two_sided_of front sd from to =
+    two_sided (sd_named (sd ∷ [])) (dir_named (from ∷ [])) (dir_named (to ∷ [])) (bytes_eq front (codes "Po")) (fence_named front)
+
+-- the edge of a place, a direction, and data or else another dependency
+abbrev pub one_sided : Option Sd → Option Dir → Bool → Option DepKind → Option Edge
+one_sided (Some sd) (Some dirs.W) true _ = Some (edges.Data sd)
+one_sided (Some sd) (Some to) false (Some kind) = Some (edges.Dep kind sd to)
+one_sided _ _ _ _ = None
+
+-- the edge that a text spells whose last two bytes name a place and a direction
+unfoldable pub one_sided_of : List ℕ → ℕ → ℕ → Option Edge
+one_sided_of front sd to = one_sided (sd_named (sd ∷ [])) (dir_named (to ∷ [])) (bytes_eq front (codes "DpData")) (dependency_named front)
+
+-- a text of three bytes is read as a communication
+abbrev pub read_as_communication : List ℕ → Option Edge
+read_as_communication (first ∷ second ∷ reach ∷ []) = communication_of first second reach
+read_as_communication _ = None
+
+-- a text is read backwards: its last three bytes, and the text before them
+abbrev pub read_back_two_sided : List ℕ → Option Edge
+read_back_two_sided (to ∷ from ∷ sd ∷ front) = two_sided_of (reverse front) sd from to
+read_back_two_sided _ = None
+
+-- a text is read backwards: its last two bytes, and the text before them
+abbrev pub read_back_one_sided : List ℕ → Option Edge
+read_back_one_sided (to ∷ sd ∷ front) = one_sided_of (reverse front) sd to
+read_back_one_sided _ = None
+
+-- the edge that a text is read as
+unfoldable pub read_of : List ℕ → Option Edge
+read_of text = option_or (read_as_communication text) (option_or (read_back_two_sided (reverse text)) (read_back_one_sided (reverse text)))

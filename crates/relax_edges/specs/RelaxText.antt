@@ -1,0 +1,70 @@
+-- The items of a relaxation list: words and brackets of words, each with the byte where it begins.
+-- Source: the diy part of the herdtools manual, option `-relax`.
+use Rattle.std.specs.Prelude.{ℕ, ◌+◌, ◌==◌, ◌||◌, Bool, true, false, not, cond, Option, Some, None, List, [], ◌∷◌, ◌++◌, length, filter}
+use Rattle.std.specs.List.{before_first, slice_split}
+use Rattle.std.proofs.Common.{zero, suc, get_or}
+
+-- a comma, a space or a tab
+abbrev pub is_separator : ℕ → Bool
+is_separator byte = byte == 44 || byte == 32 || byte == 9
+
+-- `[` or `]`
+abbrev pub is_bracket : ℕ → Bool
+is_bracket byte = byte == 91 || byte == 93
+
+-- a word ends at a separator and at a bracket
+abbrev pub ends_word : ℕ → Bool
+ends_word byte = is_separator byte || is_bracket byte
+
+abbrev pub is_empty : {A : Type 0} → List A → Bool
+is_empty [] = true
+is_empty (_ ∷ _) = false
+
+-- the words of a text without brackets
+abbrev pub words_of : List ℕ → List (List ℕ)
+words_of text = filter (λ word. not (is_empty word)) (slice_split is_separator text)
+
+-- what stands behind a `[`, up to the next bracket
+abbrev pub inside : List ℕ → List ℕ
+inside behind = before_first is_bracket behind
+
+-- whether the next bracket behind a `[` is a `]`
+abbrev pub is_closed : List ℕ → Bool
+is_closed behind = get_or behind (length (inside behind)) 0 == 93
+
+-- the words of an item, or none where its bracket is bad
+abbrev pub some_words : List (List ℕ) → Option (List (List ℕ))
+some_words [] = None
+some_words (word ∷ words) = Some (word ∷ words)
+
+-- the words of a bracket, from what stands behind its `[`
+abbrev pub bracket_words : List ℕ → Option (List (List ℕ))
+bracket_words behind = cond (is_closed behind) (some_words (words_of (inside behind))) None
+
+-- an item: the byte where it begins, and its words, or none where its bracket is bad
+pub record Item : Type 0 where
+  pub start : ℕ
+  pub words : Option (List (List ℕ))
+
+-- the words of the item that begins with a byte
+abbrev pub words_from : ℕ → List ℕ → Option (List (List ℕ))
+words_from byte behind = cond (byte == 91) (bracket_words behind) (cond (byte == 93) None (Some ((byte ∷ before_first ends_word behind) ∷ [])))
+
+-- the item that begins with a byte, or none at a separator
+abbrev pub item_from : ℕ → ℕ → List ℕ → List Item
+item_from start byte behind = cond (is_separator byte) [] (record { start = start; words = words_from byte behind } ∷ [])
+
+-- how many bytes of an item follow its first one
+abbrev pub bytes_behind : ℕ → List ℕ → ℕ
+bytes_behind byte behind =
+    cond (is_separator byte || byte == 93) 0 (cond (byte == 91) (length (inside behind) + 1) (length (before_first ends_word behind)))
+
+-- the items of a text whose first byte has this place, once so many bytes are passed
+abbrev pub items_from : ℕ → ℕ → List ℕ → List Item
+items_from place passed [] = []
+items_from place (suc passed) (byte ∷ behind) = items_from (place + 1) passed behind
+items_from place zero (byte ∷ behind) = item_from place byte behind ++ items_from (place + 1) (bytes_behind byte behind) behind
+
+-- the items of a text
+unfoldable pub items_of : List ℕ → List Item
+items_of text = items_from 0 0 text

@@ -1,0 +1,111 @@
+-- The relaxations of a text: what its words stand for, the choices that join, and the refusals.
+-- Source: the diy part of the herdtools manual, option `-relax`.
+use Rattle.std.specs.Prelude.{ℕ, ◌≡◌, ◌<◌, ◌≤◌, ◌==◌, ◌&&◌, Bool, true, false, not, cond, nat_lt, Option, Some, None, Result, Ok, Err, List, [], ◌∷◌, ◌++◌, length, filter, map, codes}
+use Rattle.std.specs.List.{flat_map, filter_map, list_any}
+use Rattle.std.specs.Cmp.Lexicographic.{pointwise}
+use Rattle.relax_edges.specs.declared.edge.Edge.{Edge}
+use Rattle.relax_edges.specs.declared.relax_error.RelaxKind.{RelaxKind}
+use Rattle.relax_edges.specs.declared.relax_error.RelaxKind.TheVariants.{UnknownEdge, BadBracket, RelaxTooLong, DoesNotJoin, TooManyRelaxes}
+use Rattle.relax_edges.specs.declared.relax_error.RelaxError.{RelaxError}
+use Rattle.relax_edges.specs.EdgeTable.{joins_to}
+use Rattle.relax_edges.specs.Order.{rank_of}
+use Rattle.relax_edges.specs.Spelling.{edge_of}
+use Rattle.relax_edges.specs.RelaxText.{Item, is_empty, items_of}
+
+-- a `*` among the last two bytes of a word stands for `R` and for `W`
+abbrev pub byte_choices : ℕ → ℕ → List ℕ
+byte_choices byte behind = cond (byte == 42 && nat_lt behind 2) (codes "RW") (byte ∷ [])
+
+-- the words that a word stands for, the first star turning slowest
+abbrev pub expansions : List ℕ → List (List ℕ)
+expansions [] = [] ∷ []
+expansions (byte ∷ behind) = flat_map (λ choice. map (λ word. choice ∷ word) (expansions behind)) (byte_choices byte (length behind))
+
+-- the edges that a word stands for
+abbrev pub word_edges : List ℕ → List Edge
+word_edges word = filter_map edge_of (expansions word)
+
+-- each edge joins the next, from one on
+abbrev pub joins_on : Edge → List Edge → Bool
+joins_on edge [] = true
+joins_on edge (next ∷ behind) = joins_to edge next && joins_on next behind
+
+-- each edge joins the next
+abbrev pub is_path : List Edge → Bool
+is_path [] = true
+is_path (edge ∷ behind) = joins_on edge behind
+
+-- all choices of one from each list, the last turning fastest
+abbrev pub choices : List (List Edge) → List (List Edge)
+choices [] = [] ∷ []
+choices (edges ∷ behind) = flat_map (λ edge. map (λ path. edge ∷ path) (choices behind)) edges
+
+-- the choices of some words in which neighbours join
+abbrev pub paths_of : List (List ℕ) → List (List Edge)
+paths_of words = filter is_path (choices (map word_edges words))
+
+-- whether two lists of edges are one
+abbrev pub is_same : List Edge → List Edge → Bool
+is_same = pointwise (λ a b. rank_of a == rank_of b)
+
+-- a relaxation: 1 to 8 edges, each of which joins the next
+pub record IsRelax (edges : List Edge) : Type 0 where
+  pub some : 0 < length edges
+  pub few : length edges ≤ 8
+  pub joined : is_path edges ≡ true
+
+-- no two lists of edges are one
+abbrev pub are_distinct : List (List Edge) → Bool
+are_distinct [] = true
+are_distinct (path ∷ paths) = not (list_any (is_same path) paths) && are_distinct paths
+
+-- at most 64 relaxations, no two of which are one
+pub record IsRelaxes (paths : List (List Edge)) : Type 0 where
+  pub few : length paths ≤ 64
+  pub distinct : are_distinct paths ≡ true
+
+-- a relaxation is kept at its first place
+abbrev pub keep : List (List Edge) → List Edge → List (List Edge)
+keep kept path = cond (list_any (is_same path) kept) kept (kept ++ path ∷ [])
+
+abbrev pub keep_all : List (List Edge) → List (List Edge) → List (List Edge)
+keep_all kept [] = kept
+keep_all kept (path ∷ paths) = keep_all (keep kept path) paths
+
+-- at most 64 relaxations are kept
+abbrev pub at_most_64 : List (List Edge) → Result (List (List Edge)) RelaxKind
+at_most_64 kept = cond (nat_lt 64 (length kept)) (Err TooManyRelaxes) (Ok kept)
+
+-- what is kept behind an item whose paths are these
+abbrev pub kept_paths : List (List Edge) → List (List Edge) → Result (List (List Edge)) RelaxKind
+kept_paths kept [] = Err DoesNotJoin
+kept_paths kept (path ∷ paths) = at_most_64 (keep_all kept (path ∷ paths))
+
+-- what is kept behind an item with these words, or why it is refused
+abbrev pub kept_words : List (List Edge) → List (List ℕ) → Result (List (List Edge)) RelaxKind
+kept_words kept words =
+    elim (list_any (λ word. is_empty (word_edges word)) words) as (λ _. Result (List (List Edge)) RelaxKind) [
+        true ↦ Err UnknownEdge
+      | false ↦
+            elim (nat_lt 8 (length words)) as (λ _. Result (List (List Edge)) RelaxKind) [
+                true ↦ Err RelaxTooLong
+              | false ↦ kept_paths kept (paths_of words)
+            ]
+    ]
+
+abbrev pub kept_item : List (List Edge) → Option (List (List ℕ)) → Result (List (List Edge)) RelaxKind
+kept_item kept None = Err BadBracket
+kept_item kept (Some words) = kept_words kept words
+
+-- what is kept behind some items, or the first refusal
+abbrev pub kept_items : List (List Edge) → List Item → Result (List (List Edge)) RelaxError
+kept_items kept [] = Ok kept
+kept_items kept (item ∷ items) =
+    elim (kept_item kept item.words) as (λ _. Result (List (List Edge)) RelaxError) [
+        Err kind ↦ Err (record { at = item.start; kind = kind })
+      | Ok more ↦ kept_items more items
+    ]
+
+-- the relaxations of a text, or the first refusal
+unfoldable pub relaxes_of : List ℕ → Result (List (List Edge)) RelaxError
+relaxes_of text = kept_items [] (items_of text)

@@ -1,0 +1,32 @@
+ghost use Rattle.std.specs.Prelude.{◌≡◌};
+ghost use Rattle.relax_edges.specs.Architectures.{arch_word, arch_of};
+
+use crate::kinds::ArchName;
+
+impl ArchName {
+    /// The text that names the architecture: `X86`, `PPC`, `AArch64` or `RISCV`.
+    pub fn name(self) -> &'static str
+        ensures { result.now ≡ arch_word self }
+    {
+        match self {
+            ArchName::X86 => "X86",
+            ArchName::PPC => "PPC",
+            ArchName::AArch64 => "AArch64",
+            ArchName::RISCV => "RISCV",
+        }
+    }
+}
+
+/// The architecture that a text names, letter for letter. `None` comes exactly where it names
+/// none.
+pub fn read_arch(text: &str) -> Option<ArchName>
+    ensures { result ≡ arch_of text.now }
+{
+    match text {
+        "X86" => Some(ArchName::X86),
+        "PPC" => Some(ArchName::PPC),
+        "AArch64" => Some(ArchName::AArch64),
+        "RISCV" => Some(ArchName::RISCV),
+        _ => None,
+    }
+}

@@ -1,0 +1,234 @@
+ghost use Rattle.std.specs.Prelude.{◌≡◌, ℕ, ◌∷◌, [], ◌++◌, reverse};
+ghost use Rattle.relax_edges.specs.Reading.{dir_named, sd_named, reach_named, com_named, dependency_named, riscv_fence_named, plain_fence_named, fence_named, communication_of, two_sided_of, one_sided_of, read_as_communication, read_back_two_sided, read_back_one_sided, read_of};
+ghost use Rattle.relax_edges.specs.Spelling.{edge_of};
+ghost use Rattle.std.specs.Result.{result_ok};
+
+use crate::edge::Edge;
+use crate::kinds::{Com, DepKind, Dir, FenceKind, Pick, Reach, Sd};
+use thiserror::Error;
+
+impl Dir {
+    fn named(byte: u8) -> Option<Dir>
+        ensures { result ≡ dir_named (byte ∷ []) }
+    {
+        match byte {
+            b'R' => Some(Dir::R),
+            b'W' => Some(Dir::W),
+            _ => None,
+        }
+    }
+}
+
+impl Sd {
+    fn named(byte: u8) -> Option<Sd>
+        ensures { result ≡ sd_named (byte ∷ []) }
+    {
+        match byte {
+            b's' => Some(Sd::Same),
+            b'd' => Some(Sd::Diff),
+            _ => None,
+        }
+    }
+}
+
+impl Reach {
+    fn named(byte: u8) -> Option<Reach>
+        ensures { result ≡ reach_named (byte ∷ []) }
+    {
+        match byte {
+            b'i' => Some(Reach::Internal),
+            b'e' => Some(Reach::External),
+            _ => None,
+        }
+    }
+}
+
+impl Com {
+    fn named(first: u8, second: u8) -> Option<Com>
+        ensures { result ≡ com_named (first ∷ second ∷ []) }
+    {
+        match (first, second) {
+            (b'R', b'f') => Some(Com::Rf),
+            (b'F', b'r') => Some(Com::Fr),
+            (b'W', b's') | (b'C', b'o') => Some(Com::Ws),
+            _ => None,
+        }
+    }
+}
+
+impl DepKind {
+    fn named(text: &[u8]) -> Option<DepKind>
+        ensures { result ≡ dependency_named text.now }
+    {
+        if text == b"DpAddr".as_slice() {
+            Some(DepKind::Addr)
+        } else if text == b"DpCtrl".as_slice() {
+            Some(DepKind::Ctrl)
+        } else if text == b"DpCtrlIsync".as_slice() {
+            Some(DepKind::CtrlIsync)
+        } else if text == b"DpCtrlIsb".as_slice() {
+            Some(DepKind::CtrlIsb)
+        } else {
+            None
+        }
+    }
+}
+
+fn riscv_fence(text: &[u8]) -> Option<FenceKind>
+    ensures { result ≡ riscv_fence_named text.now }
+{
+    let (pred, succ) = if text == b"Fence.r.r".as_slice() {
+        (Pick::R, Pick::R)
+    } else if text == b"Fence.r.w".as_slice() {
+        (Pick::R, Pick::W)
+    } else if text == b"Fence.r.rw".as_slice() {
+        (Pick::R, Pick::RW)
+    } else if text == b"Fence.w.r".as_slice() {
+        (Pick::W, Pick::R)
+    } else if text == b"Fence.w.w".as_slice() {
+        (Pick::W, Pick::W)
+    } else if text == b"Fence.w.rw".as_slice() {
+        (Pick::W, Pick::RW)
+    } else if text == b"Fence.rw.r".as_slice() {
+        (Pick::RW, Pick::R)
+    } else if text == b"Fence.rw.w".as_slice() {
+        (Pick::RW, Pick::W)
+    } else if text == b"Fence.rw.rw".as_slice() {
+        (Pick::RW, Pick::RW)
+    } else {
+        return None;
+    };
+    Some(FenceKind::Fence { pred, succ })
+}
+
+fn plain_fence(text: &[u8]) -> Option<FenceKind>
+    ensures { result ≡ plain_fence_named text.now }
+{
+    if text == b"MFence".as_slice() {
+        Some(FenceKind::MFence)
+    } else if text == b"Sync".as_slice() {
+        Some(FenceKind::Sync)
+    } else if text == b"LwSync".as_slice() {
+        Some(FenceKind::LwSync)
+    } else if text == b"Eieio".as_slice() {
+        Some(FenceKind::Eieio)
+    } else if text == b"ISync".as_slice() {
+        Some(FenceKind::ISync)
+    } else if text == b"DMB.SY".as_slice() {
+        Some(FenceKind::DmbSy)
+    } else if text == b"DMB.LD".as_slice() {
+        Some(FenceKind::DmbLd)
+    } else if text == b"DMB.ST".as_slice() {
+        Some(FenceKind::DmbSt)
+    } else {
+        None
+    }
+}
+
+impl FenceKind {
+    fn named(text: &[u8]) -> Option<FenceKind>
+        ensures { result ≡ fence_named text.now }
+    {
+        plain_fence(text).or(riscv_fence(text))
+    }
+}
+
+#[tactic(auto, unfolding(crate::specs::Reading::communication_of))]
+fn read_communication(first: u8, second: u8, reach: u8) -> Option<Edge>
+    ensures { result ≡ communication_of first second reach }
+{
+    let com = Com::named(first, second)?;
+    let reach = Reach::named(reach)?;
+    Some(Edge::Com { com, reach })
+}
+
+#[tactic(auto, unfolding(crate::specs::Reading::two_sided_of))]
+fn read_two_sided(front: &[u8], sd: u8, from: u8, to: u8) -> Option<Edge>
+    ensures { result ≡ two_sided_of front.now sd from to }
+{
+    let sd = Sd::named(sd)?;
+    let from = Dir::named(from)?;
+    let to = Dir::named(to)?;
+    if front == b"Po".as_slice() {
+        return Some(Edge::Po { sd, from, to });
+    }
+    let fence = FenceKind::named(front)?;
+    Some(Edge::Fenced {
+        fence,
+        sd,
+        from,
+        to,
+    })
+}
+
+#[tactic(auto, unfolding(crate::specs::Reading::one_sided_of))]
+fn read_one_sided(front: &[u8], sd: u8, to: u8) -> Option<Edge>
+    ensures { result ≡ one_sided_of front.now sd to }
+{
+    let sd = Sd::named(sd)?;
+    let to = Dir::named(to)?;
+    if front == b"DpData".as_slice() {
+        return match to {
+            Dir::R => None,
+            Dir::W => Some(Edge::Data { sd }),
+        };
+    }
+    let dep = DepKind::named(front)?;
+    Some(Edge::Dep { dep, sd, to })
+}
+
+#[tactic(auto, using(crate::proofs::Spellings::communication_bare, crate::proofs::Spellings::communication_long))]
+fn end_communication(front: &[u8], before: u8, last: u8) -> Option<Edge>
+    ensures { result ≡ read_as_communication (front.now ++ before ∷ last ∷ []) }
+{
+    match front {
+        [first] => read_communication(*first, before, last),
+        _ => None,
+    }
+}
+
+#[tactic(auto, using(crate::proofs::Spellings::two_sided_end, crate::proofs::Spellings::two_sided_none))]
+fn end_two_sided(front: &[u8], from: u8, to: u8) -> Option<Edge>
+    ensures { result ≡ read_back_two_sided (reverse (front.now ++ from ∷ to ∷ [])) }
+{
+    match front {
+        [front @ .., sd] => read_two_sided(front, *sd, from, to),
+        _ => None,
+    }
+}
+
+/// The edge that a text spells that ends with these two bytes.
+#[tactic(auto, using(crate::proofs::Spellings::ending_is_edge_of))]
+pub(crate) fn read_ending(front: &[u8], before: u8, last: u8) -> Option<Edge>
+    ensures { result ≡ edge_of (front.now ++ before ∷ last ∷ []) }
+{
+    end_communication(front, before, last)
+        .or_else(|| end_two_sided(front, before, last))
+        .or_else(|| read_one_sided(front, before, last))
+}
+
+/// No edge has this spelling.
+#[derive(Clone, Copy, Debug, PartialEq, Eq, Error)]
+#[error("no edge has this spelling")]
+pub struct UnknownEdge;
+
+/// The edge that these bytes spell, as `read_edge` reads a text.
+#[tactic(auto, using(crate::proofs::Spellings::edge_of_short))]
+pub fn read_edge_bytes(text: &[u8]) -> Result<Edge, UnknownEdge>
+    ensures { result_ok result ≡ edge_of text.now }
+{
+    match text {
+        [front @ .., before, last] => read_ending(front, *before, *last).ok_or(UnknownEdge),
+        _ => Err(UnknownEdge),
+    }
+}
+
+/// The edge that a text spells: an edge is spelled as it is printed, and `Wsi` and `Wse` are
+/// spelled `Coi` and `Coe` too. `UnknownEdge` comes exactly where no edge has this spelling.
+///
+/// The words are those of the diy part of the herdtools manual, "Candidate relaxations".
+pub fn read_edge(text: &str) -> Result<Edge, UnknownEdge>
+    ensures { result_ok result ≡ edge_of text.now }
+{
+    read_edge_bytes(text.as_bytes())
+}

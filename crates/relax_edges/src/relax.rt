@@ -1,0 +1,117 @@
+ghost use Rattle.std.specs.Prelude.{◌≡◌, ◌<◌, ◌≤◌, ◌++◌, ◌∷◌, [], true, false, length, slice_get, Some, IsOk, OnOk, OnErr, ◌↔◌, ◌==◌};
+ghost use Rattle.std.specs.List.{list_any};
+ghost use Rattle.relax_edges.specs.Relaxations.{IsRelax, IsRelaxes, is_path, are_distinct, is_same, keep};
+
+use arrayvec::ArrayVec;
+use std::marker::Model;
+
+use crate::edge::Edge;
+
+/// A relaxation: 1 to 8 edges, each of which joins the next.
+#[derive(Drop)]
+pub struct Relax {
+    edges: ArrayVec<Edge, 8>,
+}
+
+impl Model for Relax {
+    ghost use Rattle.std.specs.Prelude.{List};
+    ghost use Rattle.relax_edges.specs.declared.edge.Edge.{Edge as EdgeValue};
+    ghost use Rattle.relax_edges.specs.Relaxations.{IsRelax};
+
+    ghost Value = { List EdgeValue };
+
+    ghost view = { λ r. r.edges.items };
+
+    ghost invariant = { λ r. IsRelax r.edges.items };
+}
+
+impl Default for Relax {
+    fn default() -> Relax {
+        let mut edges = ArrayVec::new();
+        edges.push(Edge::default());
+        Relax { edges }
+    }
+}
+
+impl Relax {
+    /// The edges, in order.
+    pub fn edges(&self) -> &[Edge]
+        ensures value { result.now ≡ self.now }
+        ensures some { 0 < length result.now }
+        ensures few { length result.now ≤ 8 }
+        ensures joined { is_path result.now ≡ true }
+    {
+        self.edges.as_slice()
+    }
+
+    fn from_path(path: &[Edge]) -> Relax
+        requires { IsRelax path.now }
+        ensures { result ≡ path.now }
+    {
+        let mut edges = ArrayVec::new();
+        match edges.try_extend_from_slice(path) {
+            Ok(()) => Relax { edges },
+            Err(_) => unreachable!(),
+        }
+    }
+}
+
+/// Relaxations in order: at most 64, no two of which are one.
+#[derive(Drop)]
+pub struct Relaxes {
+    list: ArrayVec<Relax, 64>,
+}
+
+impl Model for Relaxes {
+    ghost use Rattle.std.specs.Prelude.{List};
+    ghost use Rattle.relax_edges.specs.declared.edge.Edge.{Edge as EdgeValue};
+    ghost use Rattle.relax_edges.specs.Relaxations.{IsRelaxes};
+
+    ghost Value = { List (List EdgeValue) };
+
+    ghost view = { λ r. r.list.items };
+
+    ghost invariant = { λ r. IsRelaxes r.list.items };
+}
+
+impl Relaxes {
+    /// No relaxation.
+    pub fn new() -> Relaxes
+        ensures { result ≡ [] }
+    {
+        Relaxes {
+            list: ArrayVec::new(),
+        }
+    }
+
+    /// The number of relaxations.
+    pub fn len(&self) -> usize
+        ensures value { result ≡ length self.now }
+        ensures few { result ≤ 64 }
+        ensures distinct { are_distinct self.now ≡ true }
+    {
+        self.list.len()
+    }
+
+    /// Whether there is none.
+    pub fn is_empty(&self) -> bool
+        ensures { result ≡ (length self.now == 0) }
+    {
+        self.list.is_empty()
+    }
+
+    /// A relaxation by its place, from 0.
+    pub fn get(&self, i: usize) -> &Relax
+        requires { i < length self.now }
+        ensures { slice_get self.now i ≡ Some result.now }
+    {
+        &self.list.as_slice()[i]
+    }
+
+    /// The relaxations, in order.
+    pub fn as_slice(&self) -> &[Relax]
+        ensures { result.now ≡ self.now }
+    {
+        self.list.as_slice()
+    }
+}

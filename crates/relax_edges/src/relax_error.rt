@@ -1,0 +1,24 @@
+use thiserror::Error;
+
+/// Why a text of relaxations is refused.
+#[derive(Clone, Copy, Debug, PartialEq, Eq, Error)]
+pub enum RelaxKind {
+    #[error("a word stands for no edge")]
+    UnknownEdge,
+    #[error("a bracket is not closed, is empty, holds a bracket, or closes nothing")]
+    BadBracket,
+    #[error("a bracket has more than 8 edges")]
+    RelaxTooLong,
+    #[error("no choice of the edges joins")]
+    DoesNotJoin,
+    #[error("there are more than 64 relaxations")]
+    TooManyRelaxes,
+}
+
+/// A refusal of a text of relaxations: the byte where the faulty relaxation begins, and why.
+#[derive(Clone, Copy, Debug, PartialEq, Eq, Error)]
+#[error("byte {at}: {kind}")]
+pub struct RelaxError {
+    pub at: usize,
+    pub kind: RelaxKind,
+}

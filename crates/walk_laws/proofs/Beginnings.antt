@@ -1,0 +1,38 @@
+-- A list that fails the test can't begin a normal form.
+use Rattle.std.proofs.Common.{◌≡◌, inl, inr, false, not, List, [], ◌∷◌, ◌++◌, map, refl, ◌∙◌, ap, append_assoc}
+use Rattle.std.proofs.lemmas.Bool.{and_cases, not-false}
+use Rattle.relax_edges.specs.declared.edge.Edge.{Edge}
+use Rattle.relax_edges.specs.Order.{rank_of}
+use Rattle.walk_laws.specs.Order.{Above, IsNormal, ranks_below}
+use Rattle.walk_laws.specs.Beginning.{none_below, may_begin}
+use Rattle.walk_laws.proofs.Ordering.{above_of_ranks, above_longer}
+
+-- a back part of a list that is less than it
+record BackBelow (u v : List Edge) : Type 0 where
+  front : List Edge
+  back : List Edge
+  parts : v ≡ front ++ back
+  below : Above back u
+
+back_below : (u v : List Edge) → none_below (map rank_of u) (map rank_of v) ≡ false → BackBelow u v
+back_below u [] h = cc
+back_below u (x ∷ v) h =
+    elim (and_cases (not (ranks_below (map rank_of (x ∷ v)) (map rank_of u))) (none_below (map rank_of u) (map rank_of v)) h) [
+      | inl here ↦ record {
+        front = [];
+        back = x ∷ v;
+        parts = refl;
+        below = above_of_ranks (x ∷ v) u (not-false (ranks_below (map rank_of (x ∷ v)) (map rank_of u)) here);
+      }
+      | inr later ↦
+          let b = back_below u v later in
+          record { front = x ∷ b.front; back = b.back; parts = ap (λ w. x ∷ w) b.parts; below = b.below }
+    ]
+
+-- a list that may not begin a normal form begins none
+pub begins_none : (u r : List Edge) → may_begin u ≡ false → IsNormal (u ++ r) → ⊥
+begins_none u r h n =
+    let b = back_below u u h in
+    let turned : u ++ r ≡ b.front ++ (b.back ++ r) = ap (λ w. w ++ r) b.parts ∙ append_assoc b.front b.back r in
+    n ((b.back ++ r) ++ b.front) (record { front = b.front; back = b.back ++ r; from = turned; to = refl })
+    (rw append_assoc (above_longer b.back u (r ++ b.front) r b.below))

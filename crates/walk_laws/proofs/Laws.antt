@@ -1,0 +1,46 @@
+-- The laws, each from its lemmas.
+use Rattle.std.proofs.Common.{List}
+use Rattle.relax_edges.specs.declared.edge.Edge.{Edge}
+use Rattle.walk_laws.specs.Composable.{IsCycle}
+use Rattle.walk_laws.specs.Rotation.{IsRotation}
+use Rattle.walk_laws.specs.Laws.{SameCycleIsEquivalence, RotationsArePlaces, EdgesTurn, RotationsAdd, CyclesTurn, ClosesByPlace, OrderIsStrict, CyclesInOrder, NormalFormsDecide, BeginsNone}
+use Rattle.walk_laws.proofs.Beginnings.{begins_none}
+use Rattle.walk_laws.proofs.Composing.{turned_cycle}
+use Rattle.walk_laws.proofs.Neighbours.{closed_at_place, closed_of_places}
+use Rattle.walk_laws.proofs.Ordering.{above_irreflexive, above_transitive, above_or_same, follows_irreflexive, follows_transitive, follows_or_same}
+use Rattle.walk_laws.proofs.Places.{rotated_at, rotations_add}
+use Rattle.walk_laws.proofs.Rotating.{rotation_same, rotation_back, rotation_on, rotation_of_place, place_of_rotation, least_same, same_least}
+
+-- a rotation of a cycle is a cycle
+pub cycle_of_rotation : (u v : List Edge) → IsRotation u v → IsCycle u → IsCycle v
+cycle_of_rotation u v r c = rw r.to (turned_cycle r.front r.back (rw r.from at c))
+
+pub same_cycle_is_equivalence : SameCycleIsEquivalence
+same_cycle_is_equivalence = record { itself = rotation_same; back = rotation_back; on = rotation_on }
+
+pub rotations_are_places : RotationsArePlaces
+rotations_are_places = record { rotates = rotation_of_place; begins = place_of_rotation }
+
+pub edges_turn : EdgesTurn
+edges_turn = rotated_at
+
+pub turns_add : RotationsAdd
+turns_add = rotations_add
+
+pub cycles_turn : CyclesTurn
+cycles_turn u v r = (cycle_of_rotation u v r, cycle_of_rotation v u (rotation_back u v r))
+
+pub closes_by_place : ClosesByPlace
+closes_by_place u = (λ h i within. closed_at_place u h i, closed_of_places u)
+
+pub order_is_strict : OrderIsStrict
+order_is_strict = record { irreflexive = above_irreflexive; transitive = above_transitive; total = above_or_same }
+
+pub cycles_in_order : CyclesInOrder
+cycles_in_order = record { irreflexive = follows_irreflexive; transitive = follows_transitive; total = follows_or_same }
+
+pub normal_forms_decide : NormalFormsDecide
+normal_forms_decide u v a b p q = (same_least u v a b p q, least_same u v a b p q)
+
+pub begins_no_normal_form : BeginsNone
+begins_no_normal_form = begins_none

@@ -1,0 +1,5 @@
+use Rattle.walk_laws.proofs.Laws as laws
+use Rattle.walk_laws.proofs.begins_none.Goals as goal
+
+pub returns : goal.returns
+returns c = laws.begins_no_normal_form

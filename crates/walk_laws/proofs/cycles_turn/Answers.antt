@@ -1,0 +1,5 @@
+use Rattle.walk_laws.proofs.Laws as laws
+use Rattle.walk_laws.proofs.cycles_turn.Goals as goal
+
+pub returns : goal.returns
+returns c = laws.cycles_turn

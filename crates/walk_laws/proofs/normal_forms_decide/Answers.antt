@@ -1,0 +1,5 @@
+use Rattle.walk_laws.proofs.Laws as laws
+use Rattle.walk_laws.proofs.normal_forms_decide.Goals as goal
+
+pub returns : goal.returns
+returns c = laws.normal_forms_decide
