@@ -203,6 +203,7 @@ need_none es k (suc d) h n =
     or_none_left : (x y : Option NeedsObserver) → option_or x y ≡ None → x ≡ None
     or_none_left None y e = refl
     or_none_left (Some x) y e = cc
+
     or_none_right : (x y : Option NeedsObserver) → option_or x y ≡ None → y ≡ None
     or_none_right None y e = e
     or_none_right (Some x) y e = cc

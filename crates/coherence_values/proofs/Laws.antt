@@ -1,10 +1,8 @@
 -- What values say of communications, of reads, and of the locations that have no observer.
-use Rattle.std.proofs.Common.{◌≡◌, ℕ, zero, suc, ◌+◌, ◌-◌, ◌<◌, ◌≤◌, Bool, true, false, ◌==◌, ◌&&◌, cond, List, [], length, Some, None, Ok, Err, refl, sym, ◌∙◌, ap, arith, eq-eqb}
-use Rattle.std.specs.Prelude.{nat_lt, nat_le}
-use Rattle.std.specs.List.{count_by, list_any}
-use Rattle.std.specs.Option.{is_some}
-use Rattle.std.proofs.lemmas.Bool.{and_parts, and_from, lt-ltb, leb-true, le-leb}
-use Rattle.relax_edges.specs.declared.kinds.Dir.{Dir}
+use Rattle.std.proofs.Common.{◌≡◌, ℕ, ◌+◌, ◌-◌, ◌<◌, ◌≤◌, true, false, ◌&&◌, List, length, None, Ok, Err, refl, sym, ◌∙◌, ap, arith}
+use Rattle.std.specs.Prelude.{nat_lt}
+use Rattle.std.specs.List.{count_by}
+use Rattle.std.proofs.lemmas.Bool.{and_from, lt-ltb, leb-true, le-leb}
 use Rattle.relax_edges.specs.declared.kinds.Dir.TheVariants as dirs
 use Rattle.relax_edges.specs.declared.kinds.Reach.{Reach}
 use Rattle.relax_edges.specs.declared.kinds.Com.TheVariants.{Rf, Fr, Ws}
@@ -12,19 +10,18 @@ use Rattle.relax_edges.specs.declared.kinds.ObsMode.{ObsMode}
 use Rattle.relax_edges.specs.declared.kinds.ObsMode.TheVariants.{Accept, Avoid, Force}
 use Rattle.relax_edges.specs.declared.edge.Edge.{Edge}
 use Rattle.relax_edges.specs.declared.edge.Edge.TheVariants as edges
-use Rattle.relax_edges.specs.EdgeTable.{source_of, target_of, same_dir, is_external, is_diff}
+use Rattle.relax_edges.specs.EdgeTable.{target_of, same_dir, is_external, is_diff}
 use Rattle.list_laws.specs.Numbers.{upto}
-use Rattle.list_laws.proofs.Cases.{by_test, by_less, by_same, by_option}
+use Rattle.list_laws.proofs.Cases.{by_less, by_option}
 use Rattle.list_laws.proofs.Counts.{count_upto-le}
 use Rattle.list_laws.proofs.Finds.{any_upto, any_upto_passing}
-use Rattle.cycle_resolve.specs.Resolution.{external_count, move_count, edge_at, event_after, event_before, location_of, IsResolved}
-use Rattle.cycle_resolve.proofs.Around.{after_below, source_after}
+use Rattle.cycle_resolve.specs.Resolution.{external_count, move_count, edge_at, event_after, location_of, IsResolved}
+use Rattle.cycle_resolve.proofs.Around.{source_after}
 use Rattle.cycle_resolve.proofs.Sizes.{external_and_moves}
-use Rattle.coherence_values.specs.Values.{is_write_at, way_place, value_of, write_count, edge_into, is_inner_entry, is_observed, Valuation, valuation_of, observer_need, first_need}
-use Rattle.coherence_values.specs.Arc.{inner_entry}
+use Rattle.coherence_values.specs.Values.{is_write_at, way_place, value_of, write_count, edge_into, is_inner_entry, is_observed, Valuation, valuation_of, observer_need}
 use Rattle.coherence_values.proofs.Along.{is_write, value_after, value_most, values_up, values_grow}
-use Rattle.coherence_values.proofs.Writes.{Write, SomeWrite, write_with_value, write_at_parts}
-use Rattle.coherence_values.proofs.Entries.{no_inner_entry, avoid_refused, Inner, inner_parts}
+use Rattle.coherence_values.proofs.Writes.{Write, write_with_value, write_at_parts}
+use Rattle.coherence_values.proofs.Entries.{no_inner_entry, avoid_refused, inner_parts}
 
 -- what an edge enters is a write where its target is
 pub enters_write : (es : List Edge) (i : ℕ) → IsResolved es → i < length es → is_write es (event_after es i) ≡ same_dir (target_of (edge_at es i)) dirs.W
@@ -74,8 +71,8 @@ last_write es i r h v =
       same_value = same;
       before = by_less (way_place es i) (way_place es w.event) (λ l. absurd (omega (arith, same, values_grow es i w.event w.is.below (sym p.1) l p.0))) (λ g. g);
       none_between = λ x b t l. by_less (way_place es i) (way_place es x) (λ z. z) (λ g.
-      let q = write_at_parts es (location_of es i) x t in
-      absurd (omega (arith, same, values_grow es w.event x b (p.1 ∙ sym q.1) l q.0, values_up es x i q.1 g)));
+          let q = write_at_parts es (location_of es i) x t in
+          absurd (omega (arith, same, values_grow es w.event x b (p.1 ∙ sym q.1) l q.0, values_up es x i q.1 g)));
     }
 
 -- an observed location has at least two writes

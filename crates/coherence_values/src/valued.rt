@@ -10,9 +10,12 @@ use std::marker::Model;
 
 /// A write that is neither the first nor the last of its location, and that an external edge
 /// enters: only an observer can tell its place in the coherence order.
-#[derive(Clone, Copy, Debug, PartialEq, Eq)]
+#[derive(Clone, Copy, Debug, PartialEq, Eq, thiserror::Error)]
+#[error("location {location} needs an observer, for its write at event {event}")]
 pub struct NeedsObserver {
+    /// The location of the write.
     pub location: u8,
+    /// The number of the write among the events.
     pub event: u8,
 }
 
@@ -71,7 +74,15 @@ impl<'a> Model for Valued<'a> {
     ghost invariant = { λ v. IsKept v.resolved.now v.values.items v.arcs.items };
 }
 
-/// Gives each event of the cycle its value.
+/// Gives each event of the cycle its value: along the arc of a location, which begins behind an
+/// edge to another location, a count grows by one at each write.
+///
+/// In the mode `Avoid` the answer is `NeedsObserver` where a location has a write that is neither
+/// its first nor its last and that an external edge enters: the lowest such location, and its
+/// first such write. The other modes refuse nothing.
+///
+/// The rules are those of the diy part of the herdtools manual; which locations are observed in
+/// which mode is own.
 pub fn value(resolved: &Resolved, mode: ObsMode) -> Result<Valued<'_>, NeedsObserver>
     ensures { result ≡ valuation_of resolved.now mode }
 {
@@ -150,7 +161,8 @@ impl<'a> Valued<'a> {
         self.resolved
     }
 
-    /// The value that an event writes or reads.
+    /// The value that an event writes or reads: for a read, how many writes stand before it on
+    /// its location's arc.
     pub fn value_of(&self, event: u8) -> u8
         requires { event < length self.now.edges }
         ensures { result ≡ value_of self.now.edges event }
@@ -179,7 +191,9 @@ impl<'a> Valued<'a> {
         unreachable!()
     }
 
-    /// Whether a location has an observer thread.
+    /// Whether a location has an observer thread: in the mode `Accept`, where a write that is
+    /// neither its first nor its last is entered by an external edge; in `Force`, where it has two
+    /// writes or more; in `Avoid`, never.
     pub fn observed(&self, location: u8) -> bool
         requires { location < move_count self.now.edges }
         ensures { result ≡ is_observed self.now.edges self.now.mode location }
@@ -208,3 +222,6 @@ impl<'a> Valued<'a> {
         written.dir == Dir::W && written.location == location && self.value_of(event) == value
     }
 }
+
+#[cfg(test)]
+mod tests;

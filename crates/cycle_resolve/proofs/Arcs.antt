@@ -152,3 +152,15 @@ moved_location es i r h t e =
     (λ m z. location_cases es (i + 1) h
     (λ v y. omega (arith, m, z, v, y, e, on, two))
     (λ v y. omega (arith, z, y, e, on)))
+
+-- two events at one location stand on one stretch of the list without a `d` edge between them, or they are at location 0
+-- before the first `d` edge and behind the last
+pub arc_cases : {G : Type 0} (es : List Edge) (i j : ℕ) → i ≤ j → j < length es → location_of es i ≡ location_of es j → (moves_before es i ≡ moves_before es j → G) → (location_of es i ≡ 0 → moves_before es i ≡ 0 → moves_before es j ≡ move_count es → G) → G
+arc_cases es i j h l e one wrapped =
+    let up = moves_up es i j h (omega arith) in
+    let most = moves_most es j (omega arith) in
+    location_cases es i (omega arith)
+    (λ w z. one (omega (arith, w, up, most)))
+    (λ m z. location_cases es j l
+    (λ v y. wrapped (e ∙ y) (sym z ∙ e ∙ y) v)
+    (λ v y. one (sym z ∙ e ∙ y)))

@@ -5,3 +5,4 @@ pub mod Walking
 pub mod Arcs
 pub mod Around
 pub mod Sizes
+pub mod Rotations

@@ -22,16 +22,20 @@ pub struct Event {
 }
 
 /// Why a cycle has no resolution.
-#[derive(Clone, Copy, Debug, PartialEq, Eq)]
+#[derive(Clone, Copy, Debug, PartialEq, Eq, thiserror::Error)]
 pub enum ResolveError {
     /// Fewer than two edges are external.
+    #[error("a cycle has at least two external edges")]
     TooFewThreads,
-    /// All edges to another location lie in one thread, or there is none.
+    /// All edges to another location lie in one thread, or there is none: coherence alone says
+    /// which executions of such a cycle are possible.
+    #[error("the edges to another location lie in one thread")]
     CoherenceOnly,
 }
 
 /// A cycle whose last edge is external, with the events of its edges.
 ///
+/// At least two of its edges are external, and no thread has all edges to another location.
 /// Contracts see the list of its edges.
 #[derive(Drop)]
 pub struct Resolved {
@@ -62,7 +66,7 @@ impl Resolved {
         &self.cycle
     }
 
-    /// Event number i: the source of edge i.
+    /// Event number `i`, which is below the number of edges: the access that edge `i` leaves.
     pub fn event(&self, i: u8) -> Event
         requires { i < length self.now }
         ensures { result ≡ event_of self.now i }
@@ -92,7 +96,14 @@ impl Resolved {
     }
 }
 
-/// Resolves a cycle into threads and locations.
+/// Resolves a cycle into threads and locations, counted from the first rotation whose last edge
+/// is external.
+///
+/// An external edge leads to the next thread, a `d` edge to the next location, and locations go
+/// round. The answer is `TooFewThreads` where fewer than two edges are external, and else
+/// `CoherenceOnly` where one thread has all `d` edges, or there is none.
+///
+/// The rules are those of the diy part of the herdtools manual; where counting begins is own.
 pub fn resolve(cycle: &Cycle) -> Result<Resolved, ResolveError>
     ensures made { result ≡ resolution_of cycle.now }
     ensures resolved { IfOk result IsResolved }
@@ -129,7 +140,7 @@ fn count_diff(edges: &[Edge]) -> u8
     edges.iter().filter(|edge| edge.is_diff()).count() as u8
 }
 
-/// By how much to rotate so that the last edge is external.
+/// By how many places to rotate so that the last edge is external.
 fn turn(edges: &[Edge]) -> u8
     requires few { length edges.now ≤ MAX_EDGES }
     requires some { 0 < length edges.now }

@@ -5,3 +5,4 @@ pub mod Ranks
 pub mod Finds
 pub mod Prefixes
 pub mod Totals
+pub mod Parts
