@@ -1,0 +1,97 @@
+ghost use Rattle.std.specs.Prelude.{◌≡◌, ◌≤◌, not, length};
+ghost use Rattle.std.specs.List.{position_from};
+ghost use Rattle.relax_edges.specs.EdgeTable.{is_of_arch};
+ghost use Rattle.arch_trait.specs.Writing.{name_in};
+ghost use Rattle.test_maker.specs.Made.{Makes, MakesResolved, MakesTest, MakesValued, AreOfArch, test_view};
+
+use arch_trait::Arch;
+use coherence_values::{NeedsObserver, Valued, value};
+use cycle_resolve::{ResolveError, Resolved, resolve};
+use edge_algebra::Cycle;
+use litmus_text::Test;
+use arrayvec::ArrayVec;
+use relax_edges::{ArchName, Edge, MAX_EDGES, ObsMode};
+
+use crate::condition::put_last_terms;
+use crate::refusal::MakeRefusal;
+use crate::threads::put_threads;
+
+/// The test of the cycle, or the first reason why it has none.
+pub fn make<A: Arch>(cycle: &Cycle, mode: ObsMode) -> Result<Test, MakeRefusal>
+    ensures { MakesTest A.puts (name_in A.writing.registers) cycle.now mode result }
+{
+    let mut test = Test::new();
+    match make_into::<A>(cycle, mode, &mut test) {
+        Ok(()) => Ok(test),
+        Err(refusal) => Err(refusal),
+    }
+}
+
+/// Makes `test` the test of the cycle, as `make` does. After a refusal nothing is known of it.
+pub fn make_into<A: Arch>(
+    cycle: &Cycle,
+    mode: ObsMode,
+    test: &mut Test,
+) -> Result<(), MakeRefusal>
+    ensures { Makes A.puts (name_in A.writing.registers) cycle.now mode (test_view test.new) result }
+{
+    if let Some(at) = first_foreign(cycle.edges(), A::NAME) {
+        return Err(MakeRefusal::NotOfArch { at });
+    }
+    match resolve(cycle) {
+        Err(ResolveError::TooFewThreads) => Err(MakeRefusal::TooFewThreads),
+        Err(ResolveError::CoherenceOnly) => Err(MakeRefusal::CoherenceOnly),
+        Ok(resolved) => make_resolved::<A>(&resolved, mode, test),
+    }
+}
+
+/// The place of the first edge that isn't of the architecture.
+fn first_foreign(edges: &[Edge], arch: ArchName) -> Option<u8>
+    requires { length edges.now ≤ MAX_EDGES }
+    ensures { result ≡ position_from (λ e. not (is_of_arch e arch)) 0 edges.now }
+{
+    for (at, edge) in edges.iter().enumerate() {
+        if !edge.of_arch(arch) {
+            return Some(at as u8);
+        }
+    }
+    None
+}
+
+fn make_resolved<A: Arch>(
+    resolved: &Resolved,
+    mode: ObsMode,
+    test: &mut Test,
+) -> Result<(), MakeRefusal>
+    requires { AreOfArch A.puts resolved.now }
+    ensures { MakesResolved A.puts (name_in A.writing.registers) resolved.now mode (test_view test.new) result }
+{
+    match value(resolved, mode) {
+        Err(NeedsObserver { location, event }) => {
+            Err(MakeRefusal::NeedsObserver { location, event })
+        }
+        Ok(valued) => make_valued::<A>(&valued, test),
+    }
+}
+
+fn make_valued<A: Arch>(valued: &Valued, test: &mut Test) -> Result<(), MakeRefusal>
+    requires { AreOfArch A.puts valued.now.edges }
+    ensures { MakesValued A.puts (name_in A.writing.registers) valued.now.edges valued.now.mode (test_view test.new) result }
+{
+    put_edges(valued.resolved().cycle().edges(), &mut test.edges);
+    test.places.set_letters(valued.resolved().locations());
+    put_last_terms(valued, &test.places, &mut test.cond);
+    put_threads::<A>(valued, &mut test.threads, &mut test.cond)
+}
+
+/// Makes `kept` a copy of the edges.
+fn put_edges(edges: &[Edge], kept: &mut ArrayVec<Edge, MAX_EDGES>)
+    requires { length edges.now ≤ MAX_EDGES }
+    ensures { kept.new.items ≡ edges.now }
+{
+    kept.clear();
+    match kept.try_extend_from_slice(edges) {
+        Ok(()) => {}
+        Err(_) => unreachable!(),
+    }
+}
