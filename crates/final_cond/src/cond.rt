@@ -1,6 +1,3 @@
-ghost use Rattle.std.specs.Prelude.{◌≡◌, ◌<◌, ◌++◌, ◌∷◌, []};
-ghost use Rattle.arrayvec.specs.ArrayVec.{array_vec_len};
-
 use arrayvec::{ArrayString, ArrayVec};
 
 /// The name of a register, of 1 to 16 bytes.
@@ -53,24 +50,4 @@ pub struct Term {
 pub struct Cond {
     pub quantifier: Quantifier,
     pub terms: ArrayVec<Term, MAX_TERMS>,
-}
-
-impl Cond {
-    /// Adds a term behind the others.
-    pub fn push(&mut self, term: Term)
-        requires { array_vec_len self.old.terms < MAX_TERMS }
-        ensures quantifier { self.new.quantifier ≡ self.old.quantifier }
-        ensures terms { self.new.terms.items ≡ self.old.terms.items ++ term ∷ [] }
-    {
-        self.terms.push(term);
-    }
-
-    /// Makes it a condition without terms.
-    pub fn clear(&mut self, quantifier: Quantifier)
-        ensures quantifier { self.new.quantifier ≡ quantifier }
-        ensures terms { self.new.terms.items ≡ [] }
-    {
-        self.quantifier = quantifier;
-        self.terms.clear();
-    }
 }

@@ -16,11 +16,6 @@ use Rattle.test_maker.specs.declared.refusal.MakeRefusal.{MakeRefusal}
 use Rattle.test_maker.specs.declared.refusal.MakeRefusal.TheVariants.{TooManyRegisters}
 use Rattle.test_maker.specs.Refusals.{crowded_thread, is_crowded}
 
--- each number is below a limit
-abbrev pub AreBelow : ℕ → List ℕ → Type 0
-AreBelow limit [] = Unit {0}
-AreBelow limit (x ∷ xs) = (x < limit) × AreBelow limit xs
-
 -- a call appends the code of a thread and the terms of its loads, or refuses the thread for its registers
 abbrev pub PutsThread : Puts → (ℕ → List ℕ) → ℕ → List Step → ArrayVec Code → ArrayVec Code → Cond → Cond → Result (Unit {0}) MakeRefusal → Type 0
 PutsThread a register_name thread steps threads threads' cond cond' (Ok _) =

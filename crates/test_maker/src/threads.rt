@@ -60,7 +60,7 @@ fn put_thread<A: Arch>(
     let mut code = Code::default();
     match compile_into::<A>(steps, &mut code) {
         Ok(()) => {
-            put_load_terms::<A>(thread, steps, code.loads.as_slice(), cond);
+            put_load_terms::<A>(thread, steps, code.loads.as_slice(), &mut cond.terms);
             threads.push(code);
             Ok(())
         }
