@@ -1,5 +1,5 @@
-ghost use Rattle.std.specs.Prelude.{◌≡◌, ℕ, ◌∷◌, [], ◌++◌, reverse};
-ghost use Rattle.relax_edges.specs.Reading.{dir_named, sd_named, reach_named, com_named, dependency_named, riscv_fence_named, plain_fence_named, fence_named, communication_of, two_sided_of, one_sided_of, read_as_communication, read_back_two_sided, read_back_one_sided, read_of};
+ghost use Rattle.std.specs.Prelude.{◌≡◌, ◌∷◌, [], ◌++◌, reverse};
+ghost use Rattle.relax_edges.specs.Reading.{dir_named, sd_named, reach_named, com_named, dependency_named, riscv_fence_named, plain_fence_named, fence_named, communication_of, two_sided_of, one_sided_of, read_as_communication, read_back_two_sided};
 ghost use Rattle.relax_edges.specs.Spelling.{edge_of};
 ghost use Rattle.std.specs.Result.{result_ok};
 
