@@ -104,25 +104,26 @@ fn riscv_fence(text: &[u8]) -> Option<FenceKind>
 fn plain_fence(text: &[u8]) -> Option<FenceKind>
     ensures { result ≡ plain_fence_named text.now }
 {
-    if text == b"MFence".as_slice() {
-        Some(FenceKind::MFence)
+    let fence = if text == b"MFence".as_slice() {
+        FenceKind::MFence
     } else if text == b"Sync".as_slice() {
-        Some(FenceKind::Sync)
+        FenceKind::Sync
     } else if text == b"LwSync".as_slice() {
-        Some(FenceKind::LwSync)
+        FenceKind::LwSync
     } else if text == b"Eieio".as_slice() {
-        Some(FenceKind::Eieio)
+        FenceKind::Eieio
     } else if text == b"ISync".as_slice() {
-        Some(FenceKind::ISync)
+        FenceKind::ISync
     } else if text == b"DMB.SY".as_slice() {
-        Some(FenceKind::DmbSy)
+        FenceKind::DmbSy
     } else if text == b"DMB.LD".as_slice() {
-        Some(FenceKind::DmbLd)
+        FenceKind::DmbLd
     } else if text == b"DMB.ST".as_slice() {
-        Some(FenceKind::DmbSt)
+        FenceKind::DmbSt
     } else {
-        None
-    }
+        return None;
+    };
+    Some(fence)
 }
 
 impl FenceKind {
