@@ -68,6 +68,7 @@ pub record IsRelaxes (paths : List (List Edge)) : Type 0 where
 abbrev pub keep : List (List Edge) → List Edge → List (List Edge)
 keep kept path = cond (list_any (is_same path) kept) kept (kept ++ path ∷ [])
 
+-- relaxations are kept one after another
 abbrev pub keep_all : List (List Edge) → List (List Edge) → List (List Edge)
 keep_all kept [] = kept
 keep_all kept (path ∷ paths) = keep_all (keep kept path) paths
@@ -93,6 +94,7 @@ kept_words kept words =
           ]
     ]
 
+-- what is kept behind an item, whose words are none where its bracket is bad
 unfoldable pub kept_item : List (List Edge) → Option (List (List ℕ)) → Result (List (List Edge)) RelaxKind
 kept_item kept None = Err BadBracket
 kept_item kept (Some words) = kept_words kept words

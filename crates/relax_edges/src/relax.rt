@@ -1,4 +1,4 @@
-ghost use Rattle.std.specs.Prelude.{◌≡◌, ◌<◌, ◌≤◌, ◌++◌, ◌∷◌, [], true, false, length, slice_get, Some, Ok, Err, MatchResult, IsOk, OnOk, OnErr, ◌↔◌, ◌==◌};
+ghost use Rattle.std.specs.Prelude.{◌≡◌, ◌<◌, ◌≤◌, [], true, length, slice_get, Some, Ok, Err, MatchResult, ◌==◌};
 ghost use Rattle.std.specs.List.{list_any};
 ghost use Rattle.relax_edges.specs.Relaxations.{IsRelax, IsRelaxes, is_path, are_distinct, is_same, keep, at_most_64};
 

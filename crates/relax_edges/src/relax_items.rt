@@ -1,4 +1,4 @@
-ghost use Rattle.std.specs.Prelude.{◌≡◌, ◌<◌, ◌≤◌, ◌+◌, ◌∷◌, [], ◌++◌, true, false, length, Ok, Err, None, OnOk, IfOk, MatchOption, MatchResult};
+ghost use Rattle.std.specs.Prelude.{◌≡◌, ◌<◌, ◌≤◌, ◌+◌, ◌∷◌, false, length, Ok, Err, None, OnOk, IfOk, MatchOption, MatchResult};
 ghost use Rattle.std.specs.List.{position, position_or_len};
 ghost use Rattle.relax_edges.specs.RelaxText.{is_separator, is_bracket, ends_word, words_of, bracket_words};
 ghost use Rattle.relax_edges.specs.RelaxFront.{front_len, kept_front, ends_here, IsInside, IsFrontWord};

@@ -1,4 +1,4 @@
-ghost use Rattle.std.specs.Prelude.{◌≡◌, ◌≤◌, [], length, Ok, Err, OnErr, OnOk, MatchResult};
+ghost use Rattle.std.specs.Prelude.{◌≡◌, ◌≤◌, [], length, Ok, Err, OnErr, MatchResult};
 ghost use Rattle.relax_edges.specs.RelaxText.{items_from};
 ghost use Rattle.relax_edges.specs.Relaxations.{kept_items, relaxes_of};
 
