@@ -6,3 +6,4 @@ pub mod Outcomes
 pub mod Rules
 pub mod Steps
 pub mod Threads
+pub mod Renumbered
