@@ -7,7 +7,7 @@ ghost use Rattle.cycle_resolve.specs.Resolution.{move_count};
 ghost use Rattle.arch_trait.specs.Names.{letters};
 ghost use Rattle.arch_trait.specs.Writing.{name_in};
 ghost use Rattle.test_laws.specs.Steps.{numbers_read};
-ghost use Rattle.test_laws.specs.TestOf.{last_terms, load_term};
+ghost use Rattle.test_laws.specs.TestOf.{is_named, last_terms, load_term};
 ghost use Rattle.arch_trait.specs.Codes.{AllBelow};
 
 use arch_trait::{Arch, Places, Step};
@@ -36,11 +36,18 @@ fn fill_last_terms(valued: &Valued, places: &Places, terms: &mut Terms)
     let _edges = valued.resolved().cycle();
     terms.clear();
     for location in 0..valued.resolved().locations() {
-        let writes = valued.writes(location);
-        if writes >= 2 && !valued.observed(location) {
-            push_last_term(places, location, writes, terms);
+        if is_named(valued, location) {
+            push_last_term(places, location, valued.writes(location), terms);
         }
     }
+}
+
+/// Whether the condition names the last value of the location.
+fn is_named(valued: &Valued, location: u8) -> bool
+    requires { location < move_count valued.now.edges }
+    ensures { result ≡ is_named valued.now.edges valued.now.mode location }
+{
+    valued.writes(location) >= 2 && !valued.observed(location)
 }
 
 fn push_last_term(places: &Places, location: u8, writes: u8, terms: &mut Terms)
