@@ -76,11 +76,11 @@ grown_more a name es mode k steps threads threads' cond0 cond1 cond2 g got put =
       ap (λ terms. map term_view cond0.terms.items ++ terms) (sym (more_terms a name (cycle_steps es mode plain) k steps got));
 }
   where
-  more_terms : (a : Puts) (name : ℕ → List ℕ) (threads : List (List Step)) (k : ℕ) (steps : List Step) → slice_get threads k ≡ Some steps →
-      load_terms a name 0 (take (k + 1) threads) ≡ load_terms a name 0 (take k threads) ++ thread_terms a name k steps
-  more_terms a name threads k steps got =
-      load_terms_more a name threads k steps (got_within threads k steps got) ∙
-      ap (λ s. load_terms a name 0 (take k threads) ++ thread_terms a name k s) (get_or_from_slice_get threads k steps steps got)
+    more_terms : (a : Puts) (name : ℕ → List ℕ) (threads : List (List Step)) (k : ℕ) (steps : List Step) → slice_get threads k ≡ Some steps →
+        load_terms a name 0 (take (k + 1) threads) ≡ load_terms a name 0 (take k threads) ++ thread_terms a name k steps
+    more_terms a name threads k steps got =
+        load_terms_more a name threads k steps (got_within threads k steps got) ∙
+        ap (λ s. load_terms a name 0 (take k threads) ++ thread_terms a name k s) (get_or_from_slice_get threads k steps steps got)
 
 -- a thread that needs too many registers is the first such
 pub grown_refused : (a : Puts) (name : ℕ → List ℕ) (es : List Edge) (mode : ObsMode) (k : ℕ) (steps : List Step) (threads threads' : ArrayVec Code) (cond0 cond1 cond2 : Cond) (refusal : MakeRefusal) →
@@ -88,8 +88,8 @@ pub grown_refused : (a : Puts) (name : ℕ → List ℕ) (es : List Edge) (mode 
     PutsThread a name k steps threads threads' cond1 cond2 (Err refusal) → crowded_thread a es mode ≡ Some refusal
 grown_refused a name es mode k steps threads threads' cond0 cond1 cond2 refusal g got put =
     let here : position_from (is_crowded a) k (drop k (cycle_steps es mode plain)) ≡ Some k =
-      ap (position_from (is_crowded a) k) (drop_got (cycle_steps es mode plain) k steps got) ∙
-      ap (λ b. cond b (Some k) (position_from (is_crowded a) (k + 1) (drop (k + 1) (cycle_steps es mode plain)))) put.0 in
+    ap (position_from (is_crowded a) k) (drop_got (cycle_steps es mode plain) k steps got) ∙
+    ap (λ b. cond b (Some k) (position_from (is_crowded a) (k + 1) (drop (k + 1) (cycle_steps es mode plain)))) put.0 in
     ap (option_map (λ thread. TooManyRegisters thread)) (sym g.fitting ∙ here) ∙ ap Some (sym put.1)
 
 -- all threads are made
@@ -97,18 +97,19 @@ pub grown_all : (a : Puts) (name : ℕ → List ℕ) (es : List Edge) (mode : Ob
     Grown a name es mode k threads cond0 cond1 → length (cycle_steps es mode plain) ≤ k → PutsThreads a name es mode threads cond0 cond1 (Ok tt)
 grown_all a name es mode k threads cond0 cond1 g h =
     let all : take k (cycle_steps es mode plain) ≡ cycle_steps es mode plain = take_all k (cycle_steps es mode plain) h in
-    let none : crowded a es mode ≡ None = sym g.fitting ∙ ap (position_from (is_crowded a) k) (drop_all k (cycle_steps es mode plain) h) in
-    ( ap (option_map (λ thread. TooManyRegisters thread)) none,
+    let none : crowded a es mode ≡ None = sym g.fitting ∙ ap (position_from (is_crowded a) k) (drop_all k (cycle_steps es mode plain) h) in (
+      ap (option_map (λ thread. TooManyRegisters thread)) none,
       g.codes ∙ ap (map (compiled a)) all,
       g.quantifier,
-      g.terms ∙ ap (λ steps. map term_view cond0.terms.items ++ load_terms a name 0 steps) all )
+      g.terms ∙ ap (λ steps. map term_view cond0.terms.items ++ load_terms a name 0 steps) all,
+    )
 
 -- there is room for a thread
 pub thread_room : (a : Puts) (name : ℕ → List ℕ) (es : List Edge) (mode : ObsMode) (k : ℕ) (threads : ArrayVec Code) (cond0 cond1 : Cond) →
     IsResolved es → Grown a name es mode k threads cond0 cond1 → k < length (cycle_steps es mode plain) → length threads.items < 24
 thread_room a name es mode k threads cond0 cond1 r g h =
     let long : length threads.items ≡ length (take k (cycle_steps es mode plain)) =
-      sym (length-map threads.items thread_of) ∙ ap length g.codes ∙ length-map (take k (cycle_steps es mode plain)) (compiled a) in
+    sym (length-map threads.items thread_of) ∙ ap length g.codes ∙ length-map (take k (cycle_steps es mode plain)) (compiled a) in
     omega (arith, long, length-take k (cycle_steps es mode plain), steps_few es mode plain, r.composes.few)
 
 -- there is room for its terms
@@ -118,7 +119,7 @@ pub load_room : (a : Puts) (name : ℕ → List ℕ) (es : List Edge) (mode : Ob
 load_room a name es mode k steps threads cond0 cond1 r g got last =
     let front = load_terms a name 0 (take k (cycle_steps es mode plain)) in
     let long : length cond1.terms.items ≡ length (last_terms es mode ++ front) =
-      sym (length-map cond1.terms.items term_view) ∙ ap length (g.terms ∙ ap (λ terms. terms ++ front) last) in
+    sym (length-map cond1.terms.items term_view) ∙ ap length (g.terms ∙ ap (λ terms. terms ++ front) last) in
     let room = terms_room a name es mode plain k steps r (got_within (cycle_steps es mode plain) k steps got) in
     let here = ap (λ s. length (thread_terms a name k s)) (get_or_from_slice_get (cycle_steps es mode plain) k steps steps got) in
     omega (arith, long, room, here, thread_terms-count a name k steps, reads-count steps)

@@ -31,7 +31,7 @@ last_room es mode location terms r e h =
 
 -- the name of a location stands at its number
 pub letter_at : (n location : ℕ) → location < n → slice_index_or (letters n) location [] ≡ location_name location
-letter_at n location h = ?
+letter_at n location h = get_or-map-range_with_len location_name 0 n location location [] h (omega arith)
 
 -- one location more that is named
 pub named_more : (es : List Edge) (mode : ObsMode) (location writes : ℕ) (places : List (List ℕ)) (terms terms' : List Term) →

@@ -4,7 +4,7 @@ use Rattle.std.specs.List.{list_all}
 use Rattle.relax_edges.specs.declared.kinds.ObsMode.{ObsMode}
 use Rattle.relax_edges.specs.declared.edge.Edge.{Edge}
 use Rattle.relax_edges.specs.EdgeTable.{is_of_arch}
-use Rattle.cycle_resolve.specs.Resolution.{turned}
+use Rattle.cycle_resolve.specs.Resolution.{resolution_of, turned}
 use Rattle.final_cond.specs.Conditions.{cond_view}
 use Rattle.arch_trait.specs.Threads.{Puts}
 use Rattle.arch_trait.specs.Codes.{thread_of}
@@ -37,6 +37,12 @@ abbrev pub MakesResolved : Puts → (ℕ → List ℕ) → List Edge → ObsMode
 MakesResolved a register_name es mode test (Ok _) =
     (resolved_refusal a (Ok es) mode ≡ None) × (test ≡ test_of a register_name es mode)
 MakesResolved a register_name es mode test (Err refusal) = resolved_refusal a (Ok es) mode ≡ Some refusal
+
+-- a call makes the test of a cycle whose edges are of the architecture, or gives the first reason why it has none
+abbrev pub MakesOfArch : Puts → (ℕ → List ℕ) → List Edge → ObsMode → TestSeen → Result (Unit {0}) MakeRefusal → Type 0
+MakesOfArch a register_name cycle mode test (Ok _) =
+    (resolved_refusal a (resolution_of cycle) mode ≡ None) × (test ≡ test_of a register_name (turned cycle) mode)
+MakesOfArch a register_name cycle mode test (Err refusal) = resolved_refusal a (resolution_of cycle) mode ≡ Some refusal
 
 -- a call makes the test of a cycle, which has no reason against it, or gives the first reason why it has none
 abbrev pub Makes : Puts → (ℕ → List ℕ) → List Edge → ObsMode → TestSeen → Result (Unit {0}) MakeRefusal → Type 0

@@ -11,9 +11,9 @@ ghost use Rattle.test_laws.specs.TestOf.{is_named, last_terms, load_term};
 ghost use Rattle.arch_trait.specs.Codes.{AllBelow};
 
 use arch_trait::{Arch, Places, Step};
+use arrayvec::ArrayVec;
 use coherence_values::Valued;
 use final_cond::{Cond, Left, MAX_TERMS, PlaceName, Quantifier, RegName, Term};
-use arrayvec::ArrayVec;
 use relax_edges::Dir;
 
 /// The terms of a condition.

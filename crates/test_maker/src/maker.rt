@@ -2,19 +2,18 @@ ghost use Rattle.std.specs.Prelude.{◌≡◌, ◌≤◌, not, length};
 ghost use Rattle.std.specs.List.{position_from};
 ghost use Rattle.relax_edges.specs.EdgeTable.{is_of_arch};
 ghost use Rattle.arch_trait.specs.Writing.{name_in};
-ghost use Rattle.test_maker.specs.Made.{Makes, MakesResolved, MakesTest, MakesValued, AreOfArch, test_view};
-
-use arch_trait::Arch;
-use coherence_values::{NeedsObserver, Valued, value};
-use cycle_resolve::{ResolveError, Resolved, resolve};
-use edge_algebra::Cycle;
-use litmus_text::Test;
-use arrayvec::ArrayVec;
-use relax_edges::{ArchName, Edge, MAX_EDGES, ObsMode};
+ghost use Rattle.test_maker.specs.Made.{Makes, MakesOfArch, MakesResolved, MakesTest, MakesValued, AreOfArch, test_view};
 
 use crate::condition::put_last_terms;
 use crate::refusal::MakeRefusal;
 use crate::threads::put_threads;
+use arch_trait::Arch;
+use arrayvec::ArrayVec;
+use coherence_values::{NeedsObserver, Valued, value};
+use cycle_resolve::{ResolveError, Resolved, resolve};
+use edge_algebra::Cycle;
+use litmus_text::Test;
+use relax_edges::{Edge, MAX_EDGES, ObsMode};
 
 /// The test of the cycle, or the first reason why it has none.
 pub fn make<A: Arch>(cycle: &Cycle, mode: ObsMode) -> Result<Test, MakeRefusal>
@@ -28,34 +27,38 @@ pub fn make<A: Arch>(cycle: &Cycle, mode: ObsMode) -> Result<Test, MakeRefusal>
 }
 
 /// Makes `test` the test of the cycle, as `make` does. After a refusal nothing is known of it.
-pub fn make_into<A: Arch>(
-    cycle: &Cycle,
-    mode: ObsMode,
-    test: &mut Test,
-) -> Result<(), MakeRefusal>
+pub fn make_into<A: Arch>(cycle: &Cycle, mode: ObsMode, test: &mut Test) -> Result<(), MakeRefusal>
     ensures { Makes A.puts (name_in A.writing.registers) cycle.now mode (test_view test.new) result }
 {
-    if let Some(at) = first_foreign(cycle.edges(), A::NAME) {
-        return Err(MakeRefusal::NotOfArch { at });
+    match first_foreign::<A>(cycle.edges()) {
+        Some(at) => Err(MakeRefusal::NotOfArch { at }),
+        None => make_of_arch::<A>(cycle, mode, test),
     }
+}
+
+/// The place of the first edge that isn't of the architecture.
+fn first_foreign<A: Arch>(edges: &[Edge]) -> Option<u8>
+    requires { length edges.now ≤ MAX_EDGES }
+    ensures { result ≡ position_from (λ e. not (is_of_arch e A.puts.name)) 0 edges.now }
+{
+    for (at, edge) in edges.iter().enumerate() {
+        if !A::supports(*edge) {
+            return Some(at as u8);
+        }
+    }
+    None
+}
+
+fn make_of_arch<A: Arch>(cycle: &Cycle, mode: ObsMode, test: &mut Test) -> Result<(), MakeRefusal>
+    requires { AreOfArch A.puts cycle.now }
+    ensures { MakesOfArch A.puts (name_in A.writing.registers) cycle.now mode (test_view test.new) result }
+{
+    let _edges = cycle.edges();
     match resolve(cycle) {
         Err(ResolveError::TooFewThreads) => Err(MakeRefusal::TooFewThreads),
         Err(ResolveError::CoherenceOnly) => Err(MakeRefusal::CoherenceOnly),
         Ok(resolved) => make_resolved::<A>(&resolved, mode, test),
     }
-}
-
-/// The place of the first edge that isn't of the architecture.
-fn first_foreign(edges: &[Edge], arch: ArchName) -> Option<u8>
-    requires { length edges.now ≤ MAX_EDGES }
-    ensures { result ≡ position_from (λ e. not (is_of_arch e arch)) 0 edges.now }
-{
-    for (at, edge) in edges.iter().enumerate() {
-        if !edge.of_arch(arch) {
-            return Some(at as u8);
-        }
-    }
-    None
 }
 
 fn make_resolved<A: Arch>(

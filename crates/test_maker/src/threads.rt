@@ -8,15 +8,14 @@ ghost use Rattle.test_laws.specs.TestOf.{last_terms};
 ghost use Rattle.test_maker.specs.Made.{AreOfArch};
 ghost use Rattle.test_maker.specs.Terms.{PutsThread, PutsThreads};
 
+use crate::condition::put_load_terms;
+use crate::refusal::MakeRefusal;
+use crate::steps::{Steps, fill_steps, thread_count};
 use arch_trait::{Arch, Code, MAX_STEPS, Step, compile_into};
 use arrayvec::ArrayVec;
 use coherence_values::Valued;
 use final_cond::{Cond, MAX_TERMS};
 use relax_edges::MAX_EDGES;
-
-use crate::condition::put_load_terms;
-use crate::refusal::MakeRefusal;
-use crate::steps::{Steps, fill_steps, thread_count};
 
 /// The code of the threads of a test.
 pub type Threads = ArrayVec<Code, MAX_EDGES>;

@@ -25,12 +25,12 @@ loop-location-preserved c =
     let es = c.args.valued.now.edges in
     let below : c.loop-location.location < move_count es = omega (arith, ap move_count c.resolved-2.ensures) in
     elim c.if-is_named.branch [
-      then-is_named w ↦
-        ap (λ (v : ArrayVec Term). map term_view v.items) w.terms-is ∙
-        named_more es c.args.valued.now.mode c.loop-location.location w.writes.result c.args.places.now c.loop-location.terms.items w.push_last_term.new.terms.items
-        c.loop-location.invariant (sym c.is_named.ensures ∙ w.if-is_named.true) c.requires below w.writes.ensures w.push_last_term.ensures
-    | else-is_named w ↦
-        ap (λ (v : ArrayVec Term). map term_view v.items) w.terms-is ∙
-        found_same (last_term es) (is_named es c.args.valued.now.mode) c.loop-location.location (map term_view c.loop-location.terms.items)
-        c.loop-location.invariant (sym c.is_named.ensures ∙ w.if-is_named.false)
+      | then-is_named w ↦
+          ap (λ (v : ArrayVec Term). map term_view v.items) w.terms-is ∙
+          named_more es c.args.valued.now.mode c.loop-location.location w.writes.result c.args.places.now c.loop-location.terms.items w.push_last_term.new.terms.items
+          c.loop-location.invariant (sym c.is_named.ensures ∙ w.if-is_named.true) c.requires below w.writes.ensures w.push_last_term.ensures
+      | else-is_named w ↦
+          ap (λ (v : ArrayVec Term). map term_view v.items) w.terms-is ∙
+          found_same (last_term es) (is_named es c.args.valued.now.mode) c.loop-location.location (map term_view c.loop-location.terms.items)
+          c.loop-location.invariant (sym c.is_named.ensures ∙ w.if-is_named.false)
     ]

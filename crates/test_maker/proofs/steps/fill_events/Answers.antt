@@ -21,13 +21,13 @@ pub loop-i-preserved : goal.loop-i-preserved
 loop-i-preserved c =
     let es = c.args.valued.now.edges in
     elim c.if-event-thread.branch [
-      then-event-thread w ↦
-        ap (λ (v : ArrayVec Step). v.items) w.steps-is ∙ w.push.ensures.items ∙ ap (λ x. c.loop-i.steps.items ++ x ∷ []) w.step_of.ensures ∙
-        found_more (event_step es plain) (λ j. thread_of es j == c.args.thread) c.loop-i.i c.loop-i.steps.items c.loop-i.invariant
-        (in_thread es c.resolved-in-loop-i.result.now c.event.result c.loop-i.i c.args.thread c.event.ensures c.resolved-in-loop-i.ensures w.if-event-thread.true)
-    | else-event-thread w ↦
-        ap (λ (v : ArrayVec Step). v.items) w.steps-is ∙ found_same (event_step es plain) (λ j. thread_of es j == c.args.thread) c.loop-i.i c.loop-i.steps.items c.loop-i.invariant
-        (in_another es c.resolved-in-loop-i.result.now c.event.result c.loop-i.i c.args.thread c.event.ensures c.resolved-in-loop-i.ensures w.if-event-thread.false)
+      | then-event-thread w ↦
+          ap (λ (v : ArrayVec Step). v.items) w.steps-is ∙ w.push.ensures.items ∙ ap (λ x. c.loop-i.steps.items ++ x ∷ []) w.step_of.ensures ∙
+          found_more (event_step es plain) (λ j. thread_of es j == c.args.thread) c.loop-i.i c.loop-i.steps.items c.loop-i.invariant
+          (in_thread es c.resolved-in-loop-i.result.now c.event.result c.loop-i.i c.args.thread c.event.ensures c.resolved-in-loop-i.ensures w.if-event-thread.true)
+      | else-event-thread w ↦
+          ap (λ (v : ArrayVec Step). v.items) w.steps-is ∙ found_same (event_step es plain) (λ j. thread_of es j == c.args.thread) c.loop-i.i c.loop-i.steps.items c.loop-i.invariant
+          (in_another es c.resolved-in-loop-i.result.now c.event.result c.loop-i.i c.args.thread c.event.ensures c.resolved-in-loop-i.ensures w.if-event-thread.false)
     ]
 
 pub returns : goal.returns

@@ -27,7 +27,7 @@ put_thread-requires-clause-terms_room g c =
 
 pub returns-in-Err : goal.returns-in-Err
 returns-in-Err g c =
-    grown_refused g.A.Arch.puts (name_in g.A.Arch.writing.registers) c.args.valued.now.edges c.args.valued.now.mode c.loop-thread.thread c.as_slice.result.now _ _ _ _ _ _
+    grown_refused g.A.Arch.puts (name_in g.A.Arch.writing.registers) c.args.valued.now.edges c.args.valued.now.mode c.loop-thread.thread c.as_slice.result.now c.loop-thread.threads c.put_thread.new.threads c.args.cond.now c.loop-thread.cond c.put_thread.new.cond c.in-Err.refusal
     c.loop-thread.invariant (c.fill_steps.ensures ∙ ap Some (sym c.as_slice.ensures.value)) c.in-Err.ensures
 
 pub loop-thread-preserved : goal.loop-thread-preserved
