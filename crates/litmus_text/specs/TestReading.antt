@@ -1,6 +1,6 @@
 -- What the text of a test is read as.
 -- Source: the litmus format of the herdtools manual; the limits and the order of the faults are own.
-use Rattle.std.specs.Prelude.{ℕ, ◌==◌, cond, nat_lt, List, [], ◌∷◌, Option, Result, Ok, length, map}
+use Rattle.std.specs.Prelude.{ℕ, ◌==◌, cond, nat_lt, List, Option, Result, Ok, length, map}
 use Rattle.std.specs.List.{filter, enumerate_from}
 use Rattle.relax_edges.specs.declared.kinds.ArchName.{ArchName}
 use Rattle.relax_edges.specs.declared.kinds.Value.{Value}
