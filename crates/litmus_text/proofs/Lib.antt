@@ -1,3 +1,4 @@
+mod ReadRows
 mod TextRows
 pub mod WroteLaws
 pub mod ElementLaws

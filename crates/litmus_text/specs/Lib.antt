@@ -2,3 +2,11 @@ pub mod TestText
 pub mod Tests
 pub mod Wrote
 pub mod Parts
+pub mod Lines
+pub mod Cuts
+pub mod Header
+pub mod Joined
+pub mod InitialState
+pub mod Table
+pub mod Condition
+pub mod TestReading

@@ -1,13 +1,17 @@
-//! The text of a test: how it is printed.
+//! The text of a test: how it is printed, and what a text is read as.
 #![tactic(auto)]
 
 mod column;
+mod errors;
 mod head;
 mod initial;
+mod limits;
 mod print;
 mod table;
 mod test;
 mod write;
 
+pub use errors::{TestKind, TextError};
+pub use limits::{MAX_ACCESSES, MAX_NAME, MAX_ROWS, MAX_TEXT, MAX_THREADS};
 pub use print::print_test;
 pub use test::Test;

@@ -1,0 +1,124 @@
+-- The condition of a test, at the end of its text.
+-- Source: the litmus format of the herdtools manual; what is a fault, and where, is own.
+use Rattle.std.specs.Prelude.{ℕ, zero, suc, ◌-◌, ◌==◌, cond, ◌&&◌, nat_lt, List, [], ◌∷◌, Option, Some, None, Result, Ok, Err, length, is_some}
+use Rattle.final_cond.specs.declared.cond.TheConstants.{MAX_TERMS}
+use Rattle.final_cond.specs.declared.read.Follow.{Follow}
+use Rattle.final_cond.specs.declared.read.Follow.TheVariants as follows
+use Rattle.final_cond.specs.Runs.{unblanked}
+use Rattle.final_cond.specs.Conditions.{LeftSeen, InRegister, AtPlace, TermSeen, CondSeen}
+use Rattle.final_cond.specs.Reading.{Fault, opening_read, left_read, right_read, follow_read, end_at_front, has_form}
+use Rattle.arch_trait.specs.Names.{number_in, number_added, names_added}
+use Rattle.arch_trait.specs.Writing.{Writing}
+use Rattle.litmus_text.specs.declared.errors.TestKind.TheVariants.{BadCondition, TooLarge, EndMissing}
+use Rattle.litmus_text.specs.declared.errors.TextError.{TextError}
+use Rattle.litmus_text.specs.Lines.{Lines, ends, line, ◌>>=◌, bad}
+use Rattle.litmus_text.specs.Joined.{Joined, no_text, with_text, all_joined, line_at}
+
+-- the threads of the table, the line where the condition begins, and its text
+pub record Setting : Type 0 where
+  pub threads : ℕ
+  pub begins : ℕ
+  pub text : Joined
+
+-- the names of places, and the line of the first place that was one too many, behind the line where the condition begins
+pub record Mentioned : Type 0 where
+  pub names : List (List ℕ)
+  pub over : Option ℕ
+
+-- what a part of the condition gives, or the fault at the line where the condition begins
+abbrev pub at_begin : {A : Type 0} → ℕ → Result A Fault → Result A TextError
+at_begin n (Ok x) = Ok x
+at_begin n (Err fault) = bad BadCondition n
+
+-- the first of two lines, if there is one
+abbrev pub or_line : Option ℕ → ℕ → Option ℕ
+or_line (Some n) m = Some n
+or_line None m = Some m
+
+-- a place that is one too many, at a line: a fault at once where the condition begins
+abbrev pub over_at : ℕ → ℕ → Mentioned → Result Mentioned TextError
+over_at begins n s = cond (n == begins) (bad TooLarge n) (Ok (record s { over = or_line s.over n }))
+
+-- a place that is named
+abbrev pub place_put : ℕ → ℕ → Mentioned → List ℕ → Option ℕ → Result Mentioned TextError
+place_put begins n s name (Some place) = Ok (record s { names = names_added s.names name })
+place_put begins n s name None = over_at begins n s
+
+-- a left side at a line: a register of a thread of the table, or a place
+abbrev pub left_put : Writing → Setting → ℕ → Mentioned → LeftSeen → Result Mentioned TextError
+left_put w here n s (InRegister thread name) =
+    cond (nat_lt thread here.threads && is_some (number_in w.registers name)) (Ok s) (bad BadCondition here.begins)
+left_put w here n s (AtPlace name) = place_put here.begins n s name (number_added s.names name)
+
+-- the line of the first byte of what is left of the text
+abbrev pub line_of_rest : Setting → List ℕ → ℕ
+line_of_rest here rest = line_at here.text (length here.text.bytes - length rest)
+
+-- a term, and what it says of places
+pub record TermRead : Type 0 where
+  pub term : TermSeen
+  pub state : Mentioned
+  pub rest : List ℕ
+
+-- a term at the front of what is left
+unfoldable pub term_here : Writing → Setting → Mentioned → List ℕ → Result TermRead TextError
+term_here w here s text = do
+  left ← at_begin here.begins (left_read has_form (unblanked text))
+  next ← left_put w here (line_of_rest here (unblanked text)) s left.0
+  right ← at_begin here.begins (right_read left.1)
+  Ok (record { term = record { left = left.0; value = right.0 }; state = next; rest = right.1 })
+
+-- the terms, and what they say of places
+pub record TermsRead : Type 0 where
+  pub terms : List TermSeen
+  pub state : Mentioned
+  pub rest : List ℕ
+
+-- a term before others
+abbrev pub before_read : TermSeen → TermsRead → TermsRead
+before_read term others = record others { terms = term ∷ others.terms }
+
+-- a term, and the further terms where the text goes on with them
+abbrev pub and_more : TermRead → (Mentioned → List ℕ → Result TermsRead TextError) → Follow → List ℕ → Result TermsRead TextError
+and_more read further follows.End rest = Ok (record { terms = read.term ∷ []; state = read.state; rest = rest })
+and_more read further follows.Term rest = do
+  others ← further read.state rest
+  Ok (before_read read.term others)
+
+-- at most so many terms, up to the `)` behind the last; a term too many is too large
+unfoldable pub terms_here : Writing → Setting → ℕ → Mentioned → List ℕ → Result TermsRead TextError
+terms_here w here zero s text = do
+  read ← term_here w here s text
+  bad TooLarge here.begins
+terms_here w here (suc room) s text = do
+  read ← term_here w here s text
+  follow ← at_begin here.begins (follow_read read.rest)
+  and_more read (terms_here w here room) follow.0 follow.1
+
+-- no place is one too many
+abbrev pub none_over : Mentioned → Result (List (List ℕ)) TextError
+none_over s = none_over_if s.over s.names
+  where
+    none_over_if : Option ℕ → List (List ℕ) → Result (List (List ℕ)) TextError
+    none_over_if None names = Ok names
+    none_over_if (Some n) names = bad TooLarge n
+
+-- a condition, and the names of places
+pub record CondRead : Type 0 where
+  pub cond : CondSeen
+  pub names : List (List ℕ)
+
+-- the whole text of a condition
+unfoldable pub cond_here : Writing → Setting → List (List ℕ) → Result CondRead TextError
+cond_here w here names = do
+  opening ← at_begin here.begins (opening_read here.text.bytes)
+  read ← terms_here w here MAX_TERMS (record { names = names; over = None }) opening.1
+  end ← at_begin here.begins (end_at_front (unblanked read.rest))
+  kept ← none_over read.state
+  Ok (record { cond = record { quantifier = opening.0; terms = read.terms }; names = kept })
+
+-- the condition: the rest of the text
+unfoldable pub condition_read : Writing → ℕ → List (List ℕ) → Lines → Result CondRead TextError
+condition_read w threads names (ends n) = bad EndMissing n
+condition_read w threads names (line n text rest) =
+    cond_here w (record { threads = threads; begins = n; text = all_joined (with_text no_text n text) rest }) names

@@ -1,0 +1,78 @@
+-- What stands above the initial state: the header, the quoted text, and lines that are passed over.
+-- Source: the litmus format of the herdtools manual.
+use Rattle.std.specs.Prelude.{ℕ, ◌==◌, Bool, false, cond, not, ◌&&◌, nat_le, List, [], ◌∷◌, Option, Some, None, Ok, length}
+use Rattle.std.specs.Char.{is_ascii_alphabetic}
+use Rattle.std.specs.Str.{bytes_eq}
+use Rattle.relax_edges.specs.declared.kinds.ArchName.{ArchName}
+use Rattle.relax_edges.specs.Architectures.{arch_word, arch_of}
+use Rattle.final_cond.specs.Runs.{run_of, after_run}
+use Rattle.litmus_text.specs.declared.errors.TestKind.TheVariants.{BadHeader, BadQuote, EndMissing}
+use Rattle.litmus_text.specs.declared.limits.TheConstants.{MAX_NAME}
+use Rattle.litmus_text.specs.Lines.{Lines, ends, line, Read, bad}
+use Rattle.litmus_text.specs.Cuts.{is_nil, cut_at, words}
+
+-- the two words of a header
+abbrev pub two_words : List (List ℕ) → Option (List ℕ × List ℕ)
+two_words (arch ∷ name ∷ []) = Some (arch, name)
+two_words _ = None
+
+-- a name isn't too long
+abbrev pub is_short_name : List ℕ → Bool
+is_short_name name = nat_le (length name) MAX_NAME
+
+-- the architecture of a header, where its name isn't too long
+abbrev pub arch_if : ℕ → Lines → List ℕ → Option ArchName → Read ArchName
+arch_if n rest name None = bad BadHeader n
+arch_if n rest name (Some arch) = cond (is_short_name name) (Ok (arch, rest)) (bad BadHeader n)
+
+abbrev pub arch_in : ℕ → Lines → Option (List ℕ × List ℕ) → Read ArchName
+arch_in n rest None = bad BadHeader n
+arch_in n rest (Some header) = arch_if n rest header.1 (arch_of header.0)
+
+-- the architecture that the header names
+unfoldable pub arch_read : Lines → Read ArchName
+arch_read (ends n) = bad EndMissing n
+arch_read (line n text rest) = arch_in n rest (two_words (words text))
+
+-- the name in a header of this architecture
+abbrev pub name_in_header : ArchName → ℕ → Lines → Option (List ℕ × List ℕ) → Read (List ℕ)
+name_in_header arch n rest None = bad BadHeader n
+name_in_header arch n rest (Some header) =
+    cond (bytes_eq header.0 (arch_word arch) && is_short_name header.1) (Ok (header.1, rest)) (bad BadHeader n)
+
+-- the header: the architecture and a name
+unfoldable pub header_read : ArchName → Lines → Read (List ℕ)
+header_read arch (ends n) = bad EndMissing n
+header_read arch (line n text rest) = name_in_header arch n rest (two_words (words text))
+
+-- a text in double quotes, which end the line
+abbrev pub quote_closed : ℕ → Lines → List ℕ → List ℕ → Read (Option (List ℕ))
+quote_closed n rest quoted [] = Ok (Some quoted, rest)
+quote_closed n rest quoted (byte ∷ behind) = bad BadQuote n
+
+abbrev pub quote_cut : ℕ → Lines → Option (List ℕ × List ℕ) → Read (Option (List ℕ))
+quote_cut n rest None = bad BadQuote n
+quote_cut n rest (Some parts) = quote_closed n rest parts.0 parts.1
+
+abbrev pub quote_line : ℕ → List ℕ → Lines → Read (Option (List ℕ))
+quote_line n [] rest = Ok (None, line n [] rest)
+quote_line n (byte ∷ text) rest = cond (byte == 34) (quote_cut n rest (cut_at 34 text)) (Ok (None, line n (byte ∷ text) rest))
+
+-- the quoted text, where the next line begins with a double quote
+unfoldable pub quote_read : Lines → Read (Option (List ℕ))
+quote_read (ends n) = Ok (None, ends n)
+quote_read (line n text rest) = quote_line n text rest
+
+-- a text begins with `=`
+abbrev pub begins_equal : List ℕ → Bool
+begins_equal [] = false
+begins_equal (byte ∷ text) = byte == 61
+
+-- one or more letters, `=` and anything
+unfoldable pub is_setting : List ℕ → Bool
+is_setting text = not (is_nil (run_of is_ascii_alphabetic text)) && begins_equal (after_run is_ascii_alphabetic text)
+
+-- the lines behind those of the form `name=anything`
+unfoldable pub after_settings : Lines → Lines
+after_settings (ends n) = ends n
+after_settings (line n text rest) = cond (is_setting text) (after_settings rest) (line n text rest)

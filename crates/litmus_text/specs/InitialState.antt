@@ -1,0 +1,179 @@
+-- The initial state of a test.
+-- Source: the litmus format of the herdtools manual; what is a fault, and where, is own.
+use Rattle.std.specs.Prelude.{ℕ, ◌+◌, ◌-◌, ◌==◌, Bool, cond, ◌&&◌, nat_lt, List, [], ◌∷◌, ◌++◌, Option, Some, None, Result, Ok, codes, length}
+use Rattle.std.specs.List.{list_any}
+use Rattle.std.specs.Str.{bytes_eq}
+use Rattle.relax_edges.specs.declared.kinds.Value.{Value}
+use Rattle.relax_edges.specs.declared.kinds.Value.TheVariants as values
+use Rattle.final_cond.specs.Names.{is_place_name}
+use Rattle.final_cond.specs.Numbers.{number_of}
+use Rattle.final_cond.specs.Runs.{unblanked}
+use Rattle.final_cond.specs.Conditions.{LeftSeen, InRegister, AtPlace}
+use Rattle.final_cond.specs.Reading.{left_at_front}
+use Rattle.arch_trait.specs.Names.{number_in, number_added, names_added}
+use Rattle.arch_trait.specs.Reading.{trimmed, before_blanks}
+use Rattle.arch_trait.specs.Writing.{Writing}
+use Rattle.litmus_text.specs.declared.errors.TestKind.TheVariants.{BadInit, TooLarge, EndMissing}
+use Rattle.litmus_text.specs.declared.errors.TextError.{TextError}
+use Rattle.litmus_text.specs.declared.limits.TheConstants.{MAX_THREADS}
+use Rattle.litmus_text.specs.Lines.{Lines, ends, line, Read, ◌>>=◌, bad}
+use Rattle.litmus_text.specs.Cuts.{is_nil, cut_at, pieces}
+use Rattle.litmus_text.specs.Joined.{Joined, no_text, with_text, line_at}
+
+-- what an item gives a register: a number, or the address of a place
+pub data Worth : Type 0 where
+  a_number : ℕ → Worth
+  a_place : List ℕ → Worth
+
+-- an item: empty, `T:REG=PLACE` or `T:REG=NUM` by the number of the register, `PLACE=0` or `[PLACE]=0`
+pub data Item : Type 0 where
+  empty : Item
+  gives : (thread register : ℕ) (worth : Worth) → Item
+  zero_at : (place : List ℕ) → Item
+
+-- the value on the right of a register
+abbrev pub place_worth : List ℕ → Option Worth
+place_worth text = cond (is_place_name text) (Some (a_place text)) None
+
+abbrev pub worth_if : List ℕ → Option ℕ → Option Worth
+worth_if text (Some n) = Some (a_number n)
+worth_if text None = place_worth text
+
+abbrev pub worth_of : List ℕ → Option Worth
+worth_of text = worth_if text (number_of text)
+
+-- a register that is given a value
+abbrev pub given : ℕ → Option ℕ → Option Worth → Option Item
+given thread (Some register) (Some worth) = Some (gives thread register worth)
+given thread _ _ = None
+
+-- an item with this left side
+abbrev pub item_with : Writing → LeftSeen → List ℕ → Option Item
+item_with w (InRegister thread name) right =
+    cond (nat_lt thread MAX_THREADS) (given thread (number_in w.registers name) (worth_of right)) None
+item_with w (AtPlace name) right =
+    cond (is_place_name name && bytes_eq right (codes "0")) (Some (zero_at name)) None
+
+-- a left side is the whole of a text
+abbrev pub whole_left : Option (LeftSeen × List ℕ) → Option LeftSeen
+whole_left None = None
+whole_left (Some left) = cond (is_nil left.1) (Some left.0) None
+
+abbrev pub item_if : Writing → Option LeftSeen → List ℕ → Option Item
+item_if w None right = None
+item_if w (Some left) right = item_with w left right
+
+-- the two sides of `=`, around which blanks may stand
+abbrev pub item_parts : Writing → Option (List ℕ × List ℕ) → Option Item
+item_parts w None = None
+item_parts w (Some sides) = item_if w (whole_left (left_at_front (trimmed sides.0))) (trimmed sides.1)
+
+abbrev pub some_item : Writing → List ℕ → Option Item
+some_item w [] = Some empty
+some_item w (byte ∷ text) = item_parts w (cut_at 61 (byte ∷ text))
+
+-- the item of a text, with blanks at both ends
+unfoldable pub item_of : Writing → List ℕ → Option Item
+item_of w text = some_item w (trimmed text)
+
+-- the initial values so far, each with its thread and register, and the names of places
+pub record Begun : Type 0 where
+  pub names : List (List ℕ)
+  pub values : List (ℕ × (ℕ × Value))
+
+-- nothing is given yet
+abbrev pub nothing_begun : Begun
+nothing_begun = record { names = []; values = [] }
+
+-- a register has a value already
+abbrev pub is_given : ℕ → ℕ → List (ℕ × (ℕ × Value)) → Bool
+is_given thread register values = list_any (λ v. (v.0 == thread) && (v.1.0 == register)) values
+
+-- a register with a value more
+abbrev pub with_value : Begun → List (List ℕ) → ℕ → ℕ → Value → Begun
+with_value begun names thread register value = record {
+  names = names;
+  values = begun.values ++ (thread, (register, value)) ∷ [];
+}
+
+-- a place that a register holds the address of, at a line
+abbrev pub with_address : ℕ → Begun → ℕ → ℕ → List ℕ → Option ℕ → Result Begun TextError
+with_address n begun thread register name None = bad TooLarge n
+with_address n begun thread register name (Some place) =
+    Ok (with_value begun (names_added begun.names name) thread register (values.Place place))
+
+abbrev pub with_worth : ℕ → Begun → ℕ → ℕ → Worth → Result Begun TextError
+with_worth n begun thread register (a_number number) = Ok (with_value begun begun.names thread register (values.Num number))
+with_worth n begun thread register (a_place name) = with_address n begun thread register name (number_added begun.names name)
+
+-- a place that is named, at a line
+abbrev pub with_named : ℕ → Begun → List ℕ → Option ℕ → Result Begun TextError
+with_named n begun name None = bad TooLarge n
+with_named n begun name (Some place) = Ok (record begun { names = names_added begun.names name })
+
+-- an item that begins at a line and ends at one
+abbrev pub item_put : ℕ → ℕ → Begun → Option Item → Result Begun TextError
+item_put first last begun None = bad BadInit first
+item_put first last begun (Some empty) = Ok begun
+item_put first last begun (Some (gives thread register worth)) =
+    cond (is_given thread register begun.values) (bad BadInit first) (with_worth last begun thread register worth)
+item_put first last begun (Some (zero_at name)) = with_named first begun name (number_added begun.names name)
+
+-- the item of a piece that begins at a place of a text
+unfoldable pub item_read : Writing → Joined → ℕ → List ℕ → Begun → Result Begun TextError
+item_read w joined place piece begun =
+    item_put (line_at joined (place + (length piece - length (unblanked piece)))) (line_at joined (place + (length (before_blanks piece) - 1)))
+    begun (item_of w piece)
+
+-- the items of pieces, the first of which begins at a place of a text
+unfoldable pub items_read : Writing → Joined → ℕ → List (List ℕ) → Begun → Result Begun TextError
+items_read w joined place [] begun = Ok begun
+items_read w joined place (piece ∷ rest) begun = do
+  next ← item_read w joined place piece begun
+  items_read w joined (place + (length piece + 1)) rest next
+
+-- all but the last
+abbrev pub but_last : List (List ℕ) → List (List ℕ)
+but_last [] = []
+but_last (piece ∷ []) = []
+but_last (piece ∷ next ∷ rest) = piece ∷ but_last (next ∷ rest)
+
+-- the text up to the first `}`, what stands behind it in its line, and the lines behind that; or the text up to the end
+pub data Braced : Type 0 where
+  closed : (text : Joined) (n : ℕ) (behind : List ℕ) (rest : Lines) → Braced
+  open_to : (text : Joined) (n : ℕ) → Braced
+
+-- a line that may have a `}`
+abbrev pub braced_if : Joined → ℕ → Lines → Option (List ℕ × List ℕ) → Braced → Braced
+braced_if text n rest (Some parts) further = closed (with_text text n parts.0) n parts.1 rest
+braced_if text n rest None further = further
+
+-- the text behind a `{`, from the rest of a line on
+unfoldable pub braced : Joined → ℕ → List ℕ → Lines → Braced
+braced joined n text (ends m) = braced_if joined n (ends m) (cut_at 125 text) (open_to (with_text joined n text) m)
+braced joined n text (line m next rest) =
+    braced_if joined n (line m next rest) (cut_at 125 text) (braced (with_text (with_text joined n text) m (32 ∷ [])) m next rest)
+
+-- nothing stands behind the `}`
+abbrev pub brace_ends : ℕ → List ℕ → Lines → Begun → Read Begun
+brace_ends n [] rest begun = Ok (begun, rest)
+brace_ends n (byte ∷ behind) rest begun = bad BadInit n
+
+-- the items between braces
+abbrev pub braced_read : Writing → Braced → Read Begun
+braced_read w (closed text n behind rest) = do
+  begun ← items_read w text 0 (pieces 59 text.bytes) nothing_begun
+  brace_ends n behind rest begun
+braced_read w (open_to text n) = do
+  begun ← items_read w text 0 (but_last (pieces 59 text.bytes)) nothing_begun
+  bad EndMissing n
+
+-- the line that begins with `{`
+abbrev pub initial_line : Writing → ℕ → List ℕ → Lines → Read Begun
+initial_line w n [] rest = bad BadInit n
+initial_line w n (byte ∷ text) rest = cond (byte == 123) (braced_read w (braced no_text n text rest)) (bad BadInit n)
+
+-- the initial state
+unfoldable pub initial_read : Writing → Lines → Read Begun
+initial_read w (ends n) = bad EndMissing n
+initial_read w (line n text rest) = initial_line w n text rest

@@ -1,0 +1,68 @@
+-- The lines of a text, with their numbers.
+-- Source: own, as the litmus format is read line by line.
+use Rattle.std.specs.Prelude.{ℕ, ◌+◌, ◌-◌, ◌==◌, Bool, cond, ◌&&◌, ◌||◌, List, [], ◌∷◌, Result, Ok, Err, codes, length, take, drop}
+use Rattle.std.specs.List.{list_all, slice_split}
+use Rattle.std.specs.Str.{bytes_eq}
+use Rattle.final_cond.specs.Runs.{is_blank}
+use Rattle.arch_trait.specs.Reading.{trimmed}
+use Rattle.litmus_text.specs.declared.errors.TestKind.{TestKind}
+use Rattle.litmus_text.specs.declared.errors.TextError.{TextError}
+
+-- the lines that aren't passed over, each with its number among all lines, and the number behind the last line
+pub data Lines : Type 0 where
+  ends : (n : ℕ) → Lines
+  line : (n : ℕ) (text : List ℕ) (rest : Lines) → Lines
+
+-- a comment, from `(*` to `*)`
+abbrev pub is_comment : List ℕ → Bool
+is_comment text = bytes_eq (take 2 text) (codes "(*") && bytes_eq (drop (length text - 2) text) (codes "*)")
+
+-- a line that is passed over: blanks alone, or a comment between blanks
+unfoldable pub is_passed : List ℕ → Bool
+is_passed text = list_all is_blank text || is_comment (trimmed text)
+
+-- a line before others, unless it is passed over
+abbrev pub kept : ℕ → List ℕ → Lines → Lines
+kept n text rest = cond (is_passed text) rest (line n text rest)
+
+-- the last byte of a line, if it isn't a carriage return
+abbrev pub last_byte : ℕ → List ℕ
+last_byte byte = cond (byte == 13) [] (byte ∷ [])
+
+-- a line without the carriage return at its end
+unfoldable pub without_return : List ℕ → List ℕ
+without_return [] = []
+without_return (byte ∷ []) = last_byte byte
+without_return (byte ∷ next ∷ text) = byte ∷ without_return (next ∷ text)
+
+-- what stands behind the last line feed: a line, if there is a byte
+abbrev pub last_line : ℕ → List ℕ → Lines
+last_line n [] = ends n
+last_line n (byte ∷ text) = kept n (byte ∷ text) (ends (n + 1))
+
+-- the lines of the pieces between line feeds, numbered from n on
+unfoldable pub lines_in : ℕ → List (List ℕ) → Lines
+lines_in n [] = ends n
+lines_in n (piece ∷ []) = last_line n piece
+lines_in n (piece ∷ next ∷ pieces) = kept n (without_return piece) (lines_in (n + 1) (next ∷ pieces))
+
+-- a byte that ends a line
+abbrev pub is_line_feed : ℕ → Bool
+is_line_feed byte = byte == 10
+
+-- the lines of a text, numbered from n on
+unfoldable pub lines_from : ℕ → List ℕ → Lines
+lines_from n text = lines_in n (slice_split is_line_feed text)
+
+-- A part is read from the lines that are left: the answer is what it means and the lines behind it, or the fault.
+abbrev pub Read : Type 0 → Type 0
+Read A = Result (A × Lines) TextError
+
+infixl 10 ◌>>=◌
+abbrev pub ◌>>=◌ : {A B : Type 0} → Result A TextError → (A → Result B TextError) → Result B TextError
+(Ok x) >>= f = f x
+(Err e) >>= f = Err e
+
+-- a fault at a line
+abbrev pub bad : {A : Type 0} → TestKind → ℕ → Result A TextError
+bad kind n = Err (record { line = n; kind = kind })

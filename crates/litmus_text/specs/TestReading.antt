@@ -1,0 +1,67 @@
+-- What the text of a test is read as.
+-- Source: the litmus format of the herdtools manual; the limits and the order of the faults are own.
+use Rattle.std.specs.Prelude.{ℕ, ◌==◌, cond, nat_lt, List, Option, Result, Ok, length, map}
+use Rattle.std.specs.List.{filter, enumerate_from}
+use Rattle.relax_edges.specs.declared.kinds.ArchName.{ArchName}
+use Rattle.relax_edges.specs.declared.kinds.Value.{Value}
+use Rattle.micro_ops.specs.declared.operation.Micro.{Micro}
+use Rattle.arch_trait.specs.Writing.{Writing}
+use Rattle.final_cond.specs.Conditions.{CondSeen}
+use Rattle.litmus_text.specs.declared.errors.TestKind.TheVariants.{TooLarge}
+use Rattle.litmus_text.specs.declared.errors.TextError.{TextError}
+use Rattle.litmus_text.specs.declared.limits.TheConstants.{MAX_TEXT}
+use Rattle.litmus_text.specs.Lines.{Lines, lines_from, ◌>>=◌, bad}
+use Rattle.litmus_text.specs.Header.{header_read, quote_read, after_settings, arch_read}
+use Rattle.litmus_text.specs.InitialState.{Begun, initial_read}
+use Rattle.litmus_text.specs.Table.{Column, head_read, rows_read, all_labels_judged, no_columns, among, after_locations}
+use Rattle.litmus_text.specs.Condition.{condition_read}
+
+-- a thread: its initial values in order, and its operations
+pub record ThreadRead : Type 0 where
+  pub init : List (ℕ × Value)
+  pub code : List Micro
+
+-- a test as it was read; places are numbered by first mention
+pub record TestRead : Type 0 where
+  pub name : List ℕ
+  pub quoted : Option (List ℕ)
+  pub places : List (List ℕ)
+  pub threads : List ThreadRead
+  pub cond : CondSeen
+
+-- the initial values of a thread
+abbrev pub values_of : ℕ → List (ℕ × (ℕ × Value)) → List (ℕ × Value)
+values_of thread values = map (λ v. v.1) (filter (λ v. v.0 == thread) values)
+
+-- the threads of the columns
+abbrev pub threads_of : Begun → List Column → List ThreadRead
+threads_of begun columns =
+    map (λ c. record { init = values_of c.0 begun.values; code = map (λ placed. placed.op) c.1.ops }) (enumerate_from 0 columns)
+
+-- the test that lines are read as, part by part, or the first fault
+unfoldable pub lines_read : ArchName → Writing → Lines → Result TestRead TextError
+lines_read arch w lines = do
+  header ← header_read arch lines
+  quote ← quote_read header.1
+  initial ← initial_read w (after_settings quote.1)
+  head ← head_read initial.0 initial.1
+  rows ← rows_read w 0 (among initial.0.names (no_columns head.0)) head.1
+  judged ← all_labels_judged rows.0.value
+  condition ← condition_read w head.0 rows.0.names (after_locations rows.1)
+  Ok (record {
+    name = header.0;
+    quoted = quote.0;
+    places = condition.names;
+    threads = threads_of initial.0 rows.0.value;
+    cond = condition.cond;
+  })
+
+-- the test that a text is read as, or the first fault
+unfoldable pub test_read : ArchName → Writing → List ℕ → Result TestRead TextError
+test_read arch w text = cond (nat_lt MAX_TEXT (length text)) (bad TooLarge 1) (lines_read arch w (lines_from 1 text))
+
+-- the architecture that the header of a text names
+unfoldable pub arch_in_text : List ℕ → Result ArchName TextError
+arch_in_text text = do
+  arch ← arch_read (lines_from 1 text)
+  Ok arch.0
