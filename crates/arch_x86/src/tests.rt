@@ -154,20 +154,49 @@ fn spellings_and_faults_of_instructions(rt: HostRuntime) {
         ("MOV [y] , $20", store),
         ("  MOV \t [y]\t,  $20\t", store),
         ("MOV EDI,[_1]", Micro::LoadAt { dst: 5, place: 2 }),
-        ("MOV [Sixteen_bytes_xx],$0", Micro::StoreAt { place: 3, n: 0 }),
+        (
+            "MOV [Sixteen_bytes_xx],$0",
+            Micro::StoreAt { place: 3, n: 0 },
+        ),
         ("MOV [y],$2047", Micro::StoreAt { place: 1, n: 2047 }),
     ];
     let mut places = Places::letters(2);
     let mut labels = Places::new();
     for (text, op) in spellings {
-        assert_eq!(rt; X86::read_instr(text, &mut places, &mut labels), Ok(op), "{text}");
+        assert_eq!(rt;
+            X86::read_instr(text, &mut places, &mut labels),
+            Ok(op),
+            "{text}"
+        );
     }
     assert_eq!(rt; places.len(), 4);
     let faults = [
-        "", " ", "XCHG EAX,[x]", "mov EAX,[x]", "MOV", "MOV EAX", "MOV EAX,[x],[y]", "MOV EAX,EBX",
-        "MOV R8,[x]", "MOV[x],$1", "MOV [ x ],$1", "MOV [x],1", "MOV [x],$", "MOV [x],$01",
-        "MOV [x],$2048", "MOV [x],$-1", "MOV [1x],$1", "MOV [Seventeen_bytes_x],$1", "MOV [],$1",
-        "MOV ,", "MFENCE,", "MFENCE x", "MFENCE MFENCE", "LC00:", "MOV EAX,[x]y", "MOV EAX,[x;]",
+        "",
+        " ",
+        "XCHG EAX,[x]",
+        "mov EAX,[x]",
+        "MOV",
+        "MOV EAX",
+        "MOV EAX,[x],[y]",
+        "MOV EAX,EBX",
+        "MOV R8,[x]",
+        "MOV[x],$1",
+        "MOV [ x ],$1",
+        "MOV [x],1",
+        "MOV [x],$",
+        "MOV [x],$01",
+        "MOV [x],$2048",
+        "MOV [x],$-1",
+        "MOV [1x],$1",
+        "MOV [Seventeen_bytes_x],$1",
+        "MOV [],$1",
+        "MOV ,",
+        "MFENCE,",
+        "MFENCE x",
+        "MFENCE MFENCE",
+        "LC00:",
+        "MOV EAX,[x]y",
+        "MOV EAX,[x;]",
     ];
     for text in faults {
         let read = X86::read_instr(text, &mut places, &mut labels);
@@ -204,7 +233,10 @@ fn no_more_places_than_fit(rt: HostRuntime) {
 #[test]
 fn registers_and_edges_of_x86(rt: HostRuntime) {
     let mut name = RegName::new();
-    for (r, expected) in ["EAX", "EBX", "ECX", "EDX", "ESI", "EDI"].iter().enumerate() {
+    for (r, expected) in ["EAX", "EBX", "ECX", "EDX", "ESI", "EDI"]
+        .iter()
+        .enumerate()
+    {
         let r = r as u8;
         assert!(rt; r < X86::REGISTERS);
         X86::register_name(r, &mut name);
@@ -212,6 +244,11 @@ fn registers_and_edges_of_x86(rt: HostRuntime) {
         assert_eq!(rt; X86::register_of(expected), Some(r));
     }
     assert_eq!(rt; X86::register_of("RAX"), None);
-    assert!(rt; X86::supports(Edge::Com { com: Com::Rf, reach: Reach::External }));
+    assert!(rt;
+        X86::supports(Edge::Com {
+            com: Com::Rf,
+            reach: Reach::External
+        })
+    );
     assert!(rt; !X86::supports(Edge::Data { sd: Sd::Diff }));
 }
