@@ -9,9 +9,14 @@ use Rattle.final_cond.specs.Conditions.{cond_view}
 use Rattle.arch_trait.specs.Threads.{Puts}
 use Rattle.arch_trait.specs.Codes.{thread_of}
 use Rattle.litmus_text.specs.declared.test.Test.{Test}
+use Rattle.litmus_text.specs.TestText as text
 use Rattle.test_laws.specs.TestOf.{TestSeen, test_of}
 use Rattle.test_maker.specs.declared.refusal.MakeRefusal.{MakeRefusal}
 use Rattle.test_maker.specs.Refusals.{crowded_thread, resolved_refusal, refusal_of}
+
+-- a test as its text shows it
+abbrev pub shown : TestSeen → text.TestSeen
+shown test = record { edges = test.edges; places = test.places; threads = test.threads; cond = test.cond }
 
 -- a test with its names as bytes
 abbrev pub test_view : Test → TestSeen
