@@ -6,3 +6,4 @@ pub mod Whole
 pub mod Items
 pub mod Tables
 pub mod Compiling
+pub mod Renumbered

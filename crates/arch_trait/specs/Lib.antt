@@ -5,3 +5,4 @@ pub mod Threads
 pub mod Laws
 pub mod Names
 pub mod Codes
+pub mod Renumbering
