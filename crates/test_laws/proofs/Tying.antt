@@ -30,6 +30,7 @@ use Rattle.program_meaning.specs.Standing.{Named, IsEvent, StartsFree, TiesBy}
 use Rattle.communication.specs.Joining.{AreFree, IsTiedUp, values_read}
 use Rattle.communication.proofs.Lists.{got_below, got_map, image_of}
 use Rattle.test_laws.specs.Steps.{event_link, event_step, thread_steps, observing, observer_steps, cycle_steps}
+use Rattle.test_laws.specs.TestOf.{plain}
 use Rattle.test_laws.specs.Programs.{cycle_program}
 use Rattle.test_laws.proofs.StepsAt.{thread_steps_at, by_steps}
 use Rattle.test_laws.proofs.StepsFit.{inner_before, link_between, link_first, thread_fits, event_fits}
@@ -37,7 +38,7 @@ use Rattle.test_laws.proofs.Visits.{link_barred, data_met, thread_visits, ends_f
 use Rattle.test_laws.proofs.VisitsAt.{visit_at, reads_same, reads_taken, loads_more, control_behind, starts_free, all_free}
 use Rattle.test_laws.proofs.Ties.{Follows, ties}
 use Rattle.test_laws.proofs.ThreadRuns.{DidThread, did_thread, ThreadOf, thread_of, items_below, visits_below}
-use Rattle.test_laws.proofs.Making.{all_fit, candidate_enough, candidate_lists}
+use Rattle.test_laws.proofs.Making.{all_fit, steps_numbered, candidate_enough, candidate_lists}
 
 -- an edge to another thread ties nothing
 external_ties : (edge : Edge) (threads : List (List Access)) (e f : Named) → is_external edge ≡ true → TiesBy edge threads e f
@@ -60,9 +61,9 @@ data_met_is s dirs.R k h =
     apart e = cc
 
 -- what the run of the thread of event i made
-thread_did : (a : Puts) (es : List Edge) (mode : ObsMode) (number : ℕ → ℕ) (x : Execution) (k : ℕ) → IsArch a → IsResolved es → list_all (λ e. is_of_arch e a.name) es ≡ true → IsCandidate (cycle_program a es mode number) x → (t : ThreadOf (cycle_steps es mode number) x k) → DidThread a (cycle_steps es mode number) (move_count es) x k t.steps t.reads
+thread_did : (a : Puts) (es : List Edge) (mode : ObsMode) (number : ℕ → ℕ) (x : Execution) (k : ℕ) → IsArch a → IsResolved es → list_all (λ e. is_of_arch e a.name) es ≡ true → IsCandidate (cycle_program a es mode number) x → (t : ThreadOf (cycle_steps es mode number) x k) → DidThread a number (cycle_steps es mode plain) (move_count es) x k t.steps t.reads
 thread_did a es mode number x k laws r o c t =
-    did_thread a laws (cycle_steps es mode number) (move_count es) x k t.steps t.reads (all_fit es mode number a.name r o) t.steps_at t.reads_at
+    did_thread a laws number (cycle_steps es mode plain) (cycle_steps es mode number) (move_count es) x k t.steps t.reads (steps_numbered es mode number) (all_fit es mode a.name r o) t.steps_at t.reads_at
     (candidate_enough a es mode number x laws r o c k t.steps t.reads t.steps_at t.reads_at)
 
 -- an event stands at its slot among the visits of its thread
@@ -168,7 +169,7 @@ tied_up a es mode number x laws r o c = record {
       subst StartsFree (visits_of_thread a es mode number x k visits laws r o c t g)
       (starts_free t.steps (values_read t.reads) (λ s q. first_plain es mode number k t.steps s t.steps_at q));
   ends = λ k made g.
-      let t = thread_of (cycle_steps es mode number) x k (candidate_lists a es mode number x c) (items_below a (cycle_steps es mode number) (move_count es) x k made g) in
+      let t = thread_of (cycle_steps es mode number) x k (candidate_lists a es mode number x c) (items_below a number (cycle_steps es mode plain) (cycle_steps es mode number) (move_count es) x k made (steps_numbered es mode number) g) in
       let d = thread_did a es mode number x k laws r o c t in
       let s : Some (thread_items t.steps 0 0 (values_read t.reads)) ≡ Some made = sym d.items_are ∙ g in
       let e : thread_items t.steps 0 0 (values_read t.reads) ≡ made = cc in
@@ -176,4 +177,4 @@ tied_up a es mode number x laws r o c = record {
 }
   where
     of_visits : (k : ℕ) (visits : List Visit) → slice_get (visits_in (cycle_program a es mode number) x) k ≡ Some visits → ThreadOf (cycle_steps es mode number) x k
-    of_visits k visits g = thread_of (cycle_steps es mode number) x k (candidate_lists a es mode number x c) (visits_below a (cycle_steps es mode number) (move_count es) x k visits g)
+    of_visits k visits g = thread_of (cycle_steps es mode number) x k (candidate_lists a es mode number x c) (visits_below a number (cycle_steps es mode plain) (cycle_steps es mode number) (move_count es) x k visits (steps_numbered es mode number) g)
