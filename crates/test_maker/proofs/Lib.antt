@@ -2,3 +2,4 @@ pub mod Filling
 pub mod Growing
 pub mod Naming
 pub mod OfArch
+pub mod Printing
