@@ -7,3 +7,8 @@ pub mod Ties
 pub mod ThreadRuns
 pub mod Making
 pub mod Tying
+pub mod Everywhere
+pub mod PlaceNames
+pub mod Meeting
+pub mod Asking
+pub mod Headline

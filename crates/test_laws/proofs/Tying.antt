@@ -31,13 +31,12 @@ use Rattle.communication.specs.Joining.{AreFree, IsTiedUp, values_read}
 use Rattle.communication.proofs.Lists.{got_below, got_map, image_of}
 use Rattle.test_laws.specs.Steps.{event_link, event_step, thread_steps, observing, observer_steps, cycle_steps}
 use Rattle.test_laws.specs.TestOf.{plain}
-use Rattle.test_laws.specs.Programs.{cycle_program}
 use Rattle.test_laws.proofs.StepsAt.{thread_steps_at, by_steps}
 use Rattle.test_laws.proofs.StepsFit.{inner_before, link_between, link_first, thread_fits, event_fits}
 use Rattle.test_laws.proofs.Visits.{link_barred, data_met, thread_visits, ends_free}
 use Rattle.test_laws.proofs.VisitsAt.{visit_at, reads_same, reads_taken, loads_more, control_behind, starts_free, all_free}
 use Rattle.test_laws.proofs.Ties.{Follows, ties}
-use Rattle.test_laws.proofs.ThreadRuns.{DidThread, did_thread, ThreadOf, thread_of, items_below, visits_below}
+use Rattle.test_laws.proofs.ThreadRuns.{cycle_program, DidThread, did_thread, ThreadOf, thread_of, items_below, visits_below}
 use Rattle.test_laws.proofs.Making.{all_fit, steps_numbered, candidate_enough, candidate_lists}
 
 -- an edge to another thread ties nothing
