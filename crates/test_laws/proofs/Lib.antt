@@ -4,6 +4,7 @@ pub mod Terms
 pub mod Visits
 pub mod VisitsAt
 pub mod Ties
+pub mod Following
 pub mod ThreadRuns
 pub mod Making
 pub mod Tying
