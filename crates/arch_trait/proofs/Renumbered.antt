@@ -1,24 +1,24 @@
 -- The run of a whole thread whose places have other numbers.
-use Rattle.std.proofs.Common.{◌≡◌, ℕ, ◌-◌, ◌<◌, false, List, [], ◌∷◌, ◌++◌, length, map, refl, ◌∙◌, ap}
+use Rattle.std.proofs.Common.{◌≡◌, ℕ, ◌-◌, cond, List, [], ◌∷◌, ◌++◌, map, refl, ◌∙◌, ap, arith}
 use Rattle.std.proofs.lemmas.List.{map-append}
+use Rattle.std.proofs.lemmas.List.Sums.{sum_by-cons}
 use Rattle.relax_edges.specs.declared.kinds.Dir.{Dir}
 use Rattle.relax_edges.specs.declared.kinds.Dir.TheVariants as dirs
 use Rattle.relax_edges.specs.declared.kinds.Value.{Value}
 use Rattle.relax_edges.specs.declared.kinds.Value.TheVariants.{Place}
 use Rattle.micro_ops.specs.declared.operation.Micro.TheVariants as ops
 use Rattle.micro_ops.specs.declared.operation.Micro.{Micro}
-use Rattle.micro_ops.specs.Running.{runs, Ended, ReadsLeft, ReadsShort}
+use Rattle.micro_ops.specs.Running.{runs, Ended}
 use Rattle.micro_ops.specs.Renumbering.{op_at, value_at, item_at}
 use Rattle.micro_ops.proofs.Renumbered.{init_at, outcome_at, runs_at}
 use Rattle.arch_trait.specs.declared.step.Step.{Step}
 use Rattle.arch_trait.specs.declared.link.Link.{Link}
 use Rattle.arch_trait.specs.declared.link.Link.TheVariants as links
+use Rattle.arch_trait.specs.Codes.{MakesSteps}
 use Rattle.arch_trait.specs.Links.{link_control, link_items}
 use Rattle.arch_trait.specs.Taking.{initial}
-use Rattle.arch_trait.specs.Threads.{Puts, ThreadCode, FitSteps, loads_in, loads_after, first_of, left_after, access_item, thread_items, compiled, HoldNumbers}
-use Rattle.arch_trait.specs.Laws.{IsArch}
+use Rattle.arch_trait.specs.Threads.{ThreadCode, is_load_dir, loads_in, loads_after, first_of, left_after, access_item, thread_items, HoldNumbers}
 use Rattle.arch_trait.specs.Renumbering.{step_at, renumbered}
-use Rattle.arch_trait.proofs.Whole.{thread_ends, thread_short_of, thread_leaves}
 
 -- address registers with other numbers begin with the addresses of these
 initial_at : (f : ℕ → ℕ) (l : List (ℕ × ℕ)) → initial (map (λ link. (link.0, f link.1)) l) ≡ init_at f (initial l)
@@ -58,33 +58,28 @@ numbers_at f regs [] vs h = tt
 numbers_at f regs (q ∷ qs) [] h = h
 numbers_at f regs (q ∷ qs) (v ∷ vs) h = (ap (value_at f) h.0, numbers_at f regs qs vs h.1)
 
--- the run of a whole thread whose places have other numbers ends with exactly the items of its accesses at these places,
--- and the numbers read are in its loads' registers
-pub record EndsRenumbered (a : Puts) (f : ℕ → ℕ) (ss : List Step) (vs : List ℕ) : Type 0 where
-  pub regs : ℕ → Value
-  pub ends : runs (renumbered f (compiled a ss)).instrs (initial (renumbered f (compiled a ss)).links) vs ≡ Ended (thread_items (map (step_at f) ss) 0 0 vs) regs
-  pub loaded : HoldNumbers regs (compiled a ss).loads vs
+-- accesses at places with other numbers have as many loads
+pub loads_kept : (f : ℕ → ℕ) (ss : List Step) → loads_in (map (step_at f) ss) ≡ loads_in ss
+loads_kept f [] = refl
+loads_kept f (s ∷ ss) =
+    omega (arith, sum_by-cons (λ t. cond (is_load_dir t.dir) 1 0) (step_at f s) (map (step_at f) ss), sum_by-cons (λ t. cond (is_load_dir t.dir) 1 0) s ss, loads_kept f ss)
 
--- on as many numbers as it has loads
-pub renumbered_ends : (a : Puts) → IsArch a → (f : ℕ → ℕ) (ss : List Step) (vs : List ℕ) → FitSteps a.name false ss → length vs ≡ loads_in ss → EndsRenumbered a f ss vs
-renumbered_ends a laws f ss vs fit count =
-    let d = thread_ends a laws ss vs fit count in
-    record {
-      regs = λ q. value_at f (d.regs q);
-      ends =
-          renumbered_runs f (compiled a ss) vs
-          ∙ ap (outcome_at f) d.ends
-          ∙ ap (λ made. Ended made (λ q. value_at f (d.regs q))) (items_at f ss 0 0 vs);
-      loaded = numbers_at f d.regs (compiled a ss).loads vs d.loaded;
-    }
-
--- on fewer it wants more
-pub renumbered_short_of : (a : Puts) → IsArch a → (f : ℕ → ℕ) (ss : List Step) (vs : List ℕ) → FitSteps a.name false ss → length vs < loads_in ss → runs (renumbered f (compiled a ss)).instrs (initial (renumbered f (compiled a ss)).links) vs ≡ ReadsShort
-renumbered_short_of a laws f ss vs fit few = renumbered_runs f (compiled a ss) vs ∙ ap (outcome_at f) (thread_short_of a laws ss vs fit few)
-
--- on more it leaves some
-pub renumbered_leaves : (a : Puts) → IsArch a → (f : ℕ → ℕ) (ss : List Step) (vs : List ℕ) → FitSteps a.name false ss → loads_in ss < length vs → runs (renumbered f (compiled a ss)).instrs (initial (renumbered f (compiled a ss)).links) vs ≡ ReadsLeft
-renumbered_leaves a laws f ss vs fit many = renumbered_runs f (compiled a ss) vs ∙ ap (outcome_at f) (thread_leaves a laws ss vs fit many)
+-- code that makes accesses makes them at places with other numbers, once its places have these
+pub renumbered_makes : (f : ℕ → ℕ) (ss : List Step) (code : ThreadCode) → MakesSteps ss code → MakesSteps (map (step_at f) ss) (renumbered f code)
+renumbered_makes f ss code m = record {
+  ends = λ vs c.
+      let d = m.ends vs (c ∙ loads_kept f ss) in
+      record {
+        regs = λ q. value_at f (d.regs q);
+        ends =
+            renumbered_runs f code vs
+            ∙ ap (outcome_at f) d.ends
+            ∙ ap (λ made. Ended made (λ q. value_at f (d.regs q))) (items_at f ss 0 0 vs);
+        loaded = numbers_at f d.regs code.loads vs d.loaded;
+      };
+  lacks = λ vs l. renumbered_runs f code vs ∙ ap (outcome_at f) (m.lacks vs (omega (arith, l, loads_kept f ss)));
+  leaves = λ vs l. renumbered_runs f code vs ∙ ap (outcome_at f) (m.leaves vs (omega (arith, l, loads_kept f ss)));
+}
 
 -- code whose places keep their numbers is as it was
 op_kept : (op : Micro) → op_at (λ p. p) op ≡ op

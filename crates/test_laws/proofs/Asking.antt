@@ -15,10 +15,10 @@ use Rattle.cycle_resolve.specs.Resolution.{move_count}
 use Rattle.coherence_values.specs.Values.{is_observed, write_count}
 use Rattle.final_cond.specs.Conditions.{LeftSeen, AtPlace}
 use Rattle.arch_trait.specs.declared.step.Step.{Step}
-use Rattle.arch_trait.specs.Threads.{Puts, compiled}
+use Rattle.arch_trait.specs.Threads.{Puts, ThreadCode, compiled, HoldNumbers}
 use Rattle.arch_trait.specs.Laws.{IsArch}
 use Rattle.arch_trait.specs.Names.{location_name}
-use Rattle.arch_trait.specs.Renumbering.{step_at}
+use Rattle.arch_trait.specs.Renumbering.{step_at, renumbered}
 use Rattle.arch_trait.specs.Codes.{AllBelow}
 use Rattle.program_meaning.specs.declared.WriteAt.{WriteAt}
 use Rattle.program_meaning.specs.Accesses.{Access, is_read}
@@ -34,32 +34,41 @@ use Rattle.test_laws.specs.FinalStates.{final_state}
 use Rattle.test_laws.specs.Headline.{HasTest, FindsRegisters}
 use Rattle.test_laws.proofs.Terms.{reads-count}
 use Rattle.test_laws.proofs.Visits.{step_access}
-use Rattle.test_laws.proofs.ThreadRuns.{cycle_program, DidThread, did_thread}
-use Rattle.test_laws.proofs.Making.{all_fit, steps_numbered, planned_at, planned-count, planned_reads, candidate_enough, candidate_lists}
+use Rattle.test_laws.proofs.ThreadRuns.{DidThread, did_thread}
+use Rattle.test_laws.proofs.Making.{planned_at, planned-count, planned_reads, candidate_enough, candidate_lists}
+use Rattle.test_laws.proofs.TestCodes.{cycle_codes, cycle_program, steps_numbered, Origin, origin_of, are_codes, loads_below, numbers_kept}
 use Rattle.test_laws.proofs.Everywhere.{all_gets, all_from}
 use Rattle.test_laws.proofs.PlaceNames.{AreNamed, place_found}
-use Rattle.test_laws.proofs.Meeting.{IsMet, ShowsRegisters, terms_of_thread, terms_from_threads, loads_below, numbers_kept, terms_read, read_terms}
+use Rattle.test_laws.proofs.Meeting.{IsMet, ShowsRegisters, terms_of_thread, terms_from_threads, terms_read, read_terms}
 
 -- the final state shows what each register of a thread holds at the end of its run
-shows : (a : Puts) (es : List Edge) (mode : ObsMode) (number : ℕ → ℕ) (names : List (List ℕ)) (register_name : ℕ → List ℕ) (register_number : List ℕ → Option ℕ) (x : Execution) (k : ℕ) (steps : List Step) (reads : List (ℕ × Option WriteAt)) → FindsRegisters a register_name register_number → (d : DidThread a number (cycle_steps es mode plain) (move_count es) x k steps reads) → ShowsRegisters (final_state (cycle_program a es mode number) names register_number x) register_name k a.registers d.regs
+shows : (a : Puts) (es : List Edge) (mode : ObsMode) (number : ℕ → ℕ) (names : List (List ℕ)) (register_name : ℕ → List ℕ) (register_number : List ℕ → Option ℕ) (x : Execution) (k : ℕ) (steps : List Step) (reads : List (ℕ × Option WriteAt)) → FindsRegisters a register_name register_number → (d : DidThread (cycle_codes a es mode number) (move_count es) x k steps reads) → ShowsRegisters (final_state (cycle_program a es mode number) names register_number x) register_name k a.registers d.regs
 shows a es mode number names register_name register_number x k steps reads finds d q h =
     ap (option_and_then (register_in (cycle_program a es mode number) x k)) (finds q h) ∙ ap (λ o. held_in o q) d.run_is
 
 -- what a thread of the test reads and what is known of its run
 record Ran (a : Puts) (es : List Edge) (mode : ObsMode) (number : ℕ → ℕ) (x : Execution) (k : ℕ) (steps : List Step) (reads : List (ℕ × Option WriteAt)) : Type 0 where
-  did : DidThread a number (cycle_steps es mode plain) (move_count es) x k steps reads
-  below : AllBelow a.registers (compiled a did.plain).loads
-  numbers : numbers_read did.plain ≡ numbers_read steps
-  count : length (values_read reads) ≡ length (numbers_read did.plain)
+  did : DidThread (cycle_codes a es mode number) (move_count es) x k steps reads
+  origin : Origin a es mode number k steps
+  loaded : HoldNumbers did.regs (compiled a origin.plain_steps).loads (values_read reads)
+  below : AllBelow a.registers (compiled a origin.plain_steps).loads
+  numbers : numbers_read origin.plain_steps ≡ numbers_read steps
+  count : length (values_read reads) ≡ length (numbers_read origin.plain_steps)
 
 ran : (a : Puts) (es : List Edge) (mode : ObsMode) (number : ℕ → ℕ) (x : Execution) (k : ℕ) (steps : List Step) (reads : List (ℕ × Option WriteAt)) → IsArch a → HasTest a es mode → IsCandidate (cycle_program a es mode number) x → slice_get (cycle_steps es mode number) k ≡ Some steps → slice_get x.reads k ≡ Some reads → Ran a es mode number x k steps reads
 ran a es mode number x k steps reads laws t c g h =
-    let n = candidate_enough a es mode number x laws t.resolved t.of_arch c k steps reads g h in
-    let d = did_thread a laws number (cycle_steps es mode plain) (cycle_steps es mode number) (move_count es) x k steps reads (steps_numbered es mode number) (all_fit es mode a.name t.resolved t.of_arch) g h n in
-    let e : numbers_read d.plain ≡ numbers_read steps = sym (numbers_kept number d.plain) ∙ ap numbers_read d.steps_are in
+    let m = are_codes a es mode number laws t.resolved t.of_arch in
+    let n = candidate_enough (cycle_codes a es mode number) es mode number x m c k steps reads g h in
+    let d = did_thread (cycle_codes a es mode number) (cycle_steps es mode number) (move_count es) x k steps reads m g h n in
+    let p = origin_of a es mode number k steps g in
+    let s : Some d.code ≡ Some (renumbered number (compiled a p.plain_steps)) = sym d.code_at ∙ p.code_at in
+    let q : d.code ≡ renumbered number (compiled a p.plain_steps) = cc in
+    let e : numbers_read p.plain_steps ≡ numbers_read steps = sym (numbers_kept number p.plain_steps) ∙ ap numbers_read p.steps_are in
     record {
       did = d;
-      below = loads_below a laws d.plain (all_fit es mode a.name t.resolved t.of_arch k d.plain d.plain_at) (t.room k d.plain d.plain_at);
+      origin = p;
+      loaded = subst (λ (code : ThreadCode). HoldNumbers d.regs code.loads (values_read reads)) q d.loaded;
+      below = loads_below a es mode k p.plain_steps laws t p.plain_at;
       numbers = e;
       count = n ∙ sym (reads-count steps) ∙ sym (ap length e);
     }
@@ -72,9 +81,9 @@ reads_asked a es mode number names register_name register_number x laws t finds 
     let q : map step_access s.element ≡ planned = cc in
     let r = ran a es mode number x k s.element reads laws t c s.got h in
     let final = final_state (cycle_program a es mode number) names register_number x in
-    terms_read a final register_name k r.did.plain r.did.regs (values_read reads)
-    (shows a es mode number names register_name register_number x k s.element reads finds r.did) r.below r.did.loaded r.count
-    (terms_of_thread (IsMet final) a register_name 0 (cycle_steps es mode plain) k k r.did.plain (omega arith) met r.did.plain_at)
+    terms_read a final register_name k r.origin.plain_steps r.did.regs (values_read reads)
+    (shows a es mode number names register_name register_number x k s.element reads finds r.did) r.below r.loaded r.count
+    (terms_of_thread (IsMet final) a register_name 0 (cycle_steps es mode plain) k k r.origin.plain_steps (omega arith) met r.origin.plain_at)
     ∙ r.numbers
     ∙ sym (planned_reads s.element)
     ∙ ap (λ l. map (λ (access : Access). access.value) (filter is_read l)) q
@@ -90,13 +99,13 @@ asked_met a es mode number names register_name register_number x laws t finds c 
     thread_met : (k : ℕ) (steps : List Step) → slice_get (cycle_steps es mode plain) k ≡ Some steps → AllByRecursion (IsMet final) (thread_terms a register_name k steps)
     thread_met k steps g =
         let made : slice_get (cycle_steps es mode number) k ≡ Some (map (step_at number) steps) = ap (λ l. slice_get l k) (sym (steps_numbered es mode number)) ∙ got_map (map (step_at number)) (cycle_steps es mode plain) k steps g in
-        let reads = got_below x.reads k (omega (arith, candidate_lists a es mode number x c, slice_get_within (cycle_steps es mode number) k (map (step_at number) steps) made)) in
+        let reads = got_below x.reads k (omega (arith, candidate_lists (cycle_codes a es mode number) es mode number x (are_codes a es mode number laws t.resolved t.of_arch) c, slice_get_within (cycle_steps es mode number) k (map (step_at number) steps) made)) in
         let r = ran a es mode number x k (map (step_at number) steps) reads.element laws t c made reads.got in
-        let s : Some r.did.plain ≡ Some steps = sym r.did.plain_at ∙ g in
-        let q : r.did.plain ≡ steps = cc in
+        let s : Some r.origin.plain_steps ≡ Some steps = sym r.origin.plain_at ∙ g in
+        let q : r.origin.plain_steps ≡ steps = cc in
         subst (λ l. AllByRecursion (IsMet final) (thread_terms a register_name k l)) q
-        (read_terms a final register_name k r.did.plain r.did.regs (values_read reads.element)
-        (shows a es mode number names register_name register_number x k (map (step_at number) steps) reads.element finds r.did) r.below r.did.loaded
+        (read_terms a final register_name k r.origin.plain_steps r.did.regs (values_read reads.element)
+        (shows a es mode number names register_name register_number x k (map (step_at number) steps) reads.element finds r.did) r.below r.loaded
         (asked k (map step_access (map (step_at number) steps)) reads.element (planned_at es mode number k (map (step_at number) steps) made) reads.got
         ∙ planned_reads (map (step_at number) steps)
         ∙ sym r.numbers))

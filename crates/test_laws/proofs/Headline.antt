@@ -31,7 +31,7 @@ use Rattle.test_laws.specs.FinalStates.{final_state, IsAskedFor}
 use Rattle.test_laws.specs.Headline.{HasTest, FindsRegisters, IsRenumbered, TestsForce, RenumberedForce, TestsAsk}
 use Rattle.test_laws.proofs.Everywhere.{all_parts, all_joined, position_none}
 use Rattle.test_laws.proofs.PlaceNames.{AreNamed, letter_at, names_differ, locations_few}
-use Rattle.test_laws.proofs.ThreadRuns.{cycle_program}
+use Rattle.test_laws.proofs.TestCodes.{cycle_codes, cycle_program, are_codes}
 use Rattle.test_laws.proofs.Making.{makes, makes_enough, intended_enough, intended_ends}
 use Rattle.test_laws.proofs.Tying.{tied_up}
 use Rattle.test_laws.proofs.Meeting.{IsMet}
@@ -68,22 +68,22 @@ outcome_asked a register_name es mode number names register_number x laws finds 
 pub edges_stand : (a : Puts) (register_name : ℕ → List ℕ) (es : List Edge) (mode : ObsMode) (number : ℕ → ℕ) (names : List (List ℕ)) (register_number : List ℕ → Option ℕ) (x : Execution) → IsArch a → FindsRegisters a register_name register_number → HasTest a es mode → IsNumbering es number → AreNamed es number names → IsAsked a register_name es mode number names register_number x → AllStand es (cycle_program a es mode number) x
 edges_stand a register_name es mode number names register_number x laws finds t n named w =
     all_edges_stand_law es mode number (cycle_program a es mode number) x t.resolved (served_if_valued es mode (record { edges = es; mode = mode }) t.valued) n
-    (makes a es mode number x laws t.resolved t.of_arch w.candidate)
-    (tied_up a es mode number x laws t.resolved t.of_arch w.candidate)
+    (makes (cycle_codes a es mode number) es mode number x (are_codes a es mode number laws t.resolved t.of_arch) w.candidate)
+    (tied_up a.name (cycle_codes a es mode number) es mode number x t.resolved t.of_arch (are_codes a es mode number laws t.resolved t.of_arch) w.candidate)
     (asked_outcome a register_name es mode number names register_number x laws finds t n named w)
 
 pub one_asked : (a : Puts) (register_name : ℕ → List ℕ) (es : List Edge) (mode : ObsMode) (number : ℕ → ℕ) (names : List (List ℕ)) (register_number : List ℕ → Option ℕ) (x : Execution) → IsArch a → FindsRegisters a register_name register_number → HasTest a es mode → IsNumbering es number → AreNamed es number names → IsAsked a register_name es mode number names register_number x → x ≡ intended es mode number
 one_asked a register_name es mode number names register_number x laws finds t n named w =
     one_outcome_law es mode number (cycle_program a es mode number) x t.resolved (served_if_valued es mode (record { edges = es; mode = mode }) t.valued) n
-    (makes a es mode number x laws t.resolved t.of_arch w.candidate)
+    (makes (cycle_codes a es mode number) es mode number x (are_codes a es mode number laws t.resolved t.of_arch) w.candidate)
     (asked_outcome a register_name es mode number names register_number x laws finds t n named w)
 
 pub intended_asked : (a : Puts) (register_name : ℕ → List ℕ) (es : List Edge) (mode : ObsMode) (number : ℕ → ℕ) (names : List (List ℕ)) (register_number : List ℕ → Option ℕ) → IsArch a → FindsRegisters a register_name register_number → HasTest a es mode → IsNumbering es number → AreNamed es number names → IsAsked a register_name es mode number names register_number (intended es mode number)
 intended_asked a register_name es mode number names register_number laws finds t n named =
     outcome_asked a register_name es mode number names register_number (intended es mode number) laws finds t n named
     (an_outcome_law es mode number (cycle_program a es mode number) t.resolved n
-    (makes_enough a es mode number (intended es mode number) laws t.resolved t.of_arch (intended_enough es mode number t.resolved n))
-    (intended_ends a es mode number laws t.resolved t.of_arch n))
+    (makes_enough (cycle_codes a es mode number) es mode number (intended es mode number) (are_codes a es mode number laws t.resolved t.of_arch) (intended_enough es mode number t.resolved n))
+    (intended_ends (cycle_codes a es mode number) es mode number (are_codes a es mode number laws t.resolved t.of_arch) t.resolved n))
 
 -- the names of a test that is the same as a cycle's but for the numbers of places
 renumbered_names : (a : Puts) (register_name : ℕ → List ℕ) (es : List Edge) (mode : ObsMode) (test : TestSeen) (number : ℕ → ℕ) → IsRenumbered (test_of a register_name es mode) test number → AreNamed es number test.places

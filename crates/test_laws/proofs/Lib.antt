@@ -8,6 +8,7 @@ pub mod Following
 pub mod ThreadRuns
 pub mod Making
 pub mod Tying
+pub mod TestCodes
 pub mod Everywhere
 pub mod PlaceNames
 pub mod Meeting

@@ -1,21 +1,17 @@
 -- The program of a cycle's test makes the accesses of the test, in each execution in which its runs come to their ends.
-use Rattle.std.proofs.Common.{◌≡◌, ℕ, ◌<◌, true, cond, List, [], ◌∷◌, ◌++◌, length, map, Some, slice_get, refl, sym, ◌∙◌, ap, arith}
-use Rattle.std.specs.List.{list_all, filter}
+use Rattle.std.proofs.Common.{◌≡◌, ℕ, ◌<◌, cond, List, [], ◌∷◌, ◌++◌, length, map, Some, slice_get, refl, sym, ◌∙◌, ap, arith}
+use Rattle.std.specs.List.{filter}
 use Rattle.std.proofs.lemmas.List.{length-map, map-append}
 use Rattle.std.proofs.lemmas.Option.{slice_get_within}
 use Rattle.relax_edges.specs.declared.kinds.Dir.{Dir}
 use Rattle.relax_edges.specs.declared.kinds.Dir.TheVariants as dirs
-use Rattle.relax_edges.specs.declared.kinds.ArchName.{ArchName}
 use Rattle.relax_edges.specs.declared.kinds.ObsMode.{ObsMode}
 use Rattle.relax_edges.specs.declared.edge.Edge.{Edge}
-use Rattle.relax_edges.specs.EdgeTable.{is_of_arch}
 use Rattle.list_laws.specs.Numbers.{upto}
 use Rattle.cycle_resolve.specs.Resolution.{IsResolved, external_count, move_count, events_in}
 use Rattle.coherence_values.specs.Values.{write_count}
 use Rattle.arch_trait.specs.declared.step.Step.{Step}
-use Rattle.arch_trait.specs.Threads.{Puts, is_load_dir}
-use Rattle.arch_trait.specs.Laws.{IsArch}
-use Rattle.arch_trait.specs.Renumbering.{step_at}
+use Rattle.arch_trait.specs.Threads.{ThreadCode, is_load_dir}
 use Rattle.program_meaning.specs.Accesses.{Access, is_read, reads_by}
 use Rattle.program_meaning.specs.Executions.{Execution}
 use Rattle.program_meaning.specs.Programs.{IsCandidate}
@@ -26,11 +22,10 @@ use Rattle.communication.proofs.Bridge.{resolves}
 use Rattle.communication.proofs.IntendedReads.{reads-count}
 use Rattle.communication.proofs.Programs.{accesses-count, intended_asked}
 use Rattle.test_laws.specs.Steps.{event_step, thread_steps, observing, observer_steps, cycle_steps, numbers_read}
-use Rattle.test_laws.specs.TestOf.{plain}
-use Rattle.test_laws.proofs.StepsFit.{steps_fit}
+use Rattle.test_laws.specs.Programs.{thread_from, program_of}
 use Rattle.test_laws.proofs.Terms.{reads-count as numbers-count}
 use Rattle.test_laws.proofs.Visits.{step_access}
-use Rattle.test_laws.proofs.ThreadRuns.{cycle_program, AreNumbered, AllFit, AreEnough, AllEnd, did_thread, enough, all_end, program-count}
+use Rattle.test_laws.proofs.ThreadRuns.{AreCodesOf, AreEnough, AllEnd, did_thread, enough, all_end}
 
 -- the accesses of the test are those of its steps
 pub accesses_planned : (es : List Edge) (mode : ObsMode) (number : ℕ → ℕ) → cycle_accesses es mode number ≡ map (map step_access) (cycle_steps es mode number)
@@ -59,32 +54,16 @@ planned_reads (s ∷ steps) = of_dir s.dir (planned_reads steps)
     of_dir dirs.R h = ap (λ l. s.value ∷ l) h
     of_dir dirs.W h = h
 
--- the accesses of each thread of the test can follow one another on the architecture
-pub all_fit : (es : List Edge) (mode : ObsMode) (arch : ArchName) → IsResolved es → list_all (λ e. is_of_arch e arch) es ≡ true → AllFit arch (cycle_steps es mode plain)
-all_fit es mode arch r o k steps g = (steps_fit es mode plain arch k steps r o g).fit
-
--- the accesses of the test under other numbers
-pub steps_numbered : (es : List Edge) (mode : ObsMode) (number : ℕ → ℕ) → AreNumbered number (cycle_steps es mode plain) (cycle_steps es mode number)
-unfolding cycle_steps
-steps_numbered es mode number =
-    map-append (map (step_at number)) (map (thread_steps es plain) (upto (external_count es))) (map (observer_steps es plain) (observed_locations es mode))
-    ∙ ap (λ l. l ++ map (map (step_at number)) (map (observer_steps es plain) (observed_locations es mode)))
-    (map-map (thread_steps es plain) (map (step_at number)) (upto (external_count es))
-    ∙ map_same (λ k. map (step_at number) (thread_steps es plain k)) (thread_steps es number) (upto (external_count es)) (λ k. map-map (event_step es plain) (step_at number) (events_in es k)))
-    ∙ ap (λ l. map (thread_steps es number) (upto (external_count es)) ++ l)
-    (map-map (observer_steps es plain) (map (step_at number)) (observed_locations es mode)
-    ∙ map_same (λ l. map (step_at number) (observer_steps es plain l)) (observer_steps es number) (observed_locations es mode) (λ l. map-map (observing l) (step_at number) (upto (write_count es l))))
-
--- with a number for each load, the program makes the accesses of the test
-pub makes_enough : (a : Puts) (es : List Edge) (mode : ObsMode) (number : ℕ → ℕ) (x : Execution) → IsArch a → IsResolved es → list_all (λ e. is_of_arch e a.name) es ≡ true → AreEnough (cycle_steps es mode number) x → Makes es mode number (cycle_program a es mode number) x
-makes_enough a es mode number x laws r o e = record {
+-- with a number for each load, a program whose code makes the accesses of the test makes them
+pub makes_enough : (codes : List ThreadCode) (es : List Edge) (mode : ObsMode) (number : ℕ → ℕ) (x : Execution) → AreCodesOf codes (cycle_steps es mode number) → AreEnough (cycle_steps es mode number) x → Makes es mode number (program_of codes (move_count es)) x
+makes_enough codes es mode number x m e = record {
   places = refl;
-  threads = program-count a number (cycle_steps es mode plain) (cycle_steps es mode number) (move_count es) (steps_numbered es mode number) ∙ sym (planned-count es mode number);
+  threads = length-map codes thread_from ∙ m.count ∙ sym (planned-count es mode number);
   accesses = λ k planned reads g h.
       let s = got_below (cycle_steps es mode number) k (below k planned g) in
       let f : Some (map step_access s.element) ≡ Some planned = sym (planned_at es mode number k s.element s.got) ∙ g in
       let q : map step_access s.element ≡ planned = cc in
-      (did_thread a laws number (cycle_steps es mode plain) (cycle_steps es mode number) (move_count es) x k s.element reads (steps_numbered es mode number) (all_fit es mode a.name r o) s.got h (e k s.element reads s.got h)).accesses_are
+      (did_thread codes (cycle_steps es mode number) (move_count es) x k s.element reads m s.got h (e k s.element reads s.got h)).accesses_are
       ∙ ap (λ l. Some (filled l (values_read reads))) q;
 }
   where
@@ -92,17 +71,17 @@ makes_enough a es mode number x laws r o e = record {
     below k planned g = omega (arith, slice_get_within (cycle_accesses es mode number) k planned g, planned-count es mode number)
 
 -- a candidate execution has a number for each load, and no more
-pub candidate_enough : (a : Puts) (es : List Edge) (mode : ObsMode) (number : ℕ → ℕ) (x : Execution) → IsArch a → IsResolved es → list_all (λ e. is_of_arch e a.name) es ≡ true → IsCandidate (cycle_program a es mode number) x → AreEnough (cycle_steps es mode number) x
-candidate_enough a es mode number x laws r o c = enough a laws number (cycle_steps es mode plain) (cycle_steps es mode number) (move_count es) x (steps_numbered es mode number) (all_fit es mode a.name r o) c.ended
+pub candidate_enough : (codes : List ThreadCode) (es : List Edge) (mode : ObsMode) (number : ℕ → ℕ) (x : Execution) → AreCodesOf codes (cycle_steps es mode number) → IsCandidate (program_of codes (move_count es)) x → AreEnough (cycle_steps es mode number) x
+candidate_enough codes es mode number x m c = enough codes (cycle_steps es mode number) (move_count es) x m c.ended
 
 -- so the program makes the accesses of the test in it
-pub makes : (a : Puts) (es : List Edge) (mode : ObsMode) (number : ℕ → ℕ) (x : Execution) → IsArch a → IsResolved es → list_all (λ e. is_of_arch e a.name) es ≡ true → IsCandidate (cycle_program a es mode number) x → Makes es mode number (cycle_program a es mode number) x
-makes a es mode number x laws r o c = makes_enough a es mode number x laws r o (candidate_enough a es mode number x laws r o c)
+pub makes : (codes : List ThreadCode) (es : List Edge) (mode : ObsMode) (number : ℕ → ℕ) (x : Execution) → AreCodesOf codes (cycle_steps es mode number) → IsCandidate (program_of codes (move_count es)) x → Makes es mode number (program_of codes (move_count es)) x
+makes codes es mode number x m c = makes_enough codes es mode number x m (candidate_enough codes es mode number x m c)
 
 -- it has as many lists of reads as threads
-pub candidate_lists : (a : Puts) (es : List Edge) (mode : ObsMode) (number : ℕ → ℕ) (x : Execution) → IsCandidate (cycle_program a es mode number) x → length x.reads ≡ length (cycle_steps es mode number)
-candidate_lists a es mode number x c =
-    c.execution.read_lists ∙ accesses-count (cycle_program a es mode number) x ∙ program-count a number (cycle_steps es mode plain) (cycle_steps es mode number) (move_count es) (steps_numbered es mode number)
+pub candidate_lists : (codes : List ThreadCode) (es : List Edge) (mode : ObsMode) (number : ℕ → ℕ) (x : Execution) → AreCodesOf codes (cycle_steps es mode number) → IsCandidate (program_of codes (move_count es)) x → length x.reads ≡ length (cycle_steps es mode number)
+candidate_lists codes es mode number x m c =
+    c.execution.read_lists ∙ accesses-count (program_of codes (move_count es)) x ∙ length-map codes thread_from ∙ m.count
 
 -- where the values read are those asked for, there is a number for each load
 pub asked_enough : (es : List Edge) (mode : ObsMode) (number : ℕ → ℕ) (x : Execution) → ReadsAsAsked es mode number x → AreEnough (cycle_steps es mode number) x
@@ -114,7 +93,7 @@ pub intended_enough : (es : List Edge) (mode : ObsMode) (number : ℕ → ℕ) �
 intended_enough es mode number r n = asked_enough es mode number (intended es mode number) (intended_asked es mode number (resolves es r) n)
 
 -- so the runs of the test's program on the intended reads come to their ends
-pub intended_ends : (a : Puts) (es : List Edge) (mode : ObsMode) (number : ℕ → ℕ) → IsArch a → IsResolved es → list_all (λ e. is_of_arch e a.name) es ≡ true → IsNumbering es number → AllEnd (cycle_program a es mode number) (intended es mode number)
-intended_ends a es mode number laws r o n =
-    all_end a laws number (cycle_steps es mode plain) (cycle_steps es mode number) (move_count es) (intended es mode number) (steps_numbered es mode number) (all_fit es mode a.name r o)
+pub intended_ends : (codes : List ThreadCode) (es : List Edge) (mode : ObsMode) (number : ℕ → ℕ) → AreCodesOf codes (cycle_steps es mode number) → IsResolved es → IsNumbering es number → AllEnd (program_of codes (move_count es)) (intended es mode number)
+intended_ends codes es mode number m r n =
+    all_end codes (cycle_steps es mode number) (move_count es) (intended es mode number) m
     (reads-count es mode number ∙ planned-count es mode number) (intended_enough es mode number r n)

@@ -1,19 +1,13 @@
 -- An execution meets the condition of a cycle's test exactly where the values read are those asked for, and the locations
 -- that aren't observed end with their last values.
-use Rattle.std.proofs.Common.{◌≡◌, ℕ, zero, suc, ◌+◌, ◌<◌, ◌≤◌, false, cond, List, [], ◌∷◌, length, map, Option, Some, slice_get, refl, sym, ◌∙◌, ap, subst, arith}
-use Rattle.std.specs.List.{AllByRecursion, filter, zip}
-use Rattle.relax_edges.specs.declared.kinds.Dir.{Dir}
-use Rattle.relax_edges.specs.declared.kinds.Dir.TheVariants as dirs
+use Rattle.std.proofs.Common.{◌≡◌, ℕ, zero, suc, ◌+◌, ◌<◌, List, [], ◌∷◌, length, map, Option, Some, slice_get, refl, sym, ◌∙◌, ap, subst, arith}
+use Rattle.std.specs.List.{AllByRecursion, zip}
 use Rattle.relax_edges.specs.declared.kinds.Value.{Value}
 use Rattle.relax_edges.specs.declared.kinds.Value.TheVariants.{Num}
 use Rattle.final_cond.specs.Conditions.{LeftSeen, TermSeen, InRegister}
 use Rattle.arch_trait.specs.declared.step.Step.{Step}
-use Rattle.arch_trait.specs.Threads.{Puts, FitSteps, is_load_dir, setting_out, compiled, shape_of, HoldNumbers}
-use Rattle.arch_trait.specs.Laws.{IsArch}
-use Rattle.arch_trait.specs.Renumbering.{step_at}
+use Rattle.arch_trait.specs.Threads.{Puts, compiled, HoldNumbers}
 use Rattle.arch_trait.specs.Codes.{AllBelow}
-use Rattle.arch_trait.proofs.Codes.{thread_loads_below}
-use Rattle.arch_trait.proofs.Shapes.{need_is}
 use Rattle.test_laws.specs.Steps.{numbers_read}
 use Rattle.test_laws.specs.TestOf.{load_term, thread_terms, load_terms}
 use Rattle.test_laws.proofs.Terms.{loads-count}
@@ -70,25 +64,6 @@ same_numbers regs (q ∷ qs) (v ∷ vs) (w ∷ ws) c d h g =
     let f : v ≡ w = cc in
     let r = same_numbers regs qs vs ws (omega (arith, c)) (omega (arith, d)) h.1 g.1 in
     λ i. f i ∷ r i
-
-below_more : (m n : ℕ) (qs : List ℕ) → m ≤ n → AllBelow m qs → AllBelow n qs
-below_more m n [] h b = tt
-below_more m n (q ∷ qs) h b = (omega (arith, b.0, h), below_more m n qs h b.1)
-
--- the loads of a thread that has registers enough fill registers of the architecture
-pub loads_below : (a : Puts) → IsArch a → (steps : List Step) → FitSteps a.name false steps → a.need (shape_of steps) ≤ a.registers → AllBelow a.registers (compiled a steps).loads
-loads_below a laws steps fit room =
-    below_more (a.need (shape_of steps)) a.registers (compiled a steps).loads room
-    (subst (λ n. AllBelow n (compiled a steps).loads) (need_is a laws a.registers steps fit) (thread_loads_below a laws false (setting_out a.registers) steps fit))
-
--- the numbers that accesses read are the same at other places
-pub numbers_kept : (f : ℕ → ℕ) (steps : List Step) → numbers_read (map (step_at f) steps) ≡ numbers_read steps
-numbers_kept f [] = refl
-numbers_kept f (s ∷ steps) = of_dir s.dir (numbers_kept f steps)
-  where
-    of_dir : (d : Dir) → numbers_read (map (step_at f) steps) ≡ numbers_read steps → map (λ t. t.value) (cond (is_load_dir d) (step_at f s ∷ filter (λ t. is_load_dir t.dir) (map (step_at f) steps)) (filter (λ t. is_load_dir t.dir) (map (step_at f) steps))) ≡ map (λ t. t.value) (cond (is_load_dir d) (s ∷ filter (λ t. is_load_dir t.dir) steps) (filter (λ t. is_load_dir t.dir) steps))
-    of_dir dirs.R h = ap (λ l. s.value ∷ l) h
-    of_dir dirs.W h = h
 
 -- the terms of a thread are met exactly where it reads the numbers asked for
 pub terms_read : (a : Puts) (final : LeftSeen → Option Value) (name : ℕ → List ℕ) (thread : ℕ) (steps : List Step) (regs : ℕ → Value) (vs : List ℕ) → ShowsRegisters final name thread a.registers regs → AllBelow a.registers (compiled a steps).loads → HoldNumbers regs (compiled a steps).loads vs → length vs ≡ length (numbers_read steps) → AllByRecursion (IsMet final) (thread_terms a name thread steps) → vs ≡ numbers_read steps
