@@ -1,20 +1,23 @@
 -- The test that is made of a cycle forces it.
-use Rattle.std.proofs.Common.{◌≡◌, ℕ, zero, suc, ◌+◌, ◌<◌, true, false, cond, List, [], ◌∷◌, length, get_or, Option, Some, None, Result, Ok, Err, refl, sym, ap, ◌∙◌, arith, subst}
+use Rattle.std.proofs.Common.{◌≡◌, ℕ, zero, suc, ◌+◌, ◌<◌, false, cond, List, [], ◌∷◌, length, get_or, Option, Some, None, Result, Ok, Err, refl, sym, ap, ◌∙◌, arith, subst}
 use Rattle.std.specs.List.{position_from, IsDistinct, AllByRecursion}
 use Rattle.std.specs.Str.{bytes_eq}
 use Rattle.std.proofs.lemmas.Slice.Eq.{bytes_eq-Decides}
 use Rattle.relax_edges.specs.declared.kinds.ObsMode.{ObsMode}
 use Rattle.relax_edges.specs.declared.edge.Edge.{Edge}
 use Rattle.cycle_resolve.specs.Resolution.{IsResolved}
-use Rattle.coherence_values.specs.Values.{valuation_of}
+use Rattle.relax_edges.specs.declared.kinds.ObsMode.TheVariants as modes
+use Rattle.coherence_values.specs.declared.valued.NeedsObserver.{NeedsObserver}
+use Rattle.coherence_values.specs.Values.{Valuation, observer_need, valuation_of}
+use Rattle.coherence_values.proofs.Entries.{avoid_allowed, avoid_refused}
 use Rattle.arch_trait.specs.Laws.{IsArch}
 use Rattle.arch_trait.specs.Names.{number_in}
 use Rattle.arch_trait.specs.Threads.{Puts}
 use Rattle.arch_trait.specs.Writing.{Writing, WritesBack, name_in}
 use Rattle.litmus_text.specs.declared.test.Test.{Test}
-use Rattle.test_laws.specs.Headline.{FindsRegisters, Forces, HasTest}
+use Rattle.test_laws.specs.Headline.{FindsRegisters, Forces}
 use Rattle.test_laws.specs.Steps.{cycle_steps}
-use Rattle.test_laws.specs.TestOf.{TestSeen, plain, test_of}
+use Rattle.test_laws.specs.TestOf.{TestSeen, plain}
 use Rattle.test_laws.proofs.Headline.{room_left, tests_force_law}
 use Rattle.test_maker.specs.declared.refusal.MakeRefusal.{MakeRefusal}
 use Rattle.test_maker.specs.Made.{AreOfArch, MadeForces, MakesValued, test_view}
@@ -40,7 +43,7 @@ registers_found : (a : Puts) (w : Writing) → WritesBack a w → FindsRegisters
 registers_found a w back register h = name_found w.registers 0 register back.once (omega (arith, h, back.count)) ∙ ap Some (omega arith)
 
 -- what a call made of a resolved and valued cycle forces it
-pub made_forces : (a : Puts) (w : Writing) → IsArch a → WritesBack a w → (es : List Edge) (mode : ObsMode) (test : Test) (result : Result (Unit {0}) MakeRefusal) →
+made_forces : (a : Puts) (w : Writing) → IsArch a → WritesBack a w → (es : List Edge) (mode : ObsMode) (test : Test) (result : Result (Unit {0}) MakeRefusal) →
     IsResolved es → AreOfArch a es → valuation_of es mode ≡ Ok (record { edges = es; mode = mode }) →
     MakesValued a (name_in w.registers) es mode (test_view test) result → MadeForces (number_in w.registers) es mode test result
 made_forces a w laws back es mode test (Ok _) resolved of_arch valued made =
@@ -52,3 +55,22 @@ made_forces a w laws back es mode test (Ok _) resolved of_arch valued made =
     }) in
     subst (λ (seen : TestSeen). Forces seen (number_in w.registers) es mode plain) (sym made.1) forced
 made_forces a w laws back es mode test (Err refusal) resolved of_arch valued made = tt
+
+-- a valuation holds what it was made of
+valued_is : (es : List Edge) (mode : ObsMode) (v : Valuation) → valuation_of es mode ≡ Ok v → v ≡ record { edges = es; mode = mode }
+valued_is es modes.Accept v e = cc
+valued_is es modes.Force v e = cc
+valued_is es modes.Avoid v e = by_need (observer_need es) (λ need h. let z : Err need ≡ Ok v = sym (avoid_refused es need h) ∙ e in cc) (λ h. let z : Ok (record { edges = es; mode = modes.Avoid }) ≡ Ok v = sym (avoid_allowed es h) ∙ e in cc)
+  where
+    by_need : {G : Type 0} (need : Option NeedsObserver) → ((n : NeedsObserver) → need ≡ Some n → G) → (need ≡ None → G) → G
+    by_need (Some n) some none = some n refl
+    by_need None some none = none refl
+
+-- what a call made of a resolved cycle forces it
+pub resolved_forces : (a : Puts) (w : Writing) → IsArch a → WritesBack a w → (es : List Edge) (mode : ObsMode) (v : Valuation) (test : Test) (result : Result (Unit {0}) MakeRefusal) →
+    IsResolved es → AreOfArch a es → valuation_of es mode ≡ Ok v →
+    MakesValued a (name_in w.registers) v.edges v.mode (test_view test) result → MadeForces (number_in w.registers) es mode test result
+resolved_forces a w laws back es mode v test result resolved of_arch valued made =
+    let same = valued_is es mode v valued in
+    made_forces a w laws back es mode test result resolved of_arch (valued ∙ ap Ok same)
+    (subst (λ (u : Valuation). MakesValued a (name_in w.registers) u.edges u.mode (test_view test) result) same made)

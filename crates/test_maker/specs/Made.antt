@@ -1,5 +1,5 @@
 -- What the calls of the test maker give.
-use Rattle.std.specs.Prelude.{ℕ, ◌≡◌, true, List, map, length, Some, None, Result, Ok, Err}
+use Rattle.std.specs.Prelude.{Option, ℕ, ◌≡◌, true, List, map, length, Some, None, Result, Ok, Err}
 use Rattle.std.specs.List.{All, list_all}
 use Rattle.relax_edges.specs.declared.kinds.ObsMode.{ObsMode}
 use Rattle.relax_edges.specs.declared.edge.Edge.{Edge}

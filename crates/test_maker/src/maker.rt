@@ -1,8 +1,7 @@
-ghost use Rattle.std.specs.Prelude.{◌≡◌, ◌≤◌, not, length, Ok};
+ghost use Rattle.std.specs.Prelude.{◌≡◌, ◌≤◌, not, length};
 ghost use Rattle.std.specs.List.{position_from};
 ghost use Rattle.relax_edges.specs.EdgeTable.{is_of_arch};
 ghost use Rattle.cycle_resolve.specs.Resolution.{turned};
-ghost use Rattle.coherence_values.specs.Values.{valuation_of};
 ghost use Rattle.arch_trait.specs.Names.{number_in};
 ghost use Rattle.arch_trait.specs.Writing.{name_in};
 ghost use Rattle.test_maker.specs.Made.{Makes, MakesOfArch, MakesResolved, MakesTest, MakesValued, AreOfArch, MadeCanPrint, MadeForces, TestCanPrint, TestForces, test_view};
@@ -80,6 +79,7 @@ fn make_resolved<A: Arch>(
     ensures printable { MadeCanPrint A.puts A.REGISTERS test.new result }
     ensures forces { MadeForces (number_in A.writing.registers) resolved.now mode test.new result }
 {
+    let _edges = resolved.cycle();
     match value(resolved, mode) {
         Err(NeedsObserver { location, event }) => {
             Err(MakeRefusal::NeedsObserver { location, event })
@@ -89,11 +89,9 @@ fn make_resolved<A: Arch>(
 }
 
 fn make_valued<A: Arch>(valued: &Valued, test: &mut Test) -> Result<(), MakeRefusal>
-    requires of_arch { AreOfArch A.puts valued.now.edges }
-    requires valued { valuation_of valued.now.edges valued.now.mode ≡ Ok valued.now }
+    requires { AreOfArch A.puts valued.now.edges }
     ensures made { MakesValued A.puts (name_in A.writing.registers) valued.now.edges valued.now.mode (test_view test.new) result }
     ensures printable { MadeCanPrint A.puts A.REGISTERS test.new result }
-    ensures forces { MadeForces (number_in A.writing.registers) valued.now.edges valued.now.mode test.new result }
 {
     put_edges(valued.resolved().cycle().edges(), &mut test.edges);
     test.places.set_letters(valued.resolved().locations());

@@ -1,7 +1,6 @@
 use Rattle.std.proofs.Common.{ap, ◌∙◌, subst}
 use Rattle.cycle_resolve.specs.Resolution.{IsResolved, move_count}
 use Rattle.arch_trait.specs.Names.{letters}
-use Rattle.test_maker.proofs.Forcing.{made_forces}
 use Rattle.test_maker.proofs.Printing.{made_printable}
 use Rattle.test_maker.proofs.maker.make_valued.Goals as goal
 
@@ -10,12 +9,5 @@ returns-clause-printable g c =
     made_printable g.A.Arch.puts g.A.Arch.REGISTERS g.met.A.Arch.same_registers g.met.A.Arch.laws c.args.valued.now.edges c.args.valued.now.mode
     (record { edges = c.put_edges.new.kept; places = c.set_letters.new.self; threads = c.put_threads.new.threads; cond = c.put_threads.new.cond })
     c.put_threads.result
-    (subst IsResolved c.resolved.ensures c.cycle.ensures.resolved) c.requires.of_arch
+    (subst IsResolved c.resolved.ensures c.cycle.ensures.resolved) c.requires
     (c.set_letters.ensures ∙ ap letters (c.locations.ensures ∙ ap move_count c.resolved-2.ensures)) _ _ _ c.put_threads.ensures
-
-pub returns-clause-forces : goal.returns-clause-forces
-returns-clause-forces g c =
-    made_forces g.A.Arch.puts g.A.Arch.writing g.met.A.Arch.laws g.met.A.Arch.reads_back c.args.valued.now.edges c.args.valued.now.mode
-    (record { edges = c.put_edges.new.kept; places = c.set_letters.new.self; threads = c.put_threads.new.threads; cond = c.put_threads.new.cond })
-    c.put_threads.result
-    (subst IsResolved c.resolved.ensures c.cycle.ensures.resolved) c.requires.of_arch c.requires.valued ?made
