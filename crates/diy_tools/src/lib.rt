@@ -2,8 +2,6 @@
 #![tactic(auto)]
 
 mod report;
-mod run;
 mod status;
 
-pub use run::run;
 pub use status::{Device, Refusal, Status};
