@@ -1,8 +1,7 @@
 -- The line on standard error that tells a status.
 -- Source: own.
-use Rattle.std.specs.Prelude.{ℕ, ◌<◌, List, [], ◌∷◌, ◌++◌, codes, slice_get, Option, Some, None}
+use Rattle.std.specs.Prelude.{ℕ, ⊤, ◌<◌, List, [], ◌∷◌, ◌++◌, codes, slice_get, Option, Some, None}
 use Rattle.std.specs.Fmt.{decimal}
-use Rattle.arch_trait.specs.declared.TheConstants.{MAX_STEPS}
 use Rattle.arch_trait.specs.Names.{location_name}
 use Rattle.diy_words.specs.declared.usage.UsageKind.{UsageKind}
 use Rattle.diy_words.specs.declared.usage.UsageKind.TheVariants as usages
@@ -56,17 +55,21 @@ device_text devices.Out = codes "out"
 abbrev pub refusal_line : List ℕ → List ℕ
 refusal_line text = codes "diy: refused " ++ text ++ codes "\n"
 
+-- the line of words that make no request: what is wrong, and the word that shows it
+abbrev pub usage_line : List ℕ → List ℕ → List ℕ
+usage_line name shown = codes "diy: usage " ++ name ++ shown ++ codes "\n"
+
 -- the line of a status, which Done has none of
 abbrev pub status_line : List (List ℕ) → Status → List ℕ
 status_line words statuses.Done = []
 status_line words (statuses.Refused refusal) = refusal_line (refusal_text refusal)
 status_line words (statuses.Usage word kind) =
-    codes "diy: usage " ++ usage_text kind ++ shown_word (slice_get words word) ++ codes "\n"
+    usage_line (usage_text kind) (shown_word (slice_get words word))
 status_line words (statuses.WriteFault device) = codes "diy: write fault: " ++ device_text device ++ codes "\n"
 
 -- a refusal names no location, or one that a test can have
 abbrev pub RefusesLocation : Refusal → Type 0
-RefusesLocation (refusals.NeedsObserver location _) = location < MAX_STEPS
+RefusesLocation (refusals.NeedsObserver location _) = location < 48
 RefusesLocation _ = ⊤
 
 -- so does a status

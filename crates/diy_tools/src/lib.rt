@@ -3,5 +3,7 @@
 
 mod report;
 mod status;
+mod tools;
 
+pub use tools::run;
 pub use status::{Device, Refusal, Status};

@@ -3,9 +3,9 @@ ghost use Rattle.std.specs.Fmt.{decimal};
 ghost use Rattle.arch_trait.specs.Names.{location_name};
 ghost use Rattle.diy_io.specs.Count.{Rose};
 ghost use Rattle.diy_io.specs.Sink.{Grew, GrewByPrefix};
-ghost use Rattle.diy_tools.specs.Report.{status_line, refusal_line, refusal_text, usage_text, shown_word, device_text, NamesLocation, RefusesLocation};
+ghost use Rattle.diy_tools.specs.Report.{status_line, refusal_line, refusal_text, usage_line, usage_text, shown_word, device_text, NamesLocation, RefusesLocation};
 
-use arch_trait::{MAX_STEPS, Places};
+use arch_trait::Places;
 use diy_io::{Failed, Sink, Words, write_pieces};
 use diy_words::UsageKind;
 use itoa::Buffer;
@@ -28,8 +28,7 @@ pub(crate) fn report<E: Sink>(status: Status, words: &Words, err: &mut E) -> Res
         Status::Usage { word, kind } => {
             let name = usage_name(kind);
             if word < words.len() {
-                let shown = words.get(word).as_bytes();
-                write_pieces(err, &[b"diy: usage ", name, b": ", shown, b"\n"])
+                report_word(name, words.get(word).as_bytes(), err)
             } else {
                 write_pieces(err, &[b"diy: usage ", name, b"\n"])
             }
@@ -38,6 +37,17 @@ pub(crate) fn report<E: Sink>(status: Status, words: &Words, err: &mut E) -> Res
             write_pieces(err, &[b"diy: write fault: ", device_name(of), b"\n"])
         }
     }
+}
+
+/// Writes the line of a word that is wrong.
+fn report_word<E: Sink>(name: &[u8], word: &[u8], err: &mut E) -> Result<(), Failed>
+    ensures ok { OnOk result (Grew (E.told err.old) (E.told err.new) (usage_line name.now (codes ": " ++ word.now))) }
+    ensures failed { OnErr result (GrewByPrefix (E.told err.old) (E.told err.new) (usage_line name.now (codes ": " ++ word.now))) }
+    ensures no_fault { OnOk result (E.faults err.new ≡ E.faults err.old) }
+    ensures fault { OnErr result (Rose (E.faults err.old) (E.faults err.new)) }
+    ensures never_falls { E.faults err.old ≤ E.faults err.new }
+{
+    write_pieces(err, &[b"diy: usage ", name, b": ", word, b"\n"])
 }
 
 fn device_name(device: Device) -> &'static [u8]
@@ -108,9 +118,9 @@ fn refuse_at<E: Sink>(name: &[u8], number: u8, err: &mut E) -> Result<(), Failed
 }
 
 /// Writes the line of a write that needs an observer.
-#[tactic(auto, using(crate::proofs::Reported::letter_at))]
+#[tactic(auto, using(crate::proofs::Reported::letter_at, crate::proofs::Reported::letters_long))]
 fn refuse_unobserved<E: Sink>(location: u8, event: u8, err: &mut E) -> Result<(), Failed>
-    requires { location < MAX_STEPS }
+    requires { location < 48 }
     ensures ok { OnOk result (Grew (E.told err.old) (E.told err.new) (refusal_line (codes "NeedsObserver " ++ location_name location ++ codes " " ++ decimal event))) }
     ensures failed { OnErr result (GrewByPrefix (E.told err.old) (E.told err.new) (refusal_line (codes "NeedsObserver " ++ location_name location ++ codes " " ++ decimal event))) }
     ensures no_fault { OnOk result (E.faults err.new ≡ E.faults err.old) }
