@@ -4,6 +4,12 @@ pub mod Terms
 pub mod Visits
 pub mod VisitsAt
 pub mod Ties
+pub mod Following
 pub mod ThreadRuns
 pub mod Making
 pub mod Tying
+pub mod Everywhere
+pub mod PlaceNames
+pub mod Meeting
+pub mod Asking
+pub mod Headline

@@ -27,11 +27,10 @@ use Rattle.communication.proofs.IntendedReads.{reads-count}
 use Rattle.communication.proofs.Programs.{accesses-count, intended_asked}
 use Rattle.test_laws.specs.Steps.{event_step, thread_steps, observing, observer_steps, cycle_steps, numbers_read}
 use Rattle.test_laws.specs.TestOf.{plain}
-use Rattle.test_laws.specs.Programs.{cycle_program}
 use Rattle.test_laws.proofs.StepsFit.{steps_fit}
 use Rattle.test_laws.proofs.Terms.{reads-count as numbers-count}
 use Rattle.test_laws.proofs.Visits.{step_access}
-use Rattle.test_laws.proofs.ThreadRuns.{AreNumbered, AllFit, AreEnough, AllEnd, did_thread, enough, all_end, program-count}
+use Rattle.test_laws.proofs.ThreadRuns.{cycle_program, AreNumbered, AllFit, AreEnough, AllEnd, did_thread, enough, all_end, program-count}
 
 -- the accesses of the test are those of its steps
 pub accesses_planned : (es : List Edge) (mode : ObsMode) (number : ℕ → ℕ) → cycle_accesses es mode number ≡ map (map step_access) (cycle_steps es mode number)

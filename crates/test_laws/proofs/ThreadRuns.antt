@@ -8,6 +8,9 @@ use Rattle.std.proofs.lemmas.Option.{slice_get_within}
 use Rattle.list_laws.proofs.Cases.{by_less}
 use Rattle.relax_edges.specs.declared.kinds.Value.{Value}
 use Rattle.relax_edges.specs.declared.kinds.ArchName.{ArchName}
+use Rattle.relax_edges.specs.declared.kinds.ObsMode.{ObsMode}
+use Rattle.relax_edges.specs.declared.edge.Edge.{Edge}
+use Rattle.cycle_resolve.specs.Resolution.{move_count}
 use Rattle.micro_ops.specs.declared.operation.Item.{Item}
 use Rattle.micro_ops.specs.Running.{Outcome, Ended, ReadsLeft, ReadsShort}
 use Rattle.arch_trait.specs.declared.step.Step.{Step}
@@ -22,12 +25,18 @@ use Rattle.program_meaning.specs.Programs.{Program, Thread, run_of, runs_of, mad
 use Rattle.communication.specs.Joining.{filled, values_read}
 use Rattle.communication.proofs.Lists.{Image, image_of, got_below, got_map}
 use Rattle.communication.proofs.Programs.{accesses-count}
+use Rattle.test_laws.specs.Steps.{cycle_steps}
+use Rattle.test_laws.specs.TestOf.{plain}
 use Rattle.test_laws.specs.Programs.{thread_from, program_of}
 use Rattle.test_laws.proofs.Visits.{step_access, thread_visits, visits_are, accesses_are}
 
 -- the program of some threads of accesses on an architecture, where places have the numbers that f gives them
 abbrev pub steps_program : Puts → (ℕ → ℕ) → List (List Step) → ℕ → Program
 steps_program a f threads places = program_of (map (renumbered f) (map (compiled a) threads)) places
+
+-- the program of a cycle's test, where each location's place has the number that `number` gives it
+abbrev pub cycle_program : Puts → List Edge → ObsMode → (ℕ → ℕ) → Program
+cycle_program a es mode number = steps_program a number (cycle_steps es mode plain) (move_count es)
 
 -- the accesses of each thread can follow one another
 abbrev pub AllFit : ArchName → List (List Step) → Type 0
@@ -77,6 +86,7 @@ pub record DidThread (a : Puts) (f : ℕ → ℕ) (threads : List (List Step)) (
   pub regs : ℕ → Value
   pub plain : List Step
   pub plain_at : slice_get threads k ≡ Some plain
+  pub steps_are : map (step_at f) plain ≡ steps
   pub run_is : slice_get (runs_of (steps_program a f threads places).threads x.reads) k ≡ Some (Ended (thread_items steps 0 0 (values_read reads)) regs)
   pub loaded : HoldNumbers regs (compiled a plain).loads (values_read reads)
   pub items_are : slice_get (items_in (steps_program a f threads places) x) k ≡ Some (thread_items steps 0 0 (values_read reads))
@@ -98,6 +108,7 @@ did_thread a laws f threads made places x k steps reads e fit g h count =
       regs = d.regs;
       plain = i.element;
       plain_at = i.got;
+      steps_are = i.image;
       run_is = run;
       loaded = d.loaded;
       items_are = items;

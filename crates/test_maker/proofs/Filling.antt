@@ -1,5 +1,5 @@
 -- How the accesses of a thread are found in the events of a cycle.
-use Rattle.std.proofs.Common.{◌≡◌, ℕ, zero, suc, ◌+◌, ◌-◌, ◌<◌, ◌≤◌, ◌==◌, Bool, true, false, cond, List, [], ◌∷◌, ◌++◌, length, map, get_or, Option, Some, None, refl, sym, ap, ◌∙◌, arith, slice_get, length-append, append-nil, eq-eqb, ne_eqb}
+use Rattle.std.proofs.Common.{◌≡◌, ℕ, zero, suc, ◌+◌, ◌-◌, ◌<◌, ◌≤◌, ◌==◌, Bool, true, false, cond, List, [], ◌∷◌, ◌++◌, length, map, Some, sym, ap, ◌∙◌, arith, slice_get, append-nil, eq-eqb, ne_eqb}
 use Rattle.std.proofs.lemmas.List.{length-map, map-append}
 use Rattle.std.proofs.lemmas.Bool.Decides.{nat_tests}
 use Rattle.std.specs.List.{filter, count_by}
@@ -7,11 +7,10 @@ use Rattle.std.proofs.lemmas.List.Elements.{filter-append}
 use Rattle.relax_edges.specs.declared.edge.Edge.{Edge}
 use Rattle.relax_edges.specs.declared.kinds.ObsMode.{ObsMode}
 use Rattle.list_laws.specs.Numbers.{upto}
-use Rattle.list_laws.proofs.Numbers.{length-map-upto, map-upto_more, slice_get-map-upto}
-use Rattle.list_laws.proofs.Counts.{count_upto-le, count_upto_more_yes, count_upto_more_no}
+use Rattle.list_laws.proofs.Numbers.{length-map-upto}
+use Rattle.list_laws.proofs.Counts.{count_upto-le}
 use Rattle.list_laws.proofs.Ranks.{length-filter-upto, rank_upto}
-use Rattle.walk_laws.proofs.Places.{get_front, get_behind}
-use Rattle.cycle_resolve.specs.Resolution.{IsResolved, edge_at, event_before, events_in, event_of, external_count, move_count, slot_of, thread_of}
+use Rattle.cycle_resolve.specs.Resolution.{IsResolved, edge_at, events_in, event_of, external_count, move_count, slot_of, thread_of}
 use Rattle.cycle_resolve.specs.declared.resolved.Event.{Event}
 use Rattle.cycle_resolve.proofs.Threads.{slot-zero}
 use Rattle.coherence_values.specs.Values.{is_observed, write_count}
@@ -20,7 +19,7 @@ use Rattle.coherence_values.proofs.Laws.{threads_and_observers}
 use Rattle.program_meaning.specs.Intended.{observed_locations}
 use Rattle.arch_trait.specs.declared.step.Step.{Step}
 use Rattle.arch_trait.specs.Links.{edge_link}
-use Rattle.test_laws.specs.Steps.{event_link, event_step, thread_steps, observing, observer_steps, cycle_steps}
+use Rattle.test_laws.specs.Steps.{event_link, event_step, thread_steps}
 use Rattle.test_laws.specs.TestOf.{plain}
 
 -- the edge at a place

@@ -1,6 +1,6 @@
 -- How a test grows thread by thread.
-use Rattle.std.proofs.Common.{◌≡◌, ℕ, zero, suc, ◌+◌, ◌*◌, ◌<◌, ◌≤◌, Bool, true, false, cond, List, [], ◌∷◌, ◌++◌, length, get_or, take, drop, map, Option, Some, None, Result, Ok, Err, refl, sym, ◌∙◌, ap, arith, slice_get, append_assoc, length-append, length-take, append-nil}
-use Rattle.std.specs.List.{list_all, position_from, zip}
+use Rattle.std.proofs.Common.{◌≡◌, ℕ, zero, suc, ◌+◌, ◌<◌, ◌≤◌, cond, List, [], ◌∷◌, ◌++◌, length, take, drop, map, Option, Some, None, Ok, Err, refl, sym, ◌∙◌, ap, arith, slice_get, append_assoc, length-take, append-nil}
+use Rattle.std.specs.List.{position_from}
 use Rattle.std.specs.Option.{option_map}
 use Rattle.std.proofs.lemmas.Option.{get_or_from_slice_get}
 use Rattle.std.proofs.lemmas.List.{drop_all, length-map, map-append, take_all, take_more}
@@ -9,16 +9,15 @@ use Rattle.relax_edges.specs.declared.kinds.ObsMode.{ObsMode}
 use Rattle.relax_edges.specs.declared.edge.Edge.{Edge}
 use Rattle.cycle_resolve.specs.Resolution.{IsResolved}
 use Rattle.final_cond.specs.declared.cond.Cond.{Cond}
-use Rattle.final_cond.specs.Conditions.{TermSeen, term_view}
+use Rattle.final_cond.specs.Conditions.{term_view}
 use Rattle.arch_trait.specs.declared.code.Code.{Code}
 use Rattle.arch_trait.specs.declared.step.Step.{Step}
 use Rattle.arch_trait.specs.Codes.{thread_of}
-use Rattle.arch_trait.specs.Threads.{Puts, ThreadCode, compiled}
+use Rattle.arch_trait.specs.Threads.{Puts, compiled}
 use Rattle.test_laws.specs.Steps.{cycle_steps, numbers_read}
 use Rattle.test_laws.specs.TestOf.{plain, last_terms, load_terms, thread_terms}
 use Rattle.test_laws.proofs.StepsAt.{steps_few}
-use Rattle.test_laws.proofs.StepsFit.{IsThread, steps_fit}
-use Rattle.test_laws.proofs.Terms.{load_terms_more, loads-count, reads-count, terms_room, thread_terms-count}
+use Rattle.test_laws.proofs.Terms.{load_terms_more, reads-count, terms_room, thread_terms-count}
 use Rattle.test_maker.specs.declared.refusal.MakeRefusal.{MakeRefusal}
 use Rattle.test_maker.specs.declared.refusal.MakeRefusal.TheVariants.{TooManyRegisters}
 use Rattle.test_maker.specs.Refusals.{crowded_thread, is_crowded}

@@ -1,5 +1,5 @@
 -- The terms of the locations whose last value is named.
-use Rattle.std.proofs.Common.{◌≡◌, true, ℕ, ◌+◌, ◌<◌, ◌≤◌, List, [], ◌∷◌, ◌++◌, length, map, sym, ap, ◌∙◌, arith, slice_index_or}
+use Rattle.std.proofs.Common.{◌≡◌, true, ℕ, ◌+◌, ◌<◌, List, [], ◌∷◌, ◌++◌, length, map, sym, ap, ◌∙◌, arith, slice_index_or}
 use Rattle.std.specs.List.{filter}
 use Rattle.std.proofs.lemmas.List.FromFn.{length-map-range_with_len}
 use Rattle.std.proofs.lemmas.List.{length-map}
@@ -12,7 +12,7 @@ use Rattle.list_laws.proofs.Ranks.{length-filter-upto}
 use Rattle.cycle_resolve.specs.Resolution.{IsResolved, move_count}
 use Rattle.cycle_resolve.proofs.Sizes.{external_and_moves}
 use Rattle.final_cond.specs.declared.cond.Term.{Term}
-use Rattle.final_cond.specs.Conditions.{TermSeen, AtPlace, term_view}
+use Rattle.final_cond.specs.Conditions.{AtPlace, term_view}
 use Rattle.arch_trait.specs.Names.{letters, location_name}
 use Rattle.coherence_values.specs.Values.{write_count}
 use Rattle.test_laws.specs.TestOf.{is_named, last_term}

@@ -1,5 +1,5 @@
 -- The edges of a cycle that are of an architecture stay so where it is turned.
-use Rattle.std.proofs.Common.{◌≡◌, ℕ, ◌+◌, ◌<◌, Bool, true, false, not, cond, ◌&&◌, List, [], ◌∷◌, ◌++◌, take, drop, Option, Some, None, Result, Ok, Err, refl, sym, ap, ◌∙◌, arith, nat_lt, subst}
+use Rattle.std.proofs.Common.{◌≡◌, ℕ, ◌+◌, ◌<◌, Bool, true, false, not, cond, ◌&&◌, List, [], ◌∷◌, ◌++◌, take, drop, Some, None, Result, Ok, Err, refl, sym, ap, ◌∙◌, arith, nat_lt, subst}
 use Rattle.std.specs.List.{list_all, position_from}
 use Rattle.std.specs.Prelude.{if◌then◌else◌}
 use Rattle.std.proofs.lemmas.List.{take-append-drop}
@@ -7,18 +7,13 @@ use Rattle.std.proofs.lemmas.List.Folds.{list_all-append}
 use Rattle.std.proofs.lemmas.Bool.Decides.{nat_tests}
 use Rattle.cycle_resolve.specs.declared.resolved.ResolveError.TheVariants.{TooFewThreads, CoherenceOnly}
 use Rattle.cycle_resolve.proofs.Turning.{turn_of}
-use Rattle.relax_edges.specs.declared.kinds.ObsMode.{ObsMode}
 use Rattle.relax_edges.specs.declared.edge.Edge.{Edge}
 use Rattle.relax_edges.specs.EdgeTable.{is_of_arch}
 use Rattle.list_laws.proofs.Cases.{by_test}
-use Rattle.walk_laws.specs.Rotation.{rotated}
 use Rattle.cycle_resolve.specs.declared.resolved.ResolveError.{ResolveError}
 use Rattle.cycle_resolve.specs.Resolution.{external_count, is_coherence_only, resolution_of, turned}
 use Rattle.arch_trait.specs.Threads.{Puts}
-use Rattle.test_laws.specs.TestOf.{TestSeen, test_of}
-use Rattle.test_maker.specs.declared.refusal.MakeRefusal.{MakeRefusal}
-use Rattle.test_maker.specs.Refusals.{resolved_refusal, refusal_of}
-use Rattle.test_maker.specs.Made.{AreOfArch, Makes, MakesOfArch, MakesResolved}
+use Rattle.test_maker.specs.Made.{AreOfArch}
 
 list_all_both : {X : Type 0} (p : X → Bool) (xs ys : List X) → list_all p (xs ++ ys) ≡ list_all p (ys ++ xs)
 list_all_both p xs ys = list_all-append p xs ys ∙ and_turned (list_all p xs) (list_all p ys) ∙ sym (list_all-append p ys xs)

@@ -1,6 +1,6 @@
 -- What the calls of the test maker give.
-use Rattle.std.specs.Prelude.{ℕ, ◌≡◌, true, List, map, Option, Some, None, Result, Ok, Err}
-use Rattle.std.specs.List.{list_all}
+use Rattle.std.specs.Prelude.{ℕ, ◌≡◌, true, List, map, length, Some, None, Result, Ok, Err}
+use Rattle.std.specs.List.{All, list_all}
 use Rattle.relax_edges.specs.declared.kinds.ObsMode.{ObsMode}
 use Rattle.relax_edges.specs.declared.edge.Edge.{Edge}
 use Rattle.relax_edges.specs.EdgeTable.{is_of_arch}
@@ -10,6 +10,7 @@ use Rattle.arch_trait.specs.Threads.{Puts}
 use Rattle.arch_trait.specs.Codes.{thread_of}
 use Rattle.litmus_text.specs.declared.test.Test.{Test}
 use Rattle.litmus_text.specs.TestText as text
+use Rattle.litmus_text.specs.Tests.{IsPrintable}
 use Rattle.test_laws.specs.TestOf.{TestSeen, test_of}
 use Rattle.test_maker.specs.declared.refusal.MakeRefusal.{MakeRefusal}
 use Rattle.test_maker.specs.Refusals.{crowded_thread, resolved_refusal, refusal_of}
@@ -65,3 +66,17 @@ MakesTest a register_name cycle mode (Err refusal) = refusal_of a cycle mode ≡
 abbrev pub Accepts : Puts → List Edge → ObsMode → Result (Unit {0}) MakeRefusal → Type 0
 Accepts a cycle mode (Ok _) = refusal_of a cycle mode ≡ None
 Accepts a cycle mode (Err refusal) = refusal_of a cycle mode ≡ Some refusal
+
+-- the code of each thread of a test can be printed on an architecture with so many registers
+abbrev pub CanPrint : Puts → ℕ → Test → Type 0
+CanPrint a registers test = All (λ code. IsPrintable a.has registers (length test.places) code) test.threads.items
+
+-- what a call made can be printed
+abbrev pub MadeCanPrint : Puts → ℕ → Test → Result (Unit {0}) MakeRefusal → Type 0
+MadeCanPrint a registers test (Ok _) = CanPrint a registers test
+MadeCanPrint a registers test (Err refusal) = Unit {0}
+
+-- the same for a call that answers the test
+abbrev pub TestCanPrint : Puts → ℕ → Result Test MakeRefusal → Type 0
+TestCanPrint a registers (Ok test) = CanPrint a registers test
+TestCanPrint a registers (Err refusal) = Unit {0}

@@ -1,6 +1,6 @@
 -- Why a cycle has no test: the first reason that holds.
 -- Source: own, after the refusals of diy.
-use Rattle.std.specs.Prelude.{ℕ, zero, suc, ◌+◌, Bool, true, false, not, nat_lt, if◌then◌else◌, List, [], ◌∷◌, Option, Some, None, Result, Ok, Err}
+use Rattle.std.specs.Prelude.{Bool, not, nat_lt, List, Option, Some, None, Result, Ok, Err}
 use Rattle.std.specs.List.{position_from}
 use Rattle.std.specs.Option.{option_map}
 use Rattle.relax_edges.specs.declared.kinds.ArchName.{ArchName}
@@ -8,12 +8,10 @@ use Rattle.relax_edges.specs.declared.kinds.ObsMode.{ObsMode}
 use Rattle.relax_edges.specs.declared.kinds.ObsMode.TheVariants.{Accept, Avoid, Force}
 use Rattle.relax_edges.specs.declared.edge.Edge.{Edge}
 use Rattle.relax_edges.specs.EdgeTable.{is_of_arch}
-use Rattle.list_laws.specs.Numbers.{upto}
 use Rattle.cycle_resolve.specs.declared.resolved.ResolveError.{ResolveError}
 use Rattle.cycle_resolve.specs.declared.resolved.ResolveError.TheVariants as resolving
-use Rattle.cycle_resolve.specs.Resolution.{resolution_of, move_count}
-use Rattle.coherence_values.specs.declared.valued.NeedsObserver.{NeedsObserver}
-use Rattle.coherence_values.specs.Values.{observer_need, write_count}
+use Rattle.cycle_resolve.specs.Resolution.{resolution_of}
+use Rattle.coherence_values.specs.Values.{observer_need}
 use Rattle.arch_trait.specs.declared.step.Step.{Step}
 use Rattle.arch_trait.specs.Threads.{Puts, shape_of}
 use Rattle.test_maker.specs.declared.refusal.MakeRefusal.{MakeRefusal}

@@ -2,7 +2,7 @@ ghost use Rattle.std.specs.Prelude.{◌≡◌, ◌≤◌, not, length};
 ghost use Rattle.std.specs.List.{position_from};
 ghost use Rattle.relax_edges.specs.EdgeTable.{is_of_arch};
 ghost use Rattle.arch_trait.specs.Writing.{name_in};
-ghost use Rattle.test_maker.specs.Made.{Makes, MakesOfArch, MakesResolved, MakesTest, MakesValued, AreOfArch, test_view};
+ghost use Rattle.test_maker.specs.Made.{Makes, MakesOfArch, MakesResolved, MakesTest, MakesValued, AreOfArch, MadeCanPrint, TestCanPrint, test_view};
 
 use crate::condition::put_last_terms;
 use crate::refusal::MakeRefusal;
@@ -17,7 +17,8 @@ use relax_edges::{Edge, MAX_EDGES, ObsMode};
 
 /// The test of the cycle, or the first reason why it has none.
 pub fn make<A: Arch>(cycle: &Cycle, mode: ObsMode) -> Result<Test, MakeRefusal>
-    ensures { MakesTest A.puts (name_in A.writing.registers) cycle.now mode result }
+    ensures made { MakesTest A.puts (name_in A.writing.registers) cycle.now mode result }
+    ensures printable { TestCanPrint A.puts A.REGISTERS result }
 {
     let mut test = Test::new();
     match make_into::<A>(cycle, mode, &mut test) {
@@ -28,7 +29,8 @@ pub fn make<A: Arch>(cycle: &Cycle, mode: ObsMode) -> Result<Test, MakeRefusal>
 
 /// Makes `test` the test of the cycle, as `make` does. After a refusal nothing is known of it.
 pub fn make_into<A: Arch>(cycle: &Cycle, mode: ObsMode, test: &mut Test) -> Result<(), MakeRefusal>
-    ensures { Makes A.puts (name_in A.writing.registers) cycle.now mode (test_view test.new) result }
+    ensures made { Makes A.puts (name_in A.writing.registers) cycle.now mode (test_view test.new) result }
+    ensures printable { MadeCanPrint A.puts A.REGISTERS test.new result }
 {
     match first_foreign::<A>(cycle.edges()) {
         Some(at) => Err(MakeRefusal::NotOfArch { at }),
@@ -51,7 +53,8 @@ fn first_foreign<A: Arch>(edges: &[Edge]) -> Option<u8>
 
 fn make_of_arch<A: Arch>(cycle: &Cycle, mode: ObsMode, test: &mut Test) -> Result<(), MakeRefusal>
     requires { AreOfArch A.puts cycle.now }
-    ensures { MakesOfArch A.puts (name_in A.writing.registers) cycle.now mode (test_view test.new) result }
+    ensures made { MakesOfArch A.puts (name_in A.writing.registers) cycle.now mode (test_view test.new) result }
+    ensures printable { MadeCanPrint A.puts A.REGISTERS test.new result }
 {
     let _edges = cycle.edges();
     match resolve(cycle) {
@@ -67,7 +70,8 @@ fn make_resolved<A: Arch>(
     test: &mut Test,
 ) -> Result<(), MakeRefusal>
     requires { AreOfArch A.puts resolved.now }
-    ensures { MakesResolved A.puts (name_in A.writing.registers) resolved.now mode (test_view test.new) result }
+    ensures made { MakesResolved A.puts (name_in A.writing.registers) resolved.now mode (test_view test.new) result }
+    ensures printable { MadeCanPrint A.puts A.REGISTERS test.new result }
 {
     match value(resolved, mode) {
         Err(NeedsObserver { location, event }) => {
@@ -79,7 +83,8 @@ fn make_resolved<A: Arch>(
 
 fn make_valued<A: Arch>(valued: &Valued, test: &mut Test) -> Result<(), MakeRefusal>
     requires { AreOfArch A.puts valued.now.edges }
-    ensures { MakesValued A.puts (name_in A.writing.registers) valued.now.edges valued.now.mode (test_view test.new) result }
+    ensures made { MakesValued A.puts (name_in A.writing.registers) valued.now.edges valued.now.mode (test_view test.new) result }
+    ensures printable { MadeCanPrint A.puts A.REGISTERS test.new result }
 {
     put_edges(valued.resolved().cycle().edges(), &mut test.edges);
     test.places.set_letters(valued.resolved().locations());

@@ -1,6 +1,5 @@
-use Rattle.std.proofs.Common.{◌∙◌, ◌≡◌, ◌<◌, ◌++◌, ◌∷◌, [], map, sym, ap, arith, length}
+use Rattle.std.proofs.Common.{◌∙◌, ◌<◌, map, sym, ap, arith, length}
 use Rattle.cycle_resolve.specs.Resolution.{move_count}
-use Rattle.arch_trait.specs.Names.{letters}
 use Rattle.arrayvec.specs.ArrayVec.{ArrayVec}
 use Rattle.final_cond.specs.declared.cond.Term.{Term}
 use Rattle.final_cond.specs.Conditions.{term_view}

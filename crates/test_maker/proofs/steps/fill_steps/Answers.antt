@@ -1,4 +1,4 @@
-use Rattle.std.proofs.Common.{◌∙◌, ◌≡◌, ◌<◌, ◌≤◌, ◌-◌, sym, ap, arith, slice_get, Some}
+use Rattle.std.proofs.Common.{◌∙◌, ◌<◌, ◌≤◌, ◌-◌, sym, ap, arith, slice_get, Some}
 use Rattle.cycle_resolve.specs.Resolution.{external_count}
 use Rattle.program_meaning.specs.Intended.{observed_locations}
 use Rattle.test_laws.specs.TestOf.{plain}

@@ -1,4 +1,4 @@
-use Rattle.std.proofs.Common.{◌∙◌, ◌≡◌, sym, ap, arith}
+use Rattle.std.proofs.Common.{◌∙◌, ap, arith}
 use Rattle.cycle_resolve.specs.Resolution.{external_count}
 use Rattle.test_laws.specs.TestOf.{plain}
 use Rattle.test_laws.proofs.StepsAt.{steps-count}

@@ -1,9 +1,8 @@
-use Rattle.std.proofs.Common.{◌∙◌, ◌≡◌, ◌<◌, sym, ap, arith, length, slice_get, Some, subst}
+use Rattle.std.proofs.Common.{◌∙◌, sym, ap, arith, Some}
 use Rattle.arch_trait.specs.Writing.{name_in}
-use Rattle.test_laws.specs.Steps.{cycle_steps}
 use Rattle.test_laws.specs.TestOf.{plain}
 use Rattle.test_laws.proofs.StepsFit.{steps_fit}
-use Rattle.test_maker.proofs.Growing.{grown_more, grown_refused, grown_all, thread_room, load_room}
+use Rattle.test_maker.proofs.Growing.{grown_more, grown_refused, thread_room, load_room}
 use Rattle.test_maker.proofs.threads.put_threads.Goals as goal
 
 pub put_thread-requires-clause-fit : goal.put_thread-requires-clause-fit
