@@ -42,6 +42,7 @@ pub fn run<O: Sink, E: Sink>(_alloc: Global, words: &Words, out: &mut O, err: &m
 }
 
 /// Answers the words, all but the line of the status.
+#[tactic(auto, using(crate::proofs::Running::kept_answered))]
 fn answer<O: Sink>(words: &Words, out: &mut O) -> Status
     ensures answers { Answers (λ sink. sink_seen (O.told sink) (O.faults sink)) words.now result out.old out.new }
     ensures location { NamesLocation result }
@@ -66,7 +67,7 @@ fn diyone<O: Sink>(request: &DiyOne, out: &mut O) -> Status
     }
 }
 
-#[tactic(auto, unfolding(crate::specs::Answers::cycle_text))]
+#[tactic(auto, using(crate::proofs::Running::located), unfolding(crate::specs::Answers::cycle_text))]
 fn answer_edges<O: Sink>(edges: &[Edge], name: &str, out: &mut O) -> Status
     requires { length edges.now ≤ 24 }
     ensures answers { AnswersEdges (λ sink. sink_seen (O.told sink) (O.faults sink)) (refused_of puts modes.Accept edges.now) (cycle_text name.now edges.now) result out.old out.new }
@@ -79,7 +80,6 @@ fn answer_edges<O: Sink>(edges: &[Edge], name: &str, out: &mut O) -> Status
 }
 
 /// Prints a test.
-#[tactic(auto, using(crate::proofs::Running::wrote_all, crate::proofs::Running::wrote_part))]
 fn print<O: Sink>(test: &Test, name: &str, out: &mut O) -> Status
     requires { IsPrintableTest test.now }
     ensures prints { Prints (test_text archs.X86 writing name.now (test_seen test.now)) result (sink_seen (O.told out.old) (O.faults out.old)) (sink_seen (O.told out.new) (O.faults out.new)) }
@@ -119,6 +119,7 @@ fn first_foreign(edges: &[Edge]) -> Option<u8>
     None
 }
 
+#[tactic(auto, using(crate::proofs::Running::composed_test))]
 fn test_of_composed(edges: &[Edge]) -> Result<Test, Refusal>
     ensures made { MakesTestOf edges.now (refused_composed puts modes.Accept (composed edges.now)) result }
     ensures printable { IfOk result IsPrintableTest }

@@ -19,7 +19,7 @@ use Rattle.arch_trait.specs.Threads.{Puts, compiled}
 use Rattle.arch_trait.specs.Laws.{IsArch}
 use Rattle.arch_trait.specs.Names.{location_name}
 use Rattle.arch_trait.specs.Renumbering.{step_at}
-use Rattle.arch_trait.proofs.Codes.{AllBelow}
+use Rattle.arch_trait.specs.Codes.{AllBelow}
 use Rattle.program_meaning.specs.declared.WriteAt.{WriteAt}
 use Rattle.program_meaning.specs.Accesses.{Access, is_read}
 use Rattle.program_meaning.specs.Executions.{Execution}

@@ -11,7 +11,8 @@ use Rattle.arch_trait.specs.declared.step.Step.{Step}
 use Rattle.arch_trait.specs.Threads.{Puts, FitSteps, is_load_dir, setting_out, compiled, shape_of, HoldNumbers}
 use Rattle.arch_trait.specs.Laws.{IsArch}
 use Rattle.arch_trait.specs.Renumbering.{step_at}
-use Rattle.arch_trait.proofs.Codes.{AllBelow, thread_loads_below}
+use Rattle.arch_trait.specs.Codes.{AllBelow}
+use Rattle.arch_trait.proofs.Codes.{thread_loads_below}
 use Rattle.arch_trait.proofs.Shapes.{need_is}
 use Rattle.test_laws.specs.Steps.{numbers_read}
 use Rattle.test_laws.specs.TestOf.{load_term, thread_terms, load_terms}
