@@ -29,7 +29,6 @@ making_refusal (making.NotOfArch at) = refusals.NotOfArch at
 making_refusal making.TooFewThreads = refusals.TooFewThreads
 making_refusal making.CoherenceOnly = refusals.CoherenceOnly
 making_refusal (making.NeedsObserver location event) = refusals.NeedsObserver location event
-making_refusal making.NotBuilt = refusals.NotBuilt
 making_refusal (making.TooManyRegisters thread) = refusals.TooManyRegisters thread
 
 -- what is refused of a cycle, if anything is

@@ -2,8 +2,8 @@
 #![tactic(auto)]
 
 mod report;
-mod run;
 mod status;
+mod tools;
 
-pub use run::run;
+pub use tools::run;
 pub use status::{Device, Refusal, Status};

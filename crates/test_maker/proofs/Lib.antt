@@ -1,4 +1,5 @@
 pub mod Filling
+pub mod Forcing
 pub mod Growing
 pub mod Naming
 pub mod OfArch

@@ -164,7 +164,7 @@ none_crowded a i (suc k) (t ∷ threads) ss e g = by_test (is_crowded a t)
     (λ f. let z : Some i ≡ None = sym (ap (λ b. cond b (Some i) (position_from (is_crowded a) (i + 1) threads)) f) ∙ e in cc)
     (λ f. none_crowded a (i + 1) k threads ss (sym (ap (λ b. cond b (Some i) (position_from (is_crowded a) (i + 1) threads)) f) ∙ e) g)
 
-uncrowded : (a : Puts) (es : List Edge) (mode : ObsMode) → crowded_thread a es mode ≡ None → position_from (is_crowded a) 0 (cycle_steps es mode plain) ≡ None
+pub uncrowded : (a : Puts) (es : List Edge) (mode : ObsMode) → crowded_thread a es mode ≡ None → position_from (is_crowded a) 0 (cycle_steps es mode plain) ≡ None
 uncrowded a es mode e = none_of (position_from (is_crowded a) 0 (cycle_steps es mode plain)) e
   where
     none_of : (found : Option ℕ) → option_map (λ thread. TooManyRegisters thread) found ≡ None → found ≡ None

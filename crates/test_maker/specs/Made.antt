@@ -1,5 +1,5 @@
 -- What the calls of the test maker give.
-use Rattle.std.specs.Prelude.{ℕ, ◌≡◌, true, List, map, length, Some, None, Result, Ok, Err}
+use Rattle.std.specs.Prelude.{Option, ℕ, ◌≡◌, true, List, map, length, Some, None, Result, Ok, Err}
 use Rattle.std.specs.List.{All, list_all}
 use Rattle.relax_edges.specs.declared.kinds.ObsMode.{ObsMode}
 use Rattle.relax_edges.specs.declared.edge.Edge.{Edge}
@@ -11,7 +11,8 @@ use Rattle.arch_trait.specs.Codes.{thread_of}
 use Rattle.litmus_text.specs.declared.test.Test.{Test}
 use Rattle.litmus_text.specs.TestText as text
 use Rattle.litmus_text.specs.Tests.{IsPrintable}
-use Rattle.test_laws.specs.TestOf.{TestSeen, test_of}
+use Rattle.test_laws.specs.Headline.{Forces}
+use Rattle.test_laws.specs.TestOf.{TestSeen, plain, test_of}
 use Rattle.test_maker.specs.declared.refusal.MakeRefusal.{MakeRefusal}
 use Rattle.test_maker.specs.Refusals.{crowded_thread, resolved_refusal, refusal_of}
 
@@ -80,3 +81,13 @@ MadeCanPrint a registers test (Err refusal) = Unit {0}
 abbrev pub TestCanPrint : Puts → ℕ → Result Test MakeRefusal → Type 0
 TestCanPrint a registers (Ok test) = CanPrint a registers test
 TestCanPrint a registers (Err refusal) = Unit {0}
+
+-- what a call made of a cycle in this list of edges forces the cycle, where registers are found by their names
+abbrev pub MadeForces : (List ℕ → Option ℕ) → List Edge → ObsMode → Test → Result (Unit {0}) MakeRefusal → Type 0
+MadeForces register_number es mode test (Ok _) = Forces (test_view test) register_number es mode plain
+MadeForces register_number es mode test (Err refusal) = Unit {0}
+
+-- the same for a call that answers the test
+abbrev pub TestForces : (List ℕ → Option ℕ) → List Edge → ObsMode → Result Test MakeRefusal → Type 0
+TestForces register_number es mode (Ok test) = Forces (test_view test) register_number es mode plain
+TestForces register_number es mode (Err refusal) = Unit {0}

@@ -1,8 +1,10 @@
 ghost use Rattle.std.specs.Prelude.{◌≡◌, ◌≤◌, not, length};
 ghost use Rattle.std.specs.List.{position_from};
 ghost use Rattle.relax_edges.specs.EdgeTable.{is_of_arch};
+ghost use Rattle.cycle_resolve.specs.Resolution.{turned};
+ghost use Rattle.arch_trait.specs.Names.{number_in};
 ghost use Rattle.arch_trait.specs.Writing.{name_in};
-ghost use Rattle.test_maker.specs.Made.{Makes, MakesOfArch, MakesResolved, MakesTest, MakesValued, AreOfArch, MadeCanPrint, TestCanPrint, test_view};
+ghost use Rattle.test_maker.specs.Made.{Makes, MakesOfArch, MakesResolved, MakesTest, MakesValued, AreOfArch, MadeCanPrint, MadeForces, TestCanPrint, TestForces, test_view};
 
 use crate::condition::put_last_terms;
 use crate::refusal::MakeRefusal;
@@ -19,6 +21,7 @@ use relax_edges::{Edge, MAX_EDGES, ObsMode};
 pub fn make<A: Arch>(cycle: &Cycle, mode: ObsMode) -> Result<Test, MakeRefusal>
     ensures made { MakesTest A.puts (name_in A.writing.registers) cycle.now mode result }
     ensures printable { TestCanPrint A.puts A.REGISTERS result }
+    ensures forces { TestForces (number_in A.writing.registers) (turned cycle.now) mode result }
 {
     let mut test = Test::new();
     match make_into::<A>(cycle, mode, &mut test) {
@@ -31,6 +34,7 @@ pub fn make<A: Arch>(cycle: &Cycle, mode: ObsMode) -> Result<Test, MakeRefusal>
 pub fn make_into<A: Arch>(cycle: &Cycle, mode: ObsMode, test: &mut Test) -> Result<(), MakeRefusal>
     ensures made { Makes A.puts (name_in A.writing.registers) cycle.now mode (test_view test.new) result }
     ensures printable { MadeCanPrint A.puts A.REGISTERS test.new result }
+    ensures forces { MadeForces (number_in A.writing.registers) (turned cycle.now) mode test.new result }
 {
     match first_foreign::<A>(cycle.edges()) {
         Some(at) => Err(MakeRefusal::NotOfArch { at }),
@@ -55,6 +59,7 @@ fn make_of_arch<A: Arch>(cycle: &Cycle, mode: ObsMode, test: &mut Test) -> Resul
     requires { AreOfArch A.puts cycle.now }
     ensures made { MakesOfArch A.puts (name_in A.writing.registers) cycle.now mode (test_view test.new) result }
     ensures printable { MadeCanPrint A.puts A.REGISTERS test.new result }
+    ensures forces { MadeForces (number_in A.writing.registers) (turned cycle.now) mode test.new result }
 {
     let _edges = cycle.edges();
     match resolve(cycle) {
@@ -72,7 +77,9 @@ fn make_resolved<A: Arch>(
     requires { AreOfArch A.puts resolved.now }
     ensures made { MakesResolved A.puts (name_in A.writing.registers) resolved.now mode (test_view test.new) result }
     ensures printable { MadeCanPrint A.puts A.REGISTERS test.new result }
+    ensures forces { MadeForces (number_in A.writing.registers) resolved.now mode test.new result }
 {
+    let _edges = resolved.cycle();
     match value(resolved, mode) {
         Err(NeedsObserver { location, event }) => {
             Err(MakeRefusal::NeedsObserver { location, event })
