@@ -1,6 +1,6 @@
 -- The names of locations, as a report finds them, and the line of words where none shows the fault.
-use Rattle.std.proofs.Common.{◌≡◌, ℕ, ◌+◌, ◌<◌, ◌≤◌, List, [], ◌++◌, ◌∙◌, refl, ap, arith, length, get_or, append-nil}
-use Rattle.std.specs.Prelude.{codes, slice_get, Option, None}
+use Rattle.std.proofs.Common.{◌≡◌, ℕ, ◌+◌, ◌<◌, ◌≤◌, List, [], ◌++◌, ◌∙◌, ap, arith, length, get_or, append-nil}
+use Rattle.std.specs.Prelude.{codes, slice_get, None}
 use Rattle.std.proofs.lemmas.Option.{slice_get_past}
 use Rattle.std.proofs.lemmas.List.FromFn.{get_or-map-range_with_len, length-map-range_with_len}
 use Rattle.arch_trait.specs.Names.{letters, location_name}

@@ -1,11 +1,10 @@
 -- What `run` answers, from what its parts answer.
-use Rattle.std.proofs.Common.{◌≡◌, ◌≤◌, ◌<◌, ℕ, zero, suc, ◌+◌, Bool, true, false, not, nat_lt, nat_le, List, [], ◌∷◌, ◌++◌, length, Option, Some, None, refl, sym, ap, ◌∙◌, subst, arith, Ok, Err, inl, inr}
-use Rattle.std.specs.Prelude.{Result, OnOk, OnErr, ◌⊎◌, ⊤, cond, if◌then◌else◌}
+use Rattle.std.proofs.Common.{◌≡◌, ◌≤◌, ℕ, Bool, true, false, not, nat_lt, nat_le, List, [], ◌∷◌, ◌++◌, length, Option, Some, None, refl, sym, ap, subst, arith, Ok, Err, inl, inr}
+use Rattle.std.specs.Prelude.{Result, OnOk, OnErr, ⊤, cond, if◌then◌else◌}
 use Rattle.std.specs.List.{position_from}
 use Rattle.std.specs.Option.{option_map}
 use Rattle.std.proofs.lemmas.Bool.Decides.{nat_tests}
 use Rattle.relax_edges.specs.declared.edge.Edge.{Edge}
-use Rattle.relax_edges.specs.declared.kinds.ArchName.TheVariants.{X86}
 use Rattle.relax_edges.specs.declared.kinds.ObsMode.TheVariants.{Accept}
 use Rattle.relax_edges.specs.EdgeTable.{is_of_arch}
 use Rattle.cycle_resolve.specs.declared.resolved.ResolveError.{ResolveError}
@@ -18,21 +17,20 @@ use Rattle.walk_laws.specs.Composable.{first_break}
 use Rattle.diy_io.specs.declared.errors.Failed.{Failed}
 use Rattle.diy_io.specs.Count.{Rose}
 use Rattle.diy_io.specs.Sink.{Told, Grew, GrewByPrefix}
-use Rattle.litmus_text.specs.Wrote.{SinkSeen, sink_seen, WroteAll, WrotePart}
+use Rattle.litmus_text.specs.Wrote.{SinkSeen, sink_seen}
 use Rattle.diy_words.specs.declared.request.EdgeList.TheVariants.{Whole, TooLong}
 use Rattle.diy_words.specs.Edges.{kept}
 use Rattle.litmus_text.specs.declared.test.Test.{Test}
 use Rattle.arch_x86.specs.Puts.{puts}
 use Rattle.test_maker.specs.declared.refusal.MakeRefusal.{MakeRefusal}
 use Rattle.test_maker.specs.declared.refusal.MakeRefusal.TheVariants as making
-use Rattle.test_maker.specs.Refusals.{or_else, foreign_edge, resolved_refusal, crowded_thread, unobserved_need, refusal_of}
+use Rattle.test_maker.specs.Refusals.{or_else, foreign_edge, resolved_refusal, refusal_of}
 use Rattle.diy_tools.specs.declared.status.Status.{Status}
-use Rattle.diy_tools.specs.declared.status.Status.TheVariants as statuses
 use Rattle.diy_tools.specs.declared.status.Refusal.{Refusal}
 use Rattle.diy_tools.specs.declared.status.Refusal.TheVariants as refusals
-use Rattle.diy_tools.specs.Refused.{refused_of, refused_of_arch, refused_composed, refused_making, making_refusal}
-use Rattle.diy_tools.specs.Report.{RefusesLocation, NamesLocation}
-use Rattle.diy_tools.specs.Answers.{Answers, AnswersEdges, AnswersAsked, Prints, TakesLine, refused_kept, edges_kept, cycle_text, MakesTestOf}
+use Rattle.diy_tools.specs.Refused.{refused_of, refused_of_arch, refused_composed, refused_making}
+use Rattle.diy_tools.specs.Report.{RefusesLocation}
+use Rattle.diy_tools.specs.Answers.{AnswersEdges, TakesLine, refused_kept, edges_kept, cycle_text, MakesTestOf}
 
 by_test : {G : Type 0} (b : Bool) → (b ≡ true → G) → (b ≡ false → G) → G
 by_test true t f = t refl
@@ -57,14 +55,17 @@ kept_answered seen name (e ∷ es) status old new h =
     by_test (nat_le (length (e ∷ es)) 24)
     (λ t. subst (λ k. AnswersEdges seen (refused_kept k) (cycle_text name (edges_kept k)) status old new) (kept_whole (e ∷ es) t) h)
     (λ f. subst (λ r. AnswersEdges seen r (cycle_text name (e ∷ es)) status old new) (sym (refused_long e es f))
-        (subst (λ k. AnswersEdges seen (refused_kept k) (cycle_text name (edges_kept k)) status old new) (kept_long (e ∷ es) f) h))
+    (subst (λ k. AnswersEdges seen (refused_kept k) (cycle_text name (edges_kept k)) status old new) (kept_long (e ∷ es) f) h))
   where
     kept_whole : (us : List Edge) → nat_le (length us) 24 ≡ true → kept us ≡ Whole (record { items = us })
     kept_whole us t = ap (λ b. if b then Whole (record { items = us }) else TooLong) t
+
     kept_long : (us : List Edge) → nat_le (length us) 24 ≡ false → kept us ≡ TooLong
     kept_long us t = ap (λ b. if b then Whole (record { items = us }) else TooLong) t
+
     long : (n : ℕ) → nat_le n 24 ≡ false → nat_lt 24 n ≡ true
     long n f = grind (arith, nat_tests)
+
     refused_long : (e : Edge) (es : List Edge) → nat_le (length (e ∷ es)) 24 ≡ false → refused_of puts Accept (e ∷ es) ≡ Some refusals.TooLong
     refused_long e es f =
         ap (λ b. if b then Some refusals.TooLong else refused_of_arch puts Accept (e ∷ es) (position_from (λ e. not (is_of_arch e puts.name)) 0 (e ∷ es)))
@@ -122,11 +123,11 @@ arch_located es None = composed_located (composed es)
 
 all_located : (es : List Edge) → Located (refused_of puts Accept es)
 all_located [] = tt
-all_located (e ∷ es) = short (nat_lt 24 (length (e ∷ es))) (arch_located (e ∷ es) _)
+all_located (e ∷ es) = short (nat_lt 24 (length (e ∷ es))) _ (arch_located (e ∷ es) _)
   where
-    short : (b : Bool) {o : Option Refusal} → Located o → Located (if b then Some refusals.TooLong else o)
-    short true p = tt
-    short false p = p
+    short : (b : Bool) (o : Option Refusal) → Located o → Located (if b then Some refusals.TooLong else o)
+    short true o p = tt
+    short false o p = p
 
 pub located : (es : List Edge) (refusal : Refusal) → refused_of puts Accept es ≡ Some refusal → RefusesLocation refusal
 located es refusal e = subst Located e (all_located es)

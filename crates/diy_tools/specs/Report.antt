@@ -1,6 +1,6 @@
 -- The line on standard error that tells a status.
 -- Source: own.
-use Rattle.std.specs.Prelude.{ℕ, ⊤, ◌<◌, List, [], ◌∷◌, ◌++◌, codes, slice_get, Option, Some, None}
+use Rattle.std.specs.Prelude.{ℕ, ⊤, ◌<◌, List, [], ◌++◌, codes, slice_get, Option, Some, None}
 use Rattle.std.specs.Fmt.{decimal}
 use Rattle.arch_trait.specs.Names.{location_name}
 use Rattle.diy_words.specs.declared.usage.UsageKind.{UsageKind}

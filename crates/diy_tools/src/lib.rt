@@ -5,5 +5,5 @@ mod report;
 mod status;
 mod tools;
 
-pub use tools::run;
 pub use status::{Device, Refusal, Status};
+pub use tools::run;

@@ -5,12 +5,11 @@ ghost use Rattle.diy_io.specs.Count.{Rose};
 ghost use Rattle.diy_io.specs.Sink.{Grew, GrewByPrefix};
 ghost use Rattle.diy_tools.specs.Report.{status_line, refusal_line, refusal_text, usage_line, usage_text, shown_word, device_text, NamesLocation, RefusesLocation};
 
+use crate::status::{Device, Refusal, Status};
 use arch_trait::Places;
 use diy_io::{Failed, Sink, Words, write_pieces};
 use diy_words::UsageKind;
 use itoa::Buffer;
-
-use crate::status::{Device, Refusal, Status};
 
 /// Writes the line of a status, where it has one.
 #[tactic(auto, using(diy_io::specs::SinkLaws::grew_nothing))]
@@ -131,5 +130,15 @@ fn refuse_unobserved<E: Sink>(location: u8, event: u8, err: &mut E) -> Result<()
     let name = places.get(location).as_str().as_bytes();
     let mut digits = Buffer::new();
     let digits = digits.format(event).as_bytes();
-    write_pieces(err, &[b"diy: refused ", b"NeedsObserver ", name, b" ", digits, b"\n"])
+    write_pieces(
+        err,
+        &[
+            b"diy: refused ",
+            b"NeedsObserver ",
+            name,
+            b" ",
+            digits,
+            b"\n",
+        ],
+    )
 }

@@ -14,6 +14,8 @@ ghost use Rattle.diy_tools.specs.Refused.{refused_of, refused_composed, refused_
 ghost use Rattle.diy_tools.specs.Report.{status_line, NamesLocation};
 ghost use Rattle.diy_tools.specs.Answers.{Answers, AnswersEdges, Prints, TakesLine, refused_kept, edges_kept, cycle_text, MakesTestOf, IsPrintableTest};
 
+use crate::report::report;
+use crate::status::{Device, Refusal, Status};
 use arch_x86::X86;
 use diy_io::{Failed, Sink, Words};
 use diy_words::{DiyOne, EdgeList, read_request};
@@ -22,9 +24,6 @@ use litmus_text::{Test, print_test};
 use relax_edges::{ArchName, Edge, ObsMode};
 use std::alloc::Global;
 use test_maker::make;
-
-use crate::report::report;
-use crate::status::{Device, Refusal, Status};
 
 /// Does what the words ask for: it prints the test of a cycle of edges to `out`.
 ///
@@ -119,7 +118,6 @@ fn first_foreign(edges: &[Edge]) -> Option<u8>
     None
 }
 
-#[tactic(auto, using(crate::proofs::Running::composed_test))]
 fn test_of_composed(edges: &[Edge]) -> Result<Test, Refusal>
     ensures made { MakesTestOf edges.now (refused_composed puts modes.Accept (composed edges.now)) result }
     ensures printable { IfOk result IsPrintableTest }

@@ -3,7 +3,7 @@ use diy_io::Words;
 use std::test::Fail;
 
 /// Words of diyone7, and the test that they print.
-const TESTS: [(&str, &str); 7] = [
+const TESTS: [(&str, &str); 9] = [
     (
         "diyone7 -arch X86 -name SB PodWR Fre PodWR Fre",
         "X86 SB\n\"PodWR Fre PodWR Fre\"\n{\n}\n P0          | P1          ;\n MOV [x],$1  | MOV [y],$1  ;\n MOV EAX,[y] | MOV EAX,[x] ;\nexists (0:EAX=0 /\\ 1:EAX=0)\n",
@@ -32,10 +32,18 @@ const TESTS: [(&str, &str); 7] = [
         "diyone7 -arch X86 -name I Rfi PodRR Fre Rfi PodRR Fre",
         "X86 I\n\"Rfi PodRR Fre Rfi PodRR Fre\"\n{\n}\n P0          | P1          ;\n MOV [x],$1  | MOV [y],$1  ;\n MOV EAX,[x] | MOV EAX,[y] ;\n MOV EBX,[y] | MOV EBX,[x] ;\nexists (0:EAX=1 /\\ 0:EBX=0 /\\ 1:EAX=1 /\\ 1:EBX=0)\n",
     ),
+    (
+        "diyone7 -arch X86 -name W3 PodWW Wsi Wse PodWR Fre",
+        "X86 W3\n\"PodWW Wsi Wse PodWR Fre\"\n{\n}\n P0         | P1          ;\n MOV [x],$1 | MOV [y],$3  ;\n MOV [y],$1 | MOV EAX,[x] ;\n MOV [y],$2 |             ;\nexists ([y]=3 /\\ 1:EAX=0)\n",
+    ),
+    (
+        "diyone7 -arch X86 -name W3O PodWW Wse Wse PodWR Fre",
+        "X86 W3O\n\"PodWW Wse Wse PodWR Fre\"\n{\n}\n P0         | P1         | P2          | P3          ;\n MOV [x],$1 | MOV [y],$2 | MOV [y],$3  | MOV EAX,[y] ;\n MOV [y],$1 |            | MOV EAX,[x] | MOV EBX,[y] ;\n            |            |             | MOV ECX,[y] ;\nexists (2:EAX=0 /\\ 3:EAX=1 /\\ 3:EBX=2 /\\ 3:ECX=3)\n",
+    ),
 ];
 
 /// Words that are refused or make no request, with the exit status and the line on `err`.
-const REFUSED: [(&str, u8, &str); 21] = [
+const REFUSED: [(&str, u8, &str); 20] = [
     ("diyone7 -arch X86 -name A Rfe PosRR Fre", 1, "diy: refused CoherenceOnly\n"),
     ("diyone7 -arch X86 -name A PodWR Rfe", 1, "diy: refused DoesNotCompose 0\n"),
     ("diyone7 -arch X86 -name A PodWR Fre", 1, "diy: refused TooFewThreads\n"),
@@ -44,7 +52,6 @@ const REFUSED: [(&str, u8, &str); 21] = [
     ("diyone7 -arch X86 -name A PodWW Rfe PodRR PodRR PodRR PodRR PodRR PodRR Fre", 1, "diy: refused TooManyRegisters 1\n"),
     ("diyone7 -arch X86 -name A PodWR Fre PodWR Fre PodWR Fre PodWR Fre PodWR Fre PodWR Fre PodWR Fre PodWR Fre PodWR Fre PodWR Fre PodWR Fre PodWR Fre PodWR", 1, "diy: refused TooLong\n"),
     ("diyone7 -arch X86 -name A", 1, "diy: refused Empty\n"),
-    ("diyone7 -arch X86 -name Q PodWW Wse Wse PodWR Fre", 1, "diy: refused NotBuilt\n"),
     ("diyone7 -arch ARM PodWR", 2, "diy: usage UnknownArch: ARM\n"),
     ("diyone7 -arch", 2, "diy: usage MissingValue: -arch\n"),
     ("", 2, "diy: usage UnknownTool\n"),
