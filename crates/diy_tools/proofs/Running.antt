@@ -9,7 +9,11 @@ use Rattle.relax_edges.specs.declared.kinds.ObsMode.TheVariants.{Accept}
 use Rattle.relax_edges.specs.EdgeTable.{is_of_arch}
 use Rattle.cycle_resolve.specs.declared.resolved.ResolveError.{ResolveError}
 use Rattle.cycle_resolve.specs.declared.resolved.ResolveError.TheVariants as resolving
-use Rattle.cycle_resolve.specs.Resolution.{resolution_of}
+use Rattle.cycle_resolve.specs.Resolution.{resolution_of, turned}
+use Rattle.arch_trait.specs.Names.{number_in}
+use Rattle.arch_x86.specs.Text.{writing}
+use Rattle.test_laws.specs.Headline.{Forces}
+use Rattle.test_laws.specs.TestOf.{TestSeen, plain}
 use Rattle.edge_algebra.specs.declared.errors.CycleError.{CycleError}
 use Rattle.edge_algebra.specs.declared.errors.CycleError.TheVariants as composing
 use Rattle.edge_algebra.specs.Compose.{composed, unbroken}
@@ -26,11 +30,12 @@ use Rattle.test_maker.specs.declared.refusal.MakeRefusal.{MakeRefusal}
 use Rattle.test_maker.specs.declared.refusal.MakeRefusal.TheVariants as making
 use Rattle.test_maker.specs.Refusals.{or_else, foreign_edge, resolved_refusal, refusal_of}
 use Rattle.diy_tools.specs.declared.status.Status.{Status}
+use Rattle.diy_tools.specs.declared.status.Status.TheVariants as statuses
 use Rattle.diy_tools.specs.declared.status.Refusal.{Refusal}
 use Rattle.diy_tools.specs.declared.status.Refusal.TheVariants as refusals
 use Rattle.diy_tools.specs.Refused.{refused_of, refused_of_arch, refused_composed, refused_making}
 use Rattle.diy_tools.specs.Report.{RefusesLocation}
-use Rattle.diy_tools.specs.Answers.{AnswersEdges, TakesLine, refused_kept, edges_kept, cycle_text, MakesTestOf}
+use Rattle.diy_tools.specs.Answers.{AnswersEdges, TakesLine, refused_kept, edges_kept, cycle_text, MakesTestOf, TestForcesCycle, WherePrinted, cycle_test}
 
 by_test : {G : Type 0} (b : Bool) → (b ≡ true → G) → (b ≡ false → G) → G
 by_test true t f = t refl
@@ -131,3 +136,34 @@ all_located (e ∷ es) = short (nat_lt 24 (length (e ∷ es))) _ (arch_located (
 
 pub located : (es : List Edge) (refusal : Refusal) → refused_of puts Accept es ≡ Some refusal → RefusesLocation refusal
 located es refusal e = subst Located e (all_located es)
+
+-- what is so is so where a text is printed
+pub where_printed : (said : Type 0) (status : Status) → said → WherePrinted said status
+where_printed said statuses.Done h = h
+where_printed said (statuses.WriteFault _) h = h
+where_printed said (statuses.Refused _) h = tt
+where_printed said (statuses.Usage _ _) h = tt
+
+-- what is said of edges as they are kept is said of those that were given
+pub kept_forces : {Sink : Type 0} (seen : Sink → SinkSeen) (name : List ℕ) (es : List Edge) (status : Status) (old new : Sink)
+    → AnswersEdges seen (refused_kept (kept es)) (cycle_text name (edges_kept (kept es))) status old new
+    → WherePrinted (TestForcesCycle (edges_kept (kept es))) status → WherePrinted (TestForcesCycle es) status
+kept_forces seen name es status old new answered h =
+    by_test (nat_le (length es) 24)
+    (λ t. subst (λ k. WherePrinted (TestForcesCycle (edges_kept k)) status) (ap (λ b. if b then Whole (record { items = es }) else TooLong) t) h)
+    (λ f. refused_says (TestForcesCycle es) refusals.TooLong status
+    (subst (λ k. AnswersEdges seen (refused_kept k) (cycle_text name (edges_kept k)) status old new) (ap (λ b. if b then Whole (record { items = es }) else TooLong) f) answered).0)
+  where
+    refused_says : (said : Type 0) (refusal : Refusal) (s : Status) → s ≡ statuses.Refused refusal → WherePrinted said s
+    refused_says said refusal s e = subst (λ (u : Status). WherePrinted said u) (sym e) tt
+
+-- the test that is made of a cycle is its test, so that forces it too
+pub cycle_forced : (test : TestSeen) (cycle : List Edge) → test ≡ cycle_test cycle
+    → Forces test (number_in writing.registers) (turned cycle) Accept plain → TestForcesCycle cycle
+unfolding TestForcesCycle
+cycle_forced test cycle same h = subst (λ (t : TestSeen). Forces t (number_in writing.registers) (turned cycle) Accept plain) same h
+
+-- what is said of the cycle is said of the edges that make it
+pub composed_forced : (es u : List Edge) (result : Result Test Refusal) → composed es ≡ Ok u
+    → OnOk result (TestForcesCycle u) → OnOk result (TestForcesCycle es)
+composed_forced es u result e h = subst (λ v. OnOk result (TestForcesCycle v)) (composed_is es u e) h

@@ -10,6 +10,7 @@ use Rattle.diy_words.specs.declared.request.EdgeList.{EdgeList}
 use Rattle.diy_words.specs.declared.request.EdgeList.TheVariants.{Whole, TooLong}
 use Rattle.diy_words.specs.declared.usage.Usage.{Usage}
 use Rattle.diy_words.specs.Requests.{Asked, asked_of}
+use Rattle.arch_trait.specs.Names.{number_in}
 use Rattle.arch_trait.specs.Writing.{name_in}
 use Rattle.arch_x86.specs.Puts.{puts}
 use Rattle.arch_x86.specs.Text.{writing}
@@ -17,7 +18,8 @@ use Rattle.litmus_text.specs.declared.test.Test.{Test}
 use Rattle.litmus_text.specs.Tests.{IsPrintable, test_seen}
 use Rattle.litmus_text.specs.TestText.{test_text}
 use Rattle.litmus_text.specs.Wrote.{SinkSeen, WroteAll, WrotePart}
-use Rattle.test_laws.specs.TestOf.{test_of}
+use Rattle.test_laws.specs.Headline.{Forces}
+use Rattle.test_laws.specs.TestOf.{TestSeen, plain, test_of}
 use Rattle.test_maker.specs.Made.{shown}
 use Rattle.diy_tools.specs.declared.status.Status.{Status}
 use Rattle.diy_tools.specs.declared.status.Status.TheVariants as statuses
@@ -26,10 +28,25 @@ use Rattle.diy_tools.specs.declared.status.Refusal.TheVariants as refusals
 use Rattle.diy_tools.specs.declared.status.Device.TheVariants as devices
 use Rattle.diy_tools.specs.Refused.{refused_of}
 
+-- the test of a cycle, for X86, with observers where they are needed
+abbrev pub cycle_test : List Edge → TestSeen
+cycle_test cycle = test_of puts (name_in writing.registers) (turned cycle) Accept
+
+-- the test of a cycle forces it: all its edges stand in every candidate execution of the test that is coherent per location
+-- and meets the condition, there is no such execution but the intended one, and that is one
+unfoldable pub TestForcesCycle : List Edge → Type 0
+TestForcesCycle cycle = Forces (cycle_test cycle) (number_in writing.registers) (turned cycle) Accept plain
+
+-- what is said of a test is so where its text is printed, or a front of it
+abbrev pub WherePrinted : Type 0 → Status → Type 0
+WherePrinted said statuses.Done = said
+WherePrinted said (statuses.WriteFault _) = said
+WherePrinted said (statuses.Refused _) = Unit {0}
+WherePrinted said (statuses.Usage _ _) = Unit {0}
+
 -- the text of the test of a cycle under a name, for X86, with observers where they are needed
 unfoldable pub cycle_text : List ℕ → List Edge → List ℕ
-cycle_text name cycle =
-    test_text X86 writing name (shown (test_of puts (name_in writing.registers) (turned cycle) Accept))
+cycle_text name cycle = test_text X86 writing name (shown (cycle_test cycle))
 
 -- all of a text is printed, with no fault; or the device takes a front of it, and its count of faults rises
 abbrev pub Prints : List ℕ → Status → SinkSeen → SinkSeen → Type 0
@@ -77,3 +94,11 @@ MakesTestOf cycle refused (Err refusal) = refused ≡ Some refusal
 -- what is made can be printed
 abbrev pub IsPrintableTest : Test → Type 0
 IsPrintableTest test = All (λ code. IsPrintable puts.has 6 (length test.places) code) test.threads.items
+
+-- where the test that words ask for is printed, it forces its cycle
+abbrev pub ForcesAsked : Result Asked Usage → Status → Type 0
+ForcesAsked (Err usage) status = Unit {0}
+ForcesAsked (Ok asked) status = WherePrinted (TestForcesCycle asked.edges) status
+
+abbrev pub PrintedForces : List (List ℕ) → Status → Type 0
+PrintedForces words status = ForcesAsked (asked_of words) status

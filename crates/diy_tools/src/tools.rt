@@ -1,4 +1,4 @@
-ghost use Rattle.std.specs.Prelude.{◌≡◌, ◌≤◌, not, length, IfOk};
+ghost use Rattle.std.specs.Prelude.{◌≡◌, ◌≤◌, not, length, IfOk, OnOk};
 ghost use Rattle.std.specs.List.{position_from};
 ghost use Rattle.relax_edges.specs.declared.kinds.ArchName.TheVariants as archs;
 ghost use Rattle.relax_edges.specs.declared.kinds.ObsMode.TheVariants as modes;
@@ -12,7 +12,7 @@ ghost use Rattle.litmus_text.specs.Wrote.{sink_seen};
 ghost use Rattle.test_maker.specs.Refusals.{refusal_of};
 ghost use Rattle.diy_tools.specs.Refused.{refused_of, refused_composed, refused_making};
 ghost use Rattle.diy_tools.specs.Report.{status_line, NamesLocation};
-ghost use Rattle.diy_tools.specs.Answers.{Answers, AnswersEdges, Prints, TakesLine, refused_kept, edges_kept, cycle_text, MakesTestOf, IsPrintableTest};
+ghost use Rattle.diy_tools.specs.Answers.{Answers, AnswersEdges, Prints, TakesLine, refused_kept, edges_kept, cycle_text, MakesTestOf, IsPrintableTest, PrintedForces, TestForcesCycle, WherePrinted};
 
 use crate::report::report;
 use crate::status::{Device, Refusal, Status};
@@ -33,6 +33,7 @@ use test_maker::make;
 #[tactic(auto, using(crate::proofs::Running::takes_line))]
 pub fn run<O: Sink, E: Sink>(_alloc: Global, words: &Words, out: &mut O, err: &mut E) -> Status
     ensures answers { Answers (λ sink. sink_seen (O.told sink) (O.faults sink)) words.now result out.old out.new }
+    ensures forces { PrintedForces words.now result }
     ensures line { TakesLine (status_line words.now result) (sink_seen (E.told err.old) (E.faults err.old)) (sink_seen (E.told err.new) (E.faults err.new)) }
 {
     let status = answer(words, out);
@@ -41,9 +42,10 @@ pub fn run<O: Sink, E: Sink>(_alloc: Global, words: &Words, out: &mut O, err: &m
 }
 
 /// Answers the words, all but the line of the status.
-#[tactic(auto, using(crate::proofs::Running::kept_answered))]
+#[tactic(auto, using(crate::proofs::Running::kept_answered, crate::proofs::Running::kept_forces))]
 fn answer<O: Sink>(words: &Words, out: &mut O) -> Status
     ensures answers { Answers (λ sink. sink_seen (O.told sink) (O.faults sink)) words.now result out.old out.new }
+    ensures forces { PrintedForces words.now result }
     ensures location { NamesLocation result }
 {
     match read_request(words) {
@@ -58,6 +60,7 @@ fn answer<O: Sink>(words: &Words, out: &mut O) -> Status
 /// Prints the test that is asked for. X86 is the one architecture that words can name.
 fn diyone<O: Sink>(request: &DiyOne, out: &mut O) -> Status
     ensures answers { AnswersEdges (λ sink. sink_seen (O.told sink) (O.faults sink)) (refused_kept request.now.edges) (cycle_text request.now.name.bytes (edges_kept request.now.edges)) result out.old out.new }
+    ensures forces { WherePrinted (TestForcesCycle (edges_kept request.now.edges)) result }
     ensures location { NamesLocation result }
 {
     match &request.edges {
@@ -66,10 +69,11 @@ fn diyone<O: Sink>(request: &DiyOne, out: &mut O) -> Status
     }
 }
 
-#[tactic(auto, using(crate::proofs::Running::located), unfolding(crate::specs::Answers::cycle_text))]
+#[tactic(auto, using(crate::proofs::Running::located, crate::proofs::Running::where_printed), unfolding(crate::specs::Answers::cycle_text))]
 fn answer_edges<O: Sink>(edges: &[Edge], name: &str, out: &mut O) -> Status
     requires { length edges.now ≤ 24 }
     ensures answers { AnswersEdges (λ sink. sink_seen (O.told sink) (O.faults sink)) (refused_of puts modes.Accept edges.now) (cycle_text name.now edges.now) result out.old out.new }
+    ensures forces { WherePrinted (TestForcesCycle edges.now) result }
     ensures location { NamesLocation result }
 {
     match test_of(edges) {
@@ -95,6 +99,7 @@ fn test_of(edges: &[Edge]) -> Result<Test, Refusal>
     requires { length edges.now ≤ 24 }
     ensures made { MakesTestOf edges.now (refused_of puts modes.Accept edges.now) result }
     ensures printable { IfOk result IsPrintableTest }
+    ensures forces { OnOk result (TestForcesCycle edges.now) }
 {
     if edges.is_empty() {
         return Err(Refusal::Empty);
@@ -121,6 +126,7 @@ fn first_foreign(edges: &[Edge]) -> Option<u8>
 fn test_of_composed(edges: &[Edge]) -> Result<Test, Refusal>
     ensures made { MakesTestOf edges.now (refused_composed puts modes.Accept (composed edges.now)) result }
     ensures printable { IfOk result IsPrintableTest }
+    ensures forces { OnOk result (TestForcesCycle edges.now) }
 {
     match cycle(edges) {
         Ok(cycle) => test_of_cycle(&cycle),
@@ -131,6 +137,7 @@ fn test_of_composed(edges: &[Edge]) -> Result<Test, Refusal>
 fn test_of_cycle(cycle: &Cycle) -> Result<Test, Refusal>
     ensures made { MakesTestOf cycle.now (refused_making (refusal_of puts cycle.now modes.Accept)) result }
     ensures printable { IfOk result IsPrintableTest }
+    ensures forces { OnOk result (TestForcesCycle cycle.now) }
 {
     match make::<X86>(cycle, ObsMode::Accept) {
         Ok(test) => Ok(test),
