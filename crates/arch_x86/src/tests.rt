@@ -159,6 +159,12 @@ fn spellings_and_faults_of_instructions(rt: HostRuntime) {
             Micro::StoreAt { place: 3, n: 0 },
         ),
         ("MOV [y],$2047", Micro::StoreAt { place: 1, n: 2047 }),
+        ("MFENCE\t", fence),
+        ("MOV EAX,[x]", Micro::LoadAt { dst: 0, place: 0 }),
+        ("MOV ESI,[y]", Micro::LoadAt { dst: 4, place: 1 }),
+        ("\t MOV EDX ,[y]", Micro::LoadAt { dst: 3, place: 1 }),
+        ("MOV [x],$1", Micro::StoreAt { place: 0, n: 1 }),
+        ("MOV\t[x],$1", Micro::StoreAt { place: 0, n: 1 }),
     ];
     let mut places = Places::letters(2);
     let mut labels = Places::new();
