@@ -5,3 +5,9 @@ pub mod ElementLaws
 pub mod InitialLaws
 pub mod TableLaws
 pub mod PartLaws
+pub mod CutBack
+pub mod LineBack
+pub mod HeadBack
+pub mod NamesBack
+pub mod CellBack
+pub mod OpBack

@@ -10,3 +10,7 @@ pub mod InitialState
 pub mod Table
 pub mod Condition
 pub mod TestReading
+pub mod Printable
+pub mod Placing
+pub mod TablePlan
+pub mod Spoken
