@@ -11,3 +11,4 @@ pub mod HeadBack
 pub mod NamesBack
 pub mod CellBack
 pub mod OpBack
+pub mod RowBack

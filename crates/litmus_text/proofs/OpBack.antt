@@ -15,6 +15,7 @@ use Rattle.arch_trait.specs.Names.{number_in, number_added, names_added, number_
 use Rattle.arch_trait.specs.Reading.{numbered, with_place, with_label, ReadInstr}
 use Rattle.arch_trait.specs.Writing.{name_of, with_number, label_name, is_named}
 use Rattle.litmus_text.specs.Placing.{or_zero, place_in, renumbered, mentioned}
+use Rattle.litmus_text.specs.Progress.{is_next, is_placed}
 use Rattle.litmus_text.specs.TablePlan.{labels_after, label_table}
 use Rattle.litmus_text.proofs.CutBack.{by_test, both}
 use Rattle.litmus_text.proofs.NamesBack.{Within, within_number, IsAmong, Added, place_added}
@@ -104,22 +105,6 @@ next_label count label e few =
 pub label_added : (count label : ℕ) → label ≤ count → label < 64 → count ≤ 64 → LabelAdded count label
 label_added count label low few small =
     elim (cases_lt label count) [ inl h ↦ known_label count label h small | inr h ↦ next_label count label (omega arith) few ]
-
--- the label of an operation has a number, or gets the next one
-abbrev pub is_next : ℕ → Micro → Bool
-is_next count (ops.BranchEq label) = nat_le label count && nat_lt label 64
-is_next count (ops.BranchNz a label) = nat_le label count && nat_lt label 64
-is_next count (ops.Label label) = nat_le label count && nat_lt label 64
-is_next count op = true
-
--- the place of an operation has a name of its form in a table
-abbrev pub is_placed : List (List ℕ) → (ℕ → List ℕ) → Micro → Bool
-is_placed table names (ops.LoadAt dst place) = is_place_name (names place) && is_some (number_in table (names place))
-is_placed table names (ops.StoreAt place n) = is_place_name (names place) && is_some (number_in table (names place))
-is_placed table names op = true
-
-read_as : Micro → List (List ℕ) → List (List ℕ) → ReadInstr
-read_as op places labels = record { op = op; places = places; labels = labels }
 
 place_step : (op : Micro) (s table final labels : List (List ℕ)) (name : List ℕ) → IsAmong s table → length table ≤ 64 → is_place_name name ≡ true
     → is_some (number_in table name) ≡ true → Within (names_added s name) final

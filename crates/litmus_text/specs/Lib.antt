@@ -14,3 +14,4 @@ pub mod Printable
 pub mod Placing
 pub mod TablePlan
 pub mod Spoken
+pub mod Progress
