@@ -114,7 +114,7 @@ nothing_left k = trimmed_padded [] k
 pub nothing_back : (w : Writing) (n k : ℕ) (s : Among Column) → instr_or_nothing w n (blanks k) s ≡ Ok s
 nothing_back w n k s = rw (nothing_left k) refl
 
-blanks_class : (p : ℕ → Bool) (k : ℕ) → p 32 ≡ true → list_all p (blanks k) ≡ true
+pub blanks_class : (p : ℕ → Bool) (k : ℕ) → p 32 ≡ true → list_all p (blanks k) ≡ true
 blanks_class p zero h = refl
 blanks_class p (suc k) h = both_are (p 32) (list_all p (blanks k)) h (blanks_class p k h)
 

@@ -12,3 +12,4 @@ pub mod NamesBack
 pub mod CellBack
 pub mod OpBack
 pub mod RowBack
+pub mod TableBack

@@ -30,7 +30,7 @@ use Rattle.litmus_text.proofs.CellBack.{padded, Begins, empty_back, plain_back, 
 use Rattle.litmus_text.proofs.OpBack.{numbers_back, label_formed}
 
 -- what an operation names has its form
-named_op : (op : Micro) (table : List (List ℕ)) (names : ℕ → List ℕ) (count : ℕ) → is_placed table names op ≡ true → is_next count op ≡ true → is_named (name_of names op) ≡ true
+pub named_op : (op : Micro) (table : List (List ℕ)) (names : ℕ → List ℕ) (count : ℕ) → is_placed table names op ≡ true → is_next count op ≡ true → is_named (name_of names op) ≡ true
 named_op (ops.LoadAt dst place) table names count placed next = (both (is_place_name (names place)) (is_some (number_in table (names place))) placed).0
 named_op (ops.StoreAt place n) table names count placed next = (both (is_place_name (names place)) (is_some (number_in table (names place))) placed).0
 named_op (ops.BranchEq label) table names count placed next = label_formed label (ltb-true label 64 (both (nat_le label count) (nat_lt label 64) next).1)
@@ -46,7 +46,7 @@ named_op (ops.Store src base index) table names count placed next = refl
 named_op (ops.Cmp a b) table names count placed next = refl
 named_op (ops.Barrier kind) table names count placed next = refl
 
-few_labels : (op : Micro) (count : ℕ) → is_next count op ≡ true → count ≤ 64 → labels_after count op ≤ 64
+pub few_labels : (op : Micro) (count : ℕ) → is_next count op ≡ true → count ≤ 64 → labels_after count op ≤ 64
 few_labels (ops.BranchEq label) count next h = let small = ltb-true label 64 (both (nat_le label count) (nat_lt label 64) next).1 in omega arith
 few_labels (ops.BranchNz a label) count next h = let small = ltb-true label 64 (both (nat_le label count) (nat_lt label 64) next).1 in omega arith
 few_labels (ops.Label label) count next h = let small = ltb-true label 64 (both (nat_le label count) (nat_lt label 64) next).1 in omega arith
@@ -168,7 +168,7 @@ word_begins b rest behind word e h =
     record { first = b; rest = rest ++ behind; is = ap (λ x. x ++ behind) e; inked = not_true (is_blank b) inked.0 }
 
 -- the text of an operation begins with no blank
-text_begins : (a : Puts) (w : Writing) (names : ℕ → List ℕ) (op : Micro) → WritesBack a w → a.has op ≡ true → is_named (name_of names op) ≡ true → Begins (op_text w names op)
+pub text_begins : (a : Puts) (w : Writing) (names : ℕ → List ℕ) (op : Micro) → WritesBack a w → a.has op ≡ true → is_named (name_of names op) ≡ true → Begins (op_text w names op)
 text_begins a w names op laws has named =
     let word = word_is (w.written names op).word (laws.word names op has named) in
     word_begins word.first word.rest (listed (w.written names op).operands) (w.written names op).word word.is word.bytes
@@ -205,7 +205,7 @@ next_text w names (op ∷ left) = op_text w names op
 all_label_bytes : list_all (λ i. list_all is_cell_byte (label_name i)) (range_with_len 0 64) ≡ true
 all_label_bytes = refl
 
-label_bytes : (label : ℕ) → label < 64 → list_all is_cell_byte (label_name label) ≡ true
+pub label_bytes : (label : ℕ) → label < 64 → list_all is_cell_byte (label_name label) ≡ true
 label_bytes label h =
     let row = AllPass-from_list_all (λ i. list_all is_cell_byte (label_name i)) (range_with_len 0 64) all_label_bytes label 0 h in
     ap (λ n. list_all is_cell_byte (label_name n)) (sym (get_or-range_with_len 0 64 label 0 h ∙ zero-add label)) ∙ row

@@ -12,6 +12,10 @@ is_line_byte byte = (nat_le 32 byte && nat_le byte 126) && not (byte == 42)
 abbrev pub is_cell_byte : ℕ → Bool
 is_cell_byte byte = is_line_byte byte && not (byte == 124 || (byte == 59 || byte == 58))
 
+-- a byte of a row's cells: one of a line that ends neither a cell nor a row
+abbrev pub is_row_byte : ℕ → Bool
+is_row_byte byte = is_line_byte byte && not (byte == 124 || byte == 59)
+
 -- a byte of the name of a test: a letter, a digit, `+`, `-`, `.` or `_`
 abbrev pub is_name_byte : ℕ → Bool
 is_name_byte byte = is_ascii_alphanumeric byte || (byte == 43 || (byte == 45 || (byte == 46 || byte == 95)))
