@@ -25,7 +25,7 @@ use Rattle.litmus_text.proofs.LineBack.{IsLine}
 use Rattle.litmus_text.proofs.HeadBack.{line_is, not_all_blank}
 use Rattle.litmus_text.proofs.CutBack.{by_test, both, both_are, is_without, without_class, cut_back, piece_back, piece_last, all_both, weaker}
 use Rattle.litmus_text.proofs.CellBack.{padded, Begins, blanks_class}
-use Rattle.litmus_text.proofs.RowBack.{next_text, AreCells, IsRow, AreRows, named_op, text_begins, label_bytes, few_labels}
+use Rattle.litmus_text.proofs.RowBack.{next_text, AreCells, IsRow, AreRows, after_rows, named_op, text_begins, label_bytes, few_labels}
 
 -- the cells of a row, with a blank on both sides
 abbrev pub spaced : (List (List ℕ) → List ℕ) → List (List ℕ) → List ℕ
@@ -184,6 +184,16 @@ unfolding ends_rows run_of after_run
 sign_stays sign more (inl e) = rw e refl
 sign_stays sign more (inr e) = rw e refl
 
+word_same : (text : List ℕ) (k : ℕ) (tail rest : List ℕ) → Begins text → replicate k 32 ++ tail ≡ 32 ∷ rest → first_word (32 ∷ ((text ++ replicate k 32) ++ tail)) ≡ first_word text
+unfolding after_run
+word_same text k tail rest begins at_tail =
+    let shape : (text ++ replicate k 32) ++ tail ≡ text ++ 32 ∷ rest = append_assoc text (replicate k 32) tail ∙ ap (λ t. text ++ t) at_tail in
+    let alone : unblanked text ≡ text = ap unblanked begins.is ∙ rw begins.inked (sym begins.is) in
+    let front : unblanked (text ++ 32 ∷ rest) ≡ text ++ 32 ∷ rest =
+        ap (λ t. unblanked (t ++ 32 ∷ rest)) begins.is ∙ rw begins.inked (ap (λ t. t ++ 32 ∷ rest) (sym begins.is)) in
+    ap (λ t. run_of is_word_byte (unblanked t)) shape ∙ ap (run_of is_word_byte) front ∙ run_stops is_word_byte text 32 rest refl
+    ∙ ap (run_of is_word_byte) (sym alone)
+
 keeps_row : (text : List ℕ) (k : ℕ) (tail : List ℕ) → CellText text → Tail tail → ends_rows (32 ∷ ((text ++ replicate k 32) ++ tail)) ≡ false
 unfolding ends_rows after_run
 keeps_row text k tail cell behind = elim cell.kind [
@@ -191,8 +201,105 @@ keeps_row text k tail cell behind = elim cell.kind [
         ap (λ t. ends_rows (32 ∷ ((t ++ replicate k 32) ++ tail))) e ∙ ap (λ t. ends_rows (32 ∷ (replicate k 32 ++ t))) behind.is
         ∙ ap (λ t. list_any (bytes_eq (run_of is_word_byte t)) keywords) (skip_blanks k (32 ∷ behind.sign ∷ behind.more))
         ∙ sign_stays behind.sign behind.more behind.which
-    | inr h ↦ ?
+    | inr h ↦
+        (let first = blank_first k (behind.sign ∷ behind.more) in
+        ap (λ word. list_any (bytes_eq word) keywords) (word_same text k tail first.0 h.0 (ap (λ t. replicate k 32 ++ t) behind.is ∙ first.1)) ∙ h.1)
   ]
   where
     keywords : List (List ℕ)
     keywords = codes "exists" ∷ codes "~exists" ∷ codes "forall" ∷ codes "locations" ∷ []
+
+-- the operations of each thread stand in rows
+abbrev pub AreTexts : Writing → (ℕ → List ℕ) → List ThreadCode → Type 0
+AreTexts w names threads = AllByRecursion (λ t. AllByRecursion (OpText w names) t.instrs) threads
+
+cell_of : (w : Writing) (places : List (List ℕ)) (t : ℕ × ThreadCode) (i : ℕ) → AllByRecursion (OpText w (name_in places)) t.1.instrs → CellText (get_or (column_of w places t) (suc i) [])
+unfolding column_of
+cell_of w places t i h = subst CellText (next_at w (name_in places) t.1.instrs i) (next_cell w (name_in places) t.1.instrs i h)
+
+cell_bytes : (w : Writing) (places : List (List ℕ)) (t : ℕ × ThreadCode) (i : ℕ) → AllByRecursion (OpText w (name_in places)) t.1.instrs
+    → list_all is_row_byte (cell_text (suc i) (column_of w places t)) ≡ true
+unfolding cell_text
+cell_bytes w places t i h =
+    let text = get_or (column_of w places t) (suc i) [] in
+    all_both is_row_byte text (replicate (width_of (column_of w places t) - length text) 32) (cell_of w places t i h).bytes
+    (blanks_class is_row_byte (width_of (column_of w places t) - length text) refl)
+
+all_cells : (w : Writing) (places : List (List ℕ)) (i n : ℕ) (threads : List ThreadCode) → AreTexts w (name_in places) threads
+    → AllByRecursion (λ c. list_all is_row_byte (cell_text (suc i) c) ≡ true) (map (column_of w places) (enumerate_from n threads))
+all_cells w places i n [] h = tt
+all_cells w places i n (t ∷ threads) h = (cell_bytes w places (n, t) i h.0, all_cells w places i (n + 1) threads h.1)
+
+cells_without : (sign : ℕ) (f : List (List ℕ) → List ℕ) (columns : List (List (List ℕ))) → is_row_byte sign ≡ false → AllByRecursion (λ c. list_all is_row_byte (f c) ≡ true) columns → AreWithout sign f columns
+cells_without sign f [] e h = tt
+cells_without sign f (c ∷ columns) e h = (without_class is_row_byte sign (f c) e h.0, cells_without sign f columns e h.1)
+
+row_on_line : (b : ℕ) → is_row_byte b ≡ true → is_line_byte b ≡ true
+row_on_line b h = (both (is_line_byte b) (not (b == 124 || b == 59)) h).0
+
+more_on_line : (f : List (List ℕ) → List ℕ) (xs : List (List (List ℕ))) → AllByRecursion (λ c. list_all is_row_byte (f c) ≡ true) xs → list_all is_line_byte (flat_map (λ y. codes " | " ++ f y) xs) ≡ true
+more_on_line f [] h = refl
+more_on_line f (y ∷ ys) h =
+    all_both is_line_byte (f y) (flat_map (λ y. codes " | " ++ f y) ys) (weaker is_row_byte is_line_byte row_on_line (f y) h.0) (more_on_line f ys h.1)
+
+-- a row of such cells is a printed line
+pub row_line_is : (row : ℕ) (x : List (List ℕ)) (xs : List (List (List ℕ))) → AllByRecursion (λ c. list_all is_row_byte (cell_text row c) ≡ true) (x ∷ xs) → IsLine (row_line (x ∷ xs) row)
+unfolding row_line
+row_line_is row x xs h =
+    let f = cell_text row in
+    let cells = f x ++ flat_map (λ y. codes " | " ++ f y) xs in
+    let bytes : list_all is_line_byte cells ≡ true =
+        all_both is_line_byte (f x) (flat_map (λ y. codes " | " ++ f y) xs) (weaker is_row_byte is_line_byte row_on_line (f x) h.0) (more_on_line f xs h.1) in
+    line_is (32 ∷ (cells ++ codes " ;")) (all_both is_line_byte cells (codes " ;") bytes refl)
+    (ap (λ t. list_all is_blank (32 ∷ t)) (sym (append_assoc cells (32 ∷ []) (59 ∷ []))) ∙ not_all_blank (32 ∷ (cells ++ 32 ∷ [])) 59 [] refl)
+
+first_cell : (w : Writing) (places : List (List ℕ)) (i : ℕ) (t : ThreadCode) (more : List ℕ) → CellText (get_or (column_of w places (0, t)) (suc i) []) → Tail (more ++ codes " ;")
+    → ends_rows (32 ∷ ((cell_text (suc i) (column_of w places (0, t)) ++ more) ++ codes " ;")) ≡ false
+unfolding cell_text
+first_cell w places i t more cell tail =
+    let text = get_or (column_of w places (0, t)) (suc i) [] in
+    let k = width_of (column_of w places (0, t)) - length text in
+    ap (λ x. ends_rows (32 ∷ x)) (append_assoc (text ++ replicate k 32) more (codes " ;")) ∙ keeps_row text k (more ++ codes " ;") cell tail
+
+-- a row of operations
+pub row_is_read : (w : Writing) (places : List (List ℕ)) (i : ℕ) (t : ThreadCode) (threads : List ThreadCode) → AreTexts w (name_in places) (t ∷ threads)
+    → IsRow w (name_in places) (row_line (columns_of w places (t ∷ threads)) (suc i)) (map (at_row i) (t ∷ threads))
+unfolding row_line
+row_is_read w places i t threads h =
+    let f = cell_text (suc i) in
+    let x = column_of w places (0, t) in
+    let xs = map (column_of w places) (enumerate_from (0 + 1) threads) in
+    let bytes = all_cells w places i 0 (t ∷ threads) h in
+    let cells = row_cells f x xs (cells_without 124 f (x ∷ xs) refl bytes) (cells_without 59 f (x ∷ xs) refl bytes) in
+    record {
+      whole = ap (λ c. c.whole) cells;
+      cells = subst (λ c. AreCells w (name_in places) c.texts (map (at_row i) (t ∷ threads))) (sym cells) (are_cells w places i 0 (t ∷ threads));
+      row = first_cell w places i t (flat_map (λ y. codes " | " ++ f y) xs) (cell_of w places (0, t) i h.0) (tail_of f xs);
+    }
+all_advance_at : (i : ℕ) (threads : List ThreadCode) → map advanced (map (at_row i) threads) ≡ map (at_row (suc i)) threads
+all_advance_at i [] = refl
+all_advance_at i (t ∷ threads) = rw (advance_at t.instrs i, all_advance_at i threads) refl
+
+-- the rows of operations, from one on
+pub rows_are_read : (w : Writing) (places : List (List ℕ)) (i count : ℕ) (t : ThreadCode) (threads : List ThreadCode) → AreTexts w (name_in places) (t ∷ threads)
+    → AreRows w (name_in places) (map (row_line (columns_of w places (t ∷ threads))) (range_with_len (suc i) count)) (map (at_row i) (t ∷ threads))
+rows_are_read w places i zero t threads h = tt
+rows_are_read w places i (suc count) t threads h =
+    (row_is_read w places i t threads h,
+    subst (λ k. AreRows w (name_in places) (map (row_line (columns_of w places (t ∷ threads))) (range_with_len k count)) (map advanced (map (at_row i) (t ∷ threads)))) (sym (add-one (suc i)))
+    (subst (AreRows w (name_in places) (map (row_line (columns_of w places (t ∷ threads))) (range_with_len (suc (suc i)) count))) (sym (all_advance_at i (t ∷ threads)))
+    (rows_are_read w places (suc i) count t threads h)))
+
+pub rows_are_lines : (w : Writing) (places : List (List ℕ)) (i count : ℕ) (t : ThreadCode) (threads : List ThreadCode) → AreTexts w (name_in places) (t ∷ threads)
+    → AllByRecursion IsLine (map (row_line (columns_of w places (t ∷ threads))) (range_with_len (suc i) count))
+rows_are_lines w places i zero t threads h = tt
+rows_are_lines w places i (suc count) t threads h =
+    (row_line_is (suc i) (column_of w places (0, t)) (map (column_of w places) (enumerate_from (0 + 1) threads)) (all_cells w places i 0 (t ∷ threads) h),
+    subst (λ k. AllByRecursion IsLine (map (row_line (columns_of w places (t ∷ threads))) (range_with_len k count))) (sym (add-one (suc i))) (rows_are_lines w places (suc i) count t threads h))
+
+-- after as many rows as the longest thread has operations all of them are read
+pub rows_end : (texts : List (List ℕ)) (i : ℕ) (threads : List ThreadCode) → after_rows texts (map (at_row i) threads) ≡ map (at_row (i + length texts)) threads
+rows_end [] i threads = ap (λ k. map (at_row k) threads) (sym (add-zero i))
+rows_end (text ∷ texts) i threads =
+    let count : suc i + length texts ≡ i + length (text ∷ texts) = omega arith in
+    ap (after_rows texts) (all_advance_at i threads) ∙ rows_end texts (suc i) threads ∙ ap (λ k. map (at_row k) threads) count
