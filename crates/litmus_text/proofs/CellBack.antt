@@ -31,7 +31,7 @@ unfolding before_blanks
 blanks_before zero = refl
 blanks_before (suc k) = ap (kept_before 32) (blanks_before k)
 
-before_padded : (text : List ℕ) (k : ℕ) → before_blanks (text ++ blanks k) ≡ before_blanks text
+pub before_padded : (text : List ℕ) (k : ℕ) → before_blanks (text ++ blanks k) ≡ before_blanks text
 unfolding before_blanks
 before_padded [] k = blanks_before k
 before_padded (b ∷ text) k = ap (kept_before b) (before_padded text k)

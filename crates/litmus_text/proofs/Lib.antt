@@ -13,3 +13,5 @@ pub mod CellBack
 pub mod OpBack
 pub mod RowBack
 pub mod TableBack
+pub mod LabelBack
+pub mod HeadRowBack

@@ -59,7 +59,7 @@ each_without f [] h = refl
 each_without f (y ∷ ys) h = all_both (λ b. not (b == 59)) (f y) (flat_map (λ y. codes " | " ++ f y) ys) h.0 (each_without f ys h.1)
 
 -- the cells of a printed row
-row_cells : (f : List (List ℕ) → List ℕ) (x : List (List ℕ)) (xs : List (List (List ℕ))) → AreWithout 124 f (x ∷ xs) → AreWithout 59 f (x ∷ xs)
+pub row_cells : (f : List (List ℕ) → List ℕ) (x : List (List ℕ)) (xs : List (List (List ℕ))) → AreWithout 124 f (x ∷ xs) → AreWithout 59 f (x ∷ xs)
     → cells_of (codes " " ++ (join_by f (codes " | ") (x ∷ xs) ++ codes " ;")) ≡ record { texts = map (spaced f) (x ∷ xs); whole = true }
 unfolding cells_of
 row_cells f x xs no_bar no_end =
@@ -230,7 +230,7 @@ all_cells : (w : Writing) (places : List (List ℕ)) (i n : ℕ) (threads : List
 all_cells w places i n [] h = tt
 all_cells w places i n (t ∷ threads) h = (cell_bytes w places (n, t) i h.0, all_cells w places i (n + 1) threads h.1)
 
-cells_without : (sign : ℕ) (f : List (List ℕ) → List ℕ) (columns : List (List (List ℕ))) → is_row_byte sign ≡ false → AllByRecursion (λ c. list_all is_row_byte (f c) ≡ true) columns → AreWithout sign f columns
+pub cells_without : (sign : ℕ) (f : List (List ℕ) → List ℕ) (columns : List (List (List ℕ))) → is_row_byte sign ≡ false → AllByRecursion (λ c. list_all is_row_byte (f c) ≡ true) columns → AreWithout sign f columns
 cells_without sign f [] e h = tt
 cells_without sign f (c ∷ columns) e h = (without_class is_row_byte sign (f c) e h.0, cells_without sign f columns e h.1)
 

@@ -1,13 +1,13 @@
 -- How far the rows of a printed table were read: for each thread the operations that were read and those that are left.
 -- Source: own.
-use Rattle.std.specs.Prelude.{◌≡◌, ℕ, ◌+◌, ◌-◌, Bool, true, not, ◌&&◌, ◌||◌, nat_le, nat_lt, is_some, cond, List, [], ◌∷◌, ◌++◌, map, length, count_by}
+use Rattle.std.specs.Prelude.{◌≡◌, ℕ, ◌+◌, ◌-◌, ◌==◌, Bool, true, not, ◌&&◌, ◌||◌, nat_le, nat_lt, is_some, cond, List, [], ◌∷◌, ◌++◌, map, length, count_by}
 use Rattle.std.specs.List.{list_all}
 use Rattle.final_cond.specs.Names.{is_place_name}
 use Rattle.micro_ops.specs.declared.operation.Micro.{Micro}
 use Rattle.micro_ops.specs.declared.operation.Micro.TheVariants as ops
 use Rattle.arch_trait.specs.Threads.{Puts}
 use Rattle.arch_trait.specs.Names.{number_in}
-use Rattle.litmus_text.specs.Table.{Column, is_access}
+use Rattle.litmus_text.specs.Table.{Column, is_access, is_label_of}
 use Rattle.litmus_text.specs.Placing.{mentioned}
 use Rattle.litmus_text.specs.TablePlan.{labels_after, labels_in, column_so_far}
 
@@ -66,3 +66,18 @@ abbrev pub CodeFits : Puts → List (List ℕ) → (ℕ → List ℕ) → ℕ �
 CodeFits a table names labels accesses [] = Unit {0}
 CodeFits a table names labels accesses (op ∷ code) =
     OpFits a table names labels accesses op × CodeFits a table names (labels_after labels op) (accesses + cond (is_access op) 1 0) code
+
+-- a label stands once in a thread, behind the branch
+abbrev pub stands_once : ℕ → List Micro → List Micro → Bool
+stands_once label all behind = (count_by (is_label_of label) all == 1) && (count_by (is_label_of label) behind == 1)
+
+-- where an operation is a branch, its label stands as it must
+abbrev pub op_lands : Micro → List Micro → List Micro → Bool
+op_lands (ops.BranchEq label) all behind = stands_once label all behind
+op_lands (ops.BranchNz a label) all behind = stands_once label all behind
+op_lands op all behind = true
+
+-- the label of each branch of a thread, from an operation on, stands once in the thread and behind the branch
+abbrev pub code_lands : List Micro → List Micro → Bool
+code_lands all [] = true
+code_lands all (op ∷ behind) = op_lands op all behind && code_lands all behind
