@@ -35,7 +35,7 @@ not_true : (b : Bool) → not b ≡ true → b ≡ false
 not_true true e = cc
 not_true false e = refl
 
-inked_ends : (text : List ℕ) → list_all (λ b. not (is_blank b)) text ≡ true → before_blanks text ≡ text
+pub inked_ends : (text : List ℕ) → list_all (λ b. not (is_blank b)) text ≡ true → before_blanks text ≡ text
 unfolding before_blanks
 inked_ends [] h = refl
 inked_ends (b ∷ []) h = rw (not_true (is_blank b) (both (not (is_blank b)) true h).0) refl

@@ -15,3 +15,4 @@ pub mod RowBack
 pub mod TableBack
 pub mod LabelBack
 pub mod HeadRowBack
+pub mod ItemBack

@@ -63,7 +63,7 @@ few_labels (ops.Cmp a b) count next h = h
 few_labels (ops.Barrier kind) count next h = h
 
 -- mentions make a table grow, within a larger one
-added_within : (s : List (List ℕ)) (name : List ℕ) → Within s (names_added s name)
+pub added_within : (s : List (List ℕ)) (name : List ℕ) → Within s (names_added s name)
 added_within s name = of (number_in s name) refl
   where
     of : (o : Option ℕ) → number_in s name ≡ o → Within s (names_added s name)

@@ -15,3 +15,4 @@ pub mod Placing
 pub mod TablePlan
 pub mod Spoken
 pub mod Progress
+pub mod Items
