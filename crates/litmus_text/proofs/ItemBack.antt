@@ -138,7 +138,7 @@ side_bytes a w link laws small h =
 name_bytes : (name : List ℕ) → is_place_name name ≡ true → list_all is_item_byte name ≡ true
 name_bytes name h = weaker is_place_byte is_item_byte place_in_item name (place_bytes name h)
 
-core_bytes : (a : Puts) (w : Writing) (table : List (List ℕ)) (names : ℕ → List ℕ) (link : Link) → WritesBack a w → LinkFits w table names link → list_all is_item_byte (core w names link) ≡ true
+pub core_bytes : (a : Puts) (w : Writing) (table : List (List ℕ)) (names : ℕ → List ℕ) (link : Link) → WritesBack a w → LinkFits w table names link → list_all is_item_byte (core w names link) ≡ true
 core_bytes a w table names link laws fits =
     all_both is_item_byte (side_text w link) (61 ∷ names link.1.1) (side_bytes a w link laws fits.thread fits.register)
     (both_are true (list_all is_item_byte (names link.1.1)) refl (name_bytes (names link.1.1) fits.formed))

@@ -16,3 +16,4 @@ pub mod TableBack
 pub mod LabelBack
 pub mod HeadRowBack
 pub mod ItemBack
+pub mod InitBack
