@@ -17,3 +17,4 @@ pub mod LabelBack
 pub mod HeadRowBack
 pub mod ItemBack
 pub mod InitBack
+pub mod CondBack
