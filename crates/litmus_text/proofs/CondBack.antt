@@ -24,31 +24,13 @@ use Rattle.litmus_text.specs.Lines.{Lines, ends, line, ◌>>=◌}
 use Rattle.litmus_text.specs.Joined.{no_text, with_text, all_joined}
 use Rattle.litmus_text.specs.Table.{first_word, ends_rows, after_locations}
 use Rattle.litmus_text.specs.Condition.{Setting, Mentioned, TermRead, TermsRead, CondRead, at_begin, place_put, left_put, line_of_rest, term_here, and_more, before_read, terms_here, cond_here, condition_read}
+use Rattle.litmus_text.specs.Terms.{left_mention, terms_mention, is_known, TermFits}
 use Rattle.litmus_text.specs.Printable.{is_line_byte}
 use Rattle.litmus_text.proofs.CutBack.{by_test, both, both_are, all_both, weaker}
 use Rattle.litmus_text.proofs.LineBack.{IsLine}
 use Rattle.litmus_text.proofs.HeadBack.{line_is}
 use Rattle.litmus_text.proofs.RowBack.{added_within}
 use Rattle.litmus_text.proofs.NamesBack.{Within, within_self, within_trans, IsAmong, Added, place_added}
-
--- the table after a term's place was mentioned
-abbrev pub left_mention : List (List ℕ) → LeftSeen → List (List ℕ)
-left_mention s (InRegister thread name) = s
-left_mention s (AtPlace name) = names_added s name
-
-abbrev pub terms_mention : List (List ℕ) → List TermSeen → List (List ℕ)
-terms_mention s [] = s
-terms_mention s (term ∷ terms) = terms_mention (left_mention s term.left) terms
-
--- a left side is a register of a thread of the test that tests use, or a place of a table
-abbrev pub is_known : Writing → ℕ → List (List ℕ) → LeftSeen → Bool
-is_known w threads table (InRegister thread name) = nat_lt thread threads && is_some (number_in w.registers name)
-is_known w threads table (AtPlace name) = is_some (number_in table name)
-
--- a term that reads back
-pub record TermFits (w : Writing) (threads : ℕ) (table : List (List ℕ)) (term : TermSeen) : Type 0 where
-  pub formed : IsFormedTerm term
-  pub known : is_known w threads table term.left ≡ true
 
 state : List (List ℕ) → Mentioned
 state s = record { names = s; over = None }

@@ -141,7 +141,7 @@ item_line_is a w table places n (link ∷ links) laws fits =
           ∙ not_all_blank (core w (name_in places) (n, link)) 59 more refl;
     }, tt)
 
-all_join : {X : Type 0} (P : X → Type 0) (xs ys : List X) → AllByRecursion P xs → AllByRecursion P ys → AllByRecursion P (xs ++ ys)
+pub all_join : {X : Type 0} (P : X → Type 0) (xs ys : List X) → AllByRecursion P xs → AllByRecursion P ys → AllByRecursion P (xs ++ ys)
 all_join P [] ys h k = k
 all_join P (x ∷ xs) ys h k = (h.0, all_join P xs ys h.1 k)
 

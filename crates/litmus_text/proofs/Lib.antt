@@ -18,3 +18,4 @@ pub mod HeadRowBack
 pub mod ItemBack
 pub mod InitBack
 pub mod CondBack
+pub mod WholeBack

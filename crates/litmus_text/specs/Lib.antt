@@ -16,3 +16,5 @@ pub mod TablePlan
 pub mod Spoken
 pub mod Progress
 pub mod Items
+pub mod Terms
+pub mod Reread
