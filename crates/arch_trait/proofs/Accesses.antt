@@ -1,17 +1,19 @@
 -- What an architecture shows of its accesses: they write registers that were taken for them, and none
 -- that holds an address.
-use Rattle.std.proofs.Common.{ℕ, ◌+◌, ◌<◌, ◌≤◌, ◌≡◌, ◌==◌, refl, Bool, true, false, cond, ◌||◌, List, [], ◌∷◌, ◌++◌, Some, None, ◌∙◌, sym, ap, eq-eqb, ne_eqb, append-nil, arith}
+use Rattle.std.proofs.Common.{ℕ, ◌+◌, ◌<◌, ◌≤◌, ◌≡◌, ◌==◌, refl, Bool, true, false, cond, not, ◌||◌, List, [], ◌∷◌, ◌++◌, Option, Some, None, ◌∙◌, sym, ap, subst, eq-eqb, ne_eqb, append-nil, arith}
 use Rattle.relax_edges.specs.declared.kinds.Dir.TheVariants as dirs
 use Rattle.micro_ops.specs.declared.held.Held.{Held}
 use Rattle.micro_ops.specs.declared.operation.Micro.{Micro}
+use Rattle.micro_ops.specs.declared.operation.Micro.TheVariants as ops
 use Rattle.micro_ops.specs.declared.operation.Item.TheVariants as items
 use Rattle.micro_ops.specs.Machine.{num, at_place, bit, written}
-use Rattle.micro_ops.specs.Running.{Run, At, exec}
-use Rattle.micro_ops.proofs.Rules.{after_load, after_store}
+use Rattle.micro_ops.specs.Running.{Run, At, go, exec}
+use Rattle.micro_ops.proofs.Rules.{holding, after_load, after_store, run_xor}
 use Rattle.arch_trait.specs.declared.link.Link.{Link}
-use Rattle.arch_trait.specs.Links.{is_addr, is_data}
-use Rattle.arch_trait.specs.Taking.{Taken, address_in, address_of, with_address}
-use Rattle.arch_trait.specs.Laws.{IsTaken, HoldsPlaces, Did, DidLoad, DidLink, access_room}
+use Rattle.arch_trait.specs.declared.link.Link.TheVariants as links
+use Rattle.arch_trait.specs.Links.{depends, is_addr, is_data}
+use Rattle.arch_trait.specs.Taking.{Taken, address_in, has_address, address_of, with_address}
+use Rattle.arch_trait.specs.Laws.{IsTaken, HoldsPlaces, HasSource, Did, DidLoad, DidLink, access_room}
 use Rattle.arch_trait.proofs.Taking.{by_test, by_option, address_bounds, address_kept, address_added}
 
 -- registers u come from r by writes of registers that were taken between g and h, and the address
@@ -168,3 +170,61 @@ two_fit link = of_test (is_addr link || is_data link)
     of_test : (b : Bool) → 2 ≤ cond b 4 2
     of_test true = omega arith
     of_test false = omega arith
+
+-- what holds of a register with a load's number holds of the register that a dependency is on
+pub on_source : (r : Run) (from : Option ℕ) (k : ℕ) (P : Option ℕ → Type 0) → HasSource r from k →
+    ((s v : ℕ) → r.state.regs s ≡ num v (bit k) → P (Some s)) → P from
+on_source r from k P h f = subst P (sym h.is) (f h.register h.value h.holds)
+
+-- a register after another one was written
+pub written_other : (u : ℕ → Held) (d s : ℕ) (held : Held) → (s == d) ≡ false → written u d held s ≡ u s
+written_other u d s held e = rw e refl
+
+-- the number 0 that depends on a load, whatever was read
+pub xor_runs : (d s v k : ℕ) (r : Run) → r.state.regs s ≡ num v (bit k) →
+    go (ops.Xor d s s) (At r) ≡ At (holding r d (num 0 (bit k)))
+xor_runs d s v k r e =
+    run_xor d s r ∙ ap (λ m. At (holding r d (num 0 m))) (ap (λ (h : Held). h.mask) e)
+
+-- address and data dependencies are dependencies, and differ
+pub addr_depends : (link : Link) → is_addr link ≡ true → depends link ≡ true
+addr_depends links.Addr e = refl
+addr_depends links.Plain e = cc
+addr_depends (links.Fence kind) e = cc
+addr_depends links.Data e = cc
+addr_depends links.Ctrl e = cc
+addr_depends links.CtrlIsync e = cc
+addr_depends links.CtrlIsb e = cc
+
+pub data_depends : (link : Link) → is_data link ≡ true → depends link ≡ true
+data_depends links.Data e = refl
+data_depends links.Plain e = cc
+data_depends (links.Fence kind) e = cc
+data_depends links.Addr e = cc
+data_depends links.Ctrl e = cc
+data_depends links.CtrlIsync e = cc
+data_depends links.CtrlIsb e = cc
+
+pub addr_no_data : (link : Link) → is_addr link ≡ true → is_data link ≡ false
+addr_no_data links.Addr e = refl
+addr_no_data links.Plain e = refl
+addr_no_data (links.Fence kind) e = refl
+addr_no_data links.Data e = cc
+addr_no_data links.Ctrl e = refl
+addr_no_data links.CtrlIsync e = refl
+addr_no_data links.CtrlIsb e = refl
+
+-- the register after an address register was taken, if it had to be
+pub address_next : (i : Taken) (p : ℕ) → (with_address i p).next ≡ i.next + cond (has_address i p) 0 1
+address_next i p = by_option (address_in i.links p) (λ a e. rw e (omega arith)) (λ e. rw e refl)
+
+-- how many registers an access takes
+pub fresh_counts : (g : Taken) (p : ℕ) (is_new : Bool) → is_new ≡ not (has_address g p) →
+    ◌≡◌ {A = ℕ} (cond (has_address g p) 0 1) (cond is_new 1 0)
+fresh_counts g p is_new e = of_test (has_address g p) is_new e
+  where
+    of_test : (t n : Bool) → n ≡ not t → ◌≡◌ {A = ℕ} (cond t 0 1) (cond n 1 0)
+    of_test true true e = cc
+    of_test true false e = refl
+    of_test false true e = refl
+    of_test false false e = cc

@@ -1,7 +1,7 @@
 -- What stands in a thread's code: its operations and labels, their number, and the registers of its
 -- loads.
 use Rattle.std.proofs.Common.{◌⊎◌, inl, inr, eqb-true, eq-eqb, ℕ, suc, ◌+◌, ◌*◌, ◌<◌, ◌≤◌, ◌≡◌, ◌==◌, refl, Bool, true, false, cond, ◌||◌, List, [], ◌∷◌, ◌++◌, Option, Some, None, is_some, length, ◌∙◌, sym, ap, length-append, append-nil, arith}
-use Rattle.std.proofs.lemmas.Bool.{and_from, and_parts, or_left, or_right, or_cases}
+use Rattle.std.proofs.lemmas.Bool.{and_from, and_parts, or_left, or_right}
 use Rattle.std.proofs.lemmas.List.Folds.{list_all-append}
 use Rattle.std.proofs.lemmas.List.Sums.{sum_by-cons}
 use Rattle.std.specs.List.{list_all, range_with_len}
@@ -16,10 +16,9 @@ use Rattle.arch_trait.specs.declared.link.Link.TheVariants as links
 use Rattle.arch_trait.specs.declared.step.Step.{Step}
 use Rattle.arch_trait.specs.declared.way.Way.{Way}
 use Rattle.arch_trait.specs.Links.{depends, branches}
-use Rattle.arch_trait.specs.Taking.{address_in, has_address}
 use Rattle.arch_trait.specs.Threads.{Puts, FitStep, FitSteps, is_load_dir, loads_in, branches_in, visits, from_of, put_of, filled_by, next_put, next_filled, further, step_code, thread_code, thread_regs, thread_loads, put_before}
+use Rattle.arch_trait.specs.Codes.{is_within, AllBelow}
 use Rattle.arch_trait.specs.Laws.{IsTaken, AddsAddress, IsUsable, HasLink, MakesAccess, IsArch, is_at, access_room, link_room, link_labels}
-use Rattle.arch_trait.proofs.Taking.{by_option, address_added}
 use Rattle.arch_trait.proofs.Runs.{step_takes, step_grew, thread_grew, step_filled, IsWithin}
 
 -- the most operations of an access with its link
@@ -177,12 +176,6 @@ thread_has a laws b w (s ∷ ss) fit given usable taken room =
     (thread_has a laws (is_load_dir s.dir) (further a w s) ss fit.1 (given_after a w s)
     (usable_after a laws w s here) ((step_grew a laws w s fit.0.value).taken taken) room)
 
--- an operation names none but the places of the accesses
-abbrev pub is_within : List Step → Micro → Bool
-is_within ss (ops.LoadAt _ q) = visits q ss
-is_within ss (ops.StoreAt q _) = visits q ss
-is_within ss _ = true
-
 -- an operation at one of the places, or with none
 visit_one : (s : Step) (ss : List Step) (op : Micro) → is_at s.place op ≡ true →
     is_within (s ∷ ss) op ≡ true
@@ -245,41 +238,36 @@ thread_places a laws b w (s ∷ ss) fit =
     (all_pass (is_within ss) (is_within (s ∷ ss)) (visit_more s ss) (thread_code a (further a w s) ss)
     (thread_places a laws (is_load_dir s.dir) (further a w s) ss fit.1))
 
--- each address register is for one of the places, or was one before
-pub thread_addresses : (a : Puts) → IsArch a → (b : Bool) (w : Way) (ss : List Step) (q : ℕ) →
-    FitSteps a.name b ss → has_address (thread_regs a w ss) q ≡ true →
-    (visits q ss || has_address w.regs q) ≡ true
-thread_addresses a laws b w [] q fit e = e
-thread_addresses a laws b w (s ∷ ss) q fit e =
-    of_cases (or_cases (visits q ss) (has_address (further a w s).regs q)
-    (thread_addresses a laws (is_load_dir s.dir) (further a w s) ss q fit.1 e))
+-- each address register is for a place of the accesses, if those before are
+pub thread_addresses : (a : Puts) → IsArch a → (b : Bool) (w : Way) (ss : List Step) (p : ℕ → Bool) →
+    FitSteps a.name b ss → list_all (λ s. p s.place) ss ≡ true →
+    list_all (λ (link : ℕ × ℕ). p link.1) w.regs.links ≡ true →
+    list_all (λ (link : ℕ × ℕ). p link.1) (thread_regs a w ss).links ≡ true
+thread_addresses a laws b w [] p fit all before = before
+thread_addresses a laws b w (s ∷ ss) p fit all before =
+    let parts = and_parts (p s.place) (list_all (λ s. p s.place) ss) all in
+    thread_addresses a laws (is_load_dir s.dir) (further a w s) ss p fit.1 parts.1
+    (of_links (step_takes a laws w s fit.0.value).links parts.0)
   where
-    of_links : (by_test_links : ((further a w s).regs.links ≡ w.regs.links) ⊎ AddsAddress w.regs (further a w s).regs s.place) →
-        has_address (further a w s).regs q ≡ true → ((s.place == q || visits q ss) || has_address w.regs q) ≡ true
-    of_links (inl f) h =
-        or_right (s.place == q || visits q ss) (has_address w.regs q)
-        (sym (ap (λ l. is_some (address_in l q)) f) ∙ h)
-    of_links (inr d) h = by_option (address_in w.regs.links q)
-        (λ x f. or_right (s.place == q || visits q ss) (has_address w.regs q) (ap is_some f))
-        (λ f. or_left (s.place == q || visits q ss) (has_address w.regs q)
-        (or_left (s.place == q) (visits q ss)
-        (some_if (s.place == q) d.register
-        (sym (ap is_some (address_added w.regs.links d.register s.place q f)) ∙
-        (sym (ap (λ l. is_some (address_in l q)) d.links) ∙ h)))))
-      where
-        some_if : (t : Bool) (x : ℕ) → is_some (cond t (Some x) None) ≡ true → t ≡ true
-        some_if true x e = refl
-        some_if false x e = e
+    of_links : ((further a w s).regs.links ≡ w.regs.links) ⊎ AddsAddress w.regs (further a w s).regs s.place →
+        p s.place ≡ true → list_all (λ (link : ℕ × ℕ). p link.1) (further a w s).regs.links ≡ true
+    of_links (inl e) h = ap (λ l. list_all (λ (link : ℕ × ℕ). p link.1) l) e ∙ before
+    of_links (inr d) h =
+        ap (λ l. list_all (λ (link : ℕ × ℕ). p link.1) l) d.links ∙
+        (list_all-append (λ (link : ℕ × ℕ). p link.1) w.regs.links ((d.register, s.place) ∷ []) ∙
+        and_from _ _ before (and_from (p s.place) true h refl))
 
-    of_cases : (visits q ss ≡ true) ⊎ (has_address (further a w s).regs q ≡ true) →
-        ((s.place == q || visits q ss) || has_address w.regs q) ≡ true
-    of_cases (inl f) = or_left (s.place == q || visits q ss) (has_address w.regs q) (or_right (s.place == q) (visits q ss) f)
-    of_cases (inr f) = of_links (step_takes a laws w s fit.0.value).links f
-
--- the loads' registers are registers that the thread takes, one for each load
-abbrev pub AllBelow : ℕ → List ℕ → Type 0
-AllBelow n [] = Unit {0}
-AllBelow n (q ∷ qs) = (q < n) × AllBelow n qs
+-- each access is at a place of the accesses
+pub visits_all : (ss : List Step) → list_all (λ s. visits s.place ss) ss ≡ true
+visits_all ss = each ss (λ q e. e)
+  where
+    each : (ts : List Step) → ((q : ℕ) → visits q ts ≡ true → visits q ss ≡ true) →
+        list_all (λ s. visits s.place ss) ts ≡ true
+    each [] h = refl
+    each (t ∷ ts) h =
+        and_from (visits t.place ss) (list_all (λ s. visits s.place ss) ts)
+        (h t.place (or_left (t.place == t.place) (visits t.place ts) (eq-eqb t.place t.place refl)))
+        (each ts (λ q e. h q (or_right (t.place == q) (visits q ts) e)))
 
 pub thread_loads_below : (a : Puts) → IsArch a → (b : Bool) (w : Way) (ss : List Step) →
     FitSteps a.name b ss → AllBelow (thread_regs a w ss).next (thread_loads a w ss)

@@ -65,7 +65,7 @@ begins_at low (link ∷ links) high p a h e = by_test (link.1 == p)
     let g : (a == link.0) ≡ false = ne_eqb a link.0 (λ e. omega (arith, k.0)) in
     rw g (begins_at (link.0 + 1) links high p a h.1 f))
 
-in_order_more : (low : ℕ) (links : List (ℕ × ℕ)) (high top : ℕ) → InOrder low links high →
+pub in_order_more : (low : ℕ) (links : List (ℕ × ℕ)) (high top : ℕ) → InOrder low links high →
     high ≤ top → InOrder low links top
 in_order_more low [] high top h m = let k : low ≤ high = h in omega arith
 in_order_more low (link ∷ links) high top h m =

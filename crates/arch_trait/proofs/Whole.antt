@@ -1,13 +1,17 @@
 -- The run of a whole thread, from its beginning, on any numbers that its loads read.
-use Rattle.std.proofs.Common.{ℕ, ◌+◌, ◌<◌, ◌≤◌, ◌≡◌, refl, false, List, [], ◌∷◌, length, take, drop, ◌∙◌, sym, ap, append-nil, length-take, length-drop, arith}
+use Rattle.std.proofs.Common.{ℕ, ◌+◌, ◌<◌, ◌≤◌, ◌≡◌, refl, false, List, [], ◌∷◌, length, take, drop, ◌∙◌, sym, ap, subst, append-nil, length-take, length-drop, arith}
 use Rattle.std.proofs.lemmas.List.{take-append-drop}
 use Rattle.micro_ops.specs.declared.held.Held.{Held}
+use Rattle.micro_ops.specs.declared.operation.Micro.{Micro}
 use Rattle.micro_ops.specs.Running.{Run, beginning, runs, outcome, ended, Ended, ReadsLeft, ReadsShort}
 use Rattle.arch_trait.specs.declared.step.Step.{Step}
 use Rattle.arch_trait.specs.Taking.{untaken, initial}
-use Rattle.arch_trait.specs.Threads.{Puts, FitSteps, setting_out, loads_in, thread_regs, compiled, Loaded, HoldNumbers, EndsWithAccesses}
+use Rattle.arch_trait.specs.Threads.{Puts, ThreadCode, FitSteps, setting_out, loads_in, shape_of, visits, thread_regs, thread_loads, compiled, Loaded, HoldNumbers}
+use Rattle.arch_trait.specs.Codes.{EndsWith, MakesSteps, IsFormed, AllBelow}
 use Rattle.arch_trait.specs.Laws.{IsArch, IsTaken}
-use Rattle.arch_trait.proofs.Taking.{begins_at}
+use Rattle.arch_trait.proofs.Taking.{begins_at, in_order_more}
+use Rattle.arch_trait.proofs.Codes.{thread_has, thread_lands, thread_labels, thread_places, thread_addresses, visits_all, thread_loads_below, thread_loads_length}
+use Rattle.arch_trait.proofs.Shapes.{need_is}
 use Rattle.arch_trait.proofs.Runs.{Begins, thread_grew, thread_runs, thread_wants}
 
 none_taken : (n : ℕ) → IsTaken (untaken n)
@@ -36,7 +40,7 @@ numbers_held regs (q ∷ qs) (v ∷ vs) n h =
 -- on as many numbers as it has loads, a thread makes each access in turn, exactly with the barriers
 -- and the dependencies of its link, and ends with the numbers read in its loads' registers
 pub thread_ends : (a : Puts) → IsArch a → (ss : List Step) (vs : List ℕ) →
-    FitSteps a.name false ss → length vs ≡ loads_in ss → EndsWithAccesses a ss vs
+    FitSteps a.name false ss → length vs ≡ loads_in ss → EndsWith ss (compiled a ss) vs
 thread_ends a laws ss vs fit count =
     let f = thread_runs a laws ss (setting_out a.registers) false
     (beginning (initial (compiled a ss).links) vs) vs [] fit (begins_whole a laws ss vs fit) count
@@ -75,3 +79,64 @@ thread_leaves a laws ss vs fit many =
     some_left : (r : Run) (vs : List ℕ) → 0 < length vs → ended r vs ≡ ReadsLeft
     some_left r [] h = absurd (omega arith)
     some_left r (v ∷ vs) h = refl
+
+-- the code of a thread makes its accesses
+pub makes_steps : (a : Puts) → IsArch a → (ss : List Step) → FitSteps a.name false ss →
+    MakesSteps ss (compiled a ss)
+makes_steps a laws ss fit = record {
+  ends = λ vs e. thread_ends a laws ss vs fit e;
+  lacks = λ vs e. thread_short_of a laws ss vs fit e;
+  leaves = λ vs e. thread_leaves a laws ss vs fit e;
+}
+
+-- where registers are enough, it is well formed
+pub is_formed : (a : Puts) → IsArch a → (ss : List Step) → FitSteps a.name false ss →
+    a.need (shape_of ss) ≤ a.registers → IsFormed a ss (compiled a ss)
+is_formed a laws ss fit enough =
+    let w = setting_out a.registers in
+    let need = need_is a laws a.registers ss fit in
+    let room : (thread_regs a w ss).next ≤ a.registers = omega (arith, need) in
+    let taken = none_taken a.registers in
+    record {
+      has = thread_has a laws false w ss fit (λ e. cc) tt taken room;
+      jumps = thread_lands a laws false w ss fit;
+      labels = thread_labels a laws false w ss fit (λ e. cc);
+      places = thread_places a laws false w ss fit;
+      addresses = thread_addresses a laws false w ss (λ q. visits q ss) fit (visits_all ss) refl;
+      links = in_order_more 0 (thread_regs a w ss).links (thread_regs a w ss).next a.registers
+          ((thread_grew a laws false w ss fit).taken taken).in_order room;
+      loads = all_below_more (thread_loads a w ss) (thread_regs a w ss).next a.registers
+          (thread_loads_below a laws false w ss fit) room;
+      count = thread_loads_length a w ss;
+    }
+  where
+    all_below_more : (qs : List ℕ) (m n : ℕ) → AllBelow m qs → m ≤ n → AllBelow n qs
+    all_below_more [] m n h k = tt
+    all_below_more (q ∷ qs) m n h k = (omega (arith, h.0), all_below_more qs m n h.1 k)
+
+-- the same of code that was compared with it
+abbrev pub made : List Micro → List (ℕ × ℕ) → List ℕ → ThreadCode
+made instrs links loads = record { instrs = instrs; links = links; loads = loads }
+
+same_code : (instrs : List Micro) (links : List (ℕ × ℕ)) (loads : List ℕ) (code : ThreadCode) →
+    instrs ≡ code.instrs → links ≡ code.links → loads ≡ code.loads → code ≡ made instrs links loads
+same_code instrs links loads code e f g =
+    ap (λ x. made x code.links code.loads) (sym e) ∙
+    (ap (λ x. made instrs x code.loads) (sym f) ∙ ap (λ x. made instrs links x) (sym g))
+
+pub made_so : (a : Puts) → IsArch a → (ss : List Step) (instrs : List Micro) (links : List (ℕ × ℕ))
+    (loads : List ℕ) → FitSteps a.name false ss → instrs ≡ (compiled a ss).instrs →
+    links ≡ (compiled a ss).links → loads ≡ (compiled a ss).loads →
+    MakesSteps ss (made instrs links loads)
+made_so a laws ss instrs links loads fit e f g =
+    let P : ThreadCode → Type 0 = MakesSteps ss in
+    subst P (same_code instrs links loads (compiled a ss) e f g) (makes_steps a laws ss fit)
+
+pub formed_so : (a : Puts) → IsArch a → (ss : List Step) (instrs : List Micro)
+    (links : List (ℕ × ℕ)) (loads : List ℕ) → FitSteps a.name false ss →
+    a.need (shape_of ss) ≤ a.registers → instrs ≡ (compiled a ss).instrs →
+    links ≡ (compiled a ss).links → loads ≡ (compiled a ss).loads →
+    IsFormed a ss (made instrs links loads)
+formed_so a laws ss instrs links loads fit enough e f g =
+    let P : ThreadCode → Type 0 = IsFormed a ss in
+    subst P (same_code instrs links loads (compiled a ss) e f g) (is_formed a laws ss fit enough)

@@ -1,7 +1,16 @@
--- The code of a thread as a value of the program.
+-- What the code of a thread is to do, and how it is formed.
 -- Source: own.
+use Rattle.std.specs.Prelude.{ℕ, ◌<◌, ◌≡◌, Bool, true, List, [], ◌∷◌, length}
+use Rattle.std.specs.List.{list_all, range_with_len}
+use Rattle.relax_edges.specs.declared.kinds.Value.{Value}
+use Rattle.micro_ops.specs.declared.operation.Micro.{Micro}
+use Rattle.micro_ops.specs.declared.operation.Micro.TheVariants as ops
+use Rattle.micro_ops.specs.Running.{runs, Ended, ReadsShort, ReadsLeft, labels_of, lands}
 use Rattle.arch_trait.specs.declared.code.Code.{Code}
-use Rattle.arch_trait.specs.Threads.{ThreadCode}
+use Rattle.arch_trait.specs.declared.step.Step.{Step}
+use Rattle.arch_trait.specs.Taking.{initial}
+use Rattle.arch_trait.specs.Threads.{Puts, ThreadCode, thread_items, loads_in, branches_in, visits, HoldNumbers}
+use Rattle.arch_trait.specs.Laws.{InOrder}
 
 -- what the code of a thread holds
 abbrev pub thread_of : Code → ThreadCode
@@ -10,3 +19,43 @@ thread_of code = record {
   links = code.links.items;
   loads = code.loads.items;
 }
+
+-- the run of a thread ends with exactly the items of the accesses, and the numbers read are in its
+-- loads' registers
+pub record EndsWith (ss : List Step) (code : ThreadCode) (vs : List ℕ) : Type 0 where
+  pub regs : ℕ → Value
+  pub ends : runs code.instrs (initial code.links) vs ≡ Ended (thread_items ss 0 0 vs) regs
+  pub loaded : HoldNumbers regs code.loads vs
+
+-- code makes the accesses, on any numbers: where they are as many as its loads it ends with the
+-- accesses, on fewer it wants more, on more it leaves some
+pub record MakesSteps (ss : List Step) (code : ThreadCode) : Type 0 where
+  pub ends : (vs : List ℕ) → length vs ≡ loads_in ss → EndsWith ss code vs
+  pub lacks : (vs : List ℕ) → length vs < loads_in ss →
+      runs code.instrs (initial code.links) vs ≡ ReadsShort
+  pub leaves : (vs : List ℕ) → loads_in ss < length vs →
+      runs code.instrs (initial code.links) vs ≡ ReadsLeft
+
+-- an operation names none but the places of the accesses
+abbrev pub is_within : List Step → Micro → Bool
+is_within ss (ops.LoadAt _ q) = visits q ss
+is_within ss (ops.StoreAt q _) = visits q ss
+is_within ss _ = true
+
+-- all are below a number
+abbrev pub AllBelow : ℕ → List ℕ → Type 0
+AllBelow n [] = Unit {0}
+AllBelow n (q ∷ qs) = (q < n) × AllBelow n qs
+
+-- the code of a thread is well formed: its operations are the architecture's, each branch has its
+-- label behind it, labels are numbered in order, the places are those of the accesses, and its
+-- registers are the architecture's, each address register for one place
+pub record IsFormed (a : Puts) (ss : List Step) (code : ThreadCode) : Type 0 where
+  pub has : list_all a.has code.instrs ≡ true
+  pub jumps : lands code.instrs ≡ true
+  pub labels : labels_of code.instrs ≡ range_with_len 0 (branches_in ss)
+  pub places : list_all (is_within ss) code.instrs ≡ true
+  pub addresses : list_all (λ (link : ℕ × ℕ). visits link.1 ss) code.links ≡ true
+  pub links : InOrder 0 code.links a.registers
+  pub loads : AllBelow a.registers code.loads
+  pub count : length code.loads ≡ loads_in ss

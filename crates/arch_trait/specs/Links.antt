@@ -1,6 +1,6 @@
 -- How an access is tied to the one before it: the barriers and masks that each link asks for.
 -- Source: the diy part of the herdtools manual, "Candidate relaxations".
-use Rattle.std.specs.Prelude.{ℕ, Bool, true, false, cond, bit_or, List, [], ◌∷◌}
+use Rattle.std.specs.Prelude.{ℕ, Bool, true, false, cond, bit_or, List, [], ◌∷◌, Option, None}
 use Rattle.relax_edges.specs.declared.kinds.ArchName.{ArchName}
 use Rattle.relax_edges.specs.declared.kinds.FenceKind.TheVariants as fences
 use Rattle.relax_edges.specs.declared.kinds.DepKind.TheVariants as deps
@@ -57,6 +57,10 @@ is_addr _ = false
 abbrev pub is_data : Link → Bool
 is_data links.Data = true
 is_data _ = false
+
+-- the register that a dependency is on, if it is of this kind
+abbrev pub source_if : Bool → Option ℕ → Option ℕ
+source_if on from = cond on from None
 
 -- the mask of load number k, for a link that depends on it, else none
 abbrev pub mask_if : Bool → ℕ → ℕ

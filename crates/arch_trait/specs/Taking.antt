@@ -21,6 +21,10 @@ untaken count = record { count = count; next = 0; links = [] }
 abbrev pub take_next : Taken → Taken
 take_next g = record g { next = g.next + 1 }
 
+-- registers of which some more are taken
+abbrev pub took : Taken → ℕ → Taken
+took g n = record g { next = g.next + n }
+
 -- the address register of a place
 abbrev pub address_in : List (ℕ × ℕ) → ℕ → Option ℕ
 address_in [] _ = None

@@ -9,7 +9,6 @@ use Rattle.micro_ops.specs.declared.operation.Item.{Item}
 use Rattle.micro_ops.specs.declared.operation.Item.TheVariants as items
 use Rattle.micro_ops.specs.declared.held.Held.{Held}
 use Rattle.micro_ops.specs.Machine.{num, bit}
-use Rattle.micro_ops.specs.Running.{runs, Ended}
 use Rattle.relax_edges.specs.declared.kinds.Value.{Value}
 use Rattle.relax_edges.specs.declared.kinds.Value.TheVariants.{Num}
 use Rattle.arch_trait.specs.declared.link.Link.{Link}
@@ -18,7 +17,7 @@ use Rattle.arch_trait.specs.declared.step.Shape.{Shape}
 use Rattle.arch_trait.specs.declared.way.Way.{Way}
 use Rattle.std.specs.List.{list_any}
 use Rattle.arch_trait.specs.Links.{link_is_of, depends, branches, is_addr, is_data, mask_if, link_control, link_items}
-use Rattle.arch_trait.specs.Taking.{Taken, untaken, initial}
+use Rattle.arch_trait.specs.Taking.{Taken, untaken}
 
 -- the code of an access, and the registers after it
 pub record Put : Type 0 where
@@ -210,11 +209,3 @@ abbrev pub HoldNumbers : (ℕ → Value) → List ℕ → List ℕ → Type 0
 HoldNumbers regs [] vs = Unit {0}
 HoldNumbers regs (q ∷ qs) [] = ⊥
 HoldNumbers regs (q ∷ qs) (v ∷ vs) = (regs q ≡ Num v) × HoldNumbers regs qs vs
-
--- the run of a whole thread ends with exactly the items of its accesses, and the numbers read are in
--- its loads' registers
-pub record EndsWithAccesses (a : Puts) (ss : List Step) (vs : List ℕ) : Type 0 where
-  pub regs : ℕ → Value
-  pub ends : runs (compiled a ss).instrs (initial (compiled a ss).links) vs ≡
-      Ended (thread_items ss 0 0 vs) regs
-  pub loaded : HoldNumbers regs (compiled a ss).loads vs

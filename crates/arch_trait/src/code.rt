@@ -3,7 +3,7 @@ ghost use Rattle.arrayvec.specs.ArrayVec.{array_vec_len};
 ghost use Rattle.arch_trait.specs.Links.{depends, branches, is_data, link_is_of};
 ghost use Rattle.arch_trait.specs.Laws.{access_room};
 ghost use Rattle.arch_trait.specs.Threads.{FitStep, FitSteps, compiled, shape_of, setting_out, from_of, put_of, filled_by, further, step_code, next_filled, put_before, thread_code, thread_regs, thread_loads};
-ghost use Rattle.arch_trait.specs.Codes.{thread_of};
+ghost use Rattle.arch_trait.specs.Codes.{thread_of, MakesSteps, IsFormed};
 
 use crate::arch::{Arch, Instrs, MAX_INSTRS, MAX_STEP_INSTRS};
 use crate::link::Link;
@@ -33,10 +33,15 @@ pub struct TooManyRegisters;
 /// The code of a thread that makes these accesses in order. A thread has at most `MAX_STEPS`; each
 /// link is one of the architecture's, a dependency follows a load, and a data dependency leads to a
 /// store. Refused exactly where the thread needs more registers than the architecture has.
+///
+/// On any numbers that its loads read, the code makes these accesses, each with the barriers and the
+/// dependencies of its link and no others, and leaves the numbers in the registers of the loads.
 pub fn compile_thread<A: Arch>(steps: &[Step]) -> Result<Code, TooManyRegisters>
     requires fit { FitSteps A.puts.name false steps.now }
     requires few { length steps.now ≤ MAX_STEPS }
     ensures ok { IfOk result (λ code. thread_of code ≡ compiled A.puts steps.now) }
+    ensures makes { IfOk result (λ code. MakesSteps steps.now (thread_of code)) }
+    ensures formed { IfOk result (λ code. IsFormed A.puts steps.now (thread_of code)) }
     ensures refused { IsErr result ↔ (A.puts.registers < A.puts.need (shape_of steps.now)) }
 {
     let mut code = Code::default();
@@ -50,6 +55,8 @@ pub fn compile_into<A: Arch>(steps: &[Step], code: &mut Code) -> Result<(), TooM
     requires fit { FitSteps A.puts.name false steps.now }
     requires few { length steps.now ≤ MAX_STEPS }
     ensures ok { OnOk result (thread_of code.new ≡ compiled A.puts steps.now) }
+    ensures makes { OnOk result (MakesSteps steps.now (thread_of code.new)) }
+    ensures formed { OnOk result (IsFormed A.puts steps.now (thread_of code.new)) }
     ensures refused { IsErr result ↔ (A.puts.registers < A.puts.need (shape_of steps.now)) }
     ensures err { OnErr result (code.new ≡ code.old) }
 {

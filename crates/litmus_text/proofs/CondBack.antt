@@ -105,9 +105,9 @@ joining : (rest : List ℕ) → follow_read (32 ∷ 47 ∷ 92 ∷ rest) ≡ Ok (
 unfolding follow_read after_run
 joining rest = refl
 
-mention_among : (w : Writing) (threads : ℕ) (table s : List (List ℕ)) (left : LeftSeen) → is_known w threads table left ≡ true → IsAmong s table → length table ≤ 64 → IsAmong (left_mention s left) table
-mention_among w threads table s (InRegister thread name) known h few = h
-mention_among w threads table s (AtPlace name) known h few = (place_added s table name h few known).among
+pub term_among : (w : Writing) (threads : ℕ) (table s : List (List ℕ)) (left : LeftSeen) → is_known w threads table left ≡ true → IsAmong s table → length table ≤ 64 → IsAmong (left_mention s left) table
+term_among w threads table s (InRegister thread name) known h few = h
+term_among w threads table s (AtPlace name) known h few = (place_added s table name h few known).among
 
 -- the terms, up to the `)`
 terms_back : (w : Writing) (here : Setting) (table s : List (List ℕ)) (room : ℕ) (term : TermSeen) (terms : List TermSeen) (rest : List ℕ) → length terms < room
@@ -121,7 +121,7 @@ terms_back w here table s (suc room) term (next ∷ terms) rest few fits among_t
     let more : List ℕ = terms_text (next ∷ terms) in
     let text : List ℕ = more ++ 41 ∷ rest in
     let further = terms_back w here table (left_mention s term.left) room next terms rest (omega arith) fits.1
-        (mention_among w here.threads table s term.left fits.0.known among_table short) short in
+        (term_among w here.threads table s term.left fits.0.known among_table short) short in
     rw (append_assoc (term_text term) (32 ∷ 47 ∷ 92 ∷ 32 ∷ more) (41 ∷ rest), term_back w here table s term (32 ∷ 47 ∷ 92 ∷ 32 ∷ text) fits.0 among_table short refl, joining (32 ∷ text))
     (rw (terms_blank w here room (state (left_mention s term.left)) text, further) refl)
 

@@ -19,3 +19,4 @@ pub mod ItemBack
 pub mod InitBack
 pub mod CondBack
 pub mod WholeBack
+pub mod MentionedBack

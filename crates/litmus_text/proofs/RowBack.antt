@@ -289,7 +289,7 @@ advance_ready a table names first n p ready = go p.done p.left ready.code ready.
           line = λ h. omega arith;
         }
 
-all_advance : (a : Puts) (table : List (List ℕ)) (names : ℕ → List ℕ) (first n : ℕ) (ps : List Progress) → AllByRecursion (IsReady a table names first n) ps
+pub all_advance : (a : Puts) (table : List (List ℕ)) (names : ℕ → List ℕ) (first n : ℕ) (ps : List Progress) → AllByRecursion (IsReady a table names first n) ps
     → AllByRecursion (IsReady a table names first (n + 1)) (map advanced ps)
 all_advance a table names first n [] h = tt
 all_advance a table names first n (p ∷ ps) h = (advance_ready a table names first n p h.0, all_advance a table names first n ps h.1)
@@ -324,7 +324,7 @@ rows_within names s [] ps = within_self s
 rows_within names s (text ∷ texts) ps =
     within_trans s (row_mentions names s ps) (rows_mention names s (text ∷ texts) ps) (row_within names s ps) (rows_within names (row_mentions names s ps) texts (map advanced ps))
 
-row_among : (a : Puts) (table : List (List ℕ)) (names : ℕ → List ℕ) (first n : ℕ) (ps : List Progress) (s : List (List ℕ)) → AllByRecursion (IsReady a table names first n) ps
+pub row_among : (a : Puts) (table : List (List ℕ)) (names : ℕ → List ℕ) (first n : ℕ) (ps : List Progress) (s : List (List ℕ)) → AllByRecursion (IsReady a table names first n) ps
     → IsAmong s table → length table ≤ 64 → IsAmong (row_mentions names s ps) table
 row_among a table names first n [] s ready h few = h
 row_among a table names first n (p ∷ ps) s ready h few =

@@ -83,12 +83,12 @@ unfolding longest
 longest_grows count [] = omega arith
 longest_grows count (t ∷ threads) = let more = longest_grows (max count (length t.instrs)) threads in omega arith
 
-covers : (count k : ℕ) (threads : List ThreadCode) → longest count threads ≤ k → AllByRecursion (λ t. length t.instrs ≤ k) threads
+pub covers : (count k : ℕ) (threads : List ThreadCode) → longest count threads ≤ k → AllByRecursion (λ t. length t.instrs ≤ k) threads
 unfolding longest
 covers count k [] h = tt
 covers count k (t ∷ threads) h = (let more = longest_grows (max count (length t.instrs)) threads in omega arith, covers (max count (length t.instrs)) k threads h)
 
-drop_none : (code : List Micro) → drop 0 code ≡ code
+pub drop_none : (code : List Micro) → drop 0 code ≡ code
 drop_none [] = refl
 drop_none (op ∷ code) = refl
 
@@ -97,7 +97,7 @@ take_none [] = refl
 take_none (op ∷ code) = refl
 
 -- before the first row nothing was read
-start_ready : (a : Puts) (table : List (List ℕ)) (names : ℕ → List ℕ) (n : ℕ) (threads : List ThreadCode) → AllByRecursion (λ t. CodeFits a table names 0 0 t.instrs) threads
+pub start_ready : (a : Puts) (table : List (List ℕ)) (names : ℕ → List ℕ) (n : ℕ) (threads : List ThreadCode) → AllByRecursion (λ t. CodeFits a table names 0 0 t.instrs) threads
     → AllByRecursion (IsReady a table names n n) (map (at_row 0) threads)
 start_ready a table names n [] h = tt
 start_ready a table names n (t ∷ threads) h = (one t h.0, start_ready a table names n threads h.1)

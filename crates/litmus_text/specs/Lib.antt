@@ -18,3 +18,4 @@ pub mod Progress
 pub mod Items
 pub mod Terms
 pub mod Reread
+pub mod Mentioned
