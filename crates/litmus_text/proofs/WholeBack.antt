@@ -48,7 +48,7 @@ before_append n [] ys rest = refl
 before_append n (x ∷ xs) ys rest = ap (line n x) (before_append (n + 1) xs ys rest)
 
 -- the longest thread
-longest : ℕ → List ThreadCode → ℕ
+pub longest : ℕ → List ThreadCode → ℕ
 longest count threads = fold (λ count t. max count (length t.instrs)) count threads
 
 count_is : (w : Writing) (places : List (List ℕ)) (n count : ℕ) (threads : List ThreadCode)
@@ -178,7 +178,7 @@ values_read table names m n (t ∷ threads) all h =
     ∙ ap (λ more. thread_reread table names t ∷ more) rest
 
 -- the table of all places that the text mentions, in order
-pub mentions : Writing → TestSeen → List (List ℕ)
+unfoldable pub mentions : Writing → TestSeen → List (List ℕ)
 mentions w test =
     let names = name_in test.places in
     terms_mention (rows_mention names (links_mention names [] (links_of 0 test.threads)) (map (row_line (columns_of w test.places test.threads)) (range_with_len 1 (longest 0 test.threads))) (map (at_row 0) test.threads)) test.cond.terms
