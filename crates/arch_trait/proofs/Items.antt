@@ -53,7 +53,7 @@ items_append (s ∷ ss) ts n c vs =
     thread_items ts (n + loads_in (s ∷ ss)) (control_after ss n_after c_after) l) f))
 
 -- the mask of branches names only loads that were made
-link_below : (link : Link) (n c : ℕ) → (branches link ≡ true → 0 < n) → c < 2 ^ n →
+pub link_below : (link : Link) (n c : ℕ) → (branches link ≡ true → 0 < n) → c < 2 ^ n →
     link_control link (n - 1) c < 2 ^ n
 link_below link n c some h = by_test (branches link)
     (λ t. rw t (or_lt n c (bit (n - 1)) h (bit_below n (some t))))
@@ -64,7 +64,8 @@ link_below link n c some h = by_test (branches link)
     bit_below (suc n) h =
         let e : suc n - 1 ≡ n = omega arith in rw e (omega (arith, pow-suc 2 n, pow_pos n))
 
-branch_depends : (link : Link) → branches link ≡ true → depends link ≡ true
+-- a branch is a dependency
+pub branch_depends : (link : Link) → branches link ≡ true → depends link ≡ true
 branch_depends links.Plain e = cc
 branch_depends (links.Fence kind) e = cc
 branch_depends links.Addr e = refl

@@ -10,3 +10,4 @@ pub mod Accesses
 pub mod Spelling
 pub mod Blanks
 pub mod PlainTexts
+pub mod Renumbered

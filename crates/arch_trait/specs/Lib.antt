@@ -9,3 +9,4 @@ pub mod Writing
 pub mod Reading
 pub mod Pieces
 pub mod Cuts
+pub mod Renumbering

@@ -21,4 +21,5 @@ pub use operand::{MAX_IMMEDIATE, Numbered, immediate, inside_brackets, push_labe
 pub use places::{MAX_PLACES, Places};
 pub use reading::{InstrError, Named, Operands, Raw};
 pub use regs::{Links, MAX_REGISTERS, Regs};
+pub use shape::shape_of;
 pub use step::{MAX_STEPS, Shape, Step};

@@ -8,7 +8,7 @@ use crate::step::{MAX_STEPS, Shape, Step};
 use relax_edges::Dir;
 
 /// What the accesses need registers for.
-pub(crate) fn shape_of(steps: &[Step]) -> Shape
+pub fn shape_of(steps: &[Step]) -> Shape
     requires { length steps.now ≤ MAX_STEPS }
     ensures { result ≡ shape_of steps.now }
 {

@@ -1,16 +1,16 @@
 -- The values of the events of a resolved cycle, and the locations that have an observer. `es` is the list of edges in
 -- which threads and locations are counted. Source: the diy part of the herdtools manual (values along the coherence
 -- order, observers); which locations are observed in which mode is own.
-use Rattle.std.specs.Prelude.{ℕ, zero, suc, ◌+◌, ◌-◌, Bool, true, false, ◌==◌, ◌&&◌, nat_lt, nat_le, if◌then◌else◌, List, [], ◌∷◌, length, count_by, Option, Some, None}
+use Rattle.std.specs.Prelude.{ℕ, ◌+◌, Bool, false, ◌==◌, ◌&&◌, nat_lt, nat_le, if◌then◌else◌, List, [], ◌∷◌, length, count_by, Option, Some, None, Result, Ok, Err}
 use Rattle.std.specs.List.{find, list_any, filter_map}
-use Rattle.relax_edges.specs.declared.kinds.Dir.{Dir}
+use Rattle.std.specs.Option.{option_map, option_or}
 use Rattle.relax_edges.specs.declared.kinds.Dir.TheVariants as dirs
 use Rattle.relax_edges.specs.declared.kinds.ObsMode.{ObsMode}
 use Rattle.relax_edges.specs.declared.kinds.ObsMode.TheVariants.{Accept, Avoid, Force}
 use Rattle.relax_edges.specs.declared.edge.Edge.{Edge}
 use Rattle.relax_edges.specs.EdgeTable.{source_of, is_external, same_dir}
 use Rattle.list_laws.specs.Numbers.{upto}
-use Rattle.cycle_resolve.specs.Resolution.{edge_at, move_count, moves_before, location_of}
+use Rattle.cycle_resolve.specs.Resolution.{edge_at, event_before, move_count, moves_before, location_of}
 use Rattle.coherence_values.specs.declared.valued.NeedsObserver.{NeedsObserver}
 
 -- event i is a write at the location
@@ -36,8 +36,7 @@ write_at es location k = find (λ i. is_write_at es location i && (value_of es i
 
 -- the edge that enters event i
 abbrev pub edge_into : List Edge → ℕ → Edge
-edge_into es zero = edge_at es (length es - 1)
-edge_into es (suc i) = edge_at es i
+edge_into es i = edge_at es (event_before es i)
 
 -- event i is a write of the location, neither its first nor its last, and an external edge enters it
 abbrev pub is_inner_entry : List Edge → ℕ → ℕ → Bool
@@ -54,15 +53,29 @@ is_observed es Accept location = list_any (is_inner_entry es location) (upto (le
 is_observed es Avoid location = false
 is_observed es Force location = nat_le 2 (write_count es location)
 
--- the lowest location of a list that needs an observer, with its first write that does
+-- what a location needs: an observer, because of its first inner write that an external edge enters
+abbrev pub need_at : List Edge → ℕ → Option NeedsObserver
+need_at es location = option_map (λ event. record { location = location; event = event }) (first_inner_entry es location)
+
+-- the first location of a list that needs an observer
 abbrev pub first_need : List Edge → List ℕ → Option NeedsObserver
 first_need es [] = None
-first_need es (location ∷ locations) = needed (first_inner_entry es location)
-  where
-    needed : Option ℕ → Option NeedsObserver
-    needed (Some event) = Some (record { location = location; event = event })
-    needed None = first_need es locations
+first_need es (location ∷ locations) = option_or (need_at es location) (first_need es locations)
 
 -- what the mode avoid refuses: the lowest location with an inner write that an external edge enters
 abbrev pub observer_need : List Edge → Option NeedsObserver
 observer_need es = first_need es (upto (move_count es))
+
+-- the edges in which threads and locations are counted, and the mode by which locations are observed
+pub record Valuation : Type 0 where
+  pub edges : List Edge
+  pub mode : ObsMode
+
+-- the valuation of a resolved cycle, or what the mode avoid refuses
+abbrev pub valuation_of : List Edge → ObsMode → Result Valuation NeedsObserver
+valuation_of es Avoid = allowed (observer_need es)
+  where
+    allowed : Option NeedsObserver → Result Valuation NeedsObserver
+    allowed (Some need) = Err need
+    allowed None = Ok (record { edges = es; mode = Avoid })
+valuation_of es mode = Ok (record { edges = es; mode = mode })

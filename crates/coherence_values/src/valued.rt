@@ -1,142 +1,227 @@
+ghost use Rattle.std.specs.Prelude.{◌≡◌, ◌<◌, ◌==◌, ◌&&◌, length, Some};
+ghost use Rattle.cycle_resolve.specs.Resolution.{move_count, IsResolved};
+ghost use Rattle.coherence_values.specs.Values.{value_of, write_count, write_at, is_write_at, is_observed, valuation_of};
+ghost use Rattle.coherence_values.specs.Arc.{arc_with, arc_of, writes_before, values_of, arcs_of};
+
 use arrayvec::ArrayVec;
-use cycle_resolve::{Event, Resolved};
+use cycle_resolve::Resolved;
 use relax_edges::{Dir, Edge, MAX_EDGES, ObsMode};
+use std::marker::Model;
 
 /// A write that is neither the first nor the last of its location, and that an external edge
 /// enters: only an observer can tell its place in the coherence order.
-#[derive(Clone, Copy, Debug, PartialEq, Eq)]
+#[derive(Clone, Copy, Debug, PartialEq, Eq, thiserror::Error)]
+#[error("location {location} needs an observer, for its write at event {event}")]
 pub struct NeedsObserver {
+    /// The location of the write.
     pub location: u8,
+    /// The number of the write among the events.
     pub event: u8,
 }
 
+/// What a walk along a location's arc has seen of its writes.
+#[derive(Clone, Copy, Default)]
+struct Arc {
+    /// How many there were.
+    writes: u8,
+    /// The first one, but for the last one seen, that isn't the location's first write and that
+    /// an external edge enters.
+    inner: Option<u8>,
+    /// The last one seen, where it is such a write.
+    entered: Option<u8>,
+}
+
+impl Arc {
+    /// The arc with one event more, which the edge `into` enters and the edge `out` leaves.
+    fn with(self, event: u8, into: Edge, out: Edge) -> Arc
+        requires { self.writes < 255 }
+        ensures { result ≡ arc_with self event into out }
+    {
+        if out.source() == Dir::R {
+            return self;
+        }
+        Arc {
+            writes: self.writes + 1,
+            inner: self.inner.or(self.entered),
+            entered: if into.is_external() && self.writes > 0 {
+                Some(event)
+            } else {
+                None
+            },
+        }
+    }
+}
+
 /// A resolved cycle with the values of its events.
+///
+/// Contracts see the cycle's edges and the mode by which its locations are observed.
 #[derive(Drop)]
 pub struct Valued<'a> {
     resolved: &'a Resolved,
+    mode: ObsMode,
     values: ArrayVec<u8, MAX_EDGES>,
-    writes: ArrayVec<u8, MAX_EDGES>,
-    observed: ArrayVec<bool, MAX_EDGES>,
+    arcs: ArrayVec<Arc, MAX_EDGES>,
 }
 
-/// Gives each event of the cycle its value.
-pub fn value(resolved: &Resolved, mode: ObsMode) -> Result<Valued<'_>, NeedsObserver> {
-    let edges = resolved.cycle().edges();
-    let values = values_of(edges);
-    let writes = writes_of(edges, values.as_slice());
-    let mut valued = Valued {
-        resolved,
-        values,
-        writes,
-        observed: ArrayVec::new(),
-    };
-    for location in 0..resolved.locations() {
-        let inner = valued.first_inner(location);
-        let observed = match (mode, inner) {
-            (ObsMode::Avoid, Some(event)) => return Err(NeedsObserver { location, event }),
-            (ObsMode::Avoid, None) => false,
-            (ObsMode::Accept, _) => inner.is_some(),
-            (ObsMode::Force, _) => valued.writes(location) >= 2,
-        };
-        valued.observed.push(observed);
+impl<'a> Model for Valued<'a> {
+    ghost use Rattle.coherence_values.specs.Values.{Valuation};
+    ghost use Rattle.coherence_values.specs.Kept.{IsKept};
+
+    ghost Value = { Valuation };
+
+    ghost view = { λ v. record { edges = v.resolved.now; mode = v.mode } };
+
+    ghost invariant = { λ v. IsKept v.resolved.now v.values.items v.arcs.items };
+}
+
+/// Gives each event of the cycle its value: along the arc of a location, which begins behind an
+/// edge to another location, a count grows by one at each write.
+///
+/// In the mode `Avoid` the answer is `NeedsObserver` where a location has a write that is neither
+/// its first nor its last and that an external edge enters: the lowest such location, and its
+/// first such write. The other modes refuse nothing.
+///
+/// The rules are those of the diy part of the herdtools manual; which locations are observed in
+/// which mode is own.
+pub fn value(resolved: &Resolved, mode: ObsMode) -> Result<Valued<'_>, NeedsObserver>
+    ensures { result ≡ valuation_of resolved.now mode }
+{
+    let walk = walked(resolved.cycle().edges());
+    if let ObsMode::Avoid = mode {
+        for (location, arc) in walk.arcs.iter().enumerate() {
+            if let Some(event) = arc.inner {
+                return Err(NeedsObserver {
+                    location: location as u8,
+                    event,
+                });
+            }
+        }
     }
-    Ok(valued)
+    Ok(Valued {
+        resolved,
+        mode,
+        values: walk.values,
+        arcs: walk.arcs,
+    })
+}
+
+/// The values of all events, and the arcs of all locations.
+#[derive(Drop)]
+struct Walk {
+    values: ArrayVec<u8, MAX_EDGES>,
+    arcs: ArrayVec<Arc, MAX_EDGES>,
+}
+
+/// Walks along all arcs, that of location 0 first, behind the last edge to another location.
+fn walked(edges: &[Edge]) -> Walk
+    requires { IsResolved edges.now }
+    ensures values { result.values.items ≡ values_of edges.now }
+    ensures arcs { result.arcs.items ≡ arcs_of edges.now }
+{
+    let mut walk = Walk {
+        values: ArrayVec::new(),
+        arcs: ArrayVec::new(),
+    };
+    let mut arc = arc_behind(edges);
+    let mut into = edges[edges.len() - 1];
+    for (i, out) in edges.iter().enumerate() {
+        arc = arc.with(i as u8, into, *out);
+        walk.values.push(arc.writes);
+        if out.is_diff() {
+            walk.arcs.push(arc);
+            arc = Arc::default();
+        }
+        into = *out;
+    }
+    walk
+}
+
+/// The arc of location 0, as far as it lies behind the last edge to another location.
+fn arc_behind(edges: &[Edge]) -> Arc
+    requires { IsResolved edges.now }
+    ensures { result ≡ arc_of edges.now 0 (writes_before edges.now 0) }
+{
+    let mut arc = Arc::default();
+    let mut into = edges[edges.len() - 1];
+    for (i, out) in edges.iter().enumerate() {
+        arc = arc.with(i as u8, into, *out);
+        if out.is_diff() {
+            arc = Arc::default();
+        }
+        into = *out;
+    }
+    arc
 }
 
 impl<'a> Valued<'a> {
     /// The resolved cycle.
-    pub fn resolved(&self) -> &Resolved {
+    pub fn resolved(&self) -> &Resolved
+        ensures { result.now ≡ self.now.edges }
+    {
         self.resolved
     }
 
-    /// The value that an event writes or reads.
-    pub fn value_of(&self, event: u8) -> u8 {
-        self.values.as_slice()[event as usize]
+    /// The value that an event writes or reads: for a read, how many writes stand before it on
+    /// its location's arc.
+    pub fn value_of(&self, event: u8) -> u8
+        requires { event < length self.now.edges }
+        ensures { result ≡ value_of self.now.edges event }
+    {
+        self.values[usize::from(event)]
     }
 
     /// How many writes a location has.
-    pub fn writes(&self, location: u8) -> u8 {
-        self.writes.as_slice()[location as usize]
+    pub fn writes(&self, location: u8) -> u8
+        requires { location < move_count self.now.edges }
+        ensures { result ≡ write_count self.now.edges location }
+    {
+        self.arc(location).writes
     }
 
-    /// Whether a location has an observer thread.
-    pub fn observed(&self, location: u8) -> bool {
-        self.observed.as_slice()[location as usize]
-    }
-
-    /// The first write of a location, in the order of its values, that is neither its first nor
-    /// its last and that an external edge enters.
-    fn first_inner(&self, location: u8) -> Option<u8> {
-        let mut first = None;
+    /// The event that is write number k of a location, from 0, in the coherence order.
+    pub fn write_at(&self, location: u8, k: u8) -> u8
+        requires { k < write_count self.now.edges location }
+        ensures { write_at self.now.edges location k ≡ Some result }
+    {
         for event in 0..self.resolved.cycle().len() {
-            if self.is_inner(event, location) {
-                first = match first {
-                    Some(other) if self.value_of(other) < self.value_of(event) => Some(other),
-                    _ => Some(event),
-                };
+            if self.is_write(event, location, k + 1) {
+                return event;
             }
         }
-        first
+        unreachable!()
     }
 
-    fn is_inner(&self, event: u8, location: u8) -> bool {
-        let Event {
-            dir,
-            location: own,
-            ..
-        } = self.resolved.event(event);
-        own == location
-            && dir == Dir::W
-            && self.edge_into(event).is_external()
-            && 1 < self.value_of(event)
-            && self.value_of(event) < self.writes(location)
+    /// Whether a location has an observer thread: in the mode `Accept`, where a write that is
+    /// neither its first nor its last is entered by an external edge; in `Force`, where it has two
+    /// writes or more; in `Avoid`, never.
+    pub fn observed(&self, location: u8) -> bool
+        requires { location < move_count self.now.edges }
+        ensures { result ≡ is_observed self.now.edges self.now.mode location }
+    {
+        let arc = self.arc(location);
+        match self.mode {
+            ObsMode::Accept => arc.inner.is_some(),
+            ObsMode::Avoid => false,
+            ObsMode::Force => arc.writes >= 2,
+        }
     }
 
-    fn edge_into(&self, event: u8) -> Edge {
-        let cycle = self.resolved.cycle();
-        cycle.edge(if event == 0 {
-            cycle.len() - 1
-        } else {
-            event - 1
-        })
+    fn arc(&self, location: u8) -> Arc
+        requires { location < move_count self.now.edges }
+        ensures { result ≡ arc_of self.now.edges location (write_count self.now.edges location) }
+    {
+        self.arcs[usize::from(location)]
+    }
+
+    /// Whether the event writes the value to the location.
+    fn is_write(&self, event: u8, location: u8, value: u8) -> bool
+        requires { event < length self.now.edges }
+        ensures { result ≡ (is_write_at self.now.edges location event && (value_of self.now.edges event == value)) }
+    {
+        let written = self.resolved.event(event);
+        written.dir == Dir::W && written.location == location && self.value_of(event) == value
     }
 }
 
-/// The writes behind the last edge to another location: the arc of location 0 begins with them.
-fn writes_behind(edges: &[Edge]) -> u8 {
-    let mut count = 0;
-    for edge in edges {
-        if edge.source() == Dir::W {
-            count += 1;
-        }
-        if edge.is_diff() {
-            count = 0;
-        }
-    }
-    count
-}
-
-fn values_of(edges: &[Edge]) -> ArrayVec<u8, MAX_EDGES> {
-    let mut values = ArrayVec::new();
-    let mut count = writes_behind(edges);
-    for edge in edges {
-        if edge.source() == Dir::W {
-            count += 1;
-        }
-        values.push(count);
-        if edge.is_diff() {
-            count = 0;
-        }
-    }
-    values
-}
-
-fn writes_of(edges: &[Edge], values: &[u8]) -> ArrayVec<u8, MAX_EDGES> {
-    let mut writes = ArrayVec::new();
-    for (i, edge) in edges.iter().enumerate() {
-        if edge.is_diff() {
-            writes.push(values[i]);
-        }
-    }
-    writes
-}
+#[cfg(test)]
+mod tests;

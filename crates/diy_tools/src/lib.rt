@@ -2,8 +2,8 @@
 #![tactic(auto)]
 
 mod report;
-mod run;
 mod status;
+mod tools;
 
-pub use run::run;
 pub use status::{Device, Refusal, Status};
+pub use tools::run;

@@ -1,43 +1,65 @@
+ghost use Rattle.std.specs.Prelude.{◌≡◌, ◌≤◌, ◌<◌, ◌++◌, codes, slice_get, OnOk, OnErr};
+ghost use Rattle.std.specs.Fmt.{decimal};
+ghost use Rattle.arch_trait.specs.Names.{location_name};
+ghost use Rattle.diy_io.specs.Count.{Rose};
+ghost use Rattle.diy_io.specs.Sink.{Grew, GrewByPrefix};
+ghost use Rattle.diy_tools.specs.Report.{status_line, refusal_line, refusal_text, usage_line, usage_text, shown_word, device_text, NamesLocation, RefusesLocation};
+
+use crate::status::{Device, Refusal, Status};
 use arch_trait::Places;
-use diy_io::{Failed, Sink, Words};
+use diy_io::{Failed, Sink, Words, write_pieces};
 use diy_words::UsageKind;
 use itoa::Buffer;
 
-use crate::status::{Device, Refusal, Status};
-
 /// Writes the line of a status, where it has one.
-pub fn report<E: Sink>(status: Status, words: &Words, err: &mut E) -> Result<(), Failed> {
+#[tactic(auto, using(diy_io::specs::SinkLaws::grew_nothing))]
+pub(crate) fn report<E: Sink>(status: Status, words: &Words, err: &mut E) -> Result<(), Failed>
+    requires { NamesLocation status }
+    ensures ok { OnOk result (Grew (E.told err.old) (E.told err.new) (status_line words.now status)) }
+    ensures failed { OnErr result (GrewByPrefix (E.told err.old) (E.told err.new) (status_line words.now status)) }
+    ensures no_fault { OnOk result (E.faults err.new ≡ E.faults err.old) }
+    ensures fault { OnErr result (Rose (E.faults err.old) (E.faults err.new)) }
+    ensures never_falls { E.faults err.old ≤ E.faults err.new }
+{
     match status {
         Status::Done => Ok(()),
-        Status::Refused(refusal) => {
-            err.write_all(b"diy: refused ")?;
-            write_refusal(refusal, err)?;
-            err.write_all(b"\n")
-        }
+        Status::Refused(refusal) => report_refusal(refusal, err),
         Status::Usage { word, kind } => {
-            err.write_all(b"diy: usage ")?;
-            err.write_all(usage_name(kind))?;
+            let name = usage_name(kind);
             if word < words.len() {
-                err.write_all(b": ")?;
-                err.write_all(words.get(word).as_bytes())?;
+                report_word(name, words.get(word).as_bytes(), err)
+            } else {
+                write_pieces(err, &[b"diy: usage ", name, b"\n"])
             }
-            err.write_all(b"\n")
         }
         Status::WriteFault { of } => {
-            err.write_all(b"diy: write fault: ")?;
-            err.write_all(device_name(of))?;
-            err.write_all(b"\n")
+            write_pieces(err, &[b"diy: write fault: ", device_name(of), b"\n"])
         }
     }
 }
 
-fn device_name(device: Device) -> &'static [u8] {
+/// Writes the line of a word that is wrong.
+fn report_word<E: Sink>(name: &[u8], word: &[u8], err: &mut E) -> Result<(), Failed>
+    ensures ok { OnOk result (Grew (E.told err.old) (E.told err.new) (usage_line name.now (codes ": " ++ word.now))) }
+    ensures failed { OnErr result (GrewByPrefix (E.told err.old) (E.told err.new) (usage_line name.now (codes ": " ++ word.now))) }
+    ensures no_fault { OnOk result (E.faults err.new ≡ E.faults err.old) }
+    ensures fault { OnErr result (Rose (E.faults err.old) (E.faults err.new)) }
+    ensures never_falls { E.faults err.old ≤ E.faults err.new }
+{
+    write_pieces(err, &[b"diy: usage ", name, b": ", word, b"\n"])
+}
+
+fn device_name(device: Device) -> &'static [u8]
+    ensures { result.now ≡ device_text device }
+{
     match device {
         Device::Out => b"out",
     }
 }
 
-fn usage_name(kind: UsageKind) -> &'static [u8] {
+fn usage_name(kind: UsageKind) -> &'static [u8]
+    ensures { result.now ≡ usage_text kind }
+{
     match kind {
         UsageKind::UnknownTool => b"UnknownTool",
         UsageKind::UnknownOption => b"UnknownOption",
@@ -50,25 +72,73 @@ fn usage_name(kind: UsageKind) -> &'static [u8] {
     }
 }
 
-fn write_refusal<E: Sink>(refusal: Refusal, err: &mut E) -> Result<(), Failed> {
+fn report_refusal<E: Sink>(refusal: Refusal, err: &mut E) -> Result<(), Failed>
+    requires { RefusesLocation refusal }
+    ensures ok { OnOk result (Grew (E.told err.old) (E.told err.new) (refusal_line (refusal_text refusal))) }
+    ensures failed { OnErr result (GrewByPrefix (E.told err.old) (E.told err.new) (refusal_line (refusal_text refusal))) }
+    ensures no_fault { OnOk result (E.faults err.new ≡ E.faults err.old) }
+    ensures fault { OnErr result (Rose (E.faults err.old) (E.faults err.new)) }
+    ensures never_falls { E.faults err.old ≤ E.faults err.new }
+{
     match refusal {
-        Refusal::Empty => err.write_all(b"Empty"),
-        Refusal::TooLong => err.write_all(b"TooLong"),
-        Refusal::NotOfArch { at } => write_numbered(b"NotOfArch ", at, err),
-        Refusal::DoesNotCompose { at } => write_numbered(b"DoesNotCompose ", at, err),
-        Refusal::TooFewThreads => err.write_all(b"TooFewThreads"),
-        Refusal::CoherenceOnly => err.write_all(b"CoherenceOnly"),
-        Refusal::NeedsObserver { location, event } => {
-            err.write_all(b"NeedsObserver ")?;
-            err.write_all(Places::letters(location + 1).get(location).as_str().as_bytes())?;
-            write_numbered(b" ", event, err)
-        }
-        Refusal::NotBuilt => err.write_all(b"NotBuilt"),
-        Refusal::TooManyRegisters { thread } => write_numbered(b"TooManyRegisters ", thread, err),
+        Refusal::Empty => refuse(b"Empty", err),
+        Refusal::TooLong => refuse(b"TooLong", err),
+        Refusal::NotOfArch { at } => refuse_at(b"NotOfArch ", at, err),
+        Refusal::DoesNotCompose { at } => refuse_at(b"DoesNotCompose ", at, err),
+        Refusal::TooFewThreads => refuse(b"TooFewThreads", err),
+        Refusal::CoherenceOnly => refuse(b"CoherenceOnly", err),
+        Refusal::NeedsObserver { location, event } => refuse_unobserved(location, event, err),
+        Refusal::TooManyRegisters { thread } => refuse_at(b"TooManyRegisters ", thread, err),
     }
 }
 
-fn write_numbered<E: Sink>(text: &[u8], number: u8, err: &mut E) -> Result<(), Failed> {
-    err.write_all(text)?;
-    err.write_all(Buffer::new().format(number).as_bytes())
+/// Writes the line of a refusal with this name.
+fn refuse<E: Sink>(name: &[u8], err: &mut E) -> Result<(), Failed>
+    ensures ok { OnOk result (Grew (E.told err.old) (E.told err.new) (refusal_line name.now)) }
+    ensures failed { OnErr result (GrewByPrefix (E.told err.old) (E.told err.new) (refusal_line name.now)) }
+    ensures no_fault { OnOk result (E.faults err.new ≡ E.faults err.old) }
+    ensures fault { OnErr result (Rose (E.faults err.old) (E.faults err.new)) }
+    ensures never_falls { E.faults err.old ≤ E.faults err.new }
+{
+    write_pieces(err, &[b"diy: refused ", name, b"\n"])
+}
+
+/// Writes the line of a refusal whose name is followed by a number.
+fn refuse_at<E: Sink>(name: &[u8], number: u8, err: &mut E) -> Result<(), Failed>
+    ensures ok { OnOk result (Grew (E.told err.old) (E.told err.new) (refusal_line (name.now ++ decimal number))) }
+    ensures failed { OnErr result (GrewByPrefix (E.told err.old) (E.told err.new) (refusal_line (name.now ++ decimal number))) }
+    ensures no_fault { OnOk result (E.faults err.new ≡ E.faults err.old) }
+    ensures fault { OnErr result (Rose (E.faults err.old) (E.faults err.new)) }
+    ensures never_falls { E.faults err.old ≤ E.faults err.new }
+{
+    let mut digits = Buffer::new();
+    let digits = digits.format(number).as_bytes();
+    write_pieces(err, &[b"diy: refused ", name, digits, b"\n"])
+}
+
+/// Writes the line of a write that needs an observer.
+#[tactic(auto, using(crate::proofs::Reported::letter_at, crate::proofs::Reported::letters_long))]
+fn refuse_unobserved<E: Sink>(location: u8, event: u8, err: &mut E) -> Result<(), Failed>
+    requires { location < 48 }
+    ensures ok { OnOk result (Grew (E.told err.old) (E.told err.new) (refusal_line (codes "NeedsObserver " ++ location_name location ++ codes " " ++ decimal event))) }
+    ensures failed { OnErr result (GrewByPrefix (E.told err.old) (E.told err.new) (refusal_line (codes "NeedsObserver " ++ location_name location ++ codes " " ++ decimal event))) }
+    ensures no_fault { OnOk result (E.faults err.new ≡ E.faults err.old) }
+    ensures fault { OnErr result (Rose (E.faults err.old) (E.faults err.new)) }
+    ensures never_falls { E.faults err.old ≤ E.faults err.new }
+{
+    let places = Places::letters(location + 1);
+    let name = places.get(location).as_str().as_bytes();
+    let mut digits = Buffer::new();
+    let digits = digits.format(event).as_bytes();
+    write_pieces(
+        err,
+        &[
+            b"diy: refused ",
+            b"NeedsObserver ",
+            name,
+            b" ",
+            digits,
+            b"\n",
+        ],
+    )
 }

@@ -1,3 +1,7 @@
+ghost use Rattle.std.specs.Prelude.{◌≡◌};
+ghost use Rattle.diy_tools.specs.Report.{exit_of};
+ghost use Rattle.diy_tools.specs.Refused.{composing_refusal, making_refusal};
+
 use diy_words::UsageKind;
 use edge_algebra::CycleError;
 use test_maker::MakeRefusal;
@@ -18,26 +22,37 @@ pub enum Status {
 /// A device that a tool writes to.
 #[derive(Clone, Copy, Debug, PartialEq, Eq)]
 pub enum Device {
+    /// Standard output, where tests are printed.
     Out,
 }
 
 /// Why a list of edges is refused.
 #[derive(Clone, Copy, Debug, PartialEq, Eq)]
 pub enum Refusal {
+    /// There is no edge.
     Empty,
+    /// There are more than `MAX_EDGES` edges.
     TooLong,
+    /// Edge `at`, the first such, isn't of the architecture.
     NotOfArch { at: u8 },
+    /// Edge `at`, the first such, doesn't join the next, or the last the first.
     DoesNotCompose { at: u8 },
+    /// Fewer than two edges are external.
     TooFewThreads,
+    /// All edges to another location lie in one thread, or there is none.
     CoherenceOnly,
+    /// The mode avoids observers, and this write needs one.
     NeedsObserver { location: u8, event: u8 },
-    NotBuilt,
+    /// Thread `thread`, the first such, needs more registers than the architecture has.
     TooManyRegisters { thread: u8 },
 }
 
 impl Status {
-    /// The exit status of the program.
-    pub fn exit(self) -> u8 {
+    /// The exit status of the program: 0 where all is done, 1 for a refusal, 2 for words that make no
+    /// request, 3 for a device that failed.
+    pub fn exit(self) -> u8
+        ensures { result ≡ exit_of self }
+    {
         match self {
             Status::Done => 0,
             Status::Refused(_) => 1,
@@ -48,7 +63,9 @@ impl Status {
 }
 
 impl From<CycleError> for Refusal {
-    fn from(error: CycleError) -> Refusal {
+    fn from(error: CycleError) -> Refusal
+        ensures { result ≡ composing_refusal error }
+    {
         match error {
             CycleError::Empty => Refusal::Empty,
             CycleError::TooLong => Refusal::TooLong,
@@ -58,7 +75,9 @@ impl From<CycleError> for Refusal {
 }
 
 impl From<MakeRefusal> for Refusal {
-    fn from(refusal: MakeRefusal) -> Refusal {
+    fn from(refusal: MakeRefusal) -> Refusal
+        ensures { result ≡ making_refusal refusal }
+    {
         match refusal {
             MakeRefusal::NotOfArch { at } => Refusal::NotOfArch { at },
             MakeRefusal::TooFewThreads => Refusal::TooFewThreads,
@@ -66,7 +85,6 @@ impl From<MakeRefusal> for Refusal {
             MakeRefusal::NeedsObserver { location, event } => {
                 Refusal::NeedsObserver { location, event }
             }
-            MakeRefusal::NotBuilt => Refusal::NotBuilt,
             MakeRefusal::TooManyRegisters { thread } => Refusal::TooManyRegisters { thread },
         }
     }

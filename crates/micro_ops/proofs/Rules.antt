@@ -135,6 +135,10 @@ pub run_branch_eq : (l : ℕ) (r : Run) → r.state.flag ≡ true →
     go (ops.BranchEq l) (At r) ≡ Past l (after_branch r r.state.flag_mask)
 run_branch_eq l r e = rw e refl
 
+pub run_branch_eq_on : (l : ℕ) (r : Run) → r.state.flag ≡ false →
+    go (ops.BranchEq l) (At r) ≡ At (after_branch r r.state.flag_mask)
+run_branch_eq_on l r e = rw e refl
+
 -- a label that is passed, and one that a jump leads to
 pub run_label : (l : ℕ) (r : Run) → go (ops.Label l) (At r) ≡ At r
 run_label l r = refl

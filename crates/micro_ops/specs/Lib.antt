@@ -2,3 +2,4 @@ pub mod Machine
 pub mod Machines
 pub mod Running
 pub mod Threads
+pub mod Renumbering

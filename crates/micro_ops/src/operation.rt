@@ -1,3 +1,5 @@
+ghost use Rattle.std.specs.Prelude.{◌≡◌};
+
 use relax_edges::{Dir, FenceKind};
 
 /// An instruction that orders accesses and makes none.
@@ -10,6 +12,9 @@ pub enum Barrier {
 
 /// What one instruction of a thread does. Registers, places and labels are numbers; registers are
 /// below 32.
+///
+/// The rules are those of the instruction manuals of x86, Power, Arm and RISC-V, cut to the few
+/// instructions that litmus tests use.
 #[derive(Clone, Copy, Debug, PartialEq, Eq)]
 pub enum Micro {
     /// `dst` becomes the number `n`.
@@ -88,7 +93,9 @@ pub enum Micro {
 }
 
 impl Default for Micro {
-    fn default() -> Micro {
+    fn default() -> Micro
+        ensures { result ≡ Micro.Imm 0 0 }
+    {
         Micro::Imm { dst: 0, n: 0 }
     }
 }

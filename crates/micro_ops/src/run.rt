@@ -44,6 +44,7 @@ pub enum RunError {
     /// The code ended before all reads were used.
     #[error("the code ended before all reads were used")]
     ReadsLeft,
+    /// Memory ran out.
     #[error("out of memory")]
     NoMemory,
 }
@@ -58,7 +59,9 @@ enum Halt {
 /// Runs the code of a thread from its initial registers on the numbers that its loads read.
 ///
 /// It is stuck at an operation exactly where no rule fits its operands, or it is a load and no
-/// read is left; reads are left exactly where the code ends before all are used.
+/// read is left; reads are left exactly where the code ends before all are used. Registers are
+/// below 32; where `init` names one twice, the first entry counts. Each branch's label stands later
+/// in the code, and at most 64 loads stand in it.
 pub fn run_thread(
     alloc: Global,
     code: &[Micro],

@@ -1,7 +1,8 @@
 -- Coherence per location: program order at one place agrees with the coherence order. These are the absent shapes CoWW,
 -- CoWR, CoRW and CoRR of the literature.
-use Rattle.std.specs.Prelude.{ℕ, ◌≡◌, ◌+◌, ◌<◌, ◌≤◌, List, [], Option, Some, None, slice_get, unwrap_or}
+use Rattle.std.specs.Prelude.{ℕ, ◌≡◌, ◌+◌, ◌-◌, ◌<◌, ◌≤◌, List, [], length, Option, Some, None, slice_get, unwrap_or}
 use Rattle.std.specs.List.{position}
+use Rattle.std.specs.Option.{option_and_then}
 use Rattle.relax_edges.specs.declared.kinds.Dir.{Dir}
 use Rattle.relax_edges.specs.declared.kinds.Dir.TheVariants as dirs
 use Rattle.program_meaning.specs.declared.WriteAt.{WriteAt}
@@ -57,3 +58,16 @@ IsCoherent threads x =
     at_name threads (record { thread = thread; access = f }) ≡ Some b →
     a.place ≡ b.place →
     MayFollow b.dir (coherence_place threads x (record { thread = thread; access = e }) a) (coherence_place threads x (record { thread = thread; access = f }) b)
+
+-- the last write of a coherence order
+abbrev pub last_write : List WriteAt → Option WriteAt
+last_write order = slice_get order (length order - 1)
+
+-- the value of an access, 0 where there is none
+abbrev pub value_in : Option Access → ℕ
+value_in None = 0
+value_in (Some access) = access.value
+
+-- the value of a place at the end: that of the last write of its coherence order, 0 where there is none
+abbrev pub final_value : List (List Access) → Execution → ℕ → ℕ
+final_value threads x place = value_in (option_and_then (at_name threads) (last_write (order_at x place)))

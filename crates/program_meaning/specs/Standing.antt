@@ -1,8 +1,7 @@
 -- When the edges of a cycle stand between the accesses of a program in an execution. `es` is the list of edges in which
 -- threads and slots are counted. Source: the diy part of the herdtools manual (what each edge means).
-use Rattle.std.specs.Prelude.{ℕ, zero, suc, ◌≡◌, ◌≢◌, ◌+◌, ◌<◌, ◌≤◌, ◌^◌, ◌==◌, ◌&&◌, if◌then◌else◌, Bool, true, false, List, [], ◌∷◌, length, map, count_by, Option, Some, None, slice_get}
+use Rattle.std.specs.Prelude.{ℕ, ◌≡◌, ◌≢◌, ◌+◌, ◌<◌, ◌≤◌, ◌^◌, ◌==◌, ◌&&◌, Bool, true, false, List, [], ◌∷◌, length, map, Some, slice_get}
 use Rattle.std.specs.Int.{bit_at}
-use Rattle.relax_edges.specs.declared.kinds.Dir.{Dir}
 use Rattle.relax_edges.specs.declared.kinds.Dir.TheVariants as dirs
 use Rattle.relax_edges.specs.declared.kinds.Sd.{Sd}
 use Rattle.relax_edges.specs.declared.kinds.Sd.TheVariants.{Same, Diff}
@@ -19,31 +18,62 @@ use Rattle.relax_edges.specs.EdgeTable.{source_of, target_of, reach_of, place_of
 use Rattle.micro_ops.specs.declared.operation.Barrier.{Barrier}
 use Rattle.micro_ops.specs.declared.operation.Barrier.TheVariants as kinds
 use Rattle.micro_ops.specs.declared.operation.Item.{Item}
-use Rattle.list_laws.specs.Numbers.{upto}
-use Rattle.cycle_resolve.specs.Resolution.{edge_at, external_count, thread_of, slot_of}
+use Rattle.cycle_resolve.specs.Resolution.{edge_at, external_count, thread_of, slot_of, events_in, event_after}
 use Rattle.program_meaning.specs.declared.WriteAt.{WriteAt}
-use Rattle.program_meaning.specs.Accesses.{Access, Barred, Visit, accesses_of, at_name, barriers_behind, is_read, reads_before, visits_of}
+use Rattle.program_meaning.specs.Accesses.{Access, Barred, Visit, at_name, barriers_behind, is_read, reads_before}
 use Rattle.program_meaning.specs.Executions.{Execution}
 use Rattle.program_meaning.specs.Coherence.{coherence_place, source_at}
 use Rattle.program_meaning.specs.Programs.{Program, accesses_in, items_in, visits_in}
 
 -- an access of an execution, by its name
+pub record AccessAt : Type 0 where
+  pub name : WriteAt
+  pub access : Access
+
+-- an access of an execution, by its name, with what stands before it
 pub record Named : Type 0 where
   pub name : WriteAt
   pub visit : Visit
+
+-- the access alone
+abbrev pub access_at : Named → AccessAt
+access_at e = record { name = e.name; access = e.visit.access }
 
 -- the place of an edge's target is that of its source, or another
 abbrev pub AreAt : Sd → ℕ → ℕ → Type 0
 AreAt Same p q = p ≡ q
 AreAt Diff p q = p ≢ q
 
+-- the coherence place of the first is less than that of the second
+abbrev pub ComesBefore : List (List Access) → Execution → AccessAt → AccessAt → Type 0
+ComesBefore threads x e f = coherence_place threads x e.name e.access < coherence_place threads x f.name f.access
+
 -- the communication of an edge: the read reads the write, or the source comes before the target in the coherence order
-abbrev pub Communicates : Com → List (List Access) → Execution → Named → Named → Type 0
+abbrev pub Communicates : Com → List (List Access) → Execution → AccessAt → AccessAt → Type 0
 Communicates coms.Rf threads x e f = source_at threads x f.name ≡ Some e.name
-Communicates coms.Fr threads x e f =
-    coherence_place threads x e.name e.visit.access < coherence_place threads x f.name f.visit.access
-Communicates coms.Ws threads x e f =
-    coherence_place threads x e.name e.visit.access < coherence_place threads x f.name f.visit.access
+Communicates coms.Fr threads x e f = ComesBefore threads x e f
+Communicates coms.Ws threads x e f = ComesBefore threads x e f
+
+-- the communication that an edge asks for, if it is one
+abbrev pub CommunicatesBy : Edge → List (List Access) → Execution → AccessAt → AccessAt → Type 0
+CommunicatesBy (edges.Com kind _) threads x e f = Communicates kind threads x e f
+CommunicatesBy (edges.Po _ _ _) threads x e f = Unit {0}
+CommunicatesBy (edges.Fenced _ _ _ _) threads x e f = Unit {0}
+CommunicatesBy (edges.Dep _ _ _) threads x e f = Unit {0}
+CommunicatesBy (edges.Data _) threads x e f = Unit {0}
+
+-- an internal edge leads to the next access of its thread, an external one to another thread
+abbrev pub Reaches : Reach → WriteAt → WriteAt → Type 0
+Reaches Internal e f = (f.thread ≡ e.thread) × (f.access ≡ e.access + 1)
+Reaches External e f = e.thread ≢ f.thread
+
+-- an edge joins access e to access f: what it asks of the two and of the execution, whatever stands between them
+pub record Joins (threads : List (List Access)) (x : Execution) (edge : Edge) (e f : AccessAt) : Type 0 where
+  pub leaves : e.access.dir ≡ source_of edge
+  pub enters : f.access.dir ≡ target_of edge
+  pub places : AreAt (place_of edge) e.access.place f.access.place
+  pub communicates : CommunicatesBy edge threads x e f
+  pub reaches : Reaches (reach_of edge) e.name f.name
 
 -- the mask that names the read e alone
 abbrev pub mask_of : List (List Access) → Named → ℕ
@@ -74,35 +104,19 @@ DependsBy deps.CtrlIsync threads e f =
 DependsBy deps.CtrlIsb threads e f =
     IsTied threads e f (kinds.Isb ∷ []) 0 0 true × BarriersWait threads e f.visit.barriers
 
--- how an internal edge ties the next access of the thread
+-- how an internal edge ties the next access of the thread; an external one ties nothing
 abbrev pub TiesBy : Edge → List (List Access) → Named → Named → Type 0
-TiesBy (edges.Com _ _) threads e f = IsTied threads e f [] 0 0 false
+TiesBy (edges.Com _ Internal) threads e f = IsTied threads e f [] 0 0 false
+TiesBy (edges.Com _ External) threads e f = Unit {0}
 TiesBy (edges.Po _ _ _) threads e f = IsTied threads e f [] 0 0 false
 TiesBy (edges.Fenced kind _ _ _) threads e f = IsTied threads e f (kinds.Fence kind ∷ []) 0 0 false
 TiesBy (edges.Dep kind _ _) threads e f = DependsBy kind threads e f
 TiesBy (edges.Data _) threads e f = IsTied threads e f [] 0 (mask_of threads e) false
 
--- an internal edge leads to the next access of its thread, an external one to another thread
-abbrev pub Reaches : Reach → Edge → List (List Access) → Named → Named → Type 0
-Reaches Internal edge threads e f =
-    (f.name.thread ≡ e.name.thread) × (f.name.access ≡ e.name.access + 1) × TiesBy edge threads e f
-Reaches External edge threads e f = e.name.thread ≢ f.name.thread
-
--- the communication that an edge asks for, if it is one
-abbrev pub CommunicatesBy : Edge → List (List Access) → Execution → Named → Named → Type 0
-CommunicatesBy (edges.Com kind _) threads x e f = Communicates kind threads x e f
-CommunicatesBy (edges.Po _ _ _) threads x e f = Unit {0}
-CommunicatesBy (edges.Fenced _ _ _ _) threads x e f = Unit {0}
-CommunicatesBy (edges.Dep _ _ _) threads x e f = Unit {0}
-CommunicatesBy (edges.Data _) threads x e f = Unit {0}
-
--- an edge stands from access e to access f
+-- an edge stands from access e to access f: it joins them, and what stands between them is what it says
 pub record Stands (threads : List (List Access)) (x : Execution) (edge : Edge) (e f : Named) : Type 0 where
-  pub leaves : e.visit.access.dir ≡ source_of edge
-  pub enters : f.visit.access.dir ≡ target_of edge
-  pub places : AreAt (place_of edge) e.visit.access.place f.visit.access.place
-  pub communicates : CommunicatesBy edge threads x e f
-  pub reaches : Reaches (reach_of edge) edge threads e f
+  pub joins : Joins threads x edge (access_at e) (access_at f)
+  pub ties : TiesBy edge threads e f
 
 -- the name of event i: its thread and its slot there
 abbrev pub event_name : List Edge → ℕ → WriteAt
@@ -113,10 +127,6 @@ pub record IsEvent (es : List Edge) (visits : List (List Visit)) (i : ℕ) (e : 
   pub name_is : e.name ≡ event_name es i
   pub visit_is : at_name visits e.name ≡ Some e.visit
   pub direction : e.visit.access.dir ≡ source_of (edge_at es i)
-
--- how many events a thread of the cycle has
-abbrev pub event_count : List Edge → ℕ → ℕ
-event_count es thread = count_by (λ i. thread_of es i == thread) (upto (length es))
 
 -- an access has three empty masks
 pub record IsFree (visit : Visit) : Type 0 where
@@ -139,17 +149,13 @@ Observes (visit ∷ visits) =
 -- and in its direction; all other threads observe; no barrier stands at either end of a thread
 pub record HasEvents (es : List Edge) (p : Program) (x : Execution) : Type 0 where
   pub threads : external_count es ≤ length p.threads
-  pub counts : (k : ℕ) (visits : List Visit) → k < external_count es → slice_get (visits_in p x) k ≡ Some visits → length visits ≡ event_count es k
+  pub counts : (k : ℕ) (visits : List Visit) → k < external_count es → slice_get (visits_in p x) k ≡ Some visits → length visits ≡ length (events_in es k)
   pub events : (i : ℕ) → i < length es → (e : Named) × IsEvent es (visits_in p x) i e
   pub observers : (k : ℕ) (visits : List Visit) → external_count es ≤ k → slice_get (visits_in p x) k ≡ Some visits → Observes visits
   pub starts : (k : ℕ) (visits : List Visit) → slice_get (visits_in p x) k ≡ Some visits → StartsFree visits
   pub ends : (k : ℕ) (made : List Item) → slice_get (items_in p x) k ≡ Some made → barriers_behind [] made ≡ []
 
--- the event after event i on the way round the cycle
-abbrev pub next_event : List Edge → ℕ → ℕ
-next_event es i = if i + 1 == length es then 0 else i + 1
-
 -- all edges of a cycle stand, in order, between its events: the last one leads back to event 0
 pub record AllStand (es : List Edge) (p : Program) (x : Execution) : Type 0 where
   pub events : HasEvents es p x
-  pub stand : (i : ℕ) (e f : Named) → i < length es → IsEvent es (visits_in p x) i e → IsEvent es (visits_in p x) (next_event es i) f → Stands (accesses_in p x) x (edge_at es i) e f
+  pub stand : (i : ℕ) (e f : Named) → i < length es → IsEvent es (visits_in p x) i e → IsEvent es (visits_in p x) (event_after es i) f → Stands (accesses_in p x) x (edge_at es i) e f

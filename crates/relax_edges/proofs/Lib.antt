@@ -1,3 +1,4 @@
+pub mod Cases
 pub mod Ranks
 pub mod Spellings
 pub mod Architectures
@@ -5,3 +6,8 @@ pub mod WordBounds
 mod RelaxExamples
 pub mod Paths
 pub mod RelaxWords
+pub mod Stars
+pub mod Kept
+pub mod Search
+pub mod Items
+pub mod Fronts

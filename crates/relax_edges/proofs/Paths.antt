@@ -1,21 +1,17 @@
 -- How paths grow edge by edge, and how relaxations are kept one after another.
-use Rattle.std.specs.Prelude.{ℕ, ◌≡◌, ◌<◌, ◌≤◌, ◌+◌, ◌&&◌, ◌||◌, Bool, true, false, not, nat_lt, cond, Result, Ok, Err, List, [], ◌∷◌, ◌++◌, length, filter, map}
+use Rattle.std.specs.Prelude.{◌≡◌, ◌≤◌, ◌&&◌, Bool, true, false, nat_lt, Result, Ok, Err, List, [], ◌∷◌, ◌++◌, length, filter, map}
 use Rattle.std.specs.List.{flat_map, list_any}
-use Rattle.std.proofs.Common.{refl, arith, ap, subst, sym, ◌∙◌, append_assoc}
-use Rattle.std.proofs.lemmas.Bool.{ltb-true, ltb-false, lt-ltb, le-ltb}
+use Rattle.std.proofs.Common.{refl, arith, ap, append_assoc}
+use Rattle.std.proofs.lemmas.Bool.{ltb-true, ltb-false, lt-ltb}
 use Rattle.std.proofs.lemmas.List.{map-append, append-nil, length-append}
 use Rattle.std.proofs.lemmas.List.Elements.{filter-append}
 use Rattle.relax_edges.specs.declared.edge.Edge.{Edge}
 use Rattle.relax_edges.specs.declared.relax_error.RelaxKind.{RelaxKind}
 use Rattle.relax_edges.specs.declared.relax_error.RelaxKind.TheVariants.{TooManyRelaxes}
 use Rattle.relax_edges.specs.EdgeTable.{joins_to}
-use Rattle.relax_edges.specs.RelaxText.{is_empty}
 use Rattle.relax_edges.specs.Relaxations.{joins_on, is_path, choices, is_same, keep, keep_all, at_most_64}
 use Rattle.relax_edges.specs.RelaxSearch.{paths_behind}
-
-by_test : {G : Type 0} (b : Bool) → (b ≡ true → G) → (b ≡ false → G) → G
-by_test true yes_case no_case = yes_case refl
-by_test false yes_case no_case = no_case refl
+use Rattle.relax_edges.proofs.Cases.{by_test, no_true}
 
 abbrev Answer : Type 0
 Answer = Result (List (List Edge)) RelaxKind
@@ -23,9 +19,6 @@ Answer = Result (List (List Edge)) RelaxKind
 and_true : (b : Bool) → (b && true) ≡ b
 and_true true = refl
 and_true false = refl
-
-no_true : false ≡ true → ⊥
-no_true e = cc
 
 -- a path that goes on with an edge goes on behind one edge more
 moved : (front : List Edge) (edge : Edge) (paths : List (List Edge))
@@ -39,10 +32,12 @@ pub paths_behind-cons : (front : List Edge) (edges : List Edge) (lists : List (L
 unfolding paths_behind
 paths_behind-cons front [] lists = refl
 paths_behind-cons front (edge ∷ edges) lists =
-    rw (map-append (λ path. front ++ path) (map (λ path. edge ∷ path) (choices lists)) (choices (edges ∷ lists)),
-        filter-append is_path (map (λ path. front ++ path) (map (λ path. edge ∷ path) (choices lists))) (map (λ path. front ++ path) (choices (edges ∷ lists))),
-        moved front edge (choices lists))
-        (ap (λ paths. filter is_path (map (λ path. (front ++ edge ∷ []) ++ path) (choices lists)) ++ paths) (paths_behind-cons front edges lists))
+    rw (
+      map-append (λ path. front ++ path) (map (λ path. edge ∷ path) (choices lists)) (choices (edges ∷ lists)),
+      filter-append is_path (map (λ path. front ++ path) (map (λ path. edge ∷ path) (choices lists))) (map (λ path. front ++ path) (choices (edges ∷ lists))),
+      moved front edge (choices lists),
+    )
+    (ap (λ paths. filter is_path (map (λ path. (front ++ edge ∷ []) ++ path) (choices lists)) ++ paths) (paths_behind-cons front edges lists))
 
 -- behind no edge the paths are all paths
 pub paths_behind-nil : (lists : List (List Edge)) → paths_behind [] lists ≡ filter is_path (choices lists)
@@ -107,17 +102,26 @@ at_most_64-ok kept few = by_test (nat_lt 64 (length kept)) (λ t. absurd (omega 
 pub at_most_64-is : (kept more : List (List Edge)) → at_most_64 kept ≡ Ok more → kept ≡ more
 at_most_64-is kept more ok =
     by_test (nat_lt 64 (length kept))
-        (λ t. let e : ◌≡◌ {A = Answer} (Err TooManyRelaxes) (Ok more) = rw t at ok in cc)
-        (λ f. let e : ◌≡◌ {A = Answer} (Ok kept) (Ok more) = rw f at ok in cc)
+    (λ t. let e : ◌≡◌ {A = Answer} (Err TooManyRelaxes) (Ok more) = rw t at ok in cc)
+    (λ f. let e : ◌≡◌ {A = Answer} (Ok kept) (Ok more) = rw f at ok in cc)
+
+pub at_most_64-few : (kept more : List (List Edge)) → at_most_64 kept ≡ Ok more → length more ≤ 64
+at_most_64-few kept more ok =
+    by_test (nat_lt 64 (length kept))
+    (λ t. let e : ◌≡◌ {A = Answer} (Err TooManyRelaxes) (Ok more) = rw t at ok in cc)
+    (λ f.
+    let e : ◌≡◌ {A = Answer} (Ok kept) (Ok more) = rw f at ok in
+    let same : kept ≡ more = cc in
+    rw (← same) (ltb-false 64 (length kept) f))
 
 -- once there are too many, there are too many behind more paths
 pub at_most_64-err : (kept paths more : List (List Edge)) (kind : RelaxKind) → at_most_64 (keep_all kept paths) ≡ Err kind → at_most_64 (keep_all kept (paths ++ more)) ≡ Err kind
 at_most_64-err kept paths more kind err =
     by_test (nat_lt 64 (length (keep_all kept paths)))
-        (λ t.
-            let e : ◌≡◌ {A = Answer} (Err TooManyRelaxes) (Err kind) = rw t at err in
-            let many : nat_lt 64 (length (keep_all kept (paths ++ more))) ≡ true =
-                lt-ltb 64 (length (keep_all kept (paths ++ more)))
-                    (rw (keep_all-append kept paths more) (omega (arith, ltb-true 64 (length (keep_all kept paths)) t, length-keep_all (keep_all kept paths) more))) in
-            rw many e)
-        (λ f. let e : ◌≡◌ {A = Answer} (Ok (keep_all kept paths)) (Err kind) = rw f at err in cc)
+    (λ t.
+    let e : ◌≡◌ {A = Answer} (Err TooManyRelaxes) (Err kind) = rw t at err in
+    let many : nat_lt 64 (length (keep_all kept (paths ++ more))) ≡ true =
+    lt-ltb 64 (length (keep_all kept (paths ++ more)))
+    (rw (keep_all-append kept paths more) (omega (arith, ltb-true 64 (length (keep_all kept paths)) t, length-keep_all (keep_all kept paths) more))) in
+    rw many e)
+    (λ f. let e : ◌≡◌ {A = Answer} (Ok (keep_all kept paths)) (Err kind) = rw f at err in cc)

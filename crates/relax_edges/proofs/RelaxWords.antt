@@ -1,18 +1,12 @@
 -- The first word of a text without brackets, and a text that is one word.
-use Rattle.std.specs.Prelude.{ℕ, ◌≡◌, ◌<◌, ◌≤◌, ◌+◌, ◌&&◌, ◌||◌, ◌==◌, Bool, true, false, not, cond, List, [], ◌∷◌, ◌++◌, length, filter, take, drop}
+use Rattle.std.specs.Prelude.{ℕ, ◌≡◌, ◌<◌, ◌+◌, ◌||◌, Bool, true, false, not, List, [], ◌∷◌, length, filter, drop}
 use Rattle.std.specs.List.{before_first, position, position_or_len, slice_split, onto_first, list_all}
 use Rattle.std.specs.Option.{unwrap_or}
 use Rattle.std.proofs.lemmas.Bool.{ltb-false}
 use Rattle.std.proofs.lemmas.List.Sums.{prefix_len-le-length}
-use Rattle.std.proofs.Common.{suc, nat_lt, refl, arith, ap, subst, sym, ◌∙◌}
+use Rattle.std.proofs.Common.{suc, nat_lt, refl, arith, ap, sym, ◌∙◌}
 use Rattle.relax_edges.specs.RelaxText.{is_separator, is_bracket, ends_word, is_empty, words_of}
-
-by_test : {G : Type 0} (b : Bool) → (b ≡ true → G) → (b ≡ false → G) → G
-by_test true yes_case no_case = yes_case refl
-by_test false yes_case no_case = no_case refl
-
-no_true : false ≡ true → ⊥
-no_true e = cc
+use Rattle.relax_edges.proofs.Cases.{by_test, no_true}
 
 one_more : (n : ℕ) → 1 + n ≡ suc n
 one_more n = omega arith
@@ -30,10 +24,10 @@ before_first-yes test byte behind s = rw s refl
 position_or_len-yes : (test : ℕ → Bool) (byte : ℕ) (behind : List ℕ) → test byte ≡ true → position_or_len test (byte ∷ behind) ≡ 0
 position_or_len-yes test byte behind s = rw s refl
 
-before_first-no : (test : ℕ → Bool) (byte : ℕ) (behind : List ℕ) → test byte ≡ false → before_first test (byte ∷ behind) ≡ byte ∷ before_first test behind
+pub before_first-no : (test : ℕ → Bool) (byte : ℕ) (behind : List ℕ) → test byte ≡ false → before_first test (byte ∷ behind) ≡ byte ∷ before_first test behind
 before_first-no test byte behind n = rw (n, one_more (position_or_len test behind)) refl
 
-position_or_len-no : (test : ℕ → Bool) (byte : ℕ) (behind : List ℕ) → test byte ≡ false → position_or_len test (byte ∷ behind) ≡ suc (position_or_len test behind)
+pub position_or_len-no : (test : ℕ → Bool) (byte : ℕ) (behind : List ℕ) → test byte ≡ false → position_or_len test (byte ∷ behind) ≡ suc (position_or_len test behind)
 position_or_len-no test byte behind n = rw (n, one_more (position_or_len test behind)) refl
 
 -- a text is split into what stands before its first separator, and parts that have the words behind it
@@ -46,17 +40,17 @@ first_part : (test : ℕ → Bool) (text : List ℕ) → FirstPart test text
 first_part test [] = record { parts = []; split = refl; words = refl }
 first_part test (byte ∷ behind) =
     by_test (test byte)
-        (λ s. record {
-          parts = slice_split test behind;
-          split = rw (before_first-yes test byte behind s) (rw s refl);
-          words = rw (position_or_len-yes test byte behind s) (sym (words_by-yes test byte behind s))
-        })
-        (λ n. let p = first_part test behind in
-            record {
-              parts = p.parts;
-              split = rw (before_first-no test byte behind n) (rw n (ap (onto_first byte) p.split));
-              words = rw (position_or_len-no test byte behind n) p.words
-            })
+    (λ s. record {
+      parts = slice_split test behind;
+      split = rw (before_first-yes test byte behind s) (rw s refl);
+      words = rw (position_or_len-yes test byte behind s) (sym (words_by-yes test byte behind s));
+    })
+    (λ n. let p = first_part test behind in
+    record {
+      parts = p.parts;
+      split = rw (before_first-no test byte behind n) (rw n (ap (onto_first byte) p.split));
+      words = rw (position_or_len-no test byte behind n) p.words;
+    })
 
 kept_first : (word : List ℕ) (parts : List (List ℕ)) → is_empty word ≡ false
     → filter (λ word. not (is_empty word)) (word ∷ parts) ≡ word ∷ filter (λ word. not (is_empty word)) parts
@@ -90,8 +84,8 @@ none_before : (test : ℕ → Bool) (behind : List ℕ) → ((byte : ℕ) → en
 none_before test [] fails = refl
 none_before test (byte ∷ behind) fails =
     by_test (ends_word byte)
-        (λ e. rw (before_first-yes ends_word byte behind e) refl)
-        (λ n. rw (before_first-no ends_word byte behind n) (rw (fails byte n) (none_before test behind fails)))
+    (λ e. rw (before_first-yes ends_word byte behind e) refl)
+    (λ n. rw (before_first-no ends_word byte behind n) (rw (fails byte n) (none_before test behind fails)))
 
 one_part : (test : ℕ → Bool) (text : List ℕ) → list_all (λ byte. not (test byte)) text ≡ true → slice_split test text ≡ text ∷ []
 one_part test [] none = refl
@@ -110,11 +104,11 @@ pub words_of_run : (byte : ℕ) (behind : List ℕ) → is_separator byte ≡ fa
     → words_of (byte ∷ before_first ends_word behind) ≡ (byte ∷ before_first ends_word behind) ∷ []
 words_of_run byte behind n =
     ap (filter (λ word. not (is_empty word)))
-        (one_part is_separator (byte ∷ before_first ends_word behind) (rw n (none_before is_separator behind not_separator)))
+    (one_part is_separator (byte ∷ before_first ends_word behind) (rw n (none_before is_separator behind not_separator)))
 
 -- the place of the first byte that passes, or the length
 pub position_unwrapped : (test : ℕ → Bool) (text : List ℕ) → unwrap_or (position test text) (length text) ≡ position_or_len test text
 position_unwrapped test text =
     by_test (nat_lt (position_or_len test text) (length text))
-        (λ t. rw t refl)
-        (λ f. rw f (omega (arith, ltb-false (position_or_len test text) (length text) f, prefix_len-le-length (λ x. not (test x)) text)))
+    (λ t. rw t refl)
+    (λ f. rw f (omega (arith, ltb-false (position_or_len test text) (length text) f, prefix_len-le-length (λ x. not (test x)) text)))

@@ -8,3 +8,5 @@ pub mod Architectures
 pub mod RelaxText
 pub mod Relaxations
 pub mod RelaxSearch
+pub mod RelaxFront
+pub mod Stars

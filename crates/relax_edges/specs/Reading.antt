@@ -1,4 +1,5 @@
--- How a spelling is read from its end: what stands before the last bytes, and what each of those names.
+-- How a spelling is read from its end: what its last bytes name, and what the text before them names.
+-- Source: own; that it reads what the table spells is a lemma.
 use Rattle.std.specs.Prelude.{ℕ, Bool, true, false, Option, Some, None, List, [], ◌∷◌, reverse, codes}
 use Rattle.std.specs.List.{find}
 use Rattle.std.specs.Option.{option_or}
@@ -24,53 +25,67 @@ use Rattle.relax_edges.specs.Words.{dir_word, sd_word, reach_word, com_word, fen
 abbrev pub named : {K : Type 0} → (K → List ℕ) → List K → List ℕ → Option K
 named word kinds text = find (λ kind. bytes_eq text (word kind)) kinds
 
+-- the directions
 abbrev pub dirs_read : List Dir
 dirs_read = dirs.R ∷ dirs.W ∷ []
 
+-- the direction that a text names
 abbrev pub dir_named : List ℕ → Option Dir
 dir_named = named dir_word dirs_read
 
+-- the places
 abbrev pub places_read : List Sd
 places_read = Same ∷ Diff ∷ []
 
+-- the place that a text names
 abbrev pub sd_named : List ℕ → Option Sd
 sd_named = named sd_word places_read
 
+-- the reaches
 abbrev pub reaches_read : List Reach
 reaches_read = Internal ∷ External ∷ []
 
+-- the reach that a text names
 abbrev pub reach_named : List ℕ → Option Reach
 reach_named = named reach_word reaches_read
 
+-- the communications
 abbrev pub communications_read : List Com
 communications_read = coms.Rf ∷ coms.Fr ∷ coms.Ws ∷ []
 
--- `Co` names `Ws` too
+-- the communication that a text names; `Co` names `Ws` too
 abbrev pub com_named : List ℕ → Option Com
 com_named text = option_or (named com_word communications_read text) (named (λ _. codes "Co") (coms.Ws ∷ []) text)
 
+-- the dependencies
 abbrev pub dependencies_read : List DepKind
 dependencies_read = deps.Addr ∷ deps.Ctrl ∷ deps.CtrlIsync ∷ deps.CtrlIsb ∷ []
 
+-- the dependency that a text names
 abbrev pub dependency_named : List ℕ → Option DepKind
 dependency_named = named dependency_word dependencies_read
 
+-- the fences of RISC-V
 abbrev pub riscv_fences_read : List FenceKind
 riscv_fences_read =
     fences.Fence picks.R picks.R ∷ fences.Fence picks.R picks.W ∷ fences.Fence picks.R picks.RW
     ∷ fences.Fence picks.W picks.R ∷ fences.Fence picks.W picks.W ∷ fences.Fence picks.W picks.RW
     ∷ fences.Fence picks.RW picks.R ∷ fences.Fence picks.RW picks.W ∷ fences.Fence picks.RW picks.RW ∷ []
 
+-- the RISC-V fence that a text names
 abbrev pub riscv_fence_named : List ℕ → Option FenceKind
 riscv_fence_named = named fence_word riscv_fences_read
 
+-- the fences of the other architectures
 abbrev pub plain_fences_read : List FenceKind
 plain_fences_read =
     fences.MFence ∷ fences.Sync ∷ fences.LwSync ∷ fences.Eieio ∷ fences.ISync ∷ fences.DmbSy ∷ fences.DmbLd ∷ fences.DmbSt ∷ []
 
+-- the fence of another architecture that a text names
 abbrev pub plain_fence_named : List ℕ → Option FenceKind
 plain_fence_named = named fence_word plain_fences_read
 
+-- the fence that a text names
 abbrev pub fence_named : List ℕ → Option FenceKind
 fence_named text = option_or (plain_fence_named text) (riscv_fence_named text)
 

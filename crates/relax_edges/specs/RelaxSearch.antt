@@ -1,7 +1,19 @@
--- The paths that begin with some edges and go on with one of each of some lists.
-use Rattle.std.specs.Prelude.{List, ◌++◌, filter, map}
+-- The paths that begin with some edges and go on with one of each of some lists, and how they are kept.
+use Rattle.std.specs.Prelude.{◌≡◌, Bool, not, Ok, List, [], ◌∷◌, ◌++◌, filter, map}
+use Rattle.std.specs.List.{flat_map}
 use Rattle.relax_edges.specs.declared.edge.Edge.{Edge}
-use Rattle.relax_edges.specs.Relaxations.{choices, is_path}
+use Rattle.relax_edges.specs.RelaxText.{is_empty}
+use Rattle.relax_edges.specs.Relaxations.{choices, is_path, keep_all, at_most_64}
 
+-- the paths that begin with a front and go on with one of each list
 unfoldable pub paths_behind : List Edge → List (List Edge) → List (List Edge)
 paths_behind front lists = filter is_path (map (λ path. front ++ path) (choices lists))
+
+-- the paths that begin with a front, one of some edges, and one of each list
+unfoldable pub paths_by : List Edge → List (List Edge) → List Edge → List (List Edge)
+paths_by front lists edges = flat_map (λ edge. paths_behind (front ++ edge ∷ []) lists) edges
+
+-- some paths are kept, and there is room for them; and whether there is one
+pub record KeepsPaths (old paths new : List (List Edge)) (some : Bool) : Type 0 where
+  pub kept : at_most_64 (keep_all old paths) ≡ Ok new
+  pub found : some ≡ not (is_empty paths)

@@ -16,6 +16,7 @@ is_bracket byte = byte == 91 || byte == 93
 abbrev pub ends_word : ℕ → Bool
 ends_word byte = is_separator byte || is_bracket byte
 
+-- whether a list has nothing
 abbrev pub is_empty : {A : Type 0} → List A → Bool
 is_empty [] = true
 is_empty (_ ∷ _) = false
@@ -32,7 +33,7 @@ inside behind = before_first is_bracket behind
 abbrev pub is_closed : List ℕ → Bool
 is_closed behind = get_or behind (length (inside behind)) 0 == 93
 
--- the words of an item, or none where its bracket is bad
+-- a bracket without words is bad
 abbrev pub some_words : List (List ℕ) → Option (List (List ℕ))
 some_words [] = None
 some_words (word ∷ words) = Some (word ∷ words)

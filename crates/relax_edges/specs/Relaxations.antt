@@ -22,7 +22,7 @@ expansions [] = [] ∷ []
 expansions (byte ∷ behind) = flat_map (λ choice. map (λ word. choice ∷ word) (expansions behind)) (byte_choices byte (length behind))
 
 -- the edges that a word stands for
-abbrev pub word_edges : List ℕ → List Edge
+unfoldable pub word_edges : List ℕ → List Edge
 word_edges word = filter_map edge_of (expansions word)
 
 -- each edge joins the next, from one on
@@ -68,6 +68,7 @@ pub record IsRelaxes (paths : List (List Edge)) : Type 0 where
 abbrev pub keep : List (List Edge) → List Edge → List (List Edge)
 keep kept path = cond (list_any (is_same path) kept) kept (kept ++ path ∷ [])
 
+-- relaxations are kept one after another
 abbrev pub keep_all : List (List Edge) → List (List Edge) → List (List Edge)
 keep_all kept [] = kept
 keep_all kept (path ∷ paths) = keep_all (keep kept path) paths
@@ -82,27 +83,28 @@ kept_paths kept [] = Err DoesNotJoin
 kept_paths kept (path ∷ paths) = at_most_64 (keep_all kept (path ∷ paths))
 
 -- what is kept behind an item with these words, or why it is refused
-abbrev pub kept_words : List (List Edge) → List (List ℕ) → Result (List (List Edge)) RelaxKind
+unfoldable pub kept_words : List (List Edge) → List (List ℕ) → Result (List (List Edge)) RelaxKind
 kept_words kept words =
     elim (list_any (λ word. is_empty (word_edges word)) words) as (λ _. Result (List (List Edge)) RelaxKind) [
-        true ↦ Err UnknownEdge
+      | true ↦ Err UnknownEdge
       | false ↦
-            elim (nat_lt 8 (length words)) as (λ _. Result (List (List Edge)) RelaxKind) [
-                true ↦ Err RelaxTooLong
-              | false ↦ kept_paths kept (paths_of words)
-            ]
+          elim (nat_lt 8 (length words)) as (λ _. Result (List (List Edge)) RelaxKind) [
+            | true ↦ Err RelaxTooLong
+            | false ↦ kept_paths kept (paths_of words)
+          ]
     ]
 
-abbrev pub kept_item : List (List Edge) → Option (List (List ℕ)) → Result (List (List Edge)) RelaxKind
+-- what is kept behind an item, whose words are none where its bracket is bad
+unfoldable pub kept_item : List (List Edge) → Option (List (List ℕ)) → Result (List (List Edge)) RelaxKind
 kept_item kept None = Err BadBracket
 kept_item kept (Some words) = kept_words kept words
 
 -- what is kept behind some items, or the first refusal
-abbrev pub kept_items : List (List Edge) → List Item → Result (List (List Edge)) RelaxError
+unfoldable pub kept_items : List (List Edge) → List Item → Result (List (List Edge)) RelaxError
 kept_items kept [] = Ok kept
 kept_items kept (item ∷ items) =
     elim (kept_item kept item.words) as (λ _. Result (List (List Edge)) RelaxError) [
-        Err kind ↦ Err (record { at = item.start; kind = kind })
+      | Err kind ↦ Err (record { at = item.start; kind = kind })
       | Ok more ↦ kept_items more items
     ]
 

@@ -1,5 +1,5 @@
 ghost use Rattle.std.specs.Prelude.{◌≡◌};
-ghost use Rattle.relax_edges.specs.EdgeTable.{source_of, target_of, reach_of, place_of, is_of_arch, joins_to, com_source, com_target, fence_is_of, dependency_is_of, data_is_of, is_external, is_diff};
+ghost use Rattle.relax_edges.specs.EdgeTable.{source_of, target_of, reach_of, place_of, is_of_arch, joins_to, com_source, com_target, fence_is_of, dependency_is_of, is_external, is_diff};
 
 use crate::kinds::{ArchName, Com, DepKind, Dir, FenceKind, Reach, Sd};
 

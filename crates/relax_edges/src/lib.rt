@@ -8,7 +8,12 @@ mod order;
 mod read;
 mod relax;
 mod relax_error;
+mod relax_items;
+mod relax_list;
+mod relax_search;
 mod relax_words;
+#[cfg(test)]
+mod tests;
 mod word;
 
 pub use arch::read_arch;
@@ -18,6 +23,7 @@ pub use order::EDGES;
 pub use read::{UnknownEdge, read_edge, read_edge_bytes};
 pub use relax::{Relax, Relaxes};
 pub use relax_error::{RelaxError, RelaxKind};
+pub use relax_list::read_relaxes;
 
 /// The most edges that a cycle has.
 pub const MAX_EDGES: usize = 24;

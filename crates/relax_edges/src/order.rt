@@ -1,4 +1,4 @@
-ghost use Rattle.std.specs.Prelude.{◌≡◌, ℕ, ◌<◌, ◌+◌, ◌*◌, ◌==◌, ◌↔◌, IsTrue, Some};
+ghost use Rattle.std.specs.Prelude.{◌≡◌, ◌<◌, ◌+◌, ◌*◌, ◌==◌, ◌↔◌, IsTrue, Some};
 ghost use Rattle.std.proofs.Common.{rules};
 ghost use Rattle.std.specs.Cmp.{partial_order_from_own_ties};
 ghost use Rattle.std.specs.Cmp.Rules.{comparing};
@@ -151,17 +151,29 @@ impl Com {
     }
 }
 
+fn choices_at(k: u8) -> (Sd, Dir, Dir)
+    requires { k < 8 }
+    ensures { 4 * sd_rank result.0 + 2 * dir_rank result.1 + dir_rank result.2 ≡ k }
+{
+    (
+        Sd::at_rank(k / 4),
+        Dir::at_rank(k / 2 % 2),
+        Dir::at_rank(k % 2),
+    )
+}
+
 impl FenceKind {
     #[tactic(auto, unfolding(crate::specs::Order::rank_of))]
     fn edge_at(self, k: u8) -> Edge
         requires { k < 8 }
         ensures { rank_of result ≡ fence_rank self + k }
     {
+        let (sd, from, to) = choices_at(k);
         Edge::Fenced {
             fence: self,
-            sd: Sd::at_rank(k / 4),
-            from: Dir::at_rank(k / 2 % 2),
-            to: Dir::at_rank(k % 2),
+            sd,
+            from,
+            to,
         }
     }
 }
@@ -185,11 +197,8 @@ fn program_order_at(k: u8) -> Edge
     requires { k < 8 }
     ensures { rank_of result ≡ 148 + k }
 {
-    Edge::Po {
-        sd: Sd::at_rank(k / 4),
-        from: Dir::at_rank(k / 2 % 2),
-        to: Dir::at_rank(k % 2),
-    }
+    let (sd, from, to) = choices_at(k);
+    Edge::Po { sd, from, to }
 }
 
 #[tactic(auto, unfolding(crate::specs::Order::rank_of))]

@@ -1,5 +1,5 @@
-ghost use Rattle.std.specs.Prelude.{◌≡◌, ℕ, ◌∷◌, [], ◌++◌, reverse};
-ghost use Rattle.relax_edges.specs.Reading.{dir_named, sd_named, reach_named, com_named, dependency_named, riscv_fence_named, plain_fence_named, fence_named, communication_of, two_sided_of, one_sided_of, read_as_communication, read_back_two_sided, read_back_one_sided, read_of};
+ghost use Rattle.std.specs.Prelude.{◌≡◌, ◌∷◌, [], ◌++◌, reverse};
+ghost use Rattle.relax_edges.specs.Reading.{dir_named, sd_named, reach_named, com_named, dependency_named, riscv_fence_named, plain_fence_named, fence_named, communication_of, two_sided_of, one_sided_of, read_as_communication, read_back_two_sided};
 ghost use Rattle.relax_edges.specs.Spelling.{edge_of};
 ghost use Rattle.std.specs.Result.{result_ok};
 
@@ -104,25 +104,26 @@ fn riscv_fence(text: &[u8]) -> Option<FenceKind>
 fn plain_fence(text: &[u8]) -> Option<FenceKind>
     ensures { result ≡ plain_fence_named text.now }
 {
-    if text == b"MFence".as_slice() {
-        Some(FenceKind::MFence)
+    let fence = if text == b"MFence".as_slice() {
+        FenceKind::MFence
     } else if text == b"Sync".as_slice() {
-        Some(FenceKind::Sync)
+        FenceKind::Sync
     } else if text == b"LwSync".as_slice() {
-        Some(FenceKind::LwSync)
+        FenceKind::LwSync
     } else if text == b"Eieio".as_slice() {
-        Some(FenceKind::Eieio)
+        FenceKind::Eieio
     } else if text == b"ISync".as_slice() {
-        Some(FenceKind::ISync)
+        FenceKind::ISync
     } else if text == b"DMB.SY".as_slice() {
-        Some(FenceKind::DmbSy)
+        FenceKind::DmbSy
     } else if text == b"DMB.LD".as_slice() {
-        Some(FenceKind::DmbLd)
+        FenceKind::DmbLd
     } else if text == b"DMB.ST".as_slice() {
-        Some(FenceKind::DmbSt)
+        FenceKind::DmbSt
     } else {
-        None
-    }
+        return None;
+    };
+    Some(fence)
 }
 
 impl FenceKind {

@@ -1,11 +1,11 @@
-ghost use Rattle.std.specs.Prelude.{◌≡◌, ◌<◌, ◌≤◌, ◌++◌, ◌∷◌, [], true, false, length, slice_get, Some, IsOk, OnOk, OnErr, ◌↔◌, ◌==◌};
+ghost use Rattle.std.specs.Prelude.{◌≡◌, ◌<◌, ◌≤◌, [], true, length, slice_get, Some, Ok, Err, MatchResult, ◌==◌};
 ghost use Rattle.std.specs.List.{list_any};
-ghost use Rattle.relax_edges.specs.Relaxations.{IsRelax, IsRelaxes, is_path, are_distinct, is_same, keep};
-
-use arrayvec::ArrayVec;
-use std::marker::Model;
+ghost use Rattle.relax_edges.specs.Relaxations.{IsRelax, IsRelaxes, is_path, are_distinct, is_same, keep, at_most_64};
 
 use crate::edge::Edge;
+use crate::relax_error::RelaxKind;
+use arrayvec::ArrayVec;
+use std::marker::Model;
 
 /// A relaxation: 1 to 8 edges, each of which joins the next.
 #[derive(Drop)]
@@ -113,5 +113,33 @@ impl Relaxes {
         ensures { result.now ≡ self.now }
     {
         self.list.as_slice()
+    }
+
+    pub(crate) fn clear(&mut self)
+        ensures { self.new ≡ [] }
+    {
+        self.list.clear();
+    }
+
+    fn contains(&self, path: &[Edge]) -> bool
+        ensures { result ≡ list_any (is_same path.now) self.now }
+    {
+        self.list.iter().any(|kept| path == kept.edges())
+    }
+
+    /// Keeps a path, unless it is there already.
+    #[tactic(auto, using(crate::proofs::Kept::keep_there, crate::proofs::Kept::keep_full, crate::proofs::Kept::keep_room, crate::proofs::Kept::relaxes_end))]
+    pub(crate) fn keep(&mut self, path: &[Edge]) -> Result<(), RelaxKind>
+        requires { IsRelax path.now }
+        ensures { MatchResult result (λ _. at_most_64 (keep self.old path.now) ≡ Ok self.new) (λ kind. at_most_64 (keep self.old path.now) ≡ Err kind) }
+    {
+        if self.contains(path) {
+            return Ok(());
+        }
+        if self.list.is_full() {
+            return Err(RelaxKind::TooManyRelaxes);
+        }
+        self.list.push(Relax::from_path(path));
+        Ok(())
     }
 }

@@ -1,15 +1,15 @@
-ghost use Rattle.std.specs.Prelude.{◌≡◌, ◌<◌, ◌≤◌, ◌+◌, ◌∷◌, [], ◌++◌, not, length, MatchOption};
-ghost use Rattle.std.specs.List.{position, position_or_len, list_any, filter_map};
+ghost use Rattle.std.specs.Prelude.{◌≡◌, ◌<◌, ◌≤◌, ◌+◌, ◌∷◌, [], ◌++◌, length, MatchOption};
+ghost use Rattle.std.specs.List.{position, position_or_len, list_any};
 ghost use Rattle.std.specs.Option.{option_to_list};
 ghost use Rattle.arrayvec.specs.ArrayVec.{array_vec_len};
 ghost use Rattle.relax_edges.specs.Spelling.{edge_of};
 ghost use Rattle.relax_edges.specs.RelaxText.{is_separator, words_of, is_empty};
 ghost use Rattle.relax_edges.specs.Relaxations.{word_edges};
-
-use arrayvec::ArrayVec;
+ghost use Rattle.relax_edges.specs.Stars.{edges_by_last, edges_by_end};
 
 use crate::edge::Edge;
 use crate::read::read_ending;
+use arrayvec::ArrayVec;
 
 /// Whether a byte stands between words: a comma, a space or a tab.
 pub(crate) fn is_separator(byte: u8) -> bool
@@ -46,4 +46,78 @@ pub(crate) fn next_word(text: &[u8]) -> Option<(&[u8], &[u8])>
         rest = behind;
     }
     None
+}
+
+fn push_read(front: &[u8], before: u8, last: u8, edges: &mut ArrayVec<Edge, 4>)
+    requires { array_vec_len edges.old < 4 }
+    ensures { edges.new.items ≡ edges.old.items ++ option_to_list (edge_of (front.now ++ before ∷ last ∷ [])) }
+{
+    if let Some(edge) = read_ending(front, before, last) {
+        edges.push(edge);
+    }
+}
+
+#[tactic(auto, using(crate::proofs::Stars::pushed_twice, crate::proofs::Stars::pushed_once, crate::proofs::Stars::option_to_list_short))]
+fn push_by_last(front: &[u8], before: u8, last: u8, edges: &mut ArrayVec<Edge, 4>)
+    requires { array_vec_len edges.old ≤ 2 }
+    ensures { edges.new.items ≡ edges.old.items ++ edges_by_last front.now before last }
+{
+    if last == b'*' {
+        push_read(front, before, b'R', edges);
+        push_read(front, before, b'W', edges);
+    } else {
+        push_read(front, before, last, edges);
+    }
+}
+
+#[tactic(auto, using(crate::proofs::Stars::edges_by_last_few), unfolding(crate::specs::Stars::edges_by_end))]
+fn edges_by_end(front: &[u8], before: u8, last: u8) -> ArrayVec<Edge, 4>
+    ensures { result.items ≡ edges_by_end front.now before last }
+{
+    let mut edges = ArrayVec::new();
+    if before == b'*' {
+        push_by_last(front, b'R', last, &mut edges);
+        push_by_last(front, b'W', last, &mut edges);
+    } else {
+        push_by_last(front, before, last, &mut edges);
+    }
+    edges
+}
+
+/// The edges that a word stands for: a star among its last two bytes stands for `R` and for `W`.
+#[tactic(auto, using(crate::proofs::Stars::word_edges_short))]
+pub(crate) fn word_edges(word: &[u8]) -> ArrayVec<Edge, 4>
+    ensures { result.items ≡ word_edges word.now }
+{
+    match word {
+        [front @ .., before, last] => edges_by_end(front, *before, *last),
+        _ => ArrayVec::new(),
+    }
+}
+
+/// Whether some word stands for no edge.
+pub(crate) fn has_unknown(words: &[u8]) -> bool
+    ensures { result ≡ list_any (λ word. is_empty (word_edges word)) (words_of words.now) }
+{
+    let mut rest = words;
+    while let Some((word, behind)) = next_word(rest) {
+        if word_edges(word).is_empty() {
+            return true;
+        }
+        rest = behind;
+    }
+    false
+}
+
+/// The number of words.
+pub(crate) fn count_words(words: &[u8]) -> usize
+    ensures { result ≡ length (words_of words.now) }
+{
+    let mut count = 0;
+    let mut rest = words;
+    while let Some((_, behind)) = next_word(rest) {
+        count += 1;
+        rest = behind;
+    }
+    count
 }

@@ -1,4 +1,4 @@
-ghost use Rattle.std.specs.Prelude.{◌≡◌, ℕ, ◌≤◌, ◌++◌, length, []};
+ghost use Rattle.std.specs.Prelude.{◌≡◌, ◌≤◌, length, []};
 ghost use Rattle.std.specs.Str.{IsAscii};
 ghost use Rattle.relax_edges.specs.Words.{word_of, com_word, reach_word, sd_word, dir_word, fence_word, dependency_word};
 

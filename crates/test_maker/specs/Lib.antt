@@ -1,3 +1,3 @@
-pub mod Steps
-pub mod TestOf
 pub mod Refusals
+pub mod Made
+pub mod Terms

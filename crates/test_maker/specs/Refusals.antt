@@ -1,24 +1,24 @@
 -- Why a cycle has no test: the first reason that holds.
 -- Source: own, after the refusals of diy.
-use Rattle.std.specs.Prelude.{ℕ, zero, suc, ◌+◌, Bool, true, false, not, nat_lt, if◌then◌else◌, List, [], ◌∷◌, Option, Some, None, Result, Ok, Err}
-use Rattle.std.specs.List.{position, list_any}
+use Rattle.std.specs.Prelude.{Bool, not, nat_lt, List, Option, Some, None, Result, Ok, Err}
+use Rattle.std.specs.List.{position_from}
 use Rattle.std.specs.Option.{option_map}
 use Rattle.relax_edges.specs.declared.kinds.ArchName.{ArchName}
 use Rattle.relax_edges.specs.declared.kinds.ObsMode.{ObsMode}
 use Rattle.relax_edges.specs.declared.kinds.ObsMode.TheVariants.{Accept, Avoid, Force}
 use Rattle.relax_edges.specs.declared.edge.Edge.{Edge}
 use Rattle.relax_edges.specs.EdgeTable.{is_of_arch}
-use Rattle.list_laws.specs.Numbers.{upto}
 use Rattle.cycle_resolve.specs.declared.resolved.ResolveError.{ResolveError}
 use Rattle.cycle_resolve.specs.declared.resolved.ResolveError.TheVariants as resolving
-use Rattle.cycle_resolve.specs.Resolution.{resolution_of, move_count}
-use Rattle.coherence_values.specs.declared.valued.NeedsObserver.{NeedsObserver}
-use Rattle.coherence_values.specs.Values.{observer_need, write_count}
+use Rattle.cycle_resolve.specs.Resolution.{resolution_of}
+use Rattle.coherence_values.specs.Values.{observer_need}
+use Rattle.arch_trait.specs.declared.step.Step.{Step}
 use Rattle.arch_trait.specs.Threads.{Puts, shape_of}
 use Rattle.test_maker.specs.declared.refusal.MakeRefusal.{MakeRefusal}
-use Rattle.test_maker.specs.declared.refusal.MakeRefusal.TheVariants.{NotOfArch, TooFewThreads, CoherenceOnly, NotBuilt, TooManyRegisters}
+use Rattle.test_maker.specs.declared.refusal.MakeRefusal.TheVariants.{NotOfArch, TooFewThreads, CoherenceOnly, TooManyRegisters}
 use Rattle.test_maker.specs.declared.refusal.MakeRefusal.TheVariants as refusals
-use Rattle.test_maker.specs.Steps.{cycle_steps}
+use Rattle.test_laws.specs.Steps.{cycle_steps}
+use Rattle.test_laws.specs.TestOf.{plain}
 
 -- the first of two reasons
 abbrev pub or_else : Option MakeRefusal → Option MakeRefusal → Option MakeRefusal
@@ -27,7 +27,7 @@ or_else None reason = reason
 
 -- an edge isn't of the architecture: the first such, in the list as given
 abbrev pub foreign_edge : ArchName → List Edge → Option MakeRefusal
-foreign_edge arch cycle = option_map (λ at. NotOfArch at) (position (λ edge. not (is_of_arch edge arch)) cycle)
+foreign_edge arch cycle = option_map (λ at. NotOfArch at) (position_from (λ edge. not (is_of_arch edge arch)) 0 cycle)
 
 -- the mode avoids observers, and a write needs one
 abbrev pub unobserved_need : ObsMode → List Edge → Option MakeRefusal
@@ -35,11 +35,15 @@ unobserved_need Avoid es = option_map (λ need. refusals.NeedsObserver need.loca
 unobserved_need Accept es = None
 unobserved_need Force es = None
 
--- a thread needs more registers than the architecture has: the first such
+-- a thread needs more registers than the architecture has
+abbrev pub is_crowded : Puts → List Step → Bool
+is_crowded a steps = nat_lt a.registers (a.need (shape_of steps))
+
+-- the first thread that needs more registers than the architecture has
 abbrev pub crowded_thread : Puts → List Edge → ObsMode → Option MakeRefusal
 crowded_thread a es mode =
     option_map (λ thread. TooManyRegisters thread)
-    (position (λ steps. nat_lt a.registers (a.need (shape_of steps))) (cycle_steps es mode (λ location. location)))
+    (position_from (is_crowded a) 0 (cycle_steps es mode plain))
 
 -- the reasons that concern a resolved cycle
 abbrev pub resolved_refusal : Puts → Result (List Edge) ResolveError → ObsMode → Option MakeRefusal

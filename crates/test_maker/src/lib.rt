@@ -1,8 +1,11 @@
 //! The test of a cycle.
 #![tactic(auto)]
 
-mod make;
+mod condition;
+mod maker;
 mod refusal;
+mod steps;
+mod threads;
 
-pub use make::{accepted, make, make_into};
+pub use maker::{make, make_into};
 pub use refusal::MakeRefusal;

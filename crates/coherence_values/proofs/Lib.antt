@@ -1,0 +1,6 @@
+pub mod Ways
+pub mod Along
+pub mod Writes
+pub mod Walk
+pub mod Entries
+pub mod Laws

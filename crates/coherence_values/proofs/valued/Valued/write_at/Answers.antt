@@ -1,0 +1,33 @@
+use Rattle.std.proofs.Common.{◌≡◌, ◌+◌, ◌==◌, ◌&&◌, length, Some, None, sym, ◌∙◌, ap, arith}
+use Rattle.list_laws.proofs.Finds.{find_upto_first, find_upto_none}
+use Rattle.cycle_resolve.specs.Resolution.{IsResolved}
+use Rattle.coherence_values.specs.Values.{Valuation, is_write_at, value_of, write_at}
+use Rattle.coherence_values.proofs.Along.{write_count_most}
+use Rattle.coherence_values.proofs.Writes.{write_number}
+use Rattle.coherence_values.proofs.valued.Valued.write_at.Goals as goal
+
+pub overflow_add-k : goal.overflow_add-k
+overflow_add-k c =
+    let v : c.self.inside.resolved.now ≡ c.args.self.now.edges = ap (λ (x : Valuation). x.edges) c.self.view_is in
+    omega (arith, c.requires, write_count_most c.args.self.now.edges c.args.location, ap length v, c.self.invariant.resolved.composes.few)
+
+pub returns-then-is_write : goal.returns-then-is_write
+unfolding write_at
+returns-then-is_write c =
+    let v : c.self.inside.resolved.now ≡ c.args.self.now.edges = ap (λ (x : Valuation). x.edges) c.self.view_is in
+    find_upto_first (λ i. is_write_at c.args.self.now.edges c.args.location i && (value_of c.args.self.now.edges i == c.args.k + 1)) (length c.args.self.now.edges) c.loop-event.event
+    (omega (arith, ap length (c.cycle.ensures.value ∙ v)))
+    (sym c.is_write.ensures ∙ c.if-is_write.true)
+    c.loop-event.invariant
+
+pub unreachable-requires : goal.unreachable-requires
+unfolding write_at
+unreachable-requires c =
+    let v : c.self.inside.resolved.now ≡ c.args.self.now.edges = ap (λ (x : Valuation). x.edges) c.self.view_is in
+    let r : IsResolved c.args.self.now.edges = rw v at c.self.invariant.resolved in
+    let n = write_number c.args.self.now.edges c.args.location c.args.k r c.requires in
+    let none : write_at c.args.self.now.edges c.args.location c.args.k ≡ None =
+    find_upto_none (λ i. is_write_at c.args.self.now.edges c.args.location i && (value_of c.args.self.now.edges i == c.args.k + 1)) (length c.args.self.now.edges)
+    (λ i h. c.loop-event.invariant i (omega (arith, h, ap length (c.cycle.ensures.value ∙ v)))) in
+    let e : None ≡ Some n.0 = sym none ∙ n.1 in
+    cc

@@ -1,0 +1,78 @@
+-- The definitions tried on small cycles, by computing.
+use Rattle.std.proofs.Common.{◌≡◌, ℕ, List, [], ◌∷◌, Some, None, refl}
+use Rattle.relax_edges.specs.declared.kinds.Dir.TheVariants as dirs
+use Rattle.relax_edges.specs.declared.kinds.Sd.TheVariants.{Diff}
+use Rattle.relax_edges.specs.declared.kinds.Reach.TheVariants.{Internal, External}
+use Rattle.relax_edges.specs.declared.kinds.Com.TheVariants as coms
+use Rattle.relax_edges.specs.declared.kinds.ObsMode.TheVariants.{Accept}
+use Rattle.relax_edges.specs.declared.edge.Edge.{Edge}
+use Rattle.relax_edges.specs.declared.edge.Edge.TheVariants as edges
+use Rattle.cycle_resolve.specs.Resolution.{thread_of, slot_of, location_of, moves_before, events_in}
+use Rattle.coherence_values.specs.Values.{value_of, way_place, write_count, write_at, is_observed}
+use Rattle.program_meaning.specs.declared.WriteAt.{WriteAt}
+use Rattle.program_meaning.specs.Accesses.{read, write}
+use Rattle.program_meaning.specs.Intended.{cycle_accesses, intended, location_order, location_numbered}
+
+abbrev pub PodWW : Edge
+PodWW = edges.Po Diff dirs.W dirs.W
+
+abbrev pub PodWR : Edge
+PodWR = edges.Po Diff dirs.W dirs.R
+
+abbrev pub Wse : Edge
+Wse = edges.Com coms.Ws External
+
+abbrev pub Wsi : Edge
+Wsi = edges.Com coms.Ws Internal
+
+abbrev pub Fre : Edge
+Fre = edges.Com coms.Fr External
+
+abbrev pub two_writes : List Edge
+two_writes = PodWW ∷ Wse ∷ PodWW ∷ Wse ∷ []
+
+abbrev pub store_buffering : List Edge
+store_buffering = PodWR ∷ Fre ∷ PodWR ∷ Fre ∷ []
+
+abbrev pub W3 : List Edge
+W3 = PodWW ∷ Wsi ∷ Wse ∷ PodWR ∷ Fre ∷ []
+
+abbrev pub W3O : List Edge
+W3O = PodWW ∷ Wse ∷ Wse ∷ PodWR ∷ Fre ∷ []
+
+abbrev pub here : ℕ → ℕ
+here location = location
+
+abbrev pub name : ℕ → ℕ → WriteAt
+name thread access = record { thread = thread; access = access }
+
+two_writes-accesses : cycle_accesses two_writes Accept here ≡ (write 0 2 ∷ write 1 1 ∷ []) ∷ (write 1 2 ∷ write 0 1 ∷ []) ∷ []
+unfolding cycle_accesses intended events_in location_order location_numbered thread_of slot_of location_of moves_before value_of way_place write_count is_observed
+two_writes-accesses = refl
+
+two_writes-intended : intended two_writes Accept here ≡ record { reads = [] ∷ [] ∷ []; orders = (name 1 1 ∷ name 0 0 ∷ []) ∷ (name 0 1 ∷ name 1 0 ∷ []) ∷ [] }
+unfolding cycle_accesses intended events_in location_order location_numbered thread_of slot_of location_of moves_before value_of way_place write_count write_at is_observed
+two_writes-intended = refl
+
+store_buffering-accesses : cycle_accesses store_buffering Accept here ≡ (write 0 1 ∷ read 1 0 ∷ []) ∷ (write 1 1 ∷ read 0 0 ∷ []) ∷ []
+unfolding cycle_accesses intended events_in location_order location_numbered thread_of slot_of location_of moves_before value_of way_place write_count is_observed
+store_buffering-accesses = refl
+
+store_buffering-intended : intended store_buffering Accept here ≡ record { reads = ((0, None) ∷ []) ∷ ((0, None) ∷ []) ∷ []; orders = (name 0 0 ∷ []) ∷ (name 1 0 ∷ []) ∷ [] }
+unfolding cycle_accesses intended events_in location_order location_numbered thread_of slot_of location_of moves_before value_of way_place write_count write_at is_observed
+store_buffering-intended = refl
+
+W3-accesses : cycle_accesses W3 Accept here ≡ (write 0 1 ∷ write 1 1 ∷ write 1 2 ∷ []) ∷ (write 1 3 ∷ read 0 0 ∷ []) ∷ []
+unfolding cycle_accesses intended events_in location_order location_numbered thread_of slot_of location_of moves_before value_of way_place write_count is_observed
+W3-accesses = refl
+
+W3O-accesses : cycle_accesses W3O Accept here ≡ (write 0 1 ∷ write 1 1 ∷ []) ∷ (write 1 2 ∷ []) ∷ (write 1 3 ∷ read 0 0 ∷ []) ∷ (read 1 1 ∷ read 1 2 ∷ read 1 3 ∷ []) ∷ []
+unfolding cycle_accesses intended events_in location_order location_numbered thread_of slot_of location_of moves_before value_of way_place write_count is_observed
+W3O-accesses = refl
+
+W3O-intended : intended W3O Accept here ≡ record {
+  reads = [] ∷ [] ∷ ((0, None) ∷ []) ∷ ((1, Some (name 0 1)) ∷ (2, Some (name 1 0)) ∷ (3, Some (name 2 0)) ∷ []) ∷ [];
+  orders = (name 0 0 ∷ []) ∷ (name 0 1 ∷ name 1 0 ∷ name 2 0 ∷ []) ∷ [];
+}
+unfolding cycle_accesses intended events_in location_order location_numbered thread_of slot_of location_of moves_before value_of way_place write_count write_at is_observed
+W3O-intended = refl

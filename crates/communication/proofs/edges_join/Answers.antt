@@ -1,0 +1,5 @@
+use Rattle.communication.proofs.Laws.{edges_join_law}
+use Rattle.communication.proofs.edges_join.Goals as goal
+
+pub returns : goal.returns
+returns c = edges_join_law

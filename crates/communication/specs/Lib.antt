@@ -1,0 +1,4 @@
+pub mod Premises
+pub mod Joining
+pub mod Exchange
+pub mod Laws

@@ -1,0 +1,24 @@
+-- The names of locations, as a report finds them, and the line of words where none shows the fault.
+use Rattle.std.proofs.Common.{◌≡◌, ℕ, ◌+◌, ◌<◌, ◌≤◌, List, [], ◌++◌, ◌∙◌, ap, arith, length, get_or, append-nil}
+use Rattle.std.specs.Prelude.{codes, slice_get, None}
+use Rattle.std.proofs.lemmas.Option.{slice_get_past}
+use Rattle.std.proofs.lemmas.List.FromFn.{get_or-map-range_with_len, length-map-range_with_len}
+use Rattle.arch_trait.specs.Names.{letters, location_name}
+use Rattle.diy_words.specs.declared.usage.UsageKind.{UsageKind}
+use Rattle.diy_tools.specs.declared.status.Status.TheVariants.{Usage}
+use Rattle.diy_tools.specs.Report.{status_line, usage_line, usage_text, shown_word}
+
+pub letter_at : (k : ℕ) → get_or (letters (k + 1)) k [] ≡ location_name k
+letter_at k = get_or-map-range_with_len location_name 0 (k + 1) k k [] (omega arith) (omega arith)
+
+pub letters_long : (k : ℕ) → k < length (letters (k + 1))
+letters_long k = omega (arith, length-map-range_with_len location_name 0 (k + 1))
+
+no_word : (words : List (List ℕ)) (word : ℕ) → length words ≤ word → slice_get words word ≡ None
+no_word words word h = slice_get_past words word h
+
+pub bare_line : (words : List (List ℕ)) (word : ℕ) (kind : UsageKind) → length words ≤ word
+    → status_line words (Usage word kind) ≡ codes "diy: usage " ++ usage_text kind ++ codes "\n"
+bare_line words word kind h =
+    ap (λ found. usage_line (usage_text kind) (shown_word found)) (no_word words word h)
+    ∙ ap (λ text. text ++ codes "\n") (append-nil (codes "diy: usage " ++ usage_text kind))

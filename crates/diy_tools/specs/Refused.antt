@@ -1,0 +1,54 @@
+-- Why a list of edges is refused: the first reason that holds.
+-- Source: own, after the refusals of diy.
+use Rattle.std.specs.Prelude.{ℕ, not, nat_lt, if◌then◌else◌, List, [], ◌∷◌, length, Option, Some, None, Result, Ok, Err}
+use Rattle.std.specs.List.{position_from}
+use Rattle.relax_edges.specs.declared.TheConstants.{MAX_EDGES}
+use Rattle.relax_edges.specs.declared.kinds.ObsMode.{ObsMode}
+use Rattle.relax_edges.specs.declared.edge.Edge.{Edge}
+use Rattle.relax_edges.specs.EdgeTable.{is_of_arch}
+use Rattle.edge_algebra.specs.declared.errors.CycleError.{CycleError}
+use Rattle.edge_algebra.specs.declared.errors.CycleError.TheVariants as composing
+use Rattle.edge_algebra.specs.Compose.{composed}
+use Rattle.arch_trait.specs.Threads.{Puts}
+use Rattle.test_maker.specs.declared.refusal.MakeRefusal.{MakeRefusal}
+use Rattle.test_maker.specs.declared.refusal.MakeRefusal.TheVariants as making
+use Rattle.test_maker.specs.Refusals.{refusal_of}
+use Rattle.diy_tools.specs.declared.status.Refusal.{Refusal}
+use Rattle.diy_tools.specs.declared.status.Refusal.TheVariants as refusals
+
+-- what composing edges to a cycle refuses
+abbrev pub composing_refusal : CycleError → Refusal
+composing_refusal composing.Empty = refusals.Empty
+composing_refusal composing.TooLong = refusals.TooLong
+composing_refusal (composing.DoesNotCompose at) = refusals.DoesNotCompose at
+
+-- what making a test of a cycle refuses
+abbrev pub making_refusal : MakeRefusal → Refusal
+making_refusal (making.NotOfArch at) = refusals.NotOfArch at
+making_refusal making.TooFewThreads = refusals.TooFewThreads
+making_refusal making.CoherenceOnly = refusals.CoherenceOnly
+making_refusal (making.NeedsObserver location event) = refusals.NeedsObserver location event
+making_refusal (making.TooManyRegisters thread) = refusals.TooManyRegisters thread
+
+-- what is refused of a cycle, if anything is
+abbrev pub refused_making : Option MakeRefusal → Option Refusal
+refused_making (Some reason) = Some (making_refusal reason)
+refused_making None = None
+
+-- what is refused of edges that compose to a cycle or don't
+abbrev pub refused_composed : Puts → ObsMode → Result (List Edge) CycleError → Option Refusal
+refused_composed a mode (Err error) = Some (composing_refusal error)
+refused_composed a mode (Ok cycle) = refused_making (refusal_of a cycle mode)
+
+-- what is refused of a list of edges of which none, or the one at a place, isn't of the architecture
+abbrev pub refused_of_arch : Puts → ObsMode → List Edge → Option ℕ → Option Refusal
+refused_of_arch a mode edges (Some at) = Some (refusals.NotOfArch at)
+refused_of_arch a mode edges None = refused_composed a mode (composed edges)
+
+-- the first reason why a list of edges is refused, on an architecture in a mode
+abbrev pub refused_of : Puts → ObsMode → List Edge → Option Refusal
+refused_of a mode [] = Some refusals.Empty
+refused_of a mode (edge ∷ edges) =
+    if nat_lt MAX_EDGES (length (edge ∷ edges))
+    then Some refusals.TooLong
+    else refused_of_arch a mode (edge ∷ edges) (position_from (λ e. not (is_of_arch e a.name)) 0 (edge ∷ edges))

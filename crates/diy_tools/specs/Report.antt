@@ -1,0 +1,78 @@
+-- The line on standard error that tells a status.
+-- Source: own.
+use Rattle.std.specs.Prelude.{ℕ, ⊤, ◌<◌, List, [], ◌++◌, codes, slice_get, Option, Some, None}
+use Rattle.std.specs.Fmt.{decimal}
+use Rattle.arch_trait.specs.Names.{location_name}
+use Rattle.diy_words.specs.declared.usage.UsageKind.{UsageKind}
+use Rattle.diy_words.specs.declared.usage.UsageKind.TheVariants as usages
+use Rattle.diy_tools.specs.declared.status.Status.{Status}
+use Rattle.diy_tools.specs.declared.status.Status.TheVariants as statuses
+use Rattle.diy_tools.specs.declared.status.Refusal.{Refusal}
+use Rattle.diy_tools.specs.declared.status.Refusal.TheVariants as refusals
+use Rattle.diy_tools.specs.declared.status.Device.{Device}
+use Rattle.diy_tools.specs.declared.status.Device.TheVariants as devices
+
+-- the exit status of the program
+abbrev pub exit_of : Status → ℕ
+exit_of statuses.Done = 0
+exit_of (statuses.Refused _) = 1
+exit_of (statuses.Usage _ _) = 2
+exit_of (statuses.WriteFault _) = 3
+
+-- the text of a refusal
+abbrev pub refusal_text : Refusal → List ℕ
+refusal_text refusals.Empty = codes "Empty"
+refusal_text refusals.TooLong = codes "TooLong"
+refusal_text (refusals.NotOfArch at) = codes "NotOfArch " ++ decimal at
+refusal_text (refusals.DoesNotCompose at) = codes "DoesNotCompose " ++ decimal at
+refusal_text refusals.TooFewThreads = codes "TooFewThreads"
+refusal_text refusals.CoherenceOnly = codes "CoherenceOnly"
+refusal_text (refusals.NeedsObserver location event) =
+    codes "NeedsObserver " ++ location_name location ++ codes " " ++ decimal event
+refusal_text (refusals.TooManyRegisters thread) = codes "TooManyRegisters " ++ decimal thread
+
+-- the name of what is wrong with words
+abbrev pub usage_text : UsageKind → List ℕ
+usage_text usages.UnknownTool = codes "UnknownTool"
+usage_text usages.UnknownOption = codes "UnknownOption"
+usage_text usages.MissingValue = codes "MissingValue"
+usage_text usages.UnknownArch = codes "UnknownArch"
+usage_text usages.BadName = codes "BadName"
+usage_text usages.UnknownEdge = codes "UnknownEdge"
+usage_text usages.MissingArch = codes "MissingArch"
+usage_text usages.NotBuilt = codes "NotBuilt"
+
+-- a word that shows a fault, where there is one
+abbrev pub shown_word : Option (List ℕ) → List ℕ
+shown_word (Some word) = codes ": " ++ word
+shown_word None = []
+
+-- the name of a device
+abbrev pub device_text : Device → List ℕ
+device_text devices.Out = codes "out"
+
+-- the line of a refusal with this text
+abbrev pub refusal_line : List ℕ → List ℕ
+refusal_line text = codes "diy: refused " ++ text ++ codes "\n"
+
+-- the line of words that make no request: what is wrong, and the word that shows it
+abbrev pub usage_line : List ℕ → List ℕ → List ℕ
+usage_line name shown = codes "diy: usage " ++ name ++ shown ++ codes "\n"
+
+-- the line of a status, which Done has none of
+abbrev pub status_line : List (List ℕ) → Status → List ℕ
+status_line words statuses.Done = []
+status_line words (statuses.Refused refusal) = refusal_line (refusal_text refusal)
+status_line words (statuses.Usage word kind) =
+    usage_line (usage_text kind) (shown_word (slice_get words word))
+status_line words (statuses.WriteFault device) = codes "diy: write fault: " ++ device_text device ++ codes "\n"
+
+-- a refusal names no location, or one that a test can have
+abbrev pub RefusesLocation : Refusal → Type 0
+RefusesLocation (refusals.NeedsObserver location _) = location < 48
+RefusesLocation _ = ⊤
+
+-- so does a status
+abbrev pub NamesLocation : Status → Type 0
+NamesLocation (statuses.Refused refusal) = RefusesLocation refusal
+NamesLocation _ = ⊤

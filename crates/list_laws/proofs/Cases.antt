@@ -1,0 +1,26 @@
+-- Cases to split on, with the goal given first: a test is true or false, a number is below another or not.
+use Rattle.std.proofs.Common.{◌≡◌, ℕ, ◌<◌, ◌≤◌, Bool, true, false, Option, Some, None, refl, inl, inr}
+use Rattle.std.specs.Prelude.{◌⊎◌}
+use Rattle.std.proofs.lemmas.Bool.{cases_lt, cases_eq}
+
+pub by_test : {G : Type 0} (b : Bool) → (b ≡ true → G) → (b ≡ false → G) → G
+by_test true t f = t refl
+by_test false t f = f refl
+
+pub by_less : {G : Type 0} (m n : ℕ) → (m < n → G) → (n ≤ m → G) → G
+by_less {G} m n l g = either (cases_lt m n)
+  where
+    either : (m < n) ⊎ (n ≤ m) → G
+    either (inl a) = l a
+    either (inr b) = g b
+
+pub by_same : {G : Type 0} (m n : ℕ) → (m ≡ n → G) → ((m ≡ n → ⊥) → G) → G
+by_same {G} m n s d = either (cases_eq m n)
+  where
+    either : (m ≡ n) ⊎ (m ≡ n → ⊥) → G
+    either (inl a) = s a
+    either (inr b) = d b
+
+pub by_option : {A G : Type 0} (o : Option A) → (o ≡ None → G) → ((x : A) → o ≡ Some x → G) → G
+by_option None n s = n refl
+by_option (Some x) n s = s x refl

@@ -1,0 +1,26 @@
+-- Code whose places have other numbers.
+-- Source: own.
+use Rattle.std.specs.Prelude.{ℕ}
+use Rattle.relax_edges.specs.declared.kinds.Value.{Value}
+use Rattle.relax_edges.specs.declared.kinds.Value.TheVariants.{Num, Place}
+use Rattle.micro_ops.specs.declared.operation.Micro.{Micro}
+use Rattle.micro_ops.specs.declared.operation.Micro.TheVariants as ops
+use Rattle.micro_ops.specs.declared.operation.Item.{Item}
+use Rattle.micro_ops.specs.declared.operation.Item.TheVariants as items
+
+-- an operation, its place under the number that `number` gives it
+abbrev pub op_at : (ℕ → ℕ) → Micro → Micro
+op_at number (ops.LoadAt dst place) = ops.LoadAt dst (number place)
+op_at number (ops.StoreAt place n) = ops.StoreAt (number place) n
+op_at number op = op
+
+-- a value so
+abbrev pub value_at : (ℕ → ℕ) → Value → Value
+value_at number (Num n) = Num n
+value_at number (Place place) = Place (number place)
+
+-- an item so
+abbrev pub item_at : (ℕ → ℕ) → Item → Item
+item_at number (items.Access dir place value address_mask data_mask control_mask) =
+    items.Access dir (number place) value address_mask data_mask control_mask
+item_at number (items.Barrier kind control) = items.Barrier kind control

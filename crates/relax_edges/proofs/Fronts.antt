@@ -1,0 +1,147 @@
+-- The item that a text begins with, by the places of brackets and of the ends of words.
+use Rattle.std.specs.Prelude.{ℕ, ◌≡◌, ◌<◌, ◌≤◌, ◌+◌, ◌==◌, ◌||◌, Bool, true, false, not, Some, None, Ok, Err, List, [], ◌∷◌, length, take, drop}
+use Rattle.std.specs.List.{before_first, position_or_len}
+use Rattle.std.proofs.Common.{suc, get_or, refl, arith, ap, subst, sym, ◌∙◌}
+use Rattle.std.proofs.lemmas.Bool.{eqb-true}
+use Rattle.std.proofs.lemmas.List.{length-take}
+use Rattle.std.proofs.lemmas.List.Folds.{length-prefix_len}
+use Rattle.std.proofs.Math.ListN.{get_or-eq_default}
+use Rattle.relax_edges.specs.RelaxText.{is_separator, is_bracket, ends_word, words_of, inside, is_closed, some_words, bracket_words, words_from, bytes_behind}
+use Rattle.relax_edges.specs.declared.edge.Edge.{Edge}
+use Rattle.relax_edges.specs.declared.relax_error.RelaxKind.TheVariants.{BadBracket}
+use Rattle.relax_edges.specs.Relaxations.{kept_words, kept_item}
+use Rattle.relax_edges.specs.RelaxFront.{kept_front, front_words, front_len, ends_here, IsInside, IsFrontWord}
+use Rattle.relax_edges.proofs.RelaxWords.{words_of_run, before_first-no}
+use Rattle.relax_edges.proofs.Cases.{by_test, no_true}
+
+before_first-length : (test : ℕ → Bool) (text : List ℕ) → length (before_first test text) ≡ position_or_len test text
+before_first-length test text = length-prefix_len (λ x. not (test x)) text
+
+closed_by : (behind : List ℕ) → get_or behind (position_or_len is_bracket behind) 0 ≡ 93 → is_closed behind ≡ true
+closed_by behind is = rw (before_first-length is_bracket behind, is) refl
+
+not_closed_by : (behind : List ℕ) → (get_or behind (position_or_len is_bracket behind) 0 ≡ 93 → ⊥) → is_closed behind ≡ false
+not_closed_by behind not_it =
+    by_test (is_closed behind)
+    (λ t. absurd (not_it (eqb-true _ 93 (subst (λ n. (get_or behind n 0 == 93) ≡ true) (before_first-length is_bracket behind) t))))
+    (λ f. f)
+
+-- a bracket that no bracket follows is bad
+pub bracket_open : (behind : List ℕ) (n : ℕ) → n ≡ position_or_len is_bracket behind → length behind ≤ n → bracket_words behind ≡ None
+bracket_open behind n at_n past =
+    let zero_there : get_or behind (position_or_len is_bracket behind) 0 ≡ 0 = get_or-eq_default behind 0 {n = position_or_len is_bracket behind} (omega arith) in
+    rw (not_closed_by behind (λ e. omega arith)) refl
+
+-- a bracket that another `[` follows is bad
+pub bracket_nested : (behind : List ℕ) (n : ℕ) → n ≡ position_or_len is_bracket behind → (get_or behind n 0 ≡ 93 → ⊥) → bracket_words behind ≡ None
+bracket_nested behind n at_n other = rw (not_closed_by behind (λ e. other (rw at_n e))) refl
+
+inside_at : (behind : List ℕ) (n : ℕ) → n ≡ position_or_len is_bracket behind → inside behind ≡ take n behind
+inside_at behind n at_n = ap (λ k. take k behind) (sym at_n)
+
+-- a bracket without words is bad
+pub bracket_empty : (behind : List ℕ) (n : ℕ) → n ≡ position_or_len is_bracket behind → get_or behind n 0 ≡ 93 → words_of (take n behind) ≡ [] → bracket_words behind ≡ None
+bracket_empty behind n at_n closed none =
+    let e : words_of (inside behind) ≡ [] = ap words_of (inside_at behind n at_n) ∙ none in
+    closed_words behind (closed_by behind (rw (← at_n) closed)) ∙ ap some_words e
+  where
+    closed_words : (behind : List ℕ) → is_closed behind ≡ true → bracket_words behind ≡ some_words (words_of (inside behind))
+    closed_words behind closed = rw closed refl
+
+pub bracket_good : (behind : List ℕ) (n : ℕ) → n ≡ position_or_len is_bracket behind → n < length behind → get_or behind n 0 ≡ 93 → (word : List ℕ) (words : List (List ℕ))
+    → words_of (take n behind) ≡ word ∷ words → IsInside behind (take n behind)
+bracket_good behind n at_n within closed word words some =
+    let same : take n behind ≡ inside behind = sym (inside_at behind n at_n) in
+    let e : words_of (inside behind) ≡ word ∷ words = ap words_of (inside_at behind n at_n) ∙ some in
+    record {
+      good = closed_words behind (closed_by behind (rw (← at_n) closed)) ∙ ap some_words e ∙ ap Some (sym some);
+      len = ap length same;
+      closed = rw same (omega (arith, before_first-length is_bracket behind));
+      some = rw some (omega arith);
+    }
+  where
+    closed_words : (behind : List ℕ) → is_closed behind ≡ true → bracket_words behind ≡ some_words (words_of (inside behind))
+    closed_words behind closed = rw closed refl
+
+first_false : (a b : Bool) → (a || b) ≡ false → a ≡ false
+first_false true b f = absurd (no_true (sym f))
+first_false false b f = refl
+
+second_false : (a b : Bool) → (a || b) ≡ false → b ≡ false
+second_false true b f = absurd (no_true (sym f))
+second_false false b f = f
+
+-- what is read of a text that begins with a word
+run_words : (byte : ℕ) (behind : List ℕ) → (byte == 91) ≡ false → (byte == 93) ≡ false
+    → words_from byte behind ≡ Some ((byte ∷ before_first ends_word behind) ∷ [])
+run_words byte behind a b = rw (a, b) refl
+
+run_len : (byte : ℕ) (behind : List ℕ) → is_separator byte ≡ false → (byte == 91) ≡ false → (byte == 93) ≡ false
+    → bytes_behind byte behind ≡ length (before_first ends_word behind)
+run_len byte behind n a b = rw (n, b, a) refl
+
+-- the word that a text begins with
+pub front_word : (text : List ℕ) (n : ℕ) → ends_here text ≡ false → n ≡ position_or_len ends_word text → IsFrontWord text (take n text)
+unfolding ends_here front_words front_len
+front_word [] n here at_n = absurd (no_true (sym here))
+front_word (byte ∷ behind) n here at_n =
+    let sep : is_separator byte ≡ false = first_false (is_separator byte) (is_bracket byte) here in
+    let brackets : is_bracket byte ≡ false = second_false (is_separator byte) (is_bracket byte) here in
+    let opening : (byte == 91) ≡ false = first_false (byte == 91) (byte == 93) brackets in
+    let closing : (byte == 93) ≡ false = second_false (byte == 91) (byte == 93) brackets in
+    let run : take n (byte ∷ behind) ≡ byte ∷ before_first ends_word behind = ap (λ k. take k (byte ∷ behind)) at_n ∙ before_first-no ends_word byte behind here in
+    let len : length (take n (byte ∷ behind)) ≡ suc (length (before_first ends_word behind)) = ap length run in
+    record {
+      words = run_words byte behind opening closing ∙ ap Some (sym (words_of_run byte behind sep)) ∙ ap (λ t. Some (words_of t)) (sym run);
+      len = rw (run_len byte behind sep opening closing) (omega arith);
+      within = omega (arith, length-take n (byte ∷ behind));
+      bytes = omega arith;
+      some = rw (ap words_of run ∙ words_of_run byte behind sep) (omega arith);
+    }
+
+-- what is kept behind a good bracket, behind a bad one, and behind a word
+pub kept_bracket : (kept : List (List Edge)) (behind words : List ℕ) → IsInside behind words → kept_front kept (91 ∷ behind) ≡ kept_words kept (words_of words)
+unfolding kept_front kept_item
+kept_bracket kept behind words inside = rw (inside.good, kept_item) refl
+
+pub bad_bracket : (kept : List (List Edge)) (behind : List ℕ) → bracket_words behind ≡ None → kept_front kept (91 ∷ behind) ≡ Err BadBracket
+unfolding kept_front kept_item
+bad_bracket kept behind bad = rw (bad, kept_item) refl
+
+pub bracket_len : (behind words : List ℕ) → IsInside behind words → length words + 2 ≡ front_len (91 ∷ behind)
+unfolding front_len
+bracket_len behind words inside = rw (← inside.len) (omega arith)
+
+pub kept_run : (kept : List (List Edge)) (text word : List ℕ) → ends_here text ≡ false → IsFrontWord text word → kept_front kept text ≡ kept_words kept (words_of word)
+unfolding ends_here kept_front front_words kept_item
+kept_run kept [] word here front = absurd (no_true (sym here))
+kept_run kept (byte ∷ behind) word here front =
+    rw (first_false (is_separator byte) (is_bracket byte) here) (rw (front.words, kept_item) refl)
+
+-- the same, by the first byte of a text
+pub at_bracket : (text : List ℕ) → get_or text 0 0 ≡ 91 → text ≡ 91 ∷ drop 1 text
+at_bracket [] first = absurd (omega arith)
+at_bracket (byte ∷ behind) first = ap (λ b. b ∷ behind) first
+
+pub at_closing : (kept : List (List Edge)) (text : List ℕ) → get_or text 0 0 ≡ 93 → kept_front kept text ≡ Err BadBracket
+unfolding kept_front kept_item
+at_closing kept [] first = absurd (omega arith)
+at_closing kept (byte ∷ behind) first = subst (λ b. kept_front kept (b ∷ behind) ≡ Err BadBracket) (sym first) refl
+
+pub at_separator : (kept : List (List Edge)) (text : List ℕ) → is_separator (get_or text 0 0) ≡ true → kept_front kept text ≡ Ok kept
+unfolding kept_front
+at_separator kept [] s = refl
+at_separator kept (byte ∷ behind) s = rw s refl
+
+pub at_separator_len : (text : List ℕ) → 0 < length text → is_separator (get_or text 0 0) ≡ true → 1 ≡ front_len text
+unfolding front_len
+at_separator_len [] some s = absurd (omega arith)
+at_separator_len (byte ∷ behind) some s = rw s refl
+
+pub at_word : (text : List ℕ) → 0 < length text → (get_or text 0 0 ≡ 91 → ⊥) → (get_or text 0 0 ≡ 93 → ⊥) → is_separator (get_or text 0 0) ≡ false → ends_here text ≡ false
+unfolding ends_here
+at_word [] some opening closing s = absurd (omega arith)
+at_word (byte ∷ behind) some opening closing s = rw (s, unequal byte 91 opening, unequal byte 93 closing) refl
+  where
+    unequal : (m n : ℕ) → (m ≡ n → ⊥) → (m == n) ≡ false
+    unequal m n apart = by_test (m == n) (λ t. absurd (apart (eqb-true m n t))) (λ f. f)

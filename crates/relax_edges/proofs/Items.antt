@@ -1,0 +1,177 @@
+-- Items are kept one after another.
+use Rattle.std.specs.Prelude.{ℕ, ◌≡◌, ◌<◌, ◌≤◌, ◌+◌, ◌-◌, Bool, true, false, Result, Ok, Err, List, [], ◌∷◌, ◌++◌, length, map, take, drop}
+use Rattle.std.specs.List.{list_any}
+use Rattle.std.proofs.Common.{zero, suc, refl, arith, ap, subst, sym, ◌∙◌}
+use Rattle.std.proofs.Math.ListN.{drop_of_length-le}
+use Rattle.std.proofs.lemmas.List.{drop-drop, length-drop}
+use Rattle.std.proofs.Math.Seq.{take-length}
+use Rattle.std.proofs.lemmas.Bool.{lt-ltb, le-ltb}
+use Rattle.relax_edges.specs.declared.edge.Edge.{Edge}
+use Rattle.relax_edges.specs.declared.relax_error.RelaxKind.{RelaxKind}
+use Rattle.relax_edges.specs.declared.relax_error.RelaxKind.TheVariants.{UnknownEdge, RelaxTooLong, DoesNotJoin}
+use Rattle.relax_edges.specs.RelaxText.{is_separator, is_empty, Item, words_from, item_from, bytes_behind, items_from, items_of}
+use Rattle.relax_edges.specs.Relaxations.{word_edges, paths_of, keep_all, at_most_64, kept_paths, kept_words, kept_item, kept_items, relaxes_of}
+use Rattle.relax_edges.specs.RelaxSearch.{paths_behind, KeepsPaths}
+use Rattle.relax_edges.specs.RelaxFront.{front_len, kept_front}
+use Rattle.relax_edges.proofs.Paths.{paths_behind-nil, at_most_64-ok}
+use Rattle.relax_edges.proofs.Cases.{by_test}
+
+abbrev Answer : Type 0
+Answer = Result (List (List Edge)) RelaxKind
+
+-- a word that stands for no edge
+pub kept_words_unknown : (kept : List (List Edge)) (words : List (List ℕ)) → list_any (λ word. is_empty (word_edges word)) words ≡ true
+    → kept_words kept words ≡ Err UnknownEdge
+unfolding kept_words
+kept_words_unknown kept words unknown = rw (unknown, kept_words) refl
+
+-- more than eight words
+pub kept_words_long : (kept : List (List Edge)) (words : List (List ℕ)) → list_any (λ word. is_empty (word_edges word)) words ≡ false → 8 < length words
+    → kept_words kept words ≡ Err RelaxTooLong
+unfolding kept_words
+kept_words_long kept words known long = rw (known, lt-ltb 8 (length words) long, kept_words) refl
+
+-- eight words or fewer, each of which stands for an edge
+kept_words_short : (kept : List (List Edge)) (words : List (List ℕ)) → list_any (λ word. is_empty (word_edges word)) words ≡ false → length words ≤ 8
+    → kept_words kept words ≡ kept_paths kept (paths_of words)
+unfolding kept_words
+kept_words_short kept words known short = rw (known, le-ltb 8 (length words) short, kept_words) refl
+
+paths_some : (kept paths : List (List Edge)) (new : List (List Edge)) → KeepsPaths kept paths new true → kept_paths kept paths ≡ Ok new
+paths_some kept [] new a = let f : true ≡ false = a.found in cc
+paths_some kept (path ∷ paths) new a = a.kept
+
+paths_none : (kept paths : List (List Edge)) (new : List (List Edge)) → KeepsPaths kept paths new false → kept_paths kept paths ≡ Err DoesNotJoin
+paths_none kept [] new a = refl
+paths_none kept (path ∷ paths) new a = let f : false ≡ true = a.found in cc
+
+paths_refused : (kept paths : List (List Edge)) (kind : RelaxKind) → length kept ≤ 64 → at_most_64 (keep_all kept paths) ≡ Err kind → kept_paths kept paths ≡ Err kind
+paths_refused kept [] kind few err = let ok = at_most_64-ok kept few in cc
+paths_refused kept (path ∷ paths) kind few err = err
+
+pub kept_words_some : (kept : List (List Edge)) (words : List (List ℕ)) (front : List Edge) (new : List (List Edge)) (some : Bool)
+    → list_any (λ word. is_empty (word_edges word)) words ≡ false → length words ≤ 8 → front ≡ [] → some ≡ true
+    → KeepsPaths kept (paths_behind front (map word_edges words)) new some → kept_words kept words ≡ Ok new
+kept_words_some kept words front new some known short none found a =
+    kept_words_short kept words known short
+    ∙ paths_some kept (paths_of words) new
+    (subst (λ p. KeepsPaths kept p new true) (paths_behind-nil (map word_edges words))
+    (subst (λ f. KeepsPaths kept (paths_behind f (map word_edges words)) new true) none (subst (λ b. KeepsPaths kept (paths_behind front (map word_edges words)) new b) found a)))
+
+pub kept_words_none : (kept : List (List Edge)) (words : List (List ℕ)) (front : List Edge) (new : List (List Edge)) (some : Bool)
+    → list_any (λ word. is_empty (word_edges word)) words ≡ false → length words ≤ 8 → front ≡ [] → some ≡ false
+    → KeepsPaths kept (paths_behind front (map word_edges words)) new some → kept_words kept words ≡ Err DoesNotJoin
+kept_words_none kept words front new some known short none found a =
+    kept_words_short kept words known short
+    ∙ paths_none kept (paths_of words) new
+    (subst (λ p. KeepsPaths kept p new false) (paths_behind-nil (map word_edges words))
+    (subst (λ f. KeepsPaths kept (paths_behind f (map word_edges words)) new false) none (subst (λ b. KeepsPaths kept (paths_behind front (map word_edges words)) new b) found a)))
+
+pub kept_words_refused : (kept : List (List Edge)) (words : List (List ℕ)) (front : List Edge) (kind : RelaxKind)
+    → list_any (λ word. is_empty (word_edges word)) words ≡ false → length words ≤ 8 → front ≡ [] → length kept ≤ 64
+    → at_most_64 (keep_all kept (paths_behind front (map word_edges words))) ≡ Err kind → kept_words kept words ≡ Err kind
+kept_words_refused kept words front kind known short none few err =
+    kept_words_short kept words known short
+    ∙ paths_refused kept (paths_of words) kind few
+    (subst (λ p. at_most_64 (keep_all kept p) ≡ Err kind) (paths_behind-nil (map word_edges words))
+    (subst (λ f. at_most_64 (keep_all kept (paths_behind f (map word_edges words))) ≡ Err kind) none err))
+
+drop_of_nil : (n : ℕ) → drop {A = ℕ} n [] ≡ []
+drop_of_nil zero = refl
+drop_of_nil (suc n) = refl
+
+-- passing bytes is dropping them
+items_passed : (place passed : ℕ) (text : List ℕ) → items_from place passed text ≡ items_from (place + passed) 0 (drop passed text)
+items_passed place passed [] = ap (λ t. items_from (place + passed) 0 t) (sym (drop_of_nil passed))
+items_passed place zero (byte ∷ behind) =
+    let e : place ≡ place + 0 = omega arith in ap (λ p. item_from p byte behind ++ items_from (p + 1) (bytes_behind byte behind) behind) e
+items_passed place (suc passed) (byte ∷ behind) =
+    let e : place + 1 + passed ≡ place + suc passed = omega arith in
+    items_passed (place + 1) passed behind ∙ ap (λ p. items_from p 0 (drop passed behind)) e
+
+items_behind : (place byte : ℕ) (behind : List ℕ) (n : ℕ) → items_from (place + 1) n behind ≡ items_from (place + (n + 1)) 0 (drop (n + 1) (byte ∷ behind))
+items_behind place byte behind n =
+    let e : place + 1 + n ≡ place + (n + 1) = omega arith in
+    let more : n + 1 ≡ suc n = omega arith in
+    rw (more, ← more) (items_passed (place + 1) n behind ∙ ap (λ p. items_from p 0 (drop n behind)) e)
+
+kept_one : (kept more : List (List Edge)) (item : Item) (items : List Item) → kept_item kept item.words ≡ Ok more → kept_items kept (item ∷ items) ≡ kept_items more items
+unfolding kept_items
+kept_one kept more item items ok = rw (ok, kept_items) refl
+
+refused_one : (kept : List (List Edge)) (kind : RelaxKind) (item : Item) (items : List Item) → kept_item kept item.words ≡ Err kind
+    → kept_items kept (item ∷ items) ≡ Err (record { at = item.start; kind = kind })
+unfolding kept_items
+refused_one kept kind item items err = rw (err, kept_items) refl
+
+separator_front : (kept : List (List Edge)) (byte : ℕ) (behind : List ℕ) → is_separator byte ≡ true → kept_front kept (byte ∷ behind) ≡ Ok kept
+unfolding kept_front
+separator_front kept byte behind s = rw s refl
+
+item_front : (kept : List (List Edge)) (byte : ℕ) (behind : List ℕ) → is_separator byte ≡ false → kept_front kept (byte ∷ behind) ≡ kept_item kept (words_from byte behind)
+unfolding kept_front
+item_front kept byte behind n = rw n refl
+
+-- the item that a text begins with is kept, and then those behind it
+pub kept_items_front : (kept more : List (List Edge)) (place : ℕ) (text : List ℕ) → kept_front kept text ≡ Ok more
+    → kept_items kept (items_from place 0 text) ≡ kept_items more (items_from (place + front_len text) 0 (drop (front_len text) text))
+unfolding kept_items kept_front front_len
+kept_items_front kept more place [] ok =
+    let same : ◌≡◌ {A = Answer} (Ok kept) (Ok more) = ok in
+    let same_kept : kept ≡ more = cc in
+    ap (λ k. Ok k) same_kept
+kept_items_front kept more place (byte ∷ behind) ok =
+    by_test (is_separator byte)
+    (λ s.
+    let none : item_from place byte behind ≡ [] = rw s refl in
+    let same : ◌≡◌ {A = Answer} (Ok kept) (Ok more) = sym (separator_front kept byte behind s) ∙ ok in
+    let same_kept : kept ≡ more = cc in
+    ap (λ items. kept_items kept (items ++ items_from (place + 1) (bytes_behind byte behind) behind)) none
+    ∙ ap (λ k. kept_items k (items_from (place + 1) (bytes_behind byte behind) behind)) same_kept
+    ∙ ap (kept_items more) (items_behind place byte behind (bytes_behind byte behind)))
+    (λ n.
+    let item : Item = record { start = place; words = words_from byte behind } in
+    let one : item_from place byte behind ≡ item ∷ [] = rw n refl in
+    ap (λ items. kept_items kept (items ++ items_from (place + 1) (bytes_behind byte behind) behind)) one
+    ∙ kept_one kept more item (items_from (place + 1) (bytes_behind byte behind) behind) (sym (item_front kept byte behind n) ∙ ok)
+    ∙ ap (kept_items more) (items_behind place byte behind (bytes_behind byte behind)))
+
+pub kept_items_refused : (kept : List (List Edge)) (kind : RelaxKind) (place : ℕ) (text : List ℕ) → kept_front kept text ≡ Err kind
+    → kept_items kept (items_from place 0 text) ≡ Err (record { at = place; kind = kind })
+unfolding kept_items kept_front
+kept_items_refused kept kind place [] err = let e : ◌≡◌ {A = Answer} (Ok kept) (Err kind) = err in cc
+kept_items_refused kept kind place (byte ∷ behind) err =
+    by_test (is_separator byte)
+    (λ s. let e : ◌≡◌ {A = Answer} (Ok kept) (Err kind) = sym (separator_front kept byte behind s) ∙ err in cc)
+    (λ n.
+    let item : Item = record { start = place; words = words_from byte behind } in
+    let one : item_from place byte behind ≡ item ∷ [] = rw n refl in
+    ap (λ items. kept_items kept (items ++ items_from (place + 1) (bytes_behind byte behind) behind)) one
+    ∙ refused_one kept kind item (items_from (place + 1) (bytes_behind byte behind) behind) (sym (item_front kept byte behind n) ∙ err))
+
+-- the same, behind the bytes of a text that are passed
+rest_of : (text : List ℕ) (place : ℕ) → take (length text - place) (drop place text) ≡ drop place text
+rest_of text place = ap (λ n. take n (drop place text)) (sym (length-drop place text)) ∙ take-length (drop place text)
+
+pub items_step : (kept more : List (List Edge)) (text : List ℕ) (place len : ℕ)
+    → kept_front kept (take (length text - place) (drop place text)) ≡ Ok more → len ≡ front_len (take (length text - place) (drop place text))
+    → kept_items more (items_from (place + len) 0 (drop (place + len) text)) ≡ kept_items kept (items_from place 0 (drop place text))
+items_step kept more text place len ok is =
+    let ok_rest : kept_front kept (drop place text) ≡ Ok more = subst (λ t. kept_front kept t ≡ Ok more) (rest_of text place) ok in
+    let is_rest : len ≡ front_len (drop place text) = is ∙ ap front_len (rest_of text place) in
+    let e : drop (place + len) text ≡ drop len (drop place text) = sym (drop-drop len place text) in
+    rw (e, is_rest) (sym (kept_items_front kept more place (drop place text) ok_rest))
+
+pub items_refused : (kept : List (List Edge)) (kind : RelaxKind) (text : List ℕ) (place : ℕ)
+    → kept_front kept (take (length text - place) (drop place text)) ≡ Err kind
+    → kept_items kept (items_from place 0 (drop place text)) ≡ Err (record { at = place; kind = kind })
+items_refused kept kind text place err =
+    kept_items_refused kept kind place (drop place text) (subst (λ t. kept_front kept t ≡ Err kind) (rest_of text place) err)
+
+pub items_end : (kept : List (List Edge)) (text : List ℕ) (place : ℕ) → length text ≤ place → kept_items kept (items_from place 0 (drop place text)) ≡ Ok kept
+unfolding kept_items
+items_end kept text place past = rw (drop_of_length-le text {i = place} past) refl
+
+pub relaxes_of_text : (text : List ℕ) (kept : List (List Edge)) → kept ≡ [] → relaxes_of text ≡ kept_items kept (items_from 0 0 text)
+unfolding relaxes_of items_of
+relaxes_of_text text kept none = ap (λ k. kept_items k (items_from 0 0 text)) (sym none)

@@ -1,0 +1,59 @@
+-- A relaxation is kept at its first place, while there is room.
+use Rattle.std.specs.Prelude.{ℕ, ◌≡◌, ◌<◌, ◌≤◌, ◌==◌, ◌&&◌, Bool, true, false, nat_lt, Ok, Err, List, [], ◌∷◌, ◌++◌, length}
+use Rattle.std.specs.List.{list_any}
+use Rattle.std.proofs.Common.{refl, arith, ap, sym, ◌∙◌}
+use Rattle.std.proofs.lemmas.Bool.{lt-ltb, eq-eqb, eqb-true}
+use Rattle.std.proofs.lemmas.List.{length-append}
+use Rattle.relax_edges.specs.declared.edge.Edge.{Edge}
+use Rattle.relax_edges.specs.declared.relax_error.RelaxKind.TheVariants.{TooManyRelaxes}
+use Rattle.relax_edges.specs.Order.{rank_of}
+use Rattle.relax_edges.specs.Relaxations.{is_same, are_distinct, IsRelaxes, keep, at_most_64}
+use Rattle.relax_edges.proofs.Paths.{at_most_64-ok}
+use Rattle.relax_edges.proofs.Cases.{by_test, no_true}
+
+pub keep_there : (kept : List (List Edge)) (path : List Edge) → IsRelaxes kept → list_any (is_same path) kept ≡ true → at_most_64 (keep kept path) ≡ Ok kept
+keep_there kept path relaxes there = rw there (at_most_64-ok kept relaxes.few)
+
+pub keep_full : (kept : List (List Edge)) (path : List Edge) → list_any (is_same path) kept ≡ false → 64 ≤ length kept → at_most_64 (keep kept path) ≡ Err TooManyRelaxes
+keep_full kept path new full =
+    let many : nat_lt 64 (length (kept ++ path ∷ [])) ≡ true = lt-ltb 64 (length (kept ++ path ∷ [])) (omega (arith, length-append kept (path ∷ []))) in
+    rw new (rw many refl)
+
+pub keep_room : (kept : List (List Edge)) (path : List Edge) → list_any (is_same path) kept ≡ false → length kept < 64 → at_most_64 (keep kept path) ≡ Ok (kept ++ path ∷ [])
+keep_room kept path new room =
+    rw new (at_most_64-ok (kept ++ path ∷ []) (omega (arith, length-append kept (path ∷ []))))
+
+both_true : (a b : Bool) → (a ≡ true → b ≡ true) → (b ≡ true → a ≡ true) → a ≡ b
+both_true true b p q = sym (p refl)
+both_true false true p q = q refl
+both_true false false p q = refl
+
+rank_turned : (m n : ℕ) → (m == n) ≡ (n == m)
+rank_turned m n = both_true (m == n) (n == m) (λ t. eq-eqb n m (sym (eqb-true m n t))) (λ t. eq-eqb m n (sym (eqb-true n m t)))
+
+-- two lists of edges are one either way round
+same_turned : (a b : List Edge) → is_same a b ≡ is_same b a
+same_turned [] [] = refl
+same_turned [] (y ∷ b) = refl
+same_turned (x ∷ a) [] = refl
+same_turned (x ∷ a) (y ∷ b) = rw (rank_turned (rank_of x) (rank_of y)) (ap (λ t. (rank_of y == rank_of x) && t) (same_turned a b))
+
+any_end : (test : List Edge → Bool) (paths : List (List Edge)) (path : List Edge) → list_any test paths ≡ false → test path ≡ false → list_any test (paths ++ path ∷ []) ≡ false
+any_end test [] path none f = rw f refl
+any_end test (first ∷ paths) path none f =
+    by_test (test first) (λ t. absurd (no_true (sym (rw t at none)))) (λ n. rw n (any_end test paths path (rw n at none) f))
+
+distinct_end : (kept : List (List Edge)) (path : List Edge) → are_distinct kept ≡ true → list_any (is_same path) kept ≡ false → are_distinct (kept ++ path ∷ []) ≡ true
+distinct_end [] path distinct new = refl
+distinct_end (first ∷ kept) path distinct new =
+    by_test (is_same path first)
+    (λ t. absurd (no_true (sym (rw t at new))))
+    (λ n.
+    by_test (list_any (is_same first) kept)
+    (λ t. absurd (no_true (rw t at distinct)))
+    (λ f.
+    rw (any_end (is_same first) kept path f (same_turned first path ∙ n)) (distinct_end kept path (rw f at distinct) (rw n at new))))
+
+pub relaxes_end : (kept : List (List Edge)) (path : List Edge) → IsRelaxes kept → list_any (is_same path) kept ≡ false → length kept < 64 → IsRelaxes (kept ++ path ∷ [])
+relaxes_end kept path relaxes new room =
+    record { few = omega (arith, length-append kept (path ∷ [])); distinct = distinct_end kept path relaxes.distinct new }

@@ -1,0 +1,5 @@
+use Rattle.relax_edges.proofs.Fronts.{front_word}
+use Rattle.relax_edges.proofs.relax_items.front_word.Goals as goal
+
+pub returns : goal.returns
+returns c = front_word c.args.text.now c.run_len.result c.requires c.run_len.ensures.value

@@ -1,0 +1,14 @@
+use Rattle.std.proofs.Common.{◌≡◌, ◌≤◌, ◌-◌, length, drop}
+use Rattle.relax_edges.specs.RelaxText.{items_from}
+use Rattle.relax_edges.specs.Relaxations.{kept_items}
+use Rattle.relax_edges.proofs.relax_list.keep_items.Given as goal
+
+abbrev pub invariant-loop-at : goal.invariant-loop-at
+invariant-loop-at l = record {
+  same : kept_items l.kept (items_from l.at 0 (drop l.at l.text)) ≡ kept_items l.fn.kept (items_from 0 0 l.text);
+  within : l.at ≤ length l.text;
+  few : length l.kept ≤ 64;
+}
+
+abbrev pub decreases-loop-at : goal.decreases-loop-at
+decreases-loop-at l = length l.text - l.at

@@ -1,0 +1,11 @@
+use Rattle.std.proofs.Common.{◌≡◌, length}
+use Rattle.std.specs.List.{list_any}
+use Rattle.relax_edges.specs.RelaxText.{words_of, is_empty}
+use Rattle.relax_edges.specs.Relaxations.{word_edges}
+use Rattle.relax_edges.proofs.relax_words.has_unknown.Given as goal
+
+abbrev pub invariant-loop-word : goal.invariant-loop-word
+invariant-loop-word l = list_any (λ word. is_empty (word_edges word)) (words_of l.rest) ≡ list_any (λ word. is_empty (word_edges word)) (words_of l.words)
+
+abbrev pub decreases-loop-word : goal.decreases-loop-word
+decreases-loop-word l = length l.rest

@@ -1,0 +1,41 @@
+-- The item that a text begins with.
+use Rattle.std.specs.Prelude.{ℕ, ◌≡◌, ◌<◌, ◌≤◌, ◌+◌, Bool, true, cond, Option, Some, None, Result, Ok, List, [], ◌∷◌, length}
+use Rattle.relax_edges.specs.declared.edge.Edge.{Edge}
+use Rattle.relax_edges.specs.declared.relax_error.RelaxKind.{RelaxKind}
+use Rattle.relax_edges.specs.RelaxText.{is_separator, ends_word, words_of, inside, bracket_words, words_from, bytes_behind}
+use Rattle.relax_edges.specs.Relaxations.{kept_item}
+
+-- the words of the item that a text begins with, or none where its bracket is bad
+unfoldable pub front_words : List ℕ → Option (List (List ℕ))
+front_words [] = None
+front_words (byte ∷ behind) = words_from byte behind
+
+-- the length of the item or separator that a text begins with
+unfoldable pub front_len : List ℕ → ℕ
+front_len [] = 0
+front_len (byte ∷ behind) = bytes_behind byte behind + 1
+
+-- what is kept behind the item or separator that a text begins with, or why that item is refused
+unfoldable pub kept_front : List (List Edge) → List ℕ → Result (List (List Edge)) RelaxKind
+kept_front kept [] = Ok kept
+kept_front kept (byte ∷ behind) = cond (is_separator byte) (Ok kept) (kept_item kept (words_from byte behind))
+
+-- whether a text begins with the end of a word
+unfoldable pub ends_here : List ℕ → Bool
+ends_here [] = true
+ends_here (byte ∷ behind) = ends_word byte
+
+-- a text has the words of a good bracket, whose `[` stands before what is behind
+pub record IsInside (behind words : List ℕ) : Type 0 where
+  pub good : bracket_words behind ≡ Some (words_of words)
+  pub len : length words ≡ length (inside behind)
+  pub closed : length words < length behind
+  pub some : 0 < length (words_of words)
+
+-- a text is the word that another begins with
+pub record IsFrontWord (text word : List ℕ) : Type 0 where
+  pub words : front_words text ≡ Some (words_of word)
+  pub len : length word ≡ front_len text
+  pub within : length word ≤ length text
+  pub bytes : 0 < length word
+  pub some : 0 < length (words_of word)

@@ -1,0 +1,154 @@
+ghost use Rattle.std.specs.Prelude.{◌≡◌, ◌<◌, ◌≤◌, ◌+◌, ◌∷◌, false, length, Ok, Err, None, OnOk, IfOk, MatchOption, MatchResult};
+ghost use Rattle.std.specs.List.{position, position_or_len};
+ghost use Rattle.relax_edges.specs.RelaxText.{is_separator, is_bracket, ends_word, words_of, bracket_words};
+ghost use Rattle.relax_edges.specs.RelaxFront.{front_len, kept_front, ends_here, IsInside, IsFrontWord};
+ghost use Rattle.relax_edges.specs.Relaxations.{kept_words};
+
+use crate::relax::Relaxes;
+use crate::relax_error::RelaxKind;
+use crate::relax_search::keep_paths;
+use crate::relax_words::{count_words, has_unknown, is_separator, next_word};
+use arrayvec::ArrayVec;
+
+fn is_bracket(byte: u8) -> bool
+    ensures { result ≡ is_bracket byte }
+{
+    matches!(byte, b'[' | b']')
+}
+
+fn ends_word(byte: u8) -> bool
+    ensures { result ≡ ends_word byte }
+{
+    is_separator(byte) || is_bracket(byte)
+}
+
+fn first_bracket(text: &[u8]) -> Option<usize>
+    ensures { result ≡ position is_bracket text.now }
+{
+    text.iter().position(|byte| is_bracket(*byte))
+}
+
+#[tactic(auto, using(crate::proofs::RelaxWords::position_unwrapped))]
+fn inside_len(text: &[u8]) -> usize
+    ensures value { result ≡ position_or_len is_bracket text.now }
+    ensures within { result ≤ length text.now }
+{
+    first_bracket(text).unwrap_or(text.len())
+}
+
+fn first_end(text: &[u8]) -> Option<usize>
+    ensures { result ≡ position ends_word text.now }
+{
+    text.iter().position(|byte| ends_word(*byte))
+}
+
+#[tactic(auto, using(crate::proofs::RelaxWords::position_unwrapped))]
+fn run_len(text: &[u8]) -> usize
+    ensures value { result ≡ position_or_len ends_word text.now }
+    ensures within { result ≤ length text.now }
+{
+    first_end(text).unwrap_or(text.len())
+}
+
+/// The text inside a good bracket, from what stands behind its `[`.
+#[tactic(auto, using(crate::proofs::Fronts::bracket_open, crate::proofs::Fronts::bracket_nested, crate::proofs::Fronts::bracket_empty, crate::proofs::Fronts::bracket_good))]
+fn inside_bracket(behind: &[u8]) -> Option<&[u8]>
+    ensures { MatchOption result (bracket_words behind.now ≡ None) (λ words. IsInside behind.now words.now) }
+{
+    let len = inside_len(behind);
+    if len >= behind.len() || behind[len] != b']' {
+        return None;
+    }
+    let words = &behind[..len];
+    match next_word(words) {
+        Some(_) => Some(words),
+        None => None,
+    }
+}
+
+/// The word that a text begins with.
+#[tactic(auto, using(crate::proofs::Fronts::front_word))]
+fn front_word(text: &[u8]) -> &[u8]
+    requires { ends_here text.now ≡ false }
+    ensures { IsFrontWord text.now result.now }
+{
+    &text[..run_len(text)]
+}
+
+/// Keeps the relaxations of some words.
+#[tactic(auto, using(crate::proofs::Items::kept_words_unknown, crate::proofs::Items::kept_words_long, crate::proofs::Items::kept_words_some, crate::proofs::Items::kept_words_none, crate::proofs::Items::kept_words_refused))]
+fn keep_words(words: &[u8], kept: &mut Relaxes) -> Result<(), RelaxKind>
+    requires some { 0 < length (words_of words.now) }
+    requires few { length kept.old ≤ 64 }
+    ensures kept { MatchResult result (λ _. kept_words kept.old (words_of words.now) ≡ Ok kept.new) (λ kind. kept_words kept.old (words_of words.now) ≡ Err kind) }
+    ensures few { OnOk result (length kept.new ≤ 64) }
+{
+    if has_unknown(words) {
+        return Err(RelaxKind::UnknownEdge);
+    }
+    if count_words(words) > 8 {
+        return Err(RelaxKind::RelaxTooLong);
+    }
+    let mut chosen = ArrayVec::new();
+    if keep_paths(words, &mut chosen, kept)? {
+        Ok(())
+    } else {
+        Err(RelaxKind::DoesNotJoin)
+    }
+}
+
+/// Keeps the relaxations of the item that a text begins with, and answers its length; a separator
+/// is passed over.
+pub(crate) fn keep_item(text: &[u8], kept: &mut Relaxes) -> Result<usize, RelaxKind>
+    requires some { 0 < length text.now }
+    requires few { length kept.old ≤ 64 }
+    ensures kept { MatchResult result (λ _. kept_front kept.old text.now ≡ Ok kept.new) (λ kind. kept_front kept.old text.now ≡ Err kind) }
+    ensures len { IfOk result (λ len. len ≡ front_len text.now) }
+    ensures more { IfOk result (λ len. 0 < len) }
+    ensures within { IfOk result (λ len. len ≤ length text.now) }
+    ensures few { OnOk result (length kept.new ≤ 64) }
+{
+    let first = text[0];
+    if first == b'[' {
+        keep_bracket(&text[1..], kept)
+    } else if first == b']' {
+        Err(RelaxKind::BadBracket)
+    } else if is_separator(first) {
+        Ok(1)
+    } else {
+        keep_word(text, kept)
+    }
+}
+
+/// Keeps the relaxations of a bracket, from what stands behind its `[`, and answers its length.
+fn keep_bracket(behind: &[u8], kept: &mut Relaxes) -> Result<usize, RelaxKind>
+    requires { length kept.old ≤ 64 }
+    ensures kept { MatchResult result (λ _. kept_front kept.old (91 ∷ behind.now) ≡ Ok kept.new) (λ kind. kept_front kept.old (91 ∷ behind.now) ≡ Err kind) }
+    ensures len { IfOk result (λ len. len ≡ front_len (91 ∷ behind.now)) }
+    ensures more { IfOk result (λ len. 0 < len) }
+    ensures within { IfOk result (λ len. len ≤ length behind.now + 1) }
+    ensures few { OnOk result (length kept.new ≤ 64) }
+{
+    match inside_bracket(behind) {
+        Some(words) => {
+            keep_words(words, kept)?;
+            Ok(words.len() + 2)
+        }
+        None => Err(RelaxKind::BadBracket),
+    }
+}
+
+/// Keeps the relaxations of the word that a text begins with, and answers its length.
+fn keep_word(text: &[u8], kept: &mut Relaxes) -> Result<usize, RelaxKind>
+    requires word { ends_here text.now ≡ false }
+    requires few { length kept.old ≤ 64 }
+    ensures kept { MatchResult result (λ _. kept_front kept.old text.now ≡ Ok kept.new) (λ kind. kept_front kept.old text.now ≡ Err kind) }
+    ensures len { IfOk result (λ len. len ≡ front_len text.now) }
+    ensures more { IfOk result (λ len. 0 < len) }
+    ensures within { IfOk result (λ len. len ≤ length text.now) }
+    ensures few { OnOk result (length kept.new ≤ 64) }
+{
+    let word = front_word(text);
+    keep_words(word, kept)?;
+    Ok(word.len())
+}

@@ -1,0 +1,75 @@
+ghost use Rattle.std.specs.Prelude.{◌≡◌, ◌<◌, ◌≤◌, ◌+◌, ◌∷◌, [], ◌++◌, true, length, map, Ok, Err, OnOk, MatchResult};
+ghost use Rattle.arrayvec.specs.ArrayVec.{array_vec_len};
+ghost use Rattle.relax_edges.specs.RelaxText.{words_of};
+ghost use Rattle.relax_edges.specs.Relaxations.{word_edges, is_path, keep_all, at_most_64};
+ghost use Rattle.relax_edges.specs.RelaxSearch.{paths_behind, KeepsPaths};
+
+use crate::edge::Edge;
+use crate::relax::Relaxes;
+use crate::relax_error::RelaxKind;
+use crate::relax_words::{next_word, word_edges};
+use arrayvec::ArrayVec;
+
+fn extends(front: &[Edge], edge: Edge) -> bool
+    requires { is_path front.now ≡ true }
+    ensures { result ≡ is_path (front.now ++ edge ∷ []) }
+{
+    match front {
+        [.., last] => last.joins(edge),
+        [] => true,
+    }
+}
+
+/// Keeps each path that begins with the chosen edges and goes on with an edge of each word. The
+/// answer is whether there is one.
+#[cycle(relax_search)]
+pub(crate) fn keep_paths(
+    words: &[u8],
+    chosen: &mut ArrayVec<Edge, 8>,
+    kept: &mut Relaxes,
+) -> Result<bool, RelaxKind>
+    requires path { is_path chosen.old.items ≡ true }
+    requires some { 0 < array_vec_len chosen.old + length (words_of words.now) }
+    requires short { array_vec_len chosen.old + length (words_of words.now) ≤ 8 }
+    requires few { length kept.old ≤ 64 }
+    ensures chosen { OnOk result (chosen.new.items ≡ chosen.old.items) }
+    ensures kept { MatchResult result
+        (λ some. KeepsPaths kept.old (paths_behind chosen.old.items (map word_edges (words_of words.now))) kept.new some)
+        (λ kind. at_most_64 (keep_all kept.old (paths_behind chosen.old.items (map word_edges (words_of words.now)))) ≡ Err kind) }
+{
+    let Some((word, behind)) = next_word(words) else {
+        kept.keep(chosen.as_slice())?;
+        return Ok(true);
+    };
+    let edges = word_edges(word);
+    let mut some = false;
+    for edge in edges.as_slice() {
+        some |= keep_behind(*edge, behind, chosen, kept)?;
+    }
+    Ok(some)
+}
+
+/// Keeps each path that begins with the chosen edges and one more, if that joins.
+#[cycle(relax_search)]
+fn keep_behind(
+    edge: Edge,
+    words: &[u8],
+    chosen: &mut ArrayVec<Edge, 8>,
+    kept: &mut Relaxes,
+) -> Result<bool, RelaxKind>
+    requires path { is_path chosen.old.items ≡ true }
+    requires short { array_vec_len chosen.old + length (words_of words.now) < 8 }
+    requires few { length kept.old ≤ 64 }
+    ensures chosen { OnOk result (chosen.new.items ≡ chosen.old.items) }
+    ensures kept { MatchResult result
+        (λ some. KeepsPaths kept.old (paths_behind (chosen.old.items ++ edge ∷ []) (map word_edges (words_of words.now))) kept.new some)
+        (λ kind. at_most_64 (keep_all kept.old (paths_behind (chosen.old.items ++ edge ∷ []) (map word_edges (words_of words.now)))) ≡ Err kind) }
+{
+    if !extends(chosen.as_slice(), edge) {
+        return Ok(false);
+    }
+    chosen.push(edge);
+    let some = keep_paths(words, chosen, kept)?;
+    chosen.pop();
+    Ok(some)
+}

@@ -1,0 +1,44 @@
+-- What holds of each element of a list, and the first element that passes a test.
+use Rattle.std.proofs.Common.{◌≡◌, ℕ, zero, suc, ◌+◌, ◌<◌, Bool, true, false, cond, List, [], ◌∷◌, ◌++◌, Some, None, slice_get, refl, sym, ◌∙◌, ap, subst, arith}
+use Rattle.std.specs.List.{AllByRecursion, position_from}
+use Rattle.list_laws.proofs.Cases.{by_test}
+
+pub all_gets : {X : Type 0} (P : X → Type 0) (xs : List X) (k : ℕ) (x : X) → AllByRecursion P xs → slice_get xs k ≡ Some x → P x
+all_gets P [] k x h g = cc
+all_gets P (y ∷ xs) zero x h g = let e : y ≡ x = cc in subst P e h.0
+all_gets P (y ∷ xs) (suc k) x h g = all_gets P xs k x h.1 g
+
+pub all_from : {X : Type 0} (P : X → Type 0) (xs : List X) → ((k : ℕ) (x : X) → slice_get xs k ≡ Some x → P x) → AllByRecursion P xs
+all_from P [] h = tt
+all_from P (x ∷ xs) h = (h 0 x refl, all_from P xs (λ k y g. h (suc k) y g))
+
+pub all_parts : {X : Type 0} (P : X → Type 0) (xs ys : List X) → AllByRecursion P (xs ++ ys) → AllByRecursion P xs × AllByRecursion P ys
+all_parts P [] ys h = (tt, h)
+all_parts P (x ∷ xs) ys h = let r = all_parts P xs ys h.1 in ((h.0, r.0), r.1)
+
+pub all_joined : {X : Type 0} (P : X → Type 0) (xs ys : List X) → AllByRecursion P xs → AllByRecursion P ys → AllByRecursion P (xs ++ ys)
+all_joined P [] ys h g = g
+all_joined P (x ∷ xs) ys h g = (h.0, all_joined P xs ys h.1 g)
+
+-- where none passes, each fails
+pub position_none : {X : Type 0} (t : X → Bool) (i : ℕ) (xs : List X) (k : ℕ) (x : X) → position_from t i xs ≡ None → slice_get xs k ≡ Some x → t x ≡ false
+position_none t i [] k x h g = cc
+position_none t i (y ∷ xs) k x h g =
+    by_test (t y)
+    (λ p. let e : Some i ≡ None = sym (ap (λ b. cond b (Some i) (position_from t (i + 1) xs)) p) ∙ h in cc)
+    (λ n. behind k g n (λ j. position_none t (i + 1) xs j x (sym (ap (λ b. cond b (Some i) (position_from t (i + 1) xs)) n) ∙ h)))
+  where
+    behind : (k : ℕ) → slice_get (y ∷ xs) k ≡ Some x → t y ≡ false → ((j : ℕ) → slice_get xs j ≡ Some x → t x ≡ false) → t x ≡ false
+    behind zero g n rest = let e : y ≡ x = cc in ap t (sym e) ∙ n
+    behind (suc j) g n rest = rest j g
+
+-- the place of the first that passes
+pub position_first : {X : Type 0} (t : X → Bool) (i : ℕ) (xs : List X) (k : ℕ) (x : X) → slice_get xs k ≡ Some x → t x ≡ true → ((j : ℕ) (y : X) → j < k → slice_get xs j ≡ Some y → t y ≡ false) → position_from t i xs ≡ Some (i + k)
+position_first t i [] k x g p none = cc
+position_first t i (y ∷ xs) zero x g p none =
+    let e : y ≡ x = cc in
+    ap (λ b. cond b (Some i) (position_from t (i + 1) xs)) (ap t e ∙ p) ∙ ap Some (omega arith)
+position_first t i (y ∷ xs) (suc k) x g p none =
+    ap (λ b. cond b (Some i) (position_from t (i + 1) xs)) (none 0 y (omega arith) refl)
+    ∙ position_first t (i + 1) xs k x g p (λ j z l h. none (suc j) z (omega arith) h)
+    ∙ ap Some (omega arith)

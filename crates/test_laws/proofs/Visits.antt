@@ -1,0 +1,119 @@
+-- The accesses of a thread's run as visits: each with the barriers of its link before it and with its masks.
+use Rattle.std.proofs.Common.{◌≡◌, ℕ, ◌+◌, ◌-◌, cond, List, [], ◌∷◌, ◌++◌, length, map, refl, ◌∙◌, ap, arith}
+use Rattle.std.proofs.lemmas.List.Sums.{sum_by-cons}
+use Rattle.relax_edges.specs.declared.kinds.Dir.{Dir}
+use Rattle.relax_edges.specs.declared.kinds.Dir.TheVariants as dirs
+use Rattle.relax_edges.specs.declared.kinds.FenceKind.TheVariants as fences
+use Rattle.micro_ops.specs.declared.operation.Barrier.TheVariants as kinds
+use Rattle.micro_ops.specs.declared.operation.Item.{Item}
+use Rattle.arch_trait.specs.declared.step.Step.{Step}
+use Rattle.arch_trait.specs.declared.link.Link.{Link}
+use Rattle.arch_trait.specs.declared.link.Link.TheVariants as links
+use Rattle.arch_trait.specs.Links.{is_addr, is_data, mask_if, link_control, link_items}
+use Rattle.arch_trait.specs.Threads.{is_load_dir, loads_in, loads_after, first_of, left_after, access_item, thread_items}
+use Rattle.program_meaning.specs.Accesses.{Access, Barred, Visit, visits_from, visits_of, barriers_behind, accesses_of}
+use Rattle.communication.specs.Joining.{value_taken, values_left, filled}
+
+-- the barriers of a link
+abbrev pub link_barred : Link → ℕ → ℕ → List Barred
+link_barred (links.Fence kind) k c = record { kind = kinds.Fence kind; control = c } ∷ []
+link_barred links.CtrlIsync k c = record { kind = kinds.Fence fences.ISync; control = link_control links.CtrlIsync k c } ∷ []
+link_barred links.CtrlIsb k c = record { kind = kinds.Isb; control = link_control links.CtrlIsb k c } ∷ []
+link_barred links.Plain k c = []
+link_barred links.Addr k c = []
+link_barred links.Data k c = []
+link_barred links.Ctrl k c = []
+
+-- the value that an access reads or writes
+abbrev pub value_met : Step → Dir → ℕ → ℕ
+value_met s dirs.R v = v
+value_met s dirs.W v = s.value
+
+-- the loads that the data of an access depends on
+abbrev pub data_met : Step → Dir → ℕ → ℕ
+data_met s dirs.R k = 0
+data_met s dirs.W k = mask_if (is_data s.link) k
+
+-- an access that load number k stands before, where branches depended on the loads of c
+abbrev pub step_visit : Step → Dir → ℕ → ℕ → ℕ → Visit
+step_visit s d v k c = record {
+  barriers = link_barred s.link k c;
+  access = record { dir = d; place = s.place; value = value_met s d v };
+  address_mask = mask_if (is_addr s.link) k;
+  data_mask = data_met s d k;
+  control_mask = link_control s.link k c;
+}
+
+-- the accesses that follow where a thread has made n loads and its branches depended on the loads of c
+abbrev pub thread_visits : List Step → ℕ → ℕ → List ℕ → List Visit
+thread_visits [] n c vs = []
+thread_visits (s ∷ ss) n c vs =
+    step_visit s s.dir (first_of vs) (n - 1) c ∷ thread_visits ss (loads_after s.dir n) (link_control s.link (n - 1) c) (left_after s.dir vs)
+
+item_visit : (s : Step) (d : Dir) (v k c : ℕ) (rest : List Item) → visits_from [] ((link_items s.link k c ++ access_item s d v k (link_control s.link k c) ∷ []) ++ rest) ≡ step_visit s d v k c ∷ visits_from [] rest
+item_visit s d v k c rest = of_link s.link d
+  where
+    of_access : (b : List Barred) (c : ℕ) (l : Link) (d : Dir) → visits_from b (access_item (record s { link = l }) d v k c ∷ rest) ≡ record { barriers = b; access = record { dir = d; place = s.place; value = value_met s d v }; address_mask = mask_if (is_addr l) k; data_mask = data_met (record s { link = l }) d k; control_mask = c } ∷ visits_from [] rest
+    of_access b c l dirs.R = refl
+    of_access b c l dirs.W = refl
+
+    of_link : (l : Link) (d : Dir) → visits_from [] ((link_items l k c ++ access_item (record s { link = l }) d v k (link_control l k c) ∷ []) ++ rest) ≡ step_visit (record s { link = l }) d v k c ∷ visits_from [] rest
+    of_link links.Plain d = of_access [] c links.Plain d
+    of_link (links.Fence kind) d = of_access (record { kind = kinds.Fence kind; control = c } ∷ []) c (links.Fence kind) d
+    of_link links.Addr d = of_access [] c links.Addr d
+    of_link links.Data d = of_access [] c links.Data d
+    of_link links.Ctrl d = of_access [] (link_control links.Ctrl k c) links.Ctrl d
+    of_link links.CtrlIsync d = of_access (link_barred links.CtrlIsync k c) (link_control links.CtrlIsync k c) links.CtrlIsync d
+    of_link links.CtrlIsb d = of_access (link_barred links.CtrlIsb k c) (link_control links.CtrlIsb k c) links.CtrlIsb d
+
+-- the items of a thread are these visits
+pub visits_are : (ss : List Step) (n c : ℕ) (vs : List ℕ) → visits_of (thread_items ss n c vs) ≡ thread_visits ss n c vs
+visits_are [] n c vs = refl
+visits_are (s ∷ ss) n c vs =
+    item_visit s s.dir (first_of vs) (n - 1) c (thread_items ss (loads_after s.dir n) (link_control s.link (n - 1) c) (left_after s.dir vs))
+    ∙ ap (λ l. step_visit s s.dir (first_of vs) (n - 1) c ∷ l) (visits_are ss (loads_after s.dir n) (link_control s.link (n - 1) c) (left_after s.dir vs))
+
+item_ends : (s : Step) (d : Dir) (v k c : ℕ) (rest : List Item) → barriers_behind [] ((link_items s.link k c ++ access_item s d v k (link_control s.link k c) ∷ []) ++ rest) ≡ barriers_behind [] rest
+item_ends s d v k c rest = of_link s.link d
+  where
+    of_access : (b : List Barred) (c : ℕ) (l : Link) (d : Dir) → barriers_behind b (access_item (record s { link = l }) d v k c ∷ rest) ≡ barriers_behind [] rest
+    of_access b c l dirs.R = refl
+    of_access b c l dirs.W = refl
+
+    of_link : (l : Link) (d : Dir) → barriers_behind [] ((link_items l k c ++ access_item (record s { link = l }) d v k (link_control l k c) ∷ []) ++ rest) ≡ barriers_behind [] rest
+    of_link links.Plain d = of_access [] c links.Plain d
+    of_link (links.Fence kind) d = of_access (record { kind = kinds.Fence kind; control = c } ∷ []) c (links.Fence kind) d
+    of_link links.Addr d = of_access [] c links.Addr d
+    of_link links.Data d = of_access [] c links.Data d
+    of_link links.Ctrl d = of_access [] (link_control links.Ctrl k c) links.Ctrl d
+    of_link links.CtrlIsync d = of_access (link_barred links.CtrlIsync k c) (link_control links.CtrlIsync k c) links.CtrlIsync d
+    of_link links.CtrlIsb d = of_access (link_barred links.CtrlIsb k c) (link_control links.CtrlIsb k c) links.CtrlIsb d
+
+-- no barrier stands behind the last access of a thread
+pub ends_free : (ss : List Step) (n c : ℕ) (vs : List ℕ) → barriers_behind [] (thread_items ss n c vs) ≡ []
+ends_free [] n c vs = refl
+ends_free (s ∷ ss) n c vs =
+    item_ends s s.dir (first_of vs) (n - 1) c (thread_items ss (loads_after s.dir n) (link_control s.link (n - 1) c) (left_after s.dir vs))
+    ∙ ends_free ss (loads_after s.dir n) (link_control s.link (n - 1) c) (left_after s.dir vs)
+
+-- an access as the cycle's test plans it
+abbrev pub step_access : Step → Access
+step_access s = record { dir = s.dir; place = s.place; value = s.value }
+
+left_same : (d : Dir) (vs : List ℕ) → left_after d vs ≡ values_left d vs
+left_same dirs.R [] = refl
+left_same dirs.R (v ∷ vs) = refl
+left_same dirs.W vs = refl
+
+-- with a number for each load, the accesses are those planned, on these numbers
+pub accesses_are : (ss : List Step) (n c : ℕ) (vs : List ℕ) → length vs ≡ loads_in ss → accesses_of (thread_visits ss n c vs) ≡ filled (map step_access ss) vs
+accesses_are [] n c vs h = refl
+accesses_are (s ∷ ss) n c vs h =
+    of_dir s.dir vs (h ∙ sum_by-cons (λ t. cond (is_load_dir t.dir) 1 0) s ss) (λ m us g. accesses_are ss m (link_control s.link (n - 1) c) us g)
+  where
+    of_dir : (d : Dir) (vs : List ℕ) → length vs ≡ cond (is_load_dir d) 1 0 + loads_in ss →
+        ((m : ℕ) (us : List ℕ) → length us ≡ loads_in ss → accesses_of (thread_visits ss m (link_control s.link (n - 1) c) us) ≡ filled (map step_access ss) us) →
+        ◌≡◌ {A = List Access} (record { dir = d; place = s.place; value = value_met s d (first_of vs) } ∷ accesses_of (thread_visits ss (loads_after d n) (link_control s.link (n - 1) c) (left_after d vs))) (record { dir = d; place = s.place; value = value_taken d vs s.value } ∷ filled (map step_access ss) (values_left d vs))
+    of_dir dirs.R [] h rest = absurd (omega (arith, h))
+    of_dir dirs.R (v ∷ vs) h rest = ap (λ l. record { dir = dirs.R; place = s.place; value = v } ∷ l) (rest (loads_after dirs.R n) vs (omega (arith, h)))
+    of_dir dirs.W vs h rest = ap (λ l. record { dir = dirs.W; place = s.place; value = s.value } ∷ l) (rest (loads_after dirs.W n) vs (omega (arith, h)))

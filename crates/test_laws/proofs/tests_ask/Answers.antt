@@ -1,0 +1,5 @@
+use Rattle.test_laws.proofs.Headline.{tests_ask_law}
+use Rattle.test_laws.proofs.tests_ask.Goals as goal
+
+pub returns : goal.returns
+returns c = tests_ask_law

@@ -1,0 +1,5 @@
+use Rattle.test_laws.proofs.Headline.{tests_force_law}
+use Rattle.test_laws.proofs.tests_force.Goals as goal
+
+pub returns : goal.returns
+returns c = tests_force_law

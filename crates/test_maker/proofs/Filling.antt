@@ -1,0 +1,107 @@
+-- How the accesses of a thread are found in the events of a cycle.
+use Rattle.std.proofs.Common.{◌≡◌, ℕ, zero, suc, ◌+◌, ◌-◌, ◌<◌, ◌≤◌, ◌==◌, Bool, true, false, cond, List, [], ◌∷◌, ◌++◌, length, map, Some, sym, ap, ◌∙◌, arith, slice_get, append-nil, eq-eqb, ne_eqb}
+use Rattle.std.proofs.lemmas.List.{length-map, map-append}
+use Rattle.std.proofs.lemmas.Bool.Decides.{nat_tests}
+use Rattle.std.specs.List.{filter, count_by}
+use Rattle.std.proofs.lemmas.List.Elements.{filter-append}
+use Rattle.relax_edges.specs.declared.edge.Edge.{Edge}
+use Rattle.relax_edges.specs.declared.kinds.ObsMode.{ObsMode}
+use Rattle.list_laws.specs.Numbers.{upto}
+use Rattle.list_laws.proofs.Numbers.{length-map-upto}
+use Rattle.list_laws.proofs.Counts.{count_upto-le}
+use Rattle.list_laws.proofs.Ranks.{length-filter-upto, rank_upto}
+use Rattle.cycle_resolve.specs.Resolution.{IsResolved, edge_at, events_in, event_of, external_count, move_count, slot_of, thread_of}
+use Rattle.cycle_resolve.specs.declared.resolved.Event.{Event}
+use Rattle.cycle_resolve.proofs.Threads.{slot-zero}
+use Rattle.coherence_values.specs.Values.{is_observed, write_count}
+use Rattle.coherence_values.proofs.Along.{write_count_most}
+use Rattle.coherence_values.proofs.Laws.{threads_and_observers}
+use Rattle.program_meaning.specs.Intended.{observed_locations}
+use Rattle.arch_trait.specs.declared.step.Step.{Step}
+use Rattle.arch_trait.specs.Links.{edge_link}
+use Rattle.test_laws.specs.Steps.{event_link, event_step, thread_steps}
+use Rattle.test_laws.specs.TestOf.{plain}
+
+-- the edge at a place
+pub edge_got : (es : List Edge) (k : ℕ) (e : Edge) → slice_get es k ≡ Some e → e ≡ edge_at es k
+edge_got [] k e h = cc h
+edge_got (x ∷ es) zero e h = cc h
+edge_got (x ∷ es) (suc k) e h = edge_got es k e h
+
+-- an event in a slot behind the first isn't the first event
+pub slot_behind : (es : List Edge) (i : ℕ) → (slot_of es i ≡ 0 → ⊥) → 0 < i
+slot_behind es zero h = absurd (h (slot-zero es))
+slot_behind es (suc i) h = omega arith
+
+-- the link of an event in a slot behind the first
+pub link_behind : (es : List Edge) (i : ℕ) (e : Edge) → (slot_of es i ≡ 0 → ⊥) → slice_get es (i - 1) ≡ Some e → edge_link e ≡ event_link es i
+link_behind es zero e h got = absurd (h (slot-zero es))
+link_behind es (suc i) e h got =
+    let k : suc i - 1 ≡ i = omega arith in
+    let same : e ≡ edge_at es i = edge_got es i e (ap (slice_get es) (sym k) ∙ got) in
+    let test : (slot_of es (suc i) == 0) ≡ false = grind (arith, nat_tests, h) in
+    rw (same, test)
+
+-- the number of the accesses found so far is below the most
+pub few_found : {X : Type 0} (f : ℕ → X) (p : ℕ → Bool) (i n m : ℕ) (xs : List X) → xs ≡ map f (filter p (upto i)) → i < n → n ≤ m → length xs < m
+few_found f p i n m xs e h k =
+    let long : length xs ≡ count_by p (upto i) = ap length e ∙ length-map (filter p (upto i)) f ∙ length-filter-upto p i in
+    omega (arith, long, count_upto-le p i)
+
+filter_yes : (p : ℕ → Bool) (i : ℕ) → p i ≡ true → filter p (upto (i + 1)) ≡ filter p (upto i) ++ i ∷ []
+filter_yes p i h =
+    let e : i + 1 ≡ suc i = omega arith in
+    ap (λ n. filter p (upto n)) e ∙ filter-append p (upto i) (i ∷ []) ∙ ap (λ b. filter p (upto i) ++ cond b (i ∷ []) []) h
+
+filter_no : (p : ℕ → Bool) (i : ℕ) → p i ≡ false → filter p (upto (i + 1)) ≡ filter p (upto i)
+filter_no p i h =
+    let e : i + 1 ≡ suc i = omega arith in
+    ap (λ n. filter p (upto n)) e ∙ filter-append p (upto i) (i ∷ []) ∙ ap (λ b. filter p (upto i) ++ cond b (i ∷ []) []) h ∙ append-nil (filter p (upto i))
+
+-- one more event of the thread
+pub found_more : {X : Type 0} (f : ℕ → X) (p : ℕ → Bool) (i : ℕ) (xs : List X) → xs ≡ map f (filter p (upto i)) → p i ≡ true → xs ++ f i ∷ [] ≡ map f (filter p (upto (i + 1)))
+found_more f p i xs e h =
+    ap (λ ys. ys ++ f i ∷ []) e ∙ sym (map-append f (filter p (upto i)) (i ∷ [])) ∙ ap (map f) (sym (filter_yes p i h))
+
+-- an event of another thread
+pub found_same : {X : Type 0} (f : ℕ → X) (p : ℕ → Bool) (i : ℕ) (xs : List X) → xs ≡ map f (filter p (upto i)) → p i ≡ false → xs ≡ map f (filter p (upto (i + 1)))
+found_same f p i xs e h = e ∙ ap (map f) (sym (filter_no p i h))
+
+-- all events of a thread are found
+pub found_all : (es : List Edge) (thread : ℕ) (xs : List Step) → xs ≡ map (event_step es plain) (filter (λ j. thread_of es j == thread) (upto (length es))) → xs ≡ thread_steps es plain thread
+unfolding events_in
+found_all es thread xs e = e
+
+-- the reads of an observer are few
+pub few_reads : {X : Type 0} (f : ℕ → X) (es : List Edge) (l k : ℕ) (xs : List X) → IsResolved es → xs ≡ map f (upto k) → k < write_count es l → length xs < 24
+few_reads f es l k xs r e h =
+    let long : length xs ≡ k = ap length e ∙ length-map-upto f k in
+    omega (arith, long, write_count_most es l, r.composes.few)
+
+-- the threads are few
+pub few_threads : (es : List Edge) (mode : ObsMode) (observers : ℕ) → IsResolved es → observers ≡ length (observed_locations es mode) → external_count es + observers ≤ 24
+few_threads es mode observers r e =
+    omega (arith, e, length-filter-upto (is_observed es mode) (move_count es), threads_and_observers es mode, r.composes.few)
+
+-- an observed location with as many observed locations before it
+pub observed_got : (es : List Edge) (mode : ObsMode) (location observer : ℕ) → location < move_count es → is_observed es mode location ≡ true →
+    observer ≡ count_by (is_observed es mode) (upto location) → slice_get (observed_locations es mode) observer ≡ Some location
+observed_got es mode location observer h seen e =
+    ap (slice_get (observed_locations es mode)) e ∙ rank_upto (is_observed es mode) (move_count es) location h seen
+
+-- there are no more observers than observed locations
+pub observers_all : (es : List Edge) (mode : ObsMode) (before observer : ℕ) → before ≡ count_by (is_observed es mode) (upto (move_count es)) → before ≤ observer →
+    observer < length (observed_locations es mode) → ⊥
+observers_all es mode before observer e h k = omega (arith, e, length-filter-upto (is_observed es mode) (move_count es))
+
+-- an event is in the thread
+pub in_thread : (es fs : List Edge) (event : Event) (i thread : ℕ) → event ≡ event_of fs i → fs ≡ es → event.thread ≡ thread → (thread_of es i == thread) ≡ true
+in_thread es fs event i thread e same h =
+    let t : thread_of es i ≡ thread = ap (λ z. thread_of z i) (sym same) ∙ sym (ap (λ (v : Event). v.thread) e) ∙ h in
+    eq-eqb (thread_of es i) thread t
+
+-- an event is in another thread
+pub in_another : (es fs : List Edge) (event : Event) (i thread : ℕ) → event ≡ event_of fs i → fs ≡ es → (event.thread ≡ thread → ⊥) → (thread_of es i == thread) ≡ false
+in_another es fs event i thread e same h =
+    let t : event.thread ≡ thread_of es i = ap (λ (v : Event). v.thread) e ∙ ap (λ z. thread_of z i) same in
+    ne_eqb (thread_of es i) thread (λ z. h (t ∙ z))

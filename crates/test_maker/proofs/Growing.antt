@@ -1,0 +1,124 @@
+-- How a test grows thread by thread.
+use Rattle.std.proofs.Common.{◌≡◌, ℕ, zero, suc, ◌+◌, ◌<◌, ◌≤◌, cond, List, [], ◌∷◌, ◌++◌, length, take, drop, map, Option, Some, None, Ok, Err, refl, sym, ◌∙◌, ap, arith, slice_get, append_assoc, length-take, append-nil}
+use Rattle.std.specs.List.{position_from}
+use Rattle.std.specs.Option.{option_map}
+use Rattle.std.proofs.lemmas.Option.{get_or_from_slice_get}
+use Rattle.std.proofs.lemmas.List.{drop_all, length-map, map-append, take_all, take_more}
+use Rattle.arrayvec.specs.ArrayVec.{ArrayVec}
+use Rattle.relax_edges.specs.declared.kinds.ObsMode.{ObsMode}
+use Rattle.relax_edges.specs.declared.edge.Edge.{Edge}
+use Rattle.cycle_resolve.specs.Resolution.{IsResolved}
+use Rattle.final_cond.specs.declared.cond.Cond.{Cond}
+use Rattle.final_cond.specs.Conditions.{term_view}
+use Rattle.arch_trait.specs.declared.code.Code.{Code}
+use Rattle.arch_trait.specs.declared.step.Step.{Step}
+use Rattle.arch_trait.specs.Codes.{thread_of}
+use Rattle.arch_trait.specs.Threads.{Puts, compiled}
+use Rattle.test_laws.specs.Steps.{cycle_steps, numbers_read}
+use Rattle.test_laws.specs.TestOf.{plain, last_terms, load_terms, thread_terms}
+use Rattle.test_laws.proofs.StepsAt.{steps_few}
+use Rattle.test_laws.proofs.Terms.{load_terms_more, reads-count, terms_room, thread_terms-count}
+use Rattle.test_maker.specs.declared.refusal.MakeRefusal.{MakeRefusal}
+use Rattle.test_maker.specs.declared.refusal.MakeRefusal.TheVariants.{TooManyRegisters}
+use Rattle.test_maker.specs.Refusals.{crowded_thread, is_crowded}
+use Rattle.test_maker.specs.Terms.{PutsThread, PutsThreads}
+
+-- the number of the first thread that needs too many registers
+abbrev pub crowded : Puts → List Edge → ObsMode → Option ℕ
+crowded a es mode = position_from (is_crowded a) 0 (cycle_steps es mode plain)
+
+-- a test whose first k threads are made
+pub record Grown (a : Puts) (name : ℕ → List ℕ) (es : List Edge) (mode : ObsMode) (k : ℕ) (threads : ArrayVec Code) (cond cond' : Cond) : Type 0 where
+  pub fitting : position_from (is_crowded a) k (drop k (cycle_steps es mode plain)) ≡ crowded a es mode
+  pub codes : map thread_of threads.items ≡ map (compiled a) (take k (cycle_steps es mode plain))
+  pub quantifier : cond'.quantifier ≡ cond.quantifier
+  pub terms : map term_view cond'.terms.items ≡ map term_view cond.terms.items ++ load_terms a name 0 (take k (cycle_steps es mode plain))
+
+drop_got : {X : Type 0} (xs : List X) (i : ℕ) (x : X) → slice_get xs i ≡ Some x → drop i xs ≡ x ∷ drop (i + 1) xs
+drop_got [] i x h = cc h
+drop_got (y ∷ ys) zero x h = ap (λ z. z ∷ ys) (cc h)
+drop_got (y ∷ ys) (suc i) x h = drop_got ys i x h ∙ (let e : suc i + 1 ≡ suc (i + 1) = omega arith in rw e)
+
+got_within : {X : Type 0} (xs : List X) (i : ℕ) (x : X) → slice_get xs i ≡ Some x → i < length xs
+got_within [] i x h = cc h
+got_within (y ∷ ys) zero x h = omega arith
+got_within (y ∷ ys) (suc i) x h = let k = got_within ys i x h in omega (arith, k)
+
+take_got : {X : Type 0} (xs : List X) (i : ℕ) (x : X) → slice_get xs i ≡ Some x → take (i + 1) xs ≡ take i xs ++ x ∷ []
+take_got xs i x h = take_more xs i x (got_within xs i x h) ∙ ap (λ y. take i xs ++ y ∷ []) (get_or_from_slice_get xs i x x h)
+
+-- no thread is made yet
+pub grown_none : (a : Puts) (name : ℕ → List ℕ) (es : List Edge) (mode : ObsMode) (threads : ArrayVec Code) (cond : Cond) →
+    threads.items ≡ [] → Grown a name es mode 0 threads cond cond
+grown_none a name es mode threads cond e = record {
+  fitting = refl;
+  codes = ap (map thread_of) e;
+  quantifier = refl;
+  terms = sym (append-nil (map term_view cond.terms.items));
+}
+
+-- one thread more
+pub grown_more : (a : Puts) (name : ℕ → List ℕ) (es : List Edge) (mode : ObsMode) (k : ℕ) (steps : List Step) (threads threads' : ArrayVec Code) (cond0 cond1 cond2 : Cond) →
+    Grown a name es mode k threads cond0 cond1 → slice_get (cycle_steps es mode plain) k ≡ Some steps →
+    PutsThread a name k steps threads threads' cond1 cond2 (Ok tt) → Grown a name es mode (k + 1) threads' cond0 cond2
+grown_more a name es mode k steps threads threads' cond0 cond1 cond2 g got put = record {
+  fitting =
+      sym (ap (λ b. cond b (Some k) (position_from (is_crowded a) (k + 1) (drop (k + 1) (cycle_steps es mode plain)))) put.0) ∙
+      sym (ap (position_from (is_crowded a) k) (drop_got (cycle_steps es mode plain) k steps got)) ∙ g.fitting;
+  codes =
+      put.1 ∙ ap (λ codes. codes ++ compiled a steps ∷ []) g.codes ∙ sym (map-append (compiled a) (take k (cycle_steps es mode plain)) (steps ∷ [])) ∙
+      ap (map (compiled a)) (sym (take_got (cycle_steps es mode plain) k steps got));
+  quantifier = put.2 ∙ g.quantifier;
+  terms =
+      put.3 ∙ ap (λ terms. terms ++ thread_terms a name k steps) g.terms ∙
+      append_assoc (map term_view cond0.terms.items) (load_terms a name 0 (take k (cycle_steps es mode plain))) (thread_terms a name k steps) ∙
+      ap (λ terms. map term_view cond0.terms.items ++ terms) (sym (more_terms a name (cycle_steps es mode plain) k steps got));
+}
+  where
+    more_terms : (a : Puts) (name : ℕ → List ℕ) (threads : List (List Step)) (k : ℕ) (steps : List Step) → slice_get threads k ≡ Some steps →
+        load_terms a name 0 (take (k + 1) threads) ≡ load_terms a name 0 (take k threads) ++ thread_terms a name k steps
+    more_terms a name threads k steps got =
+        load_terms_more a name threads k steps (got_within threads k steps got) ∙
+        ap (λ s. load_terms a name 0 (take k threads) ++ thread_terms a name k s) (get_or_from_slice_get threads k steps steps got)
+
+-- a thread that needs too many registers is the first such
+pub grown_refused : (a : Puts) (name : ℕ → List ℕ) (es : List Edge) (mode : ObsMode) (k : ℕ) (steps : List Step) (threads threads' : ArrayVec Code) (cond0 cond1 cond2 : Cond) (refusal : MakeRefusal) →
+    Grown a name es mode k threads cond0 cond1 → slice_get (cycle_steps es mode plain) k ≡ Some steps →
+    PutsThread a name k steps threads threads' cond1 cond2 (Err refusal) → crowded_thread a es mode ≡ Some refusal
+grown_refused a name es mode k steps threads threads' cond0 cond1 cond2 refusal g got put =
+    let here : position_from (is_crowded a) k (drop k (cycle_steps es mode plain)) ≡ Some k =
+    ap (position_from (is_crowded a) k) (drop_got (cycle_steps es mode plain) k steps got) ∙
+    ap (λ b. cond b (Some k) (position_from (is_crowded a) (k + 1) (drop (k + 1) (cycle_steps es mode plain)))) put.0 in
+    ap (option_map (λ thread. TooManyRegisters thread)) (sym g.fitting ∙ here) ∙ ap Some (sym put.1)
+
+-- all threads are made
+pub grown_all : (a : Puts) (name : ℕ → List ℕ) (es : List Edge) (mode : ObsMode) (k : ℕ) (threads : ArrayVec Code) (cond0 cond1 : Cond) →
+    Grown a name es mode k threads cond0 cond1 → length (cycle_steps es mode plain) ≤ k → PutsThreads a name es mode threads cond0 cond1 (Ok tt)
+grown_all a name es mode k threads cond0 cond1 g h =
+    let all : take k (cycle_steps es mode plain) ≡ cycle_steps es mode plain = take_all k (cycle_steps es mode plain) h in
+    let none : crowded a es mode ≡ None = sym g.fitting ∙ ap (position_from (is_crowded a) k) (drop_all k (cycle_steps es mode plain) h) in (
+      ap (option_map (λ thread. TooManyRegisters thread)) none,
+      g.codes ∙ ap (map (compiled a)) all,
+      g.quantifier,
+      g.terms ∙ ap (λ steps. map term_view cond0.terms.items ++ load_terms a name 0 steps) all,
+    )
+
+-- there is room for a thread
+pub thread_room : (a : Puts) (name : ℕ → List ℕ) (es : List Edge) (mode : ObsMode) (k : ℕ) (threads : ArrayVec Code) (cond0 cond1 : Cond) →
+    IsResolved es → Grown a name es mode k threads cond0 cond1 → k < length (cycle_steps es mode plain) → length threads.items < 24
+thread_room a name es mode k threads cond0 cond1 r g h =
+    let long : length threads.items ≡ length (take k (cycle_steps es mode plain)) =
+    sym (length-map threads.items thread_of) ∙ ap length g.codes ∙ length-map (take k (cycle_steps es mode plain)) (compiled a) in
+    omega (arith, long, length-take k (cycle_steps es mode plain), steps_few es mode plain, r.composes.few)
+
+-- there is room for its terms
+pub load_room : (a : Puts) (name : ℕ → List ℕ) (es : List Edge) (mode : ObsMode) (k : ℕ) (steps : List Step) (threads : ArrayVec Code) (cond0 cond1 : Cond) →
+    IsResolved es → Grown a name es mode k threads cond0 cond1 → slice_get (cycle_steps es mode plain) k ≡ Some steps →
+    map term_view cond0.terms.items ≡ last_terms es mode → length cond1.terms.items + length (numbers_read steps) ≤ 128
+load_room a name es mode k steps threads cond0 cond1 r g got last =
+    let front = load_terms a name 0 (take k (cycle_steps es mode plain)) in
+    let long : length cond1.terms.items ≡ length (last_terms es mode ++ front) =
+    sym (length-map cond1.terms.items term_view) ∙ ap length (g.terms ∙ ap (λ terms. terms ++ front) last) in
+    let room = terms_room a name es mode plain k steps r (got_within (cycle_steps es mode plain) k steps got) in
+    let here = ap (λ s. length (thread_terms a name k s)) (get_or_from_slice_get (cycle_steps es mode plain) k steps steps got) in
+    omega (arith, long, room, here, thread_terms-count a name k steps, reads-count steps)

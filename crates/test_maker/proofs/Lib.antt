@@ -1,0 +1,6 @@
+pub mod Filling
+pub mod Forcing
+pub mod Growing
+pub mod Naming
+pub mod OfArch
+pub mod Printing

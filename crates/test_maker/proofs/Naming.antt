@@ -1,0 +1,44 @@
+-- The terms of the locations whose last value is named.
+use Rattle.std.proofs.Common.{◌≡◌, true, ℕ, ◌+◌, ◌<◌, List, [], ◌∷◌, ◌++◌, length, map, sym, ap, ◌∙◌, arith, slice_index_or}
+use Rattle.std.specs.List.{filter}
+use Rattle.std.proofs.lemmas.List.FromFn.{length-map-range_with_len}
+use Rattle.std.proofs.lemmas.List.{length-map}
+use Rattle.std.proofs.lemmas.List.FromFn.{get_or-map-range_with_len}
+use Rattle.relax_edges.specs.declared.kinds.ObsMode.{ObsMode}
+use Rattle.relax_edges.specs.declared.edge.Edge.{Edge}
+use Rattle.list_laws.specs.Numbers.{upto}
+use Rattle.list_laws.proofs.Counts.{count_upto-le}
+use Rattle.list_laws.proofs.Ranks.{length-filter-upto}
+use Rattle.cycle_resolve.specs.Resolution.{IsResolved, move_count}
+use Rattle.cycle_resolve.proofs.Sizes.{external_and_moves}
+use Rattle.final_cond.specs.declared.cond.Term.{Term}
+use Rattle.final_cond.specs.Conditions.{AtPlace, term_view}
+use Rattle.arch_trait.specs.Names.{letters, location_name}
+use Rattle.coherence_values.specs.Values.{write_count}
+use Rattle.test_laws.specs.TestOf.{is_named, last_term}
+use Rattle.test_maker.proofs.Filling.{found_more}
+
+pub letters-length : (n : ℕ) → length (letters n) ≡ n
+letters-length n = length-map-range_with_len location_name 0 n
+
+-- there is room for a term more
+pub last_room : (es : List Edge) (mode : ObsMode) (location : ℕ) (terms : List Term) → IsResolved es →
+    map term_view terms ≡ map (last_term es) (filter (is_named es mode) (upto location)) → location < move_count es → length terms < 128
+last_room es mode location terms r e h =
+    let named = filter (is_named es mode) (upto location) in
+    let long : length terms ≡ length named = sym (length-map terms term_view) ∙ ap length e ∙ length-map named (last_term es) in
+    omega (arith, long, length-filter-upto (is_named es mode) location, count_upto-le (is_named es mode) location, external_and_moves es, r.composes.few)
+
+-- the name of a location stands at its number
+pub letter_at : (n location : ℕ) → location < n → slice_index_or (letters n) location [] ≡ location_name location
+letter_at n location h = get_or-map-range_with_len location_name 0 n location location [] h (omega arith)
+
+-- one location more that is named
+pub named_more : (es : List Edge) (mode : ObsMode) (location writes : ℕ) (places : List (List ℕ)) (terms terms' : List Term) →
+    map term_view terms ≡ map (last_term es) (filter (is_named es mode) (upto location)) → is_named es mode location ≡ true →
+    places ≡ letters (move_count es) → location < move_count es → writes ≡ write_count es location →
+    map term_view terms' ≡ map term_view terms ++ record { left = AtPlace (slice_index_or places location []); value = writes } ∷ [] →
+    map term_view terms' ≡ map (last_term es) (filter (is_named es mode) (upto (location + 1)))
+named_more es mode location writes places terms terms' e named p h w grew =
+    let name : slice_index_or places location [] ≡ location_name location = ap (λ ps. slice_index_or ps location []) p ∙ letter_at (move_count es) location h in
+    grew ∙ rw (name, w) (found_more (last_term es) (is_named es mode) location (map term_view terms) e named)

@@ -1,0 +1,61 @@
+-- The edges of a cycle that are of an architecture stay so where it is turned.
+use Rattle.std.proofs.Common.{◌≡◌, ℕ, ◌+◌, ◌<◌, Bool, true, false, not, cond, ◌&&◌, List, [], ◌∷◌, ◌++◌, take, drop, Some, None, Result, Ok, Err, refl, sym, ap, ◌∙◌, arith, nat_lt, subst}
+use Rattle.std.specs.List.{list_all, position_from}
+use Rattle.std.specs.Prelude.{if◌then◌else◌}
+use Rattle.std.proofs.lemmas.List.{take-append-drop}
+use Rattle.std.proofs.lemmas.List.Folds.{list_all-append}
+use Rattle.std.proofs.lemmas.Bool.Decides.{nat_tests}
+use Rattle.cycle_resolve.specs.declared.resolved.ResolveError.TheVariants.{TooFewThreads, CoherenceOnly}
+use Rattle.cycle_resolve.proofs.Turning.{turn_of}
+use Rattle.relax_edges.specs.declared.edge.Edge.{Edge}
+use Rattle.relax_edges.specs.EdgeTable.{is_of_arch}
+use Rattle.list_laws.proofs.Cases.{by_test}
+use Rattle.cycle_resolve.specs.declared.resolved.ResolveError.{ResolveError}
+use Rattle.cycle_resolve.specs.Resolution.{external_count, is_coherence_only, resolution_of, turned}
+use Rattle.arch_trait.specs.Threads.{Puts}
+use Rattle.test_maker.specs.Made.{AreOfArch}
+
+list_all_both : {X : Type 0} (p : X → Bool) (xs ys : List X) → list_all p (xs ++ ys) ≡ list_all p (ys ++ xs)
+list_all_both p xs ys = list_all-append p xs ys ∙ and_turned (list_all p xs) (list_all p ys) ∙ sym (list_all-append p ys xs)
+  where
+    and_turned : (a b : Bool) → (a && b) ≡ (b && a)
+    and_turned true true = refl
+    and_turned true false = refl
+    and_turned false true = refl
+    and_turned false false = refl
+
+-- none stands out where all pass
+pub none_foreign : {X : Type 0} (p : X → Bool) (xs : List X) (k : ℕ) → position_from (λ x. not (p x)) k xs ≡ None → list_all p xs ≡ true
+none_foreign p [] k h = refl
+none_foreign p (x ∷ xs) k h =
+    by_test (p x)
+    (λ e. rw e (none_foreign p xs (k + 1) (sym (ap (λ b. cond (not b) (Some k) (position_from (λ y. not (p y)) (k + 1) xs)) e) ∙ h)))
+    (λ e. some_none k (sym (ap (λ b. cond (not b) (Some k) (position_from (λ y. not (p y)) (k + 1) xs)) e) ∙ h))
+  where
+    some_none : {G : Type 0} (k : ℕ) → Some k ≡ None → G
+    some_none k e = cc e
+
+resolved_turned : (cycle es : List Edge) → resolution_of cycle ≡ Ok es → (0 < external_count cycle) × (turned cycle ≡ es)
+resolved_turned cycle es r =
+    by_test (nat_lt (external_count cycle) 2)
+    (λ e. err_ok (sym (ap (λ b. if b then Err TooFewThreads else (if is_coherence_only (turned cycle) then Err CoherenceOnly else Ok (turned cycle))) e) ∙ r))
+    (λ e. by_test (is_coherence_only (turned cycle))
+    (λ f. err_ok (sym (ap (λ b. if b then Err CoherenceOnly else Ok (turned cycle)) f) ∙ sym (ap (λ b. if b then Err TooFewThreads else (if is_coherence_only (turned cycle) then Err CoherenceOnly else Ok (turned cycle))) e) ∙ r))
+    (λ f. (more_than_none (external_count cycle) e, ok_ok (sym (ap (λ b. if b then Err CoherenceOnly else Ok (turned cycle)) f) ∙ sym (ap (λ b. if b then Err TooFewThreads else (if is_coherence_only (turned cycle) then Err CoherenceOnly else Ok (turned cycle))) e) ∙ r))))
+  where
+    err_ok : {G : Type 0} {error : ResolveError} {es : List Edge} → Err error ≡ Ok es → G
+    err_ok e = cc e
+
+    ok_ok : {es fs : List Edge} → (let left : Result (List Edge) ResolveError = Ok es in left) ≡ Ok fs → es ≡ fs
+    ok_ok e = cc e
+
+    more_than_none : (n : ℕ) → nat_lt n 2 ≡ false → 0 < n
+    more_than_none n e = grind (arith, nat_tests, e)
+
+pub turned_of_arch : (a : Puts) (cycle es : List Edge) → AreOfArch a cycle → resolution_of cycle ≡ Ok es → AreOfArch a es
+turned_of_arch a cycle es h r =
+    let found = resolved_turned cycle es r in
+    let t = turn_of cycle found.0 in
+    let test : Edge → Bool = λ e. is_of_arch e a.name in
+    subst (λ fs. list_all test fs ≡ true) (sym t.2.turn ∙ found.1)
+    (list_all_both test (drop t.0 cycle) (take t.0 cycle) ∙ ap (list_all test) (take-append-drop t.0 cycle) ∙ h)

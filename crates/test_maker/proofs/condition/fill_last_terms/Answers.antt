@@ -1,0 +1,35 @@
+use Rattle.std.proofs.Common.{◌∙◌, ◌<◌, map, sym, ap, arith, length}
+use Rattle.cycle_resolve.specs.Resolution.{move_count}
+use Rattle.arrayvec.specs.ArrayVec.{ArrayVec}
+use Rattle.final_cond.specs.declared.cond.Term.{Term}
+use Rattle.final_cond.specs.Conditions.{term_view}
+use Rattle.test_laws.specs.TestOf.{is_named, last_term}
+use Rattle.test_maker.proofs.Filling.{found_same}
+use Rattle.test_maker.proofs.Naming.{letters-length, last_room, named_more}
+use Rattle.test_maker.proofs.condition.fill_last_terms.Goals as goal
+use Rattle.test_maker.proofs.condition.fill_last_terms.Goals.{then-is_named, else-is_named}
+
+pub push_last_term-requires-clause-place : goal.push_last_term-requires-clause-place
+push_last_term-requires-clause-place c =
+    omega (arith, ap move_count c.resolved-2.ensures, ap length c.requires, letters-length (move_count c.args.valued.now.edges))
+
+pub push_last_term-requires-clause-room : goal.push_last_term-requires-clause-room
+push_last_term-requires-clause-room c =
+    let resolved = rw c.resolved.ensures at c.cycle-edges.ensures.resolved in
+    let below : c.loop-location.location < move_count c.args.valued.now.edges = omega (arith, ap move_count c.resolved-2.ensures) in
+    last_room c.args.valued.now.edges c.args.valued.now.mode c.loop-location.location c.loop-location.terms.items resolved c.loop-location.invariant below
+
+pub loop-location-preserved : goal.loop-location-preserved
+loop-location-preserved c =
+    let es = c.args.valued.now.edges in
+    let below : c.loop-location.location < move_count es = omega (arith, ap move_count c.resolved-2.ensures) in
+    elim c.if-is_named.branch [
+      | then-is_named w ↦
+          ap (λ (v : ArrayVec Term). map term_view v.items) w.terms-is ∙
+          named_more es c.args.valued.now.mode c.loop-location.location w.writes.result c.args.places.now c.loop-location.terms.items w.push_last_term.new.terms.items
+          c.loop-location.invariant (sym c.is_named.ensures ∙ w.if-is_named.true) c.requires below w.writes.ensures w.push_last_term.ensures
+      | else-is_named w ↦
+          ap (λ (v : ArrayVec Term). map term_view v.items) w.terms-is ∙
+          found_same (last_term es) (is_named es c.args.valued.now.mode) c.loop-location.location (map term_view c.loop-location.terms.items)
+          c.loop-location.invariant (sym c.is_named.ensures ∙ w.if-is_named.false)
+    ]

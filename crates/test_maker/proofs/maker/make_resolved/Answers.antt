@@ -1,0 +1,8 @@
+use Rattle.std.proofs.Common.{sym, ◌∙◌}
+use Rattle.test_maker.proofs.Forcing.{resolved_forces}
+use Rattle.test_maker.proofs.maker.make_resolved.Goals as goal
+
+pub returns-in-Ok-clause-forces : goal.returns-in-Ok-clause-forces
+returns-in-Ok-clause-forces g c =
+    resolved_forces g.A.Arch.puts g.A.Arch.writing g.met.A.Arch.laws g.met.A.Arch.reads_back c.args.resolved.now c.args.mode c.in-Ok.valued
+    c.make_valued.new.test c.make_valued.result c.cycle-edges.ensures.resolved c.requires (sym c.value.ensures ∙ c.in-Ok.is) c.make_valued.ensures.made

@@ -1,0 +1,13 @@
+use Rattle.std.proofs.Common.{ap, ◌∙◌, subst}
+use Rattle.cycle_resolve.specs.Resolution.{IsResolved, move_count}
+use Rattle.arch_trait.specs.Names.{letters}
+use Rattle.test_maker.proofs.Printing.{made_printable}
+use Rattle.test_maker.proofs.maker.make_valued.Goals as goal
+
+pub returns-clause-printable : goal.returns-clause-printable
+returns-clause-printable g c =
+    made_printable g.A.Arch.puts g.A.Arch.REGISTERS g.met.A.Arch.same_registers g.met.A.Arch.laws c.args.valued.now.edges c.args.valued.now.mode
+    (record { edges = c.put_edges.new.kept; places = c.set_letters.new.self; threads = c.put_threads.new.threads; cond = c.put_threads.new.cond })
+    c.put_threads.result
+    (subst IsResolved c.resolved.ensures c.cycle.ensures.resolved) c.requires
+    (c.set_letters.ensures ∙ ap letters (c.locations.ensures ∙ ap move_count c.resolved-2.ensures)) _ _ _ c.put_threads.ensures

@@ -1,0 +1,10 @@
+use Rattle.std.proofs.Common.{◌≡◌, ◌==◌, map}
+use Rattle.std.specs.List.{filter}
+use Rattle.list_laws.specs.Numbers.{upto}
+use Rattle.cycle_resolve.specs.Resolution.{thread_of}
+use Rattle.test_laws.specs.Steps.{event_step}
+use Rattle.test_laws.specs.TestOf.{plain}
+use Rattle.test_maker.proofs.steps.fill_events.Given as goal
+
+abbrev pub invariant-loop-i : goal.invariant-loop-i
+invariant-loop-i l = l.steps.items ≡ map (event_step l.valued.edges plain) (filter (λ j. thread_of l.valued.edges j == l.thread) (upto l.i))

@@ -1,0 +1,7 @@
+use Rattle.std.proofs.Common.{◌≡◌, map}
+use Rattle.list_laws.specs.Numbers.{upto}
+use Rattle.test_laws.specs.Steps.{observing}
+use Rattle.test_maker.proofs.steps.fill_reads.Given as goal
+
+abbrev pub invariant-loop-k : goal.invariant-loop-k
+invariant-loop-k l = l.steps.items ≡ map (observing l.location) (upto l.k)

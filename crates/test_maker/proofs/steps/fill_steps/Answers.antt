@@ -1,0 +1,25 @@
+use Rattle.std.proofs.Common.{◌∙◌, ◌<◌, ◌≤◌, ◌-◌, sym, ap, arith, slice_get, Some}
+use Rattle.cycle_resolve.specs.Resolution.{external_count}
+use Rattle.program_meaning.specs.Intended.{observed_locations}
+use Rattle.test_laws.specs.TestOf.{plain}
+use Rattle.test_laws.proofs.StepsAt.{thread_steps_at, observer_steps_at, steps-count}
+use Rattle.test_maker.proofs.steps.fill_steps.Goals as goal
+
+pub observed_location-requires : goal.observed_location-requires
+observed_location-requires c =
+    let threads = c.threads-threads.ensures ∙ ap external_count c.resolved.ensures in
+    let all = steps-count c.args.valued.now.edges c.args.valued.now.mode plain in
+    omega (arith, threads, all, c.requires)
+
+pub returns-then-thread-threads : goal.returns-then-thread-threads
+returns-then-thread-threads c =
+    let threads = c.threads-threads.ensures ∙ ap external_count c.resolved.ensures in
+    let below : c.args.thread < external_count c.args.valued.now.edges = omega (arith, threads) in
+    thread_steps_at c.args.valued.now.edges c.args.valued.now.mode plain c.args.thread below ∙ ap Some (sym c.fill_events.ensures)
+
+pub returns-else-thread-threads : goal.returns-else-thread-threads
+returns-else-thread-threads c =
+    let threads = c.threads-threads.ensures ∙ ap external_count c.resolved.ensures in
+    let behind : external_count c.args.valued.now.edges ≤ c.args.thread = omega (arith, threads) in
+    let found = ap (λ n. slice_get (observed_locations c.args.valued.now.edges c.args.valued.now.mode) (c.args.thread - n)) (sym threads) ∙ c.observed_location.ensures.found in
+    observer_steps_at c.args.valued.now.edges c.args.valued.now.mode plain c.args.thread (c.args.thread - external_count c.args.valued.now.edges) c.observed_location.result (omega (arith, behind)) found ∙ ap Some (sym c.fill_reads.ensures)

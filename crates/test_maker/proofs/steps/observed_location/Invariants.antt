@@ -1,0 +1,11 @@
+use Rattle.std.proofs.Common.{◌≡◌, ◌≤◌}
+use Rattle.std.specs.List.{count_by}
+use Rattle.list_laws.specs.Numbers.{upto}
+use Rattle.coherence_values.specs.Values.{is_observed}
+use Rattle.test_maker.proofs.steps.observed_location.Given as goal
+
+abbrev pub invariant-loop-location : goal.invariant-loop-location
+invariant-loop-location l = record {
+  count : l.before ≡ count_by (is_observed l.valued.edges l.valued.mode) (upto l.location);
+  still : l.before ≤ l.observer;
+}

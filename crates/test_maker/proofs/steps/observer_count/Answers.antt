@@ -1,0 +1,17 @@
+use Rattle.std.proofs.Common.{◌∙◌, ◌≡◌, sym, ap, arith}
+use Rattle.std.specs.List.{count_by}
+use Rattle.list_laws.specs.Numbers.{upto}
+use Rattle.list_laws.proofs.Counts.{count_upto-le}
+use Rattle.list_laws.proofs.Ranks.{length-filter-upto}
+use Rattle.cycle_resolve.specs.Resolution.{move_count}
+use Rattle.coherence_values.specs.Values.{is_observed}
+use Rattle.test_maker.proofs.steps.observer_count.Goals as goal
+
+pub overflow_add-count : goal.overflow_add-count
+overflow_add-count c = omega (arith, count_upto-le (is_observed c.args.valued.now.edges c.args.valued.now.mode) c.loop-location.location)
+
+pub returns : goal.returns
+returns c =
+    let end : c.loop-location.location ≡ move_count c.args.valued.now.edges = omega (arith, ap move_count c.resolved.ensures) in
+    c.loop-location.invariant ∙ ap (λ n. count_by (is_observed c.args.valued.now.edges c.args.valued.now.mode) (upto n)) end ∙
+    sym (length-filter-upto (is_observed c.args.valued.now.edges c.args.valued.now.mode) (move_count c.args.valued.now.edges))

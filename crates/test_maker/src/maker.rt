@@ -1,0 +1,112 @@
+ghost use Rattle.std.specs.Prelude.{◌≡◌, ◌≤◌, not, length};
+ghost use Rattle.std.specs.List.{position_from};
+ghost use Rattle.relax_edges.specs.EdgeTable.{is_of_arch};
+ghost use Rattle.cycle_resolve.specs.Resolution.{turned};
+ghost use Rattle.arch_trait.specs.Names.{number_in};
+ghost use Rattle.arch_trait.specs.Writing.{name_in};
+ghost use Rattle.test_maker.specs.Made.{Makes, MakesOfArch, MakesResolved, MakesTest, MakesValued, AreOfArch, MadeCanPrint, MadeForces, TestCanPrint, TestForces, test_view};
+
+use crate::condition::put_last_terms;
+use crate::refusal::MakeRefusal;
+use crate::threads::put_threads;
+use arch_trait::Arch;
+use arrayvec::ArrayVec;
+use coherence_values::{NeedsObserver, Valued, value};
+use cycle_resolve::{ResolveError, Resolved, resolve};
+use edge_algebra::Cycle;
+use litmus_text::Test;
+use relax_edges::{Edge, MAX_EDGES, ObsMode};
+
+/// The test of the cycle, or the first reason why it has none.
+pub fn make<A: Arch>(cycle: &Cycle, mode: ObsMode) -> Result<Test, MakeRefusal>
+    ensures made { MakesTest A.puts (name_in A.writing.registers) cycle.now mode result }
+    ensures printable { TestCanPrint A.puts A.REGISTERS result }
+    ensures forces { TestForces (number_in A.writing.registers) (turned cycle.now) mode result }
+{
+    let mut test = Test::new();
+    match make_into::<A>(cycle, mode, &mut test) {
+        Ok(()) => Ok(test),
+        Err(refusal) => Err(refusal),
+    }
+}
+
+/// Makes `test` the test of the cycle, as `make` does. After a refusal nothing is known of it.
+pub fn make_into<A: Arch>(cycle: &Cycle, mode: ObsMode, test: &mut Test) -> Result<(), MakeRefusal>
+    ensures made { Makes A.puts (name_in A.writing.registers) cycle.now mode (test_view test.new) result }
+    ensures printable { MadeCanPrint A.puts A.REGISTERS test.new result }
+    ensures forces { MadeForces (number_in A.writing.registers) (turned cycle.now) mode test.new result }
+{
+    match first_foreign::<A>(cycle.edges()) {
+        Some(at) => Err(MakeRefusal::NotOfArch { at }),
+        None => make_of_arch::<A>(cycle, mode, test),
+    }
+}
+
+/// The place of the first edge that isn't of the architecture.
+fn first_foreign<A: Arch>(edges: &[Edge]) -> Option<u8>
+    requires { length edges.now ≤ MAX_EDGES }
+    ensures { result ≡ position_from (λ e. not (is_of_arch e A.puts.name)) 0 edges.now }
+{
+    for (at, edge) in edges.iter().enumerate() {
+        if !A::supports(*edge) {
+            return Some(at as u8);
+        }
+    }
+    None
+}
+
+fn make_of_arch<A: Arch>(cycle: &Cycle, mode: ObsMode, test: &mut Test) -> Result<(), MakeRefusal>
+    requires { AreOfArch A.puts cycle.now }
+    ensures made { MakesOfArch A.puts (name_in A.writing.registers) cycle.now mode (test_view test.new) result }
+    ensures printable { MadeCanPrint A.puts A.REGISTERS test.new result }
+    ensures forces { MadeForces (number_in A.writing.registers) (turned cycle.now) mode test.new result }
+{
+    let _edges = cycle.edges();
+    match resolve(cycle) {
+        Err(ResolveError::TooFewThreads) => Err(MakeRefusal::TooFewThreads),
+        Err(ResolveError::CoherenceOnly) => Err(MakeRefusal::CoherenceOnly),
+        Ok(resolved) => make_resolved::<A>(&resolved, mode, test),
+    }
+}
+
+fn make_resolved<A: Arch>(
+    resolved: &Resolved,
+    mode: ObsMode,
+    test: &mut Test,
+) -> Result<(), MakeRefusal>
+    requires { AreOfArch A.puts resolved.now }
+    ensures made { MakesResolved A.puts (name_in A.writing.registers) resolved.now mode (test_view test.new) result }
+    ensures printable { MadeCanPrint A.puts A.REGISTERS test.new result }
+    ensures forces { MadeForces (number_in A.writing.registers) resolved.now mode test.new result }
+{
+    let _edges = resolved.cycle();
+    match value(resolved, mode) {
+        Err(NeedsObserver { location, event }) => {
+            Err(MakeRefusal::NeedsObserver { location, event })
+        }
+        Ok(valued) => make_valued::<A>(&valued, test),
+    }
+}
+
+fn make_valued<A: Arch>(valued: &Valued, test: &mut Test) -> Result<(), MakeRefusal>
+    requires { AreOfArch A.puts valued.now.edges }
+    ensures made { MakesValued A.puts (name_in A.writing.registers) valued.now.edges valued.now.mode (test_view test.new) result }
+    ensures printable { MadeCanPrint A.puts A.REGISTERS test.new result }
+{
+    put_edges(valued.resolved().cycle().edges(), &mut test.edges);
+    test.places.set_letters(valued.resolved().locations());
+    put_last_terms(valued, &test.places, &mut test.cond);
+    put_threads::<A>(valued, &mut test.threads, &mut test.cond)
+}
+
+/// Makes `kept` a copy of the edges.
+fn put_edges(edges: &[Edge], kept: &mut ArrayVec<Edge, MAX_EDGES>)
+    requires { length edges.now ≤ MAX_EDGES }
+    ensures { kept.new.items ≡ edges.now }
+{
+    kept.clear();
+    match kept.try_extend_from_slice(edges) {
+        Ok(()) => {}
+        Err(_) => unreachable!(),
+    }
+}

@@ -1,0 +1,68 @@
+ghost use Rattle.std.specs.Prelude.{◌≡◌, ◌<◌, ◌≤◌, ◌+◌, false, length, map};
+ghost use Rattle.arrayvec.specs.ArrayVec.{array_vec_len};
+ghost use Rattle.final_cond.specs.Conditions.{term_view};
+ghost use Rattle.arch_trait.specs.Threads.{FitSteps};
+ghost use Rattle.arch_trait.specs.Writing.{name_in};
+ghost use Rattle.test_laws.specs.Steps.{numbers_read};
+ghost use Rattle.test_laws.specs.TestOf.{last_terms};
+ghost use Rattle.test_maker.specs.Made.{AreOfArch};
+ghost use Rattle.test_maker.specs.Terms.{PutsThread, PutsThreads};
+
+use crate::condition::put_load_terms;
+use crate::refusal::MakeRefusal;
+use crate::steps::{Steps, fill_steps, thread_count};
+use arch_trait::{Arch, Code, MAX_STEPS, Step, compile_into};
+use arrayvec::ArrayVec;
+use coherence_values::Valued;
+use final_cond::{Cond, MAX_TERMS};
+use relax_edges::MAX_EDGES;
+
+/// The code of the threads of a test.
+pub type Threads = ArrayVec<Code, MAX_EDGES>;
+
+/// Makes `threads` the code of the threads of the test, its observers with them, and appends what
+/// their loads read to the condition.
+pub fn put_threads<A: Arch>(
+    valued: &Valued,
+    threads: &mut Threads,
+    cond: &mut Cond,
+) -> Result<(), MakeRefusal>
+    requires of_arch { AreOfArch A.puts valued.now.edges }
+    requires last { map term_view cond.old.terms.items ≡ last_terms valued.now.edges valued.now.mode }
+    ensures { PutsThreads A.puts (name_in A.writing.registers) valued.now.edges valued.now.mode threads.new cond.old cond.new result }
+{
+    let _edges = valued.resolved().cycle();
+    threads.clear();
+    let mut steps = Steps::new();
+    for thread in 0..thread_count(valued) {
+        fill_steps(valued, thread, &mut steps);
+        match put_thread::<A>(thread, steps.as_slice(), threads, cond) {
+            Ok(()) => {}
+            Err(refusal) => return Err(refusal),
+        }
+    }
+    Ok(())
+}
+
+fn put_thread<A: Arch>(
+    thread: u8,
+    steps: &[Step],
+    threads: &mut Threads,
+    cond: &mut Cond,
+) -> Result<(), MakeRefusal>
+    requires fit { FitSteps A.puts.name false steps.now }
+    requires few { length steps.now ≤ MAX_STEPS }
+    requires room { array_vec_len threads.old < MAX_EDGES }
+    requires terms_room { array_vec_len cond.old.terms + length (numbers_read steps.now) ≤ MAX_TERMS }
+    ensures { PutsThread A.puts (name_in A.writing.registers) thread steps.now threads.old threads.new cond.old cond.new result }
+{
+    let mut code = Code::default();
+    match compile_into::<A>(steps, &mut code) {
+        Ok(()) => {
+            put_load_terms::<A>(thread, steps, code.loads.as_slice(), &mut cond.terms);
+            threads.push(code);
+            Ok(())
+        }
+        Err(_) => Err(MakeRefusal::TooManyRegisters { thread }),
+    }
+}

@@ -1,0 +1,7 @@
+//! The worked rows: what the tools write for words that were worked out by hand. Tests alone.
+#![tactic(auto)]
+
+#[cfg(test)]
+mod diyone;
+#[cfg(test)]
+mod ran;
