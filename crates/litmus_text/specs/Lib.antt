@@ -10,3 +10,12 @@ pub mod InitialState
 pub mod Table
 pub mod Condition
 pub mod TestReading
+pub mod Printable
+pub mod Placing
+pub mod TablePlan
+pub mod Spoken
+pub mod Progress
+pub mod Items
+pub mod Terms
+pub mod Reread
+pub mod Mentioned

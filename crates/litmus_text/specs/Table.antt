@@ -159,12 +159,12 @@ rows_read w k s (line n text rest) =
     (bad TooLarge n))
 
 -- an operation is this label
+abbrev pub is_label_of : ℕ → Micro → Bool
+is_label_of label (ops.Label l) = l == label
+is_label_of label op = false
+
 abbrev pub is_label : ℕ → Placed → Bool
-is_label label placed = labels_it label placed.op
-  where
-    labels_it : ℕ → Micro → Bool
-    labels_it label (ops.Label l) = l == label
-    labels_it label _ = false
+is_label label placed = is_label_of label placed.op
 
 -- a label stands once in a thread, behind the branch
 abbrev pub lands_once : ℕ → List Placed → List Placed → Bool

@@ -5,6 +5,7 @@ mod column;
 mod errors;
 mod head;
 mod initial;
+mod law;
 mod limits;
 mod print;
 mod table;
@@ -12,6 +13,7 @@ mod test;
 mod write;
 
 pub use errors::{TestKind, TextError};
+pub use law::printed_reads_back;
 pub use limits::{MAX_ACCESSES, MAX_NAME, MAX_ROWS, MAX_TEXT, MAX_THREADS};
 pub use print::print_test;
 pub use test::Test;

@@ -1,0 +1,160 @@
+-- A printed cell is read back, whatever blanks fill it.
+use Rattle.std.proofs.Common.{◌≡◌, ◌≢◌, ◌<◌, ◌≤◌, ◌+◌, ◌-◌, ◌==◌, ℕ, zero, suc, List, [], ◌∷◌, ◌++◌, Some, None, Ok, true, false, cond, length, map, max, get_or, refl, sym, ap, ◌∙◌, subst, arith, append_assoc, append-nil}
+use Rattle.std.specs.Prelude.{Bool, not, ◌&&◌, ◌||◌, Option, nat_lt, is_some, codes, count_by, Result}
+use Rattle.std.specs.List.{list_all, position_from, range_with_len}
+use Rattle.std.specs.Str.{bytes_eq}
+use Rattle.std.proofs.Math.ListN.{replicate}
+use Rattle.std.proofs.lemmas.Bool.{eqb-true, eq-eqb, lt-ltb}
+use Rattle.final_cond.specs.Names.{is_place_name, is_register_name}
+use Rattle.final_cond.specs.Runs.{is_blank, run_of, after_run, unblanked}
+use Rattle.micro_ops.specs.declared.operation.Micro.{Micro}
+use Rattle.micro_ops.specs.declared.operation.Micro.TheVariants as ops
+use Rattle.arch_trait.specs.declared.reading.InstrError.{InstrError}
+use Rattle.arch_trait.specs.Threads.{Puts}
+use Rattle.arch_trait.specs.Names.{number_in, number_added, names_added}
+use Rattle.arch_trait.specs.Reading.{before_blanks, kept_before, trimmed, is_inked, operands_in, operands_if, written_in, instr_read, number_raw, numbered, ReadInstr}
+use Rattle.arch_trait.specs.Writing.{Writing, WritesBack, Written, op_text, name_in, name_of, is_named, with_number, label_name, is_plain}
+use Rattle.arch_trait.proofs.Spelling.{instr_back, IsWord, word_is}
+use Rattle.litmus_text.specs.Lines.{bad}
+use Rattle.litmus_text.specs.Cuts.{cut_at, is_nil}
+use Rattle.litmus_text.specs.Table.{Placed, Column, Among, among, is_access, has_room, with_op, instr_put, instr_in, instr_or_nothing, cell_if, cell_read}
+use Rattle.litmus_text.specs.Placing.{or_zero, place_in, renumbered, mentioned}
+use Rattle.litmus_text.specs.Printable.{is_cell_byte}
+use Rattle.litmus_text.specs.Spoken.{WritesCells, is_label_op}
+use Rattle.litmus_text.proofs.CutBack.{by_test, both, both_are, without_class, cut_back, cut_none, all_both}
+
+abbrev pub blanks : ℕ → List ℕ
+blanks k = replicate k 32
+
+blanks_before : (k : ℕ) → before_blanks (blanks k) ≡ []
+unfolding before_blanks
+blanks_before zero = refl
+blanks_before (suc k) = ap (kept_before 32) (blanks_before k)
+
+pub before_padded : (text : List ℕ) (k : ℕ) → before_blanks (text ++ blanks k) ≡ before_blanks text
+unfolding before_blanks
+before_padded [] k = blanks_before k
+before_padded (b ∷ text) k = ap (kept_before b) (before_padded text k)
+
+no_blanks_left : (k : ℕ) → unblanked (blanks k) ≡ []
+unfolding after_run
+no_blanks_left zero = refl
+no_blanks_left (suc k) = no_blanks_left k
+
+trimmed_padded : (text : List ℕ) (k : ℕ) → trimmed (text ++ blanks k) ≡ trimmed text
+unfolding after_run before_blanks
+trimmed_padded [] k = ap before_blanks (no_blanks_left k)
+trimmed_padded (b ∷ text) k =
+    by_test (is_blank b)
+    (λ e. rw e (trimmed_padded text k))
+    (λ e. rw e (before_padded (b ∷ text) k))
+
+inked_stop : (k : ℕ) → after_run is_inked (blanks k) ≡ blanks k
+unfolding after_run
+inked_stop zero = refl
+inked_stop (suc k) = refl
+
+inked_none : (k : ℕ) → run_of is_inked (blanks k) ≡ []
+unfolding run_of
+inked_none zero = refl
+inked_none (suc k) = refl
+
+after_padded : (text : List ℕ) (k : ℕ) → after_run is_inked (text ++ blanks k) ≡ after_run is_inked text ++ blanks k
+unfolding after_run
+after_padded [] k = inked_stop k
+after_padded (b ∷ text) k = by_test (is_inked b) (λ e. rw e (after_padded text k)) (λ e. rw e refl)
+
+run_padded : (text : List ℕ) (k : ℕ) → run_of is_inked (text ++ blanks k) ≡ run_of is_inked text
+unfolding run_of
+run_padded [] k = inked_none k
+run_padded (b ∷ text) k = by_test (is_inked b) (λ e. rw e (ap (λ rest. b ∷ rest) (run_padded text k))) (λ e. rw e refl)
+
+-- a text in its cell: a blank before it, and blanks behind it
+abbrev pub padded : ℕ → List ℕ → List ℕ
+padded k text = 32 ∷ (text ++ blanks k)
+
+made : List ℕ → List ℕ → Written
+made word rest = record { word = word; operands = operands_in rest }
+
+operands_padded : (text : List ℕ) (k : ℕ) → operands_in (text ++ blanks k) ≡ operands_in text
+unfolding operands_in
+operands_padded text k = ap operands_if (trimmed_padded text k)
+
+-- an instruction is the same with blanks around it
+written_padded : (b : ℕ) (text : List ℕ) (k : ℕ) → is_blank b ≡ false → written_in (padded k (b ∷ text)) ≡ written_in (b ∷ text)
+unfolding after_run
+written_padded b text k e =
+    let front : unblanked ((b ∷ text) ++ blanks k) ≡ (b ∷ text) ++ blanks k = rw e refl in
+    let alone : unblanked (b ∷ text) ≡ b ∷ text = rw e refl in
+    let word = run_padded (b ∷ text) k in
+    let rest = ap operands_in (after_padded (b ∷ text) k) ∙ operands_padded (after_run is_inked (b ∷ text)) k in
+    ap (λ t. record { word = run_of is_inked t; operands = operands_in (after_run is_inked t) }) front
+    ∙ ap (λ x. record { word = x; operands = operands_in (after_run is_inked ((b ∷ text) ++ blanks k)) }) word
+    ∙ ap (λ o. record { word = run_of is_inked (b ∷ text); operands = o }) rest
+    ∙ sym (ap (λ t. record { word = run_of is_inked t; operands = operands_in (after_run is_inked t) }) alone)
+
+-- a text begins with a byte that is no blank
+pub record Begins (text : List ℕ) : Type 0 where
+  pub first : ℕ
+  pub rest : List ℕ
+  pub is : text ≡ first ∷ rest
+  pub inked : is_blank first ≡ false
+
+instr_padded : (w : Writing) (text : List ℕ) (k : ℕ) (places labels : List (List ℕ)) → Begins text → instr_read w (padded k text) places labels ≡ instr_read w text places labels
+instr_padded w text k places labels h =
+    ap (λ t. instr_read w (padded k t) places labels) h.is
+    ∙ ap (λ x. number_raw (w.raw x) places labels) (written_padded h.first h.rest k h.inked)
+    ∙ ap (λ t. instr_read w t places labels) (sym h.is)
+
+nothing_left : (k : ℕ) → trimmed (blanks k) ≡ []
+unfolding before_blanks after_run
+nothing_left k = trimmed_padded [] k
+
+-- nothing but blanks
+pub nothing_back : (w : Writing) (n k : ℕ) (s : Among Column) → instr_or_nothing w n (blanks k) s ≡ Ok s
+nothing_back w n k s = rw (nothing_left k) refl
+
+pub blanks_class : (p : ℕ → Bool) (k : ℕ) → p 32 ≡ true → list_all p (blanks k) ≡ true
+blanks_class p zero h = refl
+blanks_class p (suc k) h = both_are (p 32) (list_all p (blanks k)) h (blanks_class p k h)
+
+pub padded_class : (p : ℕ → Bool) (k : ℕ) (text : List ℕ) → p 32 ≡ true → list_all p text ≡ true → list_all p (padded k text) ≡ true
+padded_class p k text h t = both_are (p 32) (list_all p (text ++ blanks k)) h (all_both p text (blanks k) t (blanks_class p k h))
+
+-- an empty cell
+pub empty_back : (w : Writing) (n k : ℕ) (s : Among Column) → cell_read w n (padded k []) s ≡ Ok s
+unfolding cell_read after_run instr_in
+empty_back w n k s =
+    let whole : cut_at 58 (padded k []) ≡ None = cut_none 58 (padded k []) (without_class is_cell_byte 58 (padded k []) refl (padded_class is_cell_byte k [] refl refl)) in
+    rw whole (nothing_back w n k s)
+
+begins_inked : (b : ℕ) (text : List ℕ) (k : ℕ) → is_blank b ≡ false → is_nil (trimmed (padded k (b ∷ text))) ≡ false
+unfolding after_run before_blanks
+begins_inked b text k e = rw e (kept_some b (before_blanks (text ++ blanks k)) e)
+  where
+    kept_some : (b : ℕ) (rest : List ℕ) → is_blank b ≡ false → is_nil (kept_before b rest) ≡ false
+    kept_some b [] e = rw e refl
+    kept_some b (c ∷ rest) e = refl
+
+-- a cell without a colon
+pub plain_back : (w : Writing) (n k : ℕ) (text : List ℕ) (s : Among Column) → Begins text → list_all is_cell_byte text ≡ true
+    → cell_read w n (padded k text) s ≡ instr_put n s.value (instr_read w text s.names s.value.labels)
+unfolding cell_read instr_in
+plain_back w n k text s h bytes =
+    let whole : cut_at 58 (padded k text) ≡ None = cut_none 58 (padded k text) (without_class is_cell_byte 58 (padded k text) refl (padded_class is_cell_byte k text refl bytes)) in
+    let some : is_nil (trimmed (padded k text)) ≡ false = ap (λ t. is_nil (trimmed (padded k t))) h.is ∙ begins_inked h.first h.rest k h.inked in
+    rw (whole, some) (ap (instr_put n s.value) (instr_padded w text k s.names s.value.labels h))
+
+-- a cell with a label
+pub label_back : (w : Writing) (n k : ℕ) (name text : List ℕ) (s t : Among Column) → text ≡ name ++ 58 ∷ [] → Begins text → list_all is_cell_byte name ≡ true
+    → instr_put n s.value (instr_read w text s.names s.value.labels) ≡ Ok t → cell_read w n (padded k text) s ≡ Ok t
+unfolding cell_read instr_in
+label_back w n k name text s t is h bytes put =
+    let parts : cut_at 58 (padded k text) ≡ Some (32 ∷ name, blanks k) =
+        ap (λ x. cut_at 58 (32 ∷ (x ++ blanks k))) is ∙ ap (λ x. cut_at 58 (32 ∷ x)) (append_assoc name (58 ∷ []) (blanks k))
+        ∙ cut_back 58 (32 ∷ name) (blanks k) (without_class is_cell_byte 58 (32 ∷ name) refl (both_are (is_cell_byte 32) (list_all is_cell_byte name) refl bytes)) in
+    let whole : (32 ∷ name) ++ 58 ∷ [] ≡ padded 0 text = ap (λ x. 32 ∷ x) (sym is ∙ sym (append-nil text)) in
+    let read : instr_put n s.value (instr_read w ((32 ∷ name) ++ 58 ∷ []) s.names s.value.labels) ≡ Ok t =
+        ap (λ x. instr_put n s.value (instr_read w x s.names s.value.labels)) whole
+        ∙ ap (instr_put n s.value) (instr_padded w text 0 s.names s.value.labels h) ∙ put in
+    rw (parts, read) (nothing_back w n k t)

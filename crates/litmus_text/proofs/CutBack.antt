@@ -1,0 +1,95 @@
+-- Cuts and splits of printed texts.
+use Rattle.std.proofs.Common.{◌≡◌, ◌<◌, ◌≤◌, ◌+◌, ◌-◌, ◌==◌, ℕ, zero, suc, List, [], ◌∷◌, ◌++◌, Some, None, true, false, cond, length, map, get_or, refl, sym, ap, ◌∙◌, subst, arith, append_assoc, append-nil}
+use Rattle.std.specs.Prelude.{Bool, not, ◌&&◌, ◌||◌, Option, nat_le}
+use Rattle.std.specs.List.{list_all, All, slice_split, onto_first}
+use Rattle.std.proofs.lemmas.Bool.{eqb-true, eq-eqb}
+use Rattle.std.specs.Str.{bytes_eq}
+use Rattle.std.proofs.lemmas.Slice.Eq.{bytes_eq-Decides}
+use Rattle.std.proofs.lemmas.List.Sums.{AllPass-from_list_all}
+use Rattle.std.proofs.lemmas.List.Folds.{list_all-append}
+use Rattle.std.proofs.lemmas.List.Splits.{slice_split_none, slice_split_at}
+use Rattle.final_cond.specs.Runs.{is_blank, run_of, after_run, unblanked}
+use Rattle.arch_trait.specs.Reading.{before_blanks, trimmed}
+use Rattle.litmus_text.specs.Cuts.{cut_at, before_cut, pieces, is_nil}
+
+-- cases of a test
+pub by_test : {G : Type 0} (b : Bool) → (b ≡ true → G) → (b ≡ false → G) → G
+by_test true so other = so refl
+by_test false so other = other refl
+
+-- no byte of a text is this one
+abbrev pub is_without : ℕ → List ℕ → Bool
+is_without sign text = list_all (λ byte. not (byte == sign)) text
+
+pub both : (p q : Bool) → p && q ≡ true → (p ≡ true) × (q ≡ true)
+both true q h = (refl, h)
+both false q h = cc
+
+pub both_are : (p q : Bool) → p ≡ true → q ≡ true → p && q ≡ true
+both_are p q h k = rw (h, k) refl
+
+-- bytes that all pass a test are not one that fails it
+pub without_class : (p : ℕ → Bool) (sign : ℕ) (text : List ℕ) → p sign ≡ false → list_all p text ≡ true → is_without sign text ≡ true
+without_class p sign [] fails h = refl
+without_class p sign (byte ∷ text) fails h =
+    let parts = both (p byte) (list_all p text) h in
+    by_test (byte == sign)
+    (λ e. let same : byte ≡ sign = eqb-true byte sign e in let clash : true ≡ false = sym parts.0 ∙ ap p same ∙ fails in absurd (cc))
+    (λ e. rw e (without_class p sign text fails parts.1))
+
+-- bytes that pass a test pass a weaker one
+pub weaker : (p q : ℕ → Bool) → ((b : ℕ) → p b ≡ true → q b ≡ true) → (text : List ℕ) → list_all p text ≡ true → list_all q text ≡ true
+weaker p q f [] h = refl
+weaker p q f (byte ∷ text) h =
+    let parts = both (p byte) (list_all p text) h in both_are (q byte) (list_all q text) (f byte parts.0) (weaker p q f text parts.1)
+
+pub all_both : (p : ℕ → Bool) (xs ys : List ℕ) → list_all p xs ≡ true → list_all p ys ≡ true → list_all p (xs ++ ys) ≡ true
+all_both p xs ys h k = list_all-append p xs ys ∙ both_are (list_all p xs) (list_all p ys) h k
+
+not_true : (b : Bool) → not b ≡ true → b ≡ false
+not_true true e = cc
+not_true false e = refl
+
+-- the text before a sign and the text behind it
+pub cut_back : (sign : ℕ) (front behind : List ℕ) → is_without sign front ≡ true → cut_at sign (front ++ sign ∷ behind) ≡ Some (front, behind)
+unfolding cut_at
+cut_back sign [] behind h = rw (eq-eqb sign sign refl) refl
+cut_back sign (byte ∷ front) behind h =
+    let parts = both (not (byte == sign)) (is_without sign front) h in
+    rw (not_true (byte == sign) parts.0) (ap (before_cut byte) (cut_back sign front behind parts.1))
+
+pub cut_none : (sign : ℕ) (text : List ℕ) → is_without sign text ≡ true → cut_at sign text ≡ None
+unfolding cut_at
+cut_none sign [] h = refl
+cut_none sign (byte ∷ text) h =
+    let parts = both (not (byte == sign)) (is_without sign text) h in
+    rw (not_true (byte == sign) parts.0) (ap (before_cut byte) (cut_none sign text parts.1))
+
+none_pass : (sign : ℕ) (text : List ℕ) → is_without sign text ≡ true → All (λ byte. (byte == sign) ≡ false) text
+none_pass sign text h i d k = not_true (get_or text i d == sign) (AllPass-from_list_all (λ byte. not (byte == sign)) text h i d k)
+
+-- a piece before a sign
+pub piece_back : (sign : ℕ) (front behind : List ℕ) → is_without sign front ≡ true → pieces sign (front ++ sign ∷ behind) ≡ front ∷ pieces sign behind
+piece_back sign front behind h = slice_split_at (λ byte. byte == sign) front sign behind (none_pass sign front h) (eq-eqb sign sign refl)
+
+-- the last piece
+pub piece_last : (sign : ℕ) (text : List ℕ) → is_without sign text ≡ true → pieces sign text ≡ text ∷ []
+piece_last sign text h = slice_split_none (λ byte. byte == sign) text (none_pass sign text h)
+
+-- a split has a first piece
+pub record FirstPiece (p : ℕ → Bool) (text : List ℕ) : Type 0 where
+  pub piece : List ℕ
+  pub rest : List (List ℕ)
+  pub is : slice_split p text ≡ piece ∷ rest
+
+pub first_piece : (p : ℕ → Bool) (text : List ℕ) → FirstPiece p text
+first_piece p [] = record { piece = []; rest = []; is = refl }
+first_piece p (byte ∷ text) =
+    let further = first_piece p text in
+    by_test (p byte)
+    (λ e. record { piece = []; rest = slice_split p text; is = rw e refl })
+    (λ e. record { piece = byte ∷ further.piece; rest = further.rest; is = rw (e, further.is) refl })
+
+-- a text is equal to itself
+pub bytes_same : (text : List ℕ) → bytes_eq text text ≡ true
+bytes_same text = (bytes_eq-Decides text text).1 refl

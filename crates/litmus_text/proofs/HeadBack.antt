@@ -1,0 +1,159 @@
+-- The printed header and the printed edges are read back.
+use Rattle.std.proofs.Common.{◌≡◌, ◌<◌, ◌≤◌, ◌+◌, ◌==◌, ℕ, zero, suc, List, [], ◌∷◌, ◌++◌, Some, None, Ok, true, false, cond, length, get_or, take, drop, refl, sym, ap, ◌∙◌, subst, arith, append_assoc, append-nil}
+use Rattle.std.specs.Prelude.{Bool, not, ◌&&◌, ◌||◌, codes, nat_le, Option}
+use Rattle.std.specs.Char.{is_ascii_alphanumeric, is_ascii_alphabetic}
+use Rattle.std.specs.List.{list_all, All, filter, flat_map, join_by, slice_split}
+use Rattle.std.specs.Str.{bytes_eq}
+use Rattle.std.proofs.lemmas.Bool.{eqb-true}
+use Rattle.std.proofs.lemmas.Bool.Decides.{nat_tests}
+use Rattle.std.proofs.lemmas.List.Sums.{AllPass-from_list_all}
+use Rattle.std.proofs.lemmas.List.Splits.{slice_split_none, slice_split_at}
+use Rattle.relax_edges.specs.declared.kinds.ArchName.{ArchName}
+use Rattle.relax_edges.specs.declared.kinds.ArchName.TheVariants.{X86, PPC, AArch64, RISCV}
+use Rattle.relax_edges.specs.declared.edge.Edge.{Edge}
+use Rattle.relax_edges.specs.Architectures.{arch_word, arch_of}
+use Rattle.relax_edges.specs.Words.{word_of}
+use Rattle.relax_edges.specs.AllEdges.{edges_in_order}
+use Rattle.relax_edges.proofs.Ranks.{each_edge}
+use Rattle.final_cond.specs.Runs.{is_blank, run_of, after_run, unblanked}
+use Rattle.arch_trait.specs.Reading.{before_blanks, kept_before, trimmed}
+use Rattle.litmus_text.specs.Lines.{Lines, ends, line, is_passed, is_comment}
+use Rattle.litmus_text.specs.Cuts.{is_nil, cut_at, words}
+use Rattle.litmus_text.specs.Header.{header_read, quote_read, is_setting, after_settings, name_in_header, two_words, quote_cut}
+use Rattle.litmus_text.specs.Printable.{is_line_byte, is_name_byte, IsTestName}
+use Rattle.litmus_text.specs.TestText.{header_line, edges_line}
+use Rattle.litmus_text.proofs.CutBack.{by_test, both, both_are, weaker, all_both, is_without, without_class, cut_back, bytes_same}
+use Rattle.litmus_text.proofs.LineBack.{IsLine}
+
+-- a name byte is one of a line, and no blank
+name_on_line : (b : ℕ) → is_name_byte b ≡ true → is_line_byte b ≡ true
+name_on_line b h = grind (arith, nat_tests)
+
+name_inked : (b : ℕ) → is_name_byte b ≡ true → not (is_blank b) ≡ true
+name_inked b h = grind (arith, nat_tests)
+
+-- a word without blanks
+abbrev pub is_inked_word : List ℕ → Bool
+is_inked_word text = list_all (λ b. not (is_blank b)) text
+
+not_blank : (b : Bool) → not b ≡ true → b ≡ false
+not_blank true e = cc
+not_blank false e = refl
+
+none_blank : (text : List ℕ) → is_inked_word text ≡ true → All (λ b. is_blank b ≡ false) text
+none_blank text h i d k = not_blank (is_blank (get_or text i d)) (AllPass-from_list_all (λ b. not (is_blank b)) text h i d k)
+
+-- two words between blanks
+pub two_back : (a : ℕ) (front : List ℕ) (b : ℕ) (behind : List ℕ) → is_inked_word (a ∷ front) ≡ true → is_inked_word (b ∷ behind) ≡ true
+    → words ((a ∷ front) ++ 32 ∷ b ∷ behind) ≡ (a ∷ front) ∷ (b ∷ behind) ∷ []
+unfolding words
+two_back a front b behind h k =
+    ap (filter (λ word. not (is_nil word)))
+    (slice_split_at is_blank (a ∷ front) 32 (b ∷ behind) (none_blank (a ∷ front) h) refl
+    ∙ ap (λ rest. (a ∷ front) ∷ rest) (slice_split_none is_blank (b ∷ behind) (none_blank (b ∷ behind) k)))
+
+arch_two : (arch : ArchName) (b : ℕ) (name : List ℕ) → is_inked_word (b ∷ name) ≡ true
+    → words (arch_word arch ++ 32 ∷ b ∷ name) ≡ arch_word arch ∷ (b ∷ name) ∷ []
+arch_two X86 b name h = two_back 88 (codes "86") b name refl h
+arch_two PPC b name h = two_back 80 (codes "PC") b name refl h
+arch_two AArch64 b name h = two_back 65 (codes "Arch64") b name refl h
+arch_two RISCV b name h = two_back 82 (codes "ISCV") b name refl h
+
+pub header_back : (arch : ArchName) (name : List ℕ) (n : ℕ) (rest : Lines) → IsTestName name → header_read arch (line n (header_line arch name) rest) ≡ Ok (name, rest)
+unfolding header_read header_line
+header_back arch [] n rest h = let clash : false ≡ true = h.some in absurd (cc)
+header_back arch (b ∷ name) n rest h =
+    ap (λ ws. name_in_header arch n rest (two_words ws)) (arch_two arch b name (weaker is_name_byte (λ b. not (is_blank b)) name_inked (b ∷ name) h.bytes))
+    ∙ rw (bytes_same (arch_word arch), h.short) refl
+
+-- the bytes of edges: those of a line, and no double quote
+abbrev is_quoted_byte : ℕ → Bool
+is_quoted_byte b = is_line_byte b && not (b == 34)
+
+edge_quoted : (edge : Edge) → list_all is_quoted_byte (word_of edge) ≡ true
+unfolding edges_in_order
+edge_quoted edge = each_edge (λ e. list_all is_quoted_byte (word_of e)) refl edge
+
+more_quoted : (edges : List Edge) → list_all is_quoted_byte (flat_map (λ e. codes " " ++ word_of e) edges) ≡ true
+more_quoted [] = refl
+more_quoted (edge ∷ edges) = all_both is_quoted_byte (word_of edge) (flat_map (λ e. codes " " ++ word_of e) edges) (edge_quoted edge) (more_quoted edges)
+
+edges_quoted : (edges : List Edge) → list_all is_quoted_byte (join_by word_of (codes " ") edges) ≡ true
+edges_quoted [] = refl
+edges_quoted (edge ∷ edges) = all_both is_quoted_byte (word_of edge) (flat_map (λ e. codes " " ++ word_of e) edges) (edge_quoted edge) (more_quoted edges)
+
+quoted_on_line : (b : ℕ) → is_quoted_byte b ≡ true → is_line_byte b ≡ true
+quoted_on_line b h = (both (is_line_byte b) (not (b == 34)) h).0
+
+pub quote_back : (edges : List Edge) (n : ℕ) (rest : Lines) → quote_read (line n (edges_line edges) rest) ≡ Ok (Some (join_by word_of (codes " ") edges), rest)
+unfolding quote_read edges_line
+quote_back edges n rest =
+    ap (quote_cut n rest) (cut_back 34 (join_by word_of (codes " ") edges) [] (without_class is_quoted_byte 34 (join_by word_of (codes " ") edges) refl (edges_quoted edges)))
+
+-- no line of letters and `=` is passed over before a brace
+pub settings_back : (n : ℕ) (text : List ℕ) (rest : Lines) → after_settings (line n (123 ∷ text) rest) ≡ line n (123 ∷ text) rest
+unfolding after_settings is_setting run_of
+settings_back n text rest = refl
+
+-- lines without `*` are no comments
+trim_class : (p : ℕ → Bool) (text : List ℕ) → list_all p text ≡ true → list_all p (unblanked text) ≡ true
+unfolding after_run
+trim_class p [] h = refl
+trim_class p (b ∷ text) h =
+    by_test (is_blank b)
+    (λ e. rw e (trim_class p text (both (p b) (list_all p text) h).1))
+    (λ e. rw e h)
+
+kept_class : (p : ℕ → Bool) (b : ℕ) (text : List ℕ) → p b ≡ true → list_all p text ≡ true → list_all p (kept_before b text) ≡ true
+kept_class p b [] h k = by_test (is_blank b) (λ e. rw e refl) (λ e. rw e (both_are (p b) true h refl))
+kept_class p b (c ∷ text) h k = both_are (p b) (list_all p (c ∷ text)) h k
+
+before_class : (p : ℕ → Bool) (text : List ℕ) → list_all p text ≡ true → list_all p (before_blanks text) ≡ true
+unfolding before_blanks
+before_class p [] h = refl
+before_class p (b ∷ text) h =
+    let parts = both (p b) (list_all p text) h in kept_class p b (before_blanks text) parts.0 (before_class p text parts.1)
+
+pub trimmed_class : (p : ℕ → Bool) (text : List ℕ) → list_all p text ≡ true → list_all p (trimmed text) ≡ true
+trimmed_class p text h = before_class p (unblanked text) (trim_class p text h)
+
+no_comment : (text : List ℕ) → list_all is_line_byte text ≡ true → bytes_eq (take 2 text) (codes "(*") ≡ false
+no_comment [] h = refl
+no_comment (a ∷ []) h = by_test (a == 40) (λ e. rw e refl) (λ e. rw e refl)
+no_comment (a ∷ b ∷ text) h =
+    by_test (b == 42)
+    (λ e. let same : b ≡ 42 = eqb-true b 42 e in
+        let parts = both (is_line_byte a) (list_all is_line_byte (b ∷ text)) h in
+        let second = both (is_line_byte b) (list_all is_line_byte text) parts.1 in
+        let clash : true ≡ false = sym second.0 ∙ ap is_line_byte same in absurd (cc))
+    (λ e. by_test (a == 40) (λ f. rw (f, e) refl) (λ f. rw f refl))
+
+-- a printed line with a byte that is no blank stays
+pub line_is : (text : List ℕ) → list_all is_line_byte text ≡ true → list_all is_blank text ≡ false → IsLine text
+unfolding is_passed
+line_is text h k = record {
+  bytes = h;
+  stays = rw (k, no_comment (trimmed text) (trimmed_class is_line_byte text h)) refl;
+}
+
+-- a byte that is no blank
+pub not_all_blank : (front : List ℕ) (b : ℕ) (behind : List ℕ) → is_blank b ≡ false → list_all is_blank (front ++ b ∷ behind) ≡ false
+not_all_blank [] b behind h = rw h refl
+not_all_blank (a ∷ front) b behind h = by_test (is_blank a) (λ e. rw (e, not_all_blank front b behind h) refl) (λ e. rw e refl)
+
+arch_on_line : (arch : ArchName) (rest : List ℕ) → list_all is_line_byte rest ≡ true → IsLine (arch_word arch ++ rest)
+arch_on_line X86 rest h = line_is _ h refl
+arch_on_line PPC rest h = line_is _ h refl
+arch_on_line AArch64 rest h = line_is _ h refl
+arch_on_line RISCV rest h = line_is _ h refl
+
+pub header_line_is : (arch : ArchName) (name : List ℕ) → IsTestName name → IsLine (header_line arch name)
+unfolding header_line
+header_line_is arch name h = arch_on_line arch (32 ∷ name) (weaker is_name_byte is_line_byte name_on_line name h.bytes)
+
+pub edges_line_is : (edges : List Edge) → IsLine (edges_line edges)
+unfolding edges_line
+edges_line_is edges =
+    line_is (34 ∷ (join_by word_of (codes " ") edges ++ 34 ∷ []))
+    (all_both is_line_byte (join_by word_of (codes " ") edges) (34 ∷ []) (weaker is_quoted_byte is_line_byte quoted_on_line (join_by word_of (codes " ") edges) (edges_quoted edges)) refl)
+    refl

@@ -1,0 +1,99 @@
+-- The printed header of the table is read back.
+use Rattle.std.proofs.Common.{◌≡◌, ◌<◌, ◌≤◌, ◌+◌, ◌-◌, ◌==◌, ◌^◌, ℕ, zero, suc, List, [], ◌∷◌, ◌++◌, Ok, true, false, cond, length, map, get_or, refl, sym, ap, ◌∙◌, subst, arith, append_assoc, append-nil, add-zero, zero-add}
+use Rattle.std.specs.Prelude.{Bool, not, ◌&&◌, ◌||◌, nat_lt, codes}
+use Rattle.std.specs.Char.{is_ascii_digit}
+use Rattle.std.specs.Fmt.{decimal}
+use Rattle.std.specs.List.{list_all, flat_map, join_by, AllByRecursion, enumerate_from}
+use Rattle.std.specs.Str.{bytes_eq}
+use Rattle.std.proofs.Math.ListN.{replicate}
+use Rattle.std.proofs.lemmas.Bool.{lt-ltb}
+use Rattle.std.proofs.lemmas.Bool.Decides.{nat_tests}
+use Rattle.std.proofs.lemmas.List.{replicate_more}
+use Rattle.final_cond.specs.Runs.{is_blank, after_run, unblanked}
+use Rattle.final_cond.proofs.BackLaws.{digits_of}
+use Rattle.arch_trait.specs.Reading.{before_blanks, kept_before, trimmed}
+use Rattle.arch_trait.specs.Threads.{ThreadCode}
+use Rattle.arch_trait.specs.Writing.{Writing}
+use Rattle.litmus_text.specs.declared.errors.TextError.{TextError}
+use Rattle.litmus_text.specs.Lines.{Lines, line, ◌>>=◌}
+use Rattle.litmus_text.specs.InitialState.{Begun}
+use Rattle.litmus_text.specs.Table.{Cells, cells_of, is_head, heads_read, head_read, threads_there}
+use Rattle.litmus_text.specs.TestText.{column_of, columns_of, width_of, cell_text, row_line}
+use Rattle.litmus_text.specs.Printable.{is_row_byte}
+use Rattle.litmus_text.proofs.CutBack.{by_test, both, both_are, all_both, weaker, bytes_same}
+use Rattle.litmus_text.proofs.CellBack.{padded, blanks_class, before_padded}
+use Rattle.litmus_text.proofs.LineBack.{IsLine}
+use Rattle.litmus_text.proofs.TableBack.{spaced, row_cells, cells_without, row_line_is}
+
+digit_on_row : (b : ℕ) → is_ascii_digit b ≡ true → is_row_byte b ≡ true
+digit_on_row b h = grind (arith, nat_tests)
+
+digit_inked : (b : ℕ) → is_ascii_digit b ≡ true → not (is_blank b) ≡ true
+digit_inked b h = grind (arith, nat_tests)
+
+not_true : (b : Bool) → not b ≡ true → b ≡ false
+not_true true e = cc
+not_true false e = refl
+
+pub inked_ends : (text : List ℕ) → list_all (λ b. not (is_blank b)) text ≡ true → before_blanks text ≡ text
+unfolding before_blanks
+inked_ends [] h = refl
+inked_ends (b ∷ []) h = rw (not_true (is_blank b) (both (not (is_blank b)) true h).0) refl
+inked_ends (b ∷ c ∷ text) h = ap (kept_before b) (inked_ends (c ∷ text) (both (not (is_blank b)) (list_all (λ b. not (is_blank b)) (c ∷ text)) h).1)
+
+head_text : ℕ → List ℕ
+head_text n = 80 ∷ decimal n
+
+head_trimmed : (n k : ℕ) → n < 2 ^ 32 → trimmed (padded k (80 ∷ decimal n)) ≡ 80 ∷ decimal n
+unfolding after_run
+head_trimmed n k h =
+    let digits = digits_of n h in
+    before_padded (80 ∷ decimal n) k ∙ inked_ends (80 ∷ decimal n) (both_are true (list_all (λ b. not (is_blank b)) (decimal n)) refl (weaker is_ascii_digit (λ b. not (is_blank b)) digit_inked (decimal n) digits.all))
+
+head_cell : (w : Writing) (places : List (List ℕ)) (n : ℕ) (t : ThreadCode) → n < 2 ^ 32 → is_head n (spaced (cell_text 0) (column_of w places (n, t))) ≡ true
+unfolding cell_text column_of
+head_cell w places n t h =
+    let left = width_of (column_of w places (n, t)) - length (80 ∷ decimal n) in
+    let shape : spaced (cell_text 0) (column_of w places (n, t)) ≡ padded (left + 1) (80 ∷ decimal n) =
+        ap (λ x. 32 ∷ x) (append_assoc (80 ∷ decimal n) (replicate left 32) (32 ∷ []) ∙ ap (λ x. (80 ∷ decimal n) ++ x) (replicate_more left 32)) in
+    ap (λ x. bytes_eq (trimmed x) (80 ∷ decimal n)) shape ∙ ap (λ x. bytes_eq x (80 ∷ decimal n)) (head_trimmed n (left + 1) h) ∙ bytes_same (80 ∷ decimal n)
+
+heads_back : (w : Writing) (places : List (List ℕ)) (line_number n : ℕ) (threads : List ThreadCode) → n + length threads ≤ 64
+    → heads_read line_number true n (map (spaced (cell_text 0)) (map (column_of w places) (enumerate_from n threads))) ≡ Ok (n + length threads)
+unfolding heads_read
+heads_back w places m n [] h = ap Ok (sym (add-zero n))
+heads_back w places m n (t ∷ threads) h =
+    let here = head_cell w places n t (omega arith) in
+    let room : nat_lt n 64 ≡ true = lt-ltb n 64 (omega arith) in
+    let count : (n + 1) + length threads ≡ n + length (t ∷ threads) = omega arith in
+    rw (here, room) (heads_back w places m (n + 1) threads (omega arith) ∙ ap Ok count)
+
+head_bytes : (w : Writing) (places : List (List ℕ)) (n : ℕ) (threads : List ThreadCode) → n + length threads ≤ 64
+    → AllByRecursion (λ c. list_all is_row_byte (cell_text 0 c) ≡ true) (map (column_of w places) (enumerate_from n threads))
+unfolding cell_text column_of
+head_bytes w places n [] h = tt
+head_bytes w places n (t ∷ threads) h =
+    let digits = digits_of n (omega arith) in
+    (all_both is_row_byte (80 ∷ decimal n) (replicate (width_of (column_of w places (n, t)) - length (80 ∷ decimal n)) 32)
+    (both_are true (list_all is_row_byte (decimal n)) refl (weaker is_ascii_digit is_row_byte digit_on_row (decimal n) digits.all))
+    (blanks_class is_row_byte (width_of (column_of w places (n, t)) - length (80 ∷ decimal n)) refl),
+    head_bytes w places (n + 1) threads (omega arith))
+
+-- the header of a test with threads
+pub head_back : (w : Writing) (places : List (List ℕ)) (n : ℕ) (t : ThreadCode) (threads : List ThreadCode) (begun : Begun) (rest : Lines) → length (t ∷ threads) ≤ 64
+    → list_all (λ v. nat_lt v.0 (length (t ∷ threads))) begun.values ≡ true
+    → head_read begun (line n (row_line (columns_of w places (t ∷ threads)) 0) rest) ≡ Ok (length (t ∷ threads), rest)
+unfolding head_read row_line
+head_back w places n t threads begun rest few there =
+    let f = cell_text 0 in
+    let x = column_of w places (0, t) in
+    let xs = map (column_of w places) (enumerate_from (0 + 1) threads) in
+    let bytes = head_bytes w places 0 (t ∷ threads) (omega arith) in
+    let cells = row_cells f x xs (cells_without 124 f (x ∷ xs) refl bytes) (cells_without 59 f (x ∷ xs) refl bytes) in
+    let heads : heads_read n true 0 (map (spaced f) (x ∷ xs)) ≡ Ok (length (t ∷ threads)) = heads_back w places n 0 (t ∷ threads) (omega arith) ∙ ap Ok (zero-add (length (t ∷ threads))) in
+    let go : (c : Cells) → c ≡ record { texts = map (spaced f) (x ∷ xs); whole = true } → heads_read n c.whole 0 c.texts ≡ Ok (length (t ∷ threads)) = λ c e. ap (λ c. heads_read n c.whole 0 c.texts) e ∙ heads in
+    rw (go _ cells, there) refl
+
+pub head_line_is : (w : Writing) (places : List (List ℕ)) (t : ThreadCode) (threads : List ThreadCode) → length (t ∷ threads) ≤ 64 → IsLine (row_line (columns_of w places (t ∷ threads)) 0)
+head_line_is w places t threads few =
+    row_line_is 0 (column_of w places (0, t)) (map (column_of w places) (enumerate_from (0 + 1) threads)) (head_bytes w places 0 (t ∷ threads) (omega arith))

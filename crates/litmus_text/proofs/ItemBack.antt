@@ -1,0 +1,275 @@
+-- The printed items of the initial state are read back.
+use Rattle.std.proofs.Common.{◌≡◌, ◌≢◌, ◌<◌, ◌≤◌, ◌+◌, ◌-◌, ◌^◌, ◌==◌, ℕ, zero, suc, List, [], ◌∷◌, ◌++◌, Some, None, Ok, Err, true, false, cond, length, map, get_or, refl, sym, ap, ◌∙◌, subst, arith, append_assoc, append-nil, add-zero, zero-add}
+use Rattle.std.specs.Prelude.{Bool, not, ◌&&◌, ◌||◌, Option, Result, nat_lt, nat_le, is_some, codes}
+use Rattle.std.specs.Char.{is_ascii_digit, is_ascii_alphanumeric}
+use Rattle.std.specs.Fmt.{decimal}
+use Rattle.std.specs.List.{list_all, list_any, flat_map, position_from, IsDistinct, AllByRecursion}
+use Rattle.std.specs.Str.{bytes_eq}
+use Rattle.std.proofs.lemmas.Bool.{lt-ltb, eqb-true}
+use Rattle.std.proofs.lemmas.Bool.Decides.{nat_tests}
+use Rattle.std.proofs.lemmas.List.Sums.{AllPass-from_list_all}
+use Rattle.relax_edges.specs.declared.kinds.Value.TheVariants as values
+use Rattle.final_cond.specs.declared.errors.CondKind.TheVariants.{BadTerm}
+use Rattle.final_cond.specs.Names.{is_place_name, is_register_name, is_place_byte, begins_place}
+use Rattle.final_cond.specs.Numbers.{number_of}
+use Rattle.final_cond.specs.Runs.{is_blank, after_run, unblanked}
+use Rattle.final_cond.specs.Conditions.{LeftSeen, InRegister, AtPlace}
+use Rattle.final_cond.specs.CondText.{left_text}
+use Rattle.final_cond.specs.Reading.{Fault, found, only_known, left_at_front, left_read, has_form}
+use Rattle.final_cond.proofs.BackLaws.{digits_of, left_back, named, place_bytes}
+use Rattle.final_cond.proofs.NumberLaws.{not_digits}
+use Rattle.arch_trait.specs.Threads.{Puts}
+use Rattle.arch_trait.specs.Names.{number_in, number_added, names_added}
+use Rattle.arch_trait.specs.Reading.{before_blanks, trimmed}
+use Rattle.arch_trait.specs.Writing.{Writing, WritesBack, name_in}
+use Rattle.litmus_text.specs.declared.errors.TextError.{TextError}
+use Rattle.litmus_text.specs.Lines.{Lines, line, ◌>>=◌}
+use Rattle.litmus_text.specs.Cuts.{cut_at, pieces, is_nil}
+use Rattle.litmus_text.specs.Joined.{Joined}
+use Rattle.litmus_text.specs.InitialState.{Item, gives, a_place, empty, worth_of, worth_if, given, item_with, item_if, item_parts, whole_left, some_item, item_of, Begun, nothing_begun, is_given, with_value, with_address, item_put, item_read, items_read}
+use Rattle.litmus_text.specs.TestText.{item_text}
+use Rattle.litmus_text.specs.Placing.{or_zero, place_in}
+use Rattle.litmus_text.specs.Items.{Link, links_mention, link_values, links_once, LinkFits}
+use Rattle.litmus_text.specs.Printable.{is_line_byte}
+use Rattle.litmus_text.proofs.CutBack.{by_test, both, both_are, is_without, without_class, cut_back, piece_back, piece_last, all_both, weaker, bytes_same}
+use Rattle.litmus_text.proofs.NamesBack.{Within, within_self, within_trans, within_number, IsAmong, Added, place_added}
+use Rattle.litmus_text.proofs.RowBack.{added_within}
+use Rattle.litmus_text.proofs.HeadRowBack.{inked_ends}
+
+-- a byte of an item: one of a line that is no blank and ends neither an item nor the initial state
+abbrev pub is_item_byte : ℕ → Bool
+is_item_byte b = is_line_byte b && (not (is_blank b) && not (b == 59 || b == 125))
+
+digit_in_item : (b : ℕ) → is_ascii_digit b ≡ true → is_item_byte b ≡ true
+digit_in_item b h = grind (arith, nat_tests)
+
+letter_in_item : (b : ℕ) → is_ascii_alphanumeric b ≡ true → is_item_byte b ≡ true
+letter_in_item b h = grind (arith, nat_tests)
+
+place_in_item : (b : ℕ) → is_place_byte b ≡ true → is_item_byte b ≡ true
+place_in_item b h = grind (arith, nat_tests)
+
+item_inked : (b : ℕ) → is_item_byte b ≡ true → not (is_blank b) ≡ true
+item_inked b h = (both (not (is_blank b)) (not (b == 59 || b == 125)) (both (is_line_byte b) (not (is_blank b) && not (b == 59 || b == 125)) h).1).0
+
+pub item_on_line : (b : ℕ) → is_item_byte b ≡ true → is_line_byte b ≡ true
+item_on_line b h = (both (is_line_byte b) (not (is_blank b) && not (b == 59 || b == 125)) h).0
+
+not_true : (b : Bool) → not b ≡ true → b ≡ false
+not_true true e = cc
+not_true false e = refl
+
+-- a text of item bytes is its own trimming, a blank before it or not
+inked_front : (text : List ℕ) → list_all is_item_byte text ≡ true → unblanked text ≡ text
+unfolding after_run
+inked_front [] h = refl
+inked_front (b ∷ text) h = rw (not_true (is_blank b) (item_inked b (both (is_item_byte b) (list_all is_item_byte text) h).0)) refl
+
+trimmed_item : (text : List ℕ) → list_all is_item_byte text ≡ true → trimmed text ≡ text
+trimmed_item text h = ap before_blanks (inked_front text h) ∙ inked_ends text (weaker is_item_byte (λ b. not (is_blank b)) item_inked text h)
+
+behind_blank : (text : List ℕ) → list_all is_item_byte text ≡ true → trimmed (32 ∷ text) ≡ text
+unfolding after_run
+behind_blank text h = trimmed_item text h
+
+-- `T:REG`
+unfoldable pub side_text : (w : Writing) → Link → List ℕ
+side_text w link = left_text (InRegister link.0 (name_in w.registers link.1.0))
+
+-- an item without its semicolon
+abbrev pub core : (w : Writing) → (ℕ → List ℕ) → Link → List ℕ
+core w names link = side_text w link ++ 61 ∷ names link.1.1
+
+pub core_is : (w : Writing) (places : List (List ℕ)) (link : Link) → item_text w places link.0 link.1 ≡ core w (name_in places) link ++ 59 ∷ []
+unfolding item_text side_text left_text
+core_is w places link =
+    let side = (decimal link.0 ++ codes ":") ++ name_in w.registers link.1.0 in
+    ap (λ x. x ++ 59 ∷ []) (append_assoc side (61 ∷ []) (name_in places link.1.1))
+
+-- the registers of an architecture have names of their own
+distinct_number : (names : List (List ℕ)) (k i : ℕ) → IsDistinct bytes_eq names → i < length names → position_from (λ x. bytes_eq x (get_or names i [])) k names ≡ Some (k + i)
+unfolding IsDistinct
+distinct_number [] k i d h = absurd (omega arith)
+distinct_number (x ∷ names) k zero d h = rw (bytes_same x, add-zero k) refl
+distinct_number (x ∷ names) k (suc i) d h =
+    let apart : bytes_eq x (get_or names i []) ≡ false = later names i d.0 (omega arith) in
+    let count : (k + 1) + i ≡ k + suc i = omega arith in
+    rw apart (distinct_number names (k + 1) i d.1 (omega arith) ∙ ap Some count)
+  where
+    later : (names : List (List ℕ)) (i : ℕ) → AllByRecursion (λ y. bytes_eq x y ≡ false) names → i < length names → bytes_eq x (get_or names i []) ≡ false
+    later [] i all h = absurd (omega arith)
+    later (y ∷ names) zero all h = all.0
+    later (y ∷ names) (suc i) all h = later names i all.1 (omega arith)
+
+register_number : (a : Puts) (w : Writing) (r : ℕ) → WritesBack a w → r < length w.registers → number_in w.registers (name_in w.registers r) ≡ Some r
+register_number a w r laws h = distinct_number w.registers 0 r laws.once h ∙ ap Some (zero-add r)
+
+register_formed : (a : Puts) (w : Writing) (r : ℕ) → WritesBack a w → r < length w.registers → is_register_name (name_in w.registers r) ≡ true
+register_formed a w r laws h = AllPass-from_list_all is_register_name w.registers laws.formed r [] h
+
+-- a side has the form of a left side
+side_formed : (a : Puts) (w : Writing) (link : Link) → WritesBack a w → link.0 < 64 → link.1.0 < length w.registers → has_form (InRegister link.0 (name_in w.registers link.1.0)) ≡ true
+side_formed a w link laws small h = both_are (nat_lt link.0 64) (is_register_name (name_in w.registers link.1.0)) (lt-ltb link.0 64 small) (register_formed a w link.1.0 laws h)
+
+ok_same : (l x : LeftSeen × List ℕ) → (◌≡◌ {A = Result (LeftSeen × List ℕ) Fault} (Ok l) (Ok x)) → l ≡ x
+ok_same l x e = cc
+
+read_found : (text : List ℕ) (o : Option (LeftSeen × List ℕ)) (x : LeftSeen × List ℕ) → found BadTerm text (only_known (λ l. true) o) ≡ Ok x → o ≡ Some x
+read_found text None x e = absurd (cc)
+read_found text (Some l) x e = ap Some (ok_same l x e)
+
+side_back : (a : Puts) (w : Writing) (link : Link) → WritesBack a w → link.0 < 64 → link.1.0 < length w.registers
+    → left_at_front (side_text w link) ≡ Some (InRegister link.0 (name_in w.registers link.1.0), [])
+unfolding side_text left_read
+side_back a w link laws small h =
+    let left = InRegister link.0 (name_in w.registers link.1.0) in
+    let read = left_back (λ l. true) left [] (side_formed a w link laws small h) refl refl in
+    ap left_at_front (sym (append-nil (left_text left))) ∙ read_found (left_text left ++ []) (left_at_front (left_text left ++ [])) (left, []) read
+
+side_bytes : (a : Puts) (w : Writing) (link : Link) → WritesBack a w → link.0 < 64 → link.1.0 < length w.registers → list_all is_item_byte (side_text w link) ≡ true
+unfolding side_text left_text
+side_bytes a w link laws small h =
+    let digits = digits_of link.0 (omega arith) in
+    let parts = named link.0 (name_in w.registers link.1.0) (side_formed a w link laws small h) in
+    all_both is_item_byte (decimal link.0 ++ codes ":") (name_in w.registers link.1.0)
+    (all_both is_item_byte (decimal link.0) (codes ":") (weaker is_ascii_digit is_item_byte digit_in_item (decimal link.0) digits.all) refl)
+    (weaker is_ascii_alphanumeric is_item_byte letter_in_item (name_in w.registers link.1.0) parts.bytes)
+
+name_bytes : (name : List ℕ) → is_place_name name ≡ true → list_all is_item_byte name ≡ true
+name_bytes name h = weaker is_place_byte is_item_byte place_in_item name (place_bytes name h)
+
+pub core_bytes : (a : Puts) (w : Writing) (table : List (List ℕ)) (names : ℕ → List ℕ) (link : Link) → WritesBack a w → LinkFits w table names link → list_all is_item_byte (core w names link) ≡ true
+core_bytes a w table names link laws fits =
+    all_both is_item_byte (side_text w link) (61 ∷ names link.1.1) (side_bytes a w link laws fits.thread fits.register)
+    (both_are true (list_all is_item_byte (names link.1.1)) refl (name_bytes (names link.1.1) fits.formed))
+
+side_equal : (a : Puts) (w : Writing) (link : Link) → WritesBack a w → link.0 < 64 → link.1.0 < length w.registers → is_without 61 (side_text w link) ≡ true
+unfolding side_text left_text
+side_equal a w link laws small h =
+    let digits = digits_of link.0 (omega arith) in
+    let parts = named link.0 (name_in w.registers link.1.0) (side_formed a w link laws small h) in
+    all_both (λ b. not (b == 61)) (decimal link.0 ++ codes ":") (name_in w.registers link.1.0)
+    (all_both (λ b. not (b == 61)) (decimal link.0) (codes ":") (without_class is_ascii_digit 61 (decimal link.0) refl digits.all) refl)
+    (without_class is_ascii_alphanumeric 61 (name_in w.registers link.1.0) refl parts.bytes)
+
+begins_no_digit : (b : ℕ) → begins_place b ≡ true → is_ascii_digit b ≡ false
+begins_no_digit b h = grind (arith, nat_tests)
+
+-- the name of a place is no number
+name_no_number : (name : List ℕ) → is_place_name name ≡ true → number_of name ≡ None
+unfolding is_place_name
+name_no_number [] h = absurd (cc)
+name_no_number (b ∷ name) h =
+    let front = both (begins_place b && list_all is_place_byte name) (nat_le (length (b ∷ name)) 16) h in
+    let first = both (begins_place b) (list_all is_place_byte name) front.0 in
+    not_digits (b ∷ name) (rw (begins_no_digit b first.0) refl)
+
+worth_back : (name : List ℕ) → is_place_name name ≡ true → worth_of name ≡ Some (a_place name)
+worth_back name h = ap (worth_if name) (name_no_number name h) ∙ rw h refl
+
+core_some : (w : Writing) (text : List ℕ) (name : List ℕ) → some_item w (text ++ 61 ∷ name) ≡ item_parts w (cut_at 61 (text ++ 61 ∷ name))
+core_some w [] name = refl
+core_some w (b ∷ text) name = refl
+
+-- an item, with a blank before it
+pub item_back : (a : Puts) (w : Writing) (table : List (List ℕ)) (names : ℕ → List ℕ) (link : Link) → WritesBack a w → LinkFits w table names link
+    → item_of w (32 ∷ core w names link) ≡ Some (gives link.0 link.1.0 (a_place (names link.1.1)))
+unfolding item_of
+item_back a w table names link laws fits =
+    let side = side_text w link in
+    let name = names link.1.1 in
+    let cut = cut_back 61 side name (side_equal a w link laws fits.thread fits.register) in
+    let side_trimmed = trimmed_item side (side_bytes a w link laws fits.thread fits.register) in
+    let name_trimmed = trimmed_item name (name_bytes name fits.formed) in
+    let left : whole_left (left_at_front (trimmed side)) ≡ Some (InRegister link.0 (name_in w.registers link.1.0)) =
+        ap (λ t. whole_left (left_at_front t)) side_trimmed ∙ ap whole_left (side_back a w link laws fits.thread fits.register) in
+    let small : nat_lt link.0 64 ≡ true = lt-ltb link.0 64 fits.thread in
+    ap (some_item w) (behind_blank (core w names link) (core_bytes a w table names link laws fits))
+    ∙ core_some w side name ∙ ap (item_parts w) cut
+    ∙ ap (λ o. item_if w o (trimmed name)) left
+    ∙ ap (λ t. item_with w (InRegister link.0 (name_in w.registers link.1.0)) t) name_trimmed
+    ∙ rw (small, register_number a w link.1.0 laws fits.register, worth_back name fits.formed) refl
+
+begun_at : List (List ℕ) → List (List ℕ) → (ℕ → List ℕ) → List Link → Begun
+begun_at s final names done = record { names = s; values = link_values final names done }
+
+given_done : (final : List (List ℕ)) (names : ℕ → List ℕ) (thread register : ℕ) (done : List Link)
+    → is_given thread register (link_values final names done) ≡ list_any (λ d. (d.0 == thread) && (d.1.0 == register)) done
+given_done final names thread register [] = refl
+given_done final names thread register (d ∷ done) = ap (λ b. ((d.0 == thread) && (d.1.0 == register)) || b) (given_done final names thread register done)
+
+values_more : (final : List (List ℕ)) (names : ℕ → List ℕ) (done : List Link) (link : Link)
+    → link_values final names done ++ (link.0, (link.1.0, values.Place (place_in final (names link.1.1)))) ∷ [] ≡ link_values final names (done ++ link ∷ [])
+values_more final names [] link = refl
+values_more final names (d ∷ done) link = ap (λ rest. (d.0, (d.1.0, values.Place (place_in final (names d.1.1)))) ∷ rest) (values_more final names done link)
+
+-- one item
+item_step : (a : Puts) (w : Writing) (table final s : List (List ℕ)) (names : ℕ → List ℕ) (done : List Link) (link : Link) (joined : Joined) (place : ℕ)
+    → WritesBack a w → LinkFits w table names link → IsAmong s table → length table ≤ 64 → Within (names_added s (names link.1.1)) final
+    → list_any (λ d. (d.0 == link.0) && (d.1.0 == link.1.0)) done ≡ false
+    → item_read w joined place (32 ∷ core w names link) (begun_at s final names done) ≡ Ok (begun_at (names_added s (names link.1.1)) final names (done ++ link ∷ []))
+unfolding item_read begun_at
+item_step a w table final s names done link joined place laws fits among_table short within once =
+    let added = place_added s table (names link.1.1) among_table short fits.inside in
+    let last : place_in final (names link.1.1) ≡ added.number = ap or_zero (within_number (names_added s (names link.1.1)) final (names link.1.1) added.number within added.after) in
+    let new = given_done final names link.0 link.1.0 done ∙ once in
+    rw (item_back a w table names link laws fits, new, added.added)
+    (ap (λ i. Ok (record { names = names_added s (names link.1.1); values = link_values final names done ++ (link.0, (link.1.0, values.Place i)) ∷ [] })) (sym last)
+    ∙ ap (λ v. Ok (record { names = names_added s (names link.1.1); values = v })) (values_more final names done link))
+
+pub links_within : (names : ℕ → List ℕ) (s : List (List ℕ)) (links : List Link) → Within s (links_mention names s links)
+links_within names s [] = within_self s
+links_within names s (link ∷ links) =
+    within_trans s (names_added s (names link.1.1)) (links_mention names s (link ∷ links)) (added_within s (names link.1.1)) (links_within names (names_added s (names link.1.1)) links)
+
+pub links_among : (w : Writing) (table s : List (List ℕ)) (names : ℕ → List ℕ) (links : List Link) → AllByRecursion (LinkFits w table names) links → IsAmong s table → length table ≤ 64
+    → IsAmong (links_mention names s links) table
+links_among w table s names [] fits h few = h
+links_among w table s names (link ∷ links) fits h few =
+    links_among w table (names_added s (names link.1.1)) names links fits.1 (place_added s table (names link.1.1) h few fits.0.inside).among few
+
+nothing_item : (w : Writing) (joined : Joined) (place : ℕ) (begun : Begun) → item_read w joined place (32 ∷ []) begun ≡ Ok begun
+unfolding item_read item_of after_run before_blanks
+nothing_item w joined place begun = refl
+
+-- the items, and the blank before the brace
+items_back : (a : Puts) (w : Writing) (table final s : List (List ℕ)) (names : ℕ → List ℕ) (done links : List Link) (joined : Joined) (place : ℕ)
+    → WritesBack a w → AllByRecursion (LinkFits w table names) links → IsAmong s table → length table ≤ 64 → Within (links_mention names s links) final
+    → links_once done links ≡ true
+    → items_read w joined place (map (λ link. 32 ∷ core w names link) links ++ (32 ∷ []) ∷ []) (begun_at s final names done)
+    ≡ Ok (begun_at (links_mention names s links) final names (done ++ links))
+unfolding items_read
+items_back a w table final s names done [] joined place laws fits among_table short within once =
+    rw (nothing_item w joined place (begun_at s final names done)) (ap (λ d. Ok (begun_at s final names d)) (sym (append-nil done)))
+items_back a w table final s names done (link ∷ links) joined place laws fits among_table short within once =
+    let parts = both (not (list_any (λ d. (d.0 == link.0) && (d.1.0 == link.1.0)) done)) (links_once (done ++ link ∷ []) links) once in
+    let added = place_added s table (names link.1.1) among_table short fits.0.inside in
+    let further = links_within names (names_added s (names link.1.1)) links in
+    let step = item_step a w table final s names done link joined place laws fits.0 among_table short
+        (within_trans (names_added s (names link.1.1)) (links_mention names s (link ∷ links)) final further within) (not_true (list_any (λ d. (d.0 == link.0) && (d.1.0 == link.1.0)) done) parts.0) in
+    rw step
+    (items_back a w table final (names_added s (names link.1.1)) names (done ++ link ∷ []) links joined (place + (length (32 ∷ core w names link) + 1)) laws fits.1 added.among short within parts.1
+    ∙ ap (λ d. Ok (begun_at (links_mention names s (link ∷ links)) final names d)) (append_assoc done (link ∷ []) links))
+
+-- the pieces of the items' text
+item_pieces : (a : Puts) (w : Writing) (table : List (List ℕ)) (names : ℕ → List ℕ) (links : List Link) → WritesBack a w → AllByRecursion (LinkFits w table names) links
+    → pieces 59 (flat_map (λ link. 32 ∷ (core w names link ++ 59 ∷ [])) links ++ 32 ∷ []) ≡ map (λ link. 32 ∷ core w names link) links ++ (32 ∷ []) ∷ []
+item_pieces a w table names [] laws fits = piece_last 59 (32 ∷ []) refl
+item_pieces a w table names (link ∷ links) laws fits =
+    let text = core w names link in
+    let rest = flat_map (λ link. 32 ∷ (core w names link ++ 59 ∷ [])) links ++ 32 ∷ [] in
+    let shape : (32 ∷ (text ++ 59 ∷ []) ++ flat_map (λ link. 32 ∷ (core w names link ++ 59 ∷ [])) links) ++ 32 ∷ [] ≡ (32 ∷ text) ++ 59 ∷ rest =
+        append_assoc (32 ∷ (text ++ 59 ∷ [])) (flat_map (λ link. 32 ∷ (core w names link ++ 59 ∷ [])) links) (32 ∷ []) ∙ append_assoc (32 ∷ text) (59 ∷ []) rest in
+    ap (pieces 59) shape
+    ∙ piece_back 59 (32 ∷ text) rest (both_are true (is_without 59 text) refl (without_class is_item_byte 59 text refl (core_bytes a w table names link laws fits.0)))
+    ∙ ap (λ ps. (32 ∷ text) ∷ ps) (item_pieces a w table names links laws fits.1)
+
+-- the text of all items, read
+pub all_items_back : (a : Puts) (w : Writing) (table final : List (List ℕ)) (names : ℕ → List ℕ) (links : List Link) (joined : Joined)
+    → WritesBack a w → AllByRecursion (LinkFits w table names) links → IsAmong [] table → length table ≤ 64 → Within (links_mention names [] links) final
+    → links_once [] links ≡ true → joined.bytes ≡ flat_map (λ link. 32 ∷ (core w names link ++ 59 ∷ [])) links ++ 32 ∷ []
+    → items_read w joined 0 (pieces 59 joined.bytes) nothing_begun ≡ Ok (record { names = links_mention names [] links; values = link_values final names links })
+unfolding begun_at
+all_items_back a w table final names links joined laws fits among_table short within once bytes =
+    ap (λ ps. items_read w joined 0 ps nothing_begun) (ap (pieces 59) bytes ∙ item_pieces a w table names links laws fits)
+    ∙ items_back a w table final [] names [] links joined 0 laws fits among_table short within once

@@ -1,0 +1,71 @@
+-- The labels of printed threads are judged to stand as they must.
+use Rattle.std.proofs.Common.{◌≡◌, ◌+◌, ◌==◌, ℕ, List, [], ◌∷◌, ◌++◌, Ok, true, false, cond, map, take, drop, length, refl, sym, ap, ◌∙◌, subst}
+use Rattle.std.specs.Prelude.{Bool, ◌&&◌, count_by}
+use Rattle.std.specs.List.{AllByRecursion}
+use Rattle.std.proofs.lemmas.List.Sums.{sum_by-cons}
+use Rattle.micro_ops.specs.declared.operation.Micro.{Micro}
+use Rattle.micro_ops.specs.declared.operation.Micro.TheVariants as ops
+use Rattle.litmus_text.specs.Table.{Placed, Column, is_label_of, is_label, lands_once, is_landing, labels_judged, all_labels_judged}
+use Rattle.litmus_text.specs.Placing.{renumbered}
+use Rattle.litmus_text.specs.TablePlan.{placed_from, column_so_far}
+use Rattle.litmus_text.specs.Progress.{stands_once, op_lands, code_lands}
+use Rattle.litmus_text.proofs.CutBack.{both}
+
+label_kept : (label : ℕ) (table : List (List ℕ)) (names : ℕ → List ℕ) (op : Micro) → is_label_of label (renumbered table names op) ≡ is_label_of label op
+label_kept label table names (ops.LoadAt dst place) = refl
+label_kept label table names (ops.StoreAt place n) = refl
+label_kept label table names (ops.BranchEq l) = refl
+label_kept label table names (ops.BranchNz a l) = refl
+label_kept label table names (ops.Label l) = refl
+label_kept label table names (ops.Imm dst n) = refl
+label_kept label table names (ops.Xor dst a b) = refl
+label_kept label table names (ops.AddImm dst a n) = refl
+label_kept label table names (ops.OrImm dst a n) = refl
+label_kept label table names (ops.Add dst a b) = refl
+label_kept label table names (ops.Load dst base index) = refl
+label_kept label table names (ops.Store src base index) = refl
+label_kept label table names (ops.Cmp a b) = refl
+label_kept label table names (ops.Barrier kind) = refl
+
+count_kept : (label : ℕ) (table : List (List ℕ)) (names : ℕ → List ℕ) (n : ℕ) (code : List Micro) → count_by (is_label label) (placed_from table names n code) ≡ count_by (is_label_of label) code
+count_kept label table names n [] = refl
+count_kept label table names n (op ∷ code) =
+    sum_by-cons (λ placed. cond (is_label label placed) 1 0) (record { op = renumbered table names op; at_line = n }) (placed_from table names (n + 1) code)
+    ∙ ap (λ b. cond b 1 0 + count_by (is_label label) (placed_from table names (n + 1) code)) (label_kept label table names op)
+    ∙ ap (λ m. cond (is_label_of label op) 1 0 + m) (count_kept label table names (n + 1) code)
+    ∙ sym (sum_by-cons (λ op. cond (is_label_of label op) 1 0) op code)
+
+once_kept : (label : ℕ) (table : List (List ℕ)) (names : ℕ → List ℕ) (n m : ℕ) (all behind : List Micro)
+    → lands_once label (placed_from table names n all) (placed_from table names m behind) ≡ stands_once label all behind
+once_kept label table names n m all behind = rw (count_kept label table names n all, count_kept label table names m behind) refl
+
+landing_kept : (op : Micro) (table : List (List ℕ)) (names : ℕ → List ℕ) (n m : ℕ) (all behind : List Micro)
+    → is_landing (renumbered table names op) (placed_from table names n all) (placed_from table names m behind) ≡ op_lands op all behind
+landing_kept (ops.BranchEq label) table names n m all behind = once_kept label table names n m all behind
+landing_kept (ops.BranchNz a label) table names n m all behind = once_kept label table names n m all behind
+landing_kept (ops.LoadAt dst place) table names n m all behind = refl
+landing_kept (ops.StoreAt place k) table names n m all behind = refl
+landing_kept (ops.Label l) table names n m all behind = refl
+landing_kept (ops.Imm dst k) table names n m all behind = refl
+landing_kept (ops.Xor dst a b) table names n m all behind = refl
+landing_kept (ops.AddImm dst a k) table names n m all behind = refl
+landing_kept (ops.OrImm dst a k) table names n m all behind = refl
+landing_kept (ops.Add dst a b) table names n m all behind = refl
+landing_kept (ops.Load dst base index) table names n m all behind = refl
+landing_kept (ops.Store src base index) table names n m all behind = refl
+landing_kept (ops.Cmp a b) table names n m all behind = refl
+landing_kept (ops.Barrier kind) table names n m all behind = refl
+
+judged_back : (table : List (List ℕ)) (names : ℕ → List ℕ) (n m : ℕ) (all code : List Micro) → code_lands all code ≡ true
+    → labels_judged (placed_from table names n all) (placed_from table names m code) ≡ Ok tt
+unfolding labels_judged
+judged_back table names n m all [] h = refl
+judged_back table names n m all (op ∷ code) h =
+    let parts = both (op_lands op all code) (code_lands all code) h in
+    rw (landing_kept op table names n (m + 1) all code, parts.0) (judged_back table names n (m + 1) all code parts.1)
+
+pub labels_back : (table : List (List ℕ)) (names : ℕ → List ℕ) (n : ℕ) (codes : List (List Micro)) → AllByRecursion (λ code. code_lands code code ≡ true) codes
+    → all_labels_judged (map (column_so_far table names n) codes) ≡ Ok tt
+unfolding all_labels_judged
+labels_back table names n [] h = refl
+labels_back table names n (code ∷ codes) h = rw (judged_back table names n n code code h.0) (labels_back table names n codes h.1)

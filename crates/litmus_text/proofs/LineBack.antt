@@ -1,0 +1,49 @@
+-- Printed lines are the lines of their text.
+use Rattle.std.proofs.Common.{◌≡◌, ◌+◌, ◌==◌, ℕ, List, [], ◌∷◌, ◌++◌, true, false, cond, refl, sym, ap, ◌∙◌, subst, append_assoc}
+use Rattle.std.specs.Prelude.{Bool, not, ◌&&◌}
+use Rattle.std.specs.List.{list_all, flat_map, slice_split, AllByRecursion}
+use Rattle.std.proofs.lemmas.Bool.{eqb-true}
+use Rattle.litmus_text.specs.Lines.{Lines, ends, line, is_passed, kept, last_line, without_return, last_byte, lines_in, is_line_feed, lines_from}
+use Rattle.litmus_text.specs.Printable.{is_line_byte}
+use Rattle.litmus_text.specs.TestText.{ended}
+use Rattle.litmus_text.proofs.CutBack.{both, by_test, without_class, piece_back, first_piece}
+
+-- a line of printed bytes that isn't passed over
+pub record IsLine (text : List ℕ) : Type 0 where
+  pub bytes : list_all is_line_byte text ≡ true
+  pub stays : is_passed text ≡ false
+
+-- lines before others
+abbrev pub before : ℕ → List (List ℕ) → (ℕ → Lines) → Lines
+before n [] rest = rest n
+before n (text ∷ texts) rest = line n text (before (n + 1) texts rest)
+
+no_return : (byte : ℕ) → is_line_byte byte ≡ true → (byte == 13) ≡ false
+no_return byte h =
+    by_test (byte == 13)
+    (λ e. let same : byte ≡ 13 = eqb-true byte 13 e in let clash : true ≡ false = sym h ∙ ap is_line_byte same in absurd (cc))
+    (λ e. e)
+
+keeps_end : (text : List ℕ) → list_all is_line_byte text ≡ true → without_return text ≡ text
+unfolding without_return
+keeps_end [] h = refl
+keeps_end (byte ∷ []) h = let parts = both (is_line_byte byte) true h in rw (no_return byte parts.0) refl
+keeps_end (byte ∷ next ∷ text) h =
+    let parts = both (is_line_byte byte) (list_all is_line_byte (next ∷ text)) h in ap (λ rest. byte ∷ rest) (keeps_end (next ∷ text) parts.1)
+
+one_line : (n : ℕ) (text : List ℕ) (pieces : List (List ℕ)) (piece : List ℕ) → IsLine text
+    → lines_in n (text ∷ piece ∷ pieces) ≡ line n text (lines_in (n + 1) (piece ∷ pieces))
+unfolding lines_in
+one_line n text pieces piece h = rw (keeps_end text h.bytes, h.stays) refl
+
+pub lines_back : (n : ℕ) (texts : List (List ℕ)) → AllByRecursion IsLine texts → lines_from n (flat_map ended texts) ≡ before n texts ends
+unfolding lines_from lines_in
+lines_back n [] h = refl
+lines_back n (text ∷ texts) h =
+    let behind = flat_map ended texts in
+    let split : slice_split is_line_feed ((text ++ 10 ∷ []) ++ behind) ≡ text ∷ slice_split is_line_feed behind =
+        ap (slice_split is_line_feed) (append_assoc text (10 ∷ []) behind) ∙ piece_back 10 text behind (without_class is_line_byte 10 text refl h.0.bytes) in
+    let first = first_piece is_line_feed behind in
+    ap (lines_in n) (split ∙ ap (λ pieces. text ∷ pieces) first.is)
+    ∙ one_line n text first.rest first.piece h.0
+    ∙ ap (line n text) (ap (lines_in (n + 1)) (sym first.is) ∙ lines_back (n + 1) texts h.1)

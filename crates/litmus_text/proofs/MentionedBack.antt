@@ -1,0 +1,194 @@
+-- All names that a test uses stand in the table of its reading.
+use Rattle.std.proofs.Common.{◌≡◌, ◌<◌, ◌≤◌, ◌+◌, ◌-◌, ℕ, zero, suc, List, [], ◌∷◌, ◌++◌, Some, None, Ok, true, false, length, map, take, drop, refl, sym, ap, ◌∙◌, subst, arith, add-zero, zero-add}
+use Rattle.std.specs.Prelude.{Bool, Option, is_some}
+use Rattle.std.specs.List.{AllByRecursion, range_with_len}
+use Rattle.std.proofs.lemmas.List.{length-map, length-drop}
+use Rattle.std.proofs.lemmas.List.FromFn.{length-range_with_len}
+use Rattle.relax_edges.specs.declared.kinds.ArchName.{ArchName}
+use Rattle.micro_ops.specs.declared.operation.Micro.{Micro}
+use Rattle.micro_ops.specs.declared.operation.Micro.TheVariants as ops
+use Rattle.final_cond.specs.Conditions.{LeftSeen, InRegister, AtPlace, TermSeen, CondSeen}
+use Rattle.arch_trait.specs.Threads.{Puts, ThreadCode}
+use Rattle.arch_trait.specs.Names.{number_in, names_added}
+use Rattle.arch_trait.specs.Writing.{Writing, WritesBack, name_in}
+use Rattle.litmus_text.specs.TestText.{TestSeen, columns_of, row_line}
+use Rattle.litmus_text.specs.Placing.{mentioned}
+use Rattle.litmus_text.specs.Progress.{Progress, progress, moved, advanced, mentioned_first, row_mentions, is_placed, OpFits, CodeFits}
+use Rattle.litmus_text.specs.TablePlan.{labels_in, labels_after}
+use Rattle.litmus_text.specs.Items.{Link, links_of, links_mention, LinkFits}
+use Rattle.litmus_text.specs.Terms.{left_mention, terms_mention, is_known, TermFits}
+use Rattle.litmus_text.specs.Spoken.{WritesCells}
+use Rattle.litmus_text.specs.Reread.{IsReadable}
+use Rattle.litmus_text.specs.Mentioned.{is_in, op_is_in, left_is_in, ReadsBack}
+use Rattle.litmus_text.proofs.CutBack.{both}
+use Rattle.litmus_text.proofs.NamesBack.{Within, within_self, within_trans, within_number, Numbered, numbered_in, IsAmong, Added, place_added, none_among}
+use Rattle.litmus_text.proofs.ItemBack.{links_within, links_among}
+use Rattle.litmus_text.proofs.RowBack.{IsReady, accesses_in, after_rows, row_within, rows_mention, rows_within, all_advance, row_among, mention_among, rows_among}
+use Rattle.litmus_text.proofs.TableBack.{at_row}
+use Rattle.litmus_text.proofs.CondBack.{terms_within, term_among}
+use Rattle.litmus_text.proofs.WholeBack.{longest, covers, start_ready, drop_none, mentions, whole_back}
+
+some_of : {o : Option ℕ} {i : ℕ} → o ≡ Some i → is_some o ≡ true
+some_of e = ap is_some e
+
+-- a name of a table stands in a larger one
+in_larger : (s S : List (List ℕ)) (name : List ℕ) → Within s S → is_in s name ≡ true → is_in S name ≡ true
+in_larger s S name h e = let n = numbered_in s name e in ap is_some (within_number s S name n.number h n.is)
+
+op_larger : (s S : List (List ℕ)) (names : ℕ → List ℕ) (op : Micro) → Within s S → op_is_in s names op ≡ true → op_is_in S names op ≡ true
+op_larger s S names (ops.LoadAt dst place) h e = in_larger s S (names place) h e
+op_larger s S names (ops.StoreAt place n) h e = in_larger s S (names place) h e
+op_larger s S names (ops.BranchEq label) h e = refl
+op_larger s S names (ops.BranchNz a label) h e = refl
+op_larger s S names (ops.Label label) h e = refl
+op_larger s S names (ops.Imm dst n) h e = refl
+op_larger s S names (ops.Xor dst a b) h e = refl
+op_larger s S names (ops.AddImm dst a n) h e = refl
+op_larger s S names (ops.OrImm dst a n) h e = refl
+op_larger s S names (ops.Add dst a b) h e = refl
+op_larger s S names (ops.Load dst base index) h e = refl
+op_larger s S names (ops.Store src base index) h e = refl
+op_larger s S names (ops.Cmp a b) h e = refl
+op_larger s S names (ops.Barrier kind) h e = refl
+
+-- an operation that was mentioned
+op_mentioned : (table s : List (List ℕ)) (names : ℕ → List ℕ) (op : Micro) → IsAmong s table → length table ≤ 64 → is_placed table names op ≡ true → op_is_in (mentioned names s op) names op ≡ true
+op_mentioned table s names (ops.LoadAt dst place) h few placed = ap is_some (place_added s table (names place) h few (both _ (is_some (number_in table (names place))) placed).1).after
+op_mentioned table s names (ops.StoreAt place n) h few placed = ap is_some (place_added s table (names place) h few (both _ (is_some (number_in table (names place))) placed).1).after
+op_mentioned table s names (ops.BranchEq label) h few placed = refl
+op_mentioned table s names (ops.BranchNz a label) h few placed = refl
+op_mentioned table s names (ops.Label label) h few placed = refl
+op_mentioned table s names (ops.Imm dst n) h few placed = refl
+op_mentioned table s names (ops.Xor dst a b) h few placed = refl
+op_mentioned table s names (ops.AddImm dst a n) h few placed = refl
+op_mentioned table s names (ops.OrImm dst a n) h few placed = refl
+op_mentioned table s names (ops.Add dst a b) h few placed = refl
+op_mentioned table s names (ops.Load dst base index) h few placed = refl
+op_mentioned table s names (ops.Store src base index) h few placed = refl
+op_mentioned table s names (ops.Cmp a b) h few placed = refl
+op_mentioned table s names (ops.Barrier kind) h few placed = refl
+
+abbrev OpsIn : List (List ℕ) → (ℕ → List ℕ) → List Micro → Type 0
+OpsIn table names code = AllByRecursion (λ op. op_is_in table names op ≡ true) code
+
+-- the first operation that is left stands in a table
+abbrev FirstIn : List (List ℕ) → (ℕ → List ℕ) → List Micro → Type 0
+FirstIn table names [] = Unit {0}
+FirstIn table names (op ∷ left) = op_is_in table names op ≡ true
+
+first_in : (a : Puts) (table s final : List (List ℕ)) (names : ℕ → List ℕ) (labels accesses : ℕ) (left : List Micro) → CodeFits a table names labels accesses left → IsAmong s table → length table ≤ 64
+    → Within (mentioned_first names s left) final → FirstIn final names left
+first_in a table s final names labels accesses [] fits h few within = tt
+first_in a table s final names labels accesses (op ∷ left) fits h few within = op_larger (mentioned names s op) final names op within (op_mentioned table s names op h few fits.0.placed)
+
+first_among : (a : Puts) (table s : List (List ℕ)) (names : ℕ → List ℕ) (labels accesses : ℕ) (left : List Micro) → CodeFits a table names labels accesses left → IsAmong s table → length table ≤ 64 → IsAmong (mentioned_first names s left) table
+first_among a table s names labels accesses [] fits h few = h
+first_among a table s names labels accesses (op ∷ left) fits h few = mention_among table names s op h few fits.0.placed
+
+-- after a row the first operations stand in the table
+row_in : (a : Puts) (table s final : List (List ℕ)) (names : ℕ → List ℕ) (first n : ℕ) (ps : List Progress) → AllByRecursion (IsReady a table names first n) ps → IsAmong s table → length table ≤ 64
+    → Within (row_mentions names s ps) final → AllByRecursion (λ p. FirstIn final names p.left) ps
+row_in a table s final names first n [] ready h few within = tt
+row_in a table s final names first n (p ∷ ps) ready h few within =
+    (first_in a table s final names (labels_in 0 p.done) (accesses_in p.done) p.left ready.0.code h few
+    (within_trans (mentioned_first names s p.left) (row_mentions names s (p ∷ ps)) final (row_within names (mentioned_first names s p.left) ps) within),
+    row_in a table (mentioned_first names s p.left) final names first n ps ready.1 (first_among a table s names (labels_in 0 p.done) (accesses_in p.done) p.left ready.0.code h few) few within)
+
+-- the first operation and then the others
+then_others : (table : List (List ℕ)) (names : ℕ → List ℕ) (ps : List Progress) → AllByRecursion (λ p. FirstIn table names p.left) ps → AllByRecursion (λ p. OpsIn table names p.left) (map advanced ps)
+    → AllByRecursion (λ p. OpsIn table names p.left) ps
+then_others table names [] h k = tt
+then_others table names (p ∷ ps) h k = (one p.done p.left h.0 k.0, then_others table names ps h.1 k.1)
+  where
+    one : (done left : List Micro) → FirstIn table names left → OpsIn table names (moved done left).left → OpsIn table names left
+    one done [] h k = tt
+    one done (op ∷ left) h k = (h, k)
+
+shorter : (m : ℕ) (ps : List Progress) → AllByRecursion (λ p. length p.left ≤ suc m) ps → AllByRecursion (λ p. length p.left ≤ m) (map advanced ps)
+shorter m [] h = tt
+shorter m (p ∷ ps) h = (one p.done p.left h.0, shorter m ps h.1)
+  where
+    one : (done left : List Micro) → length left ≤ suc m → length (moved done left).left ≤ m
+    one done [] h = omega arith
+    one done (op ∷ left) h = omega arith
+
+-- after all rows all operations stand in the table
+rows_in : (a : Puts) (table s final : List (List ℕ)) (names : ℕ → List ℕ) (first n : ℕ) (texts : List (List ℕ)) (ps : List Progress) → AllByRecursion (IsReady a table names first n) ps
+    → AllByRecursion (λ p. length p.left ≤ length texts) ps → IsAmong s table → length table ≤ 64 → Within (rows_mention names s texts ps) final → AllByRecursion (λ p. OpsIn final names p.left) ps
+rows_in a table s final names first n [] ps ready short h few within = none ps short
+  where
+    nothing : (left : List Micro) → length left ≤ 0 → OpsIn final names left
+    nothing [] h = tt
+    nothing (op ∷ left) h = absurd (omega arith)
+    none : (ps : List Progress) → AllByRecursion (λ p. length p.left ≤ 0) ps → AllByRecursion (λ p. OpsIn final names p.left) ps
+    none [] h = tt
+    none (p ∷ ps) h = (nothing p.left h.0, none ps h.1)
+rows_in a table s final names first n (text ∷ texts) ps ready short h few within =
+    then_others final names ps
+    (row_in a table s final names first n ps ready h few
+    (within_trans (row_mentions names s ps) (rows_mention names s (text ∷ texts) ps) final (rows_within names (row_mentions names s ps) texts (map advanced ps)) within))
+    (rows_in a table (row_mentions names s ps) final names first (n + 1) texts (map advanced ps) (all_advance a table names first n ps ready) (shorter (length texts) ps short)
+    (row_among a table names first n ps s ready h few) few within)
+
+links_in : (w : Writing) (table s final : List (List ℕ)) (names : ℕ → List ℕ) (links : List Link) → AllByRecursion (LinkFits w table names) links → IsAmong s table → length table ≤ 64
+    → Within (links_mention names s links) final → AllByRecursion (λ link. is_in final (names link.1.1) ≡ true) links
+links_in w table s final names [] fits h few within = tt
+links_in w table s final names (link ∷ links) fits h few within =
+    let added = place_added s table (names link.1.1) h few fits.0.inside in
+    let further = links_within names (names_added s (names link.1.1)) links in
+    (in_larger (names_added s (names link.1.1)) final (names link.1.1) (within_trans (names_added s (names link.1.1)) (links_mention names s (link ∷ links)) final further within) (ap is_some added.after),
+    links_in w table (names_added s (names link.1.1)) final names links fits.1 added.among few within)
+
+terms_in : (w : Writing) (threads : ℕ) (table s final : List (List ℕ)) (terms : List TermSeen) → AllByRecursion (TermFits w threads table) terms → IsAmong s table → length table ≤ 64
+    → Within (terms_mention s terms) final → AllByRecursion (λ term. left_is_in final term.left ≡ true) terms
+terms_in w threads table s final [] fits h few within = tt
+terms_in w threads table s final (term ∷ terms) fits h few within =
+    (one term.left fits.0.known (within_trans (left_mention s term.left) (terms_mention s (term ∷ terms)) final (terms_within (left_mention s term.left) terms) within),
+    terms_in w threads table (left_mention s term.left) final terms fits.1 (term_among w threads table s term.left fits.0.known h few) few within)
+  where
+    one : (left : LeftSeen) → is_known w threads table left ≡ true → Within (left_mention s left) final → left_is_in final left ≡ true
+    one (InRegister thread name) known within = refl
+    one (AtPlace name) known within = in_larger (names_added s name) final name within (ap is_some (place_added s table name h few known).after)
+
+all_terms_among : (w : Writing) (threads : ℕ) (table s : List (List ℕ)) (terms : List TermSeen) → AllByRecursion (TermFits w threads table) terms → IsAmong s table → length table ≤ 64 → IsAmong (terms_mention s terms) table
+all_terms_among w threads table s [] fits h few = h
+all_terms_among w threads table s (term ∷ terms) fits h few =
+    all_terms_among w threads table (left_mention s term.left) terms fits.1 (term_among w threads table s term.left fits.0.known h few) few
+
+start_short : (m : ℕ) (threads : List ThreadCode) → AllByRecursion (λ t. length t.instrs ≤ m) threads → AllByRecursion (λ p. length p.left ≤ m) (map (at_row 0) threads)
+start_short m [] h = tt
+start_short m (t ∷ threads) h = (subst (λ code. length code ≤ m) (sym (drop_none t.instrs)) h.0, start_short m threads h.1)
+
+start_in : (table : List (List ℕ)) (names : ℕ → List ℕ) (threads : List ThreadCode) → AllByRecursion (λ p. OpsIn table names p.left) (map (at_row 0) threads) → AllByRecursion (λ t. OpsIn table names t.instrs) threads
+start_in table names [] h = tt
+start_in table names (t ∷ threads) h = (subst (OpsIn table names) (drop_none t.instrs) h.0, start_in table names threads h.1)
+
+-- the law of reading back
+pub reads_back : (a : Puts) (arch : ArchName) (w : Writing) (name : List ℕ) (test : TestSeen) → WritesBack a w → WritesCells a w → IsReadable a arch w name test → ReadsBack arch w name test
+unfolding mentions
+reads_back a arch w name test laws cells h =
+    let names = name_in test.places in
+    let links = links_of 0 test.threads in
+    let k = longest 0 test.threads in
+    let rows = map (row_line (columns_of w test.places test.threads)) (range_with_len 1 k) in
+    let ps = map (at_row 0) test.threads in
+    let m0 = links_mention names [] links in
+    let m1 = rows_mention names m0 rows ps in
+    let m2 = terms_mention m1 test.cond.terms in
+    let among0 = links_among w test.places [] names links h.links (none_among test.places) h.places_few in
+    let ready = start_ready a test.places names 0 test.threads h.codes in
+    let among1 = rows_among a test.places names 0 0 rows ps m0 ready among0 h.places_few in
+    let among2 = all_terms_among w (length test.threads) test.places m1 test.cond.terms h.terms among1 h.places_few in
+    let after_rows = terms_within m1 test.cond.terms in
+    let after_links = within_trans m0 m1 m2 (rows_within names m0 rows ps) after_rows in
+    let size : length rows ≡ k = length-map (range_with_len 1 k) (row_line (columns_of w test.places test.threads)) ∙ length-range_with_len 1 k in
+    record {
+      table = m2;
+      read = whole_back a arch w name test.edges test.places test.threads test.cond laws cells h;
+      once = among2.once;
+      among = among2.inside;
+      codes = start_in m2 names test.threads
+          (rows_in a test.places m0 m2 names 0 0 rows ps ready (start_short (length rows) test.threads (covers 0 (length rows) test.threads (omega arith))) among0 h.places_few after_rows);
+      links = links_in w test.places [] m2 names links h.links (none_among test.places) h.places_few after_links;
+      terms = terms_in w (length test.threads) test.places m1 m2 test.cond.terms h.terms among1 h.places_few (within_self m2);
+    }

@@ -1,0 +1,200 @@
+-- Tables of names that grow by names of a larger table.
+use Rattle.std.proofs.Common.{◌≡◌, ◌≢◌, ◌<◌, ◌≤◌, ◌+◌, ◌-◌, ◌==◌, ℕ, zero, suc, List, [], ◌∷◌, ◌++◌, Some, None, true, false, cond, length, map, get_or, length-append, refl, sym, ap, ◌∙◌, subst, arith, append_assoc, append-nil, add-zero, zero-add}
+use Rattle.std.specs.Prelude.{Bool, not, ◌&&◌, ◌||◌, Option, nat_lt, is_some}
+use Rattle.std.specs.List.{list_all, list_any, position_from, IsDistinct, AllByRecursion}
+use Rattle.std.specs.Str.{bytes_eq}
+use Rattle.std.proofs.Math.Dec.{eqb}
+use Rattle.std.proofs.lemmas.Bool.{eqb-true, eqb-false, eq-eqb, lt-ltb}
+use Rattle.std.proofs.lemmas.List.{length-map}
+use Rattle.std.proofs.lemmas.Map.Steps.{length-le_from_distinct_below}
+use Rattle.std.proofs.lemmas.Slice.Eq.{bytes_eq-Decides}
+use Rattle.arch_trait.specs.Names.{number_in, number_added, names_added, number_or_next, with_name, IsTable}
+use Rattle.litmus_text.specs.Placing.{or_zero, place_in}
+use Rattle.litmus_text.proofs.CutBack.{by_test, both, bytes_same}
+
+none_some : {i : ℕ} {G : Type 0} → None ≡ Some i → G
+none_some e = cc
+
+some_none : {i : ℕ} {G : Type 0} → Some i ≡ None → G
+some_none e = cc
+
+-- where a test passes first
+pub record Found (t : List ℕ → Bool) (k : ℕ) (xs : List (List ℕ)) (i : ℕ) : Type 0 where
+  pub low : k ≤ i
+  pub high : i < k + length xs
+  pub passes : t (get_or xs (i - k) []) ≡ true
+
+found_here : (t : List ℕ → Bool) (k : ℕ) (x : List ℕ) (xs : List (List ℕ)) (i : ℕ) → t x ≡ true → k ≡ i → Found t k (x ∷ xs) i
+found_here t k x xs i h e =
+    let none_left : i - k ≡ 0 = omega arith in
+    record { low = omega arith; high = omega arith; passes = rw none_left h }
+
+pub found : (t : List ℕ → Bool) (k : ℕ) (xs : List (List ℕ)) (i : ℕ) → position_from t k xs ≡ Some i → Found t k xs i
+found t k [] i e = none_some e
+found t k (x ∷ xs) i e =
+    by_test (t x)
+    (λ h. let here : Some k ≡ Some i = sym (ap (λ b. cond b (Some k) (position_from t (k + 1) xs)) h) ∙ e in
+        let same : k ≡ i = cc in found_here t k x xs i h same)
+    (λ h. let later = found t (k + 1) xs i (sym (ap (λ b. cond b (Some k) (position_from t (k + 1) xs)) h) ∙ e) in
+        let low = later.low in let high = later.high in
+        let step : i - k ≡ suc (i - (k + 1)) = omega arith in
+        record { low = omega arith; high = omega arith; passes = rw step later.passes })
+
+pub pos_more : (t : List ℕ → Bool) (k : ℕ) (xs ys : List (List ℕ)) (i : ℕ) → position_from t k xs ≡ Some i → position_from t k (xs ++ ys) ≡ Some i
+pos_more t k [] ys i e = none_some e
+pos_more t k (x ∷ xs) ys i e =
+    by_test (t x)
+    (λ h. rw h (sym (ap (λ b. cond b (Some k) (position_from t (k + 1) xs)) h) ∙ e))
+    (λ h. rw h (pos_more t (k + 1) xs ys i (sym (ap (λ b. cond b (Some k) (position_from t (k + 1) xs)) h) ∙ e)))
+
+pub pos_last : (t : List ℕ → Bool) (k : ℕ) (xs : List (List ℕ)) (y : List ℕ) → position_from t k xs ≡ None → t y ≡ true → position_from t k (xs ++ y ∷ []) ≡ Some (k + length xs)
+pos_last t k [] y e h = rw (h, add-zero k) refl
+pos_last t k (x ∷ xs) y e h =
+    by_test (t x)
+    (λ f. some_none (sym (ap (λ b. cond b (Some k) (position_from t (k + 1) xs)) f) ∙ e))
+    (λ f. let count : (k + 1) + length xs ≡ k + length (x ∷ xs) = omega arith in
+        rw f (pos_last t (k + 1) xs y (sym (ap (λ b. cond b (Some k) (position_from t (k + 1) xs)) f) ∙ e) h ∙ ap Some count))
+
+-- a table goes on to a larger one
+pub record Within (s S : List (List ℕ)) : Type 0 where
+  pub more : List (List ℕ)
+  pub is : S ≡ s ++ more
+
+pub within_self : (s : List (List ℕ)) → Within s s
+within_self s = record { more = []; is = sym (append-nil s) }
+
+pub within_trans : (r s S : List (List ℕ)) → Within r s → Within s S → Within r S
+within_trans r s S h k = record { more = h.more ++ k.more; is = k.is ∙ ap (λ x. x ++ k.more) h.is ∙ append_assoc r h.more k.more }
+
+pub within_number : (s S : List (List ℕ)) (name : List ℕ) (i : ℕ) → Within s S → number_in s name ≡ Some i → number_in S name ≡ Some i
+within_number s S name i h e = ap (λ x. number_in x name) h.is ∙ pos_more (λ x. bytes_eq x name) 0 s h.more i e
+
+-- names that all stand in a table
+abbrev pub AreIn : List (List ℕ) → List (List ℕ) → Type 0
+AreIn table names = AllByRecursion (λ name. is_some (number_in table name) ≡ true) names
+
+-- a table of names of another one
+pub record IsAmong (s table : List (List ℕ)) : Type 0 where
+  pub once : IsDistinct bytes_eq s
+  pub inside : AreIn table s
+
+pub none_among : (table : List (List ℕ)) → IsAmong [] table
+unfolding IsDistinct
+none_among table = record { once = tt; inside = tt }
+
+-- the number of a name that stands in a table
+pub record Numbered (table : List (List ℕ)) (name : List ℕ) : Type 0 where
+  pub number : ℕ
+  pub is : number_in table name ≡ Some number
+  pub below : number < length table
+  pub names : get_or table number [] ≡ name
+
+pub numbered_in : (table : List (List ℕ)) (name : List ℕ) → is_some (number_in table name) ≡ true → Numbered table name
+numbered_in table name h = of_some (number_in table name) refl h
+  where
+    of_some : (o : Option ℕ) → number_in table name ≡ o → is_some o ≡ true → Numbered table name
+    of_some None e h = absurd (cc)
+    of_some (Some i) e h =
+        let f = found (λ x. bytes_eq x name) 0 table i e in
+        let high = f.high in
+        let none_left : i ≡ i - 0 = omega arith in
+        record {
+          number = i;
+          is = e;
+          below = omega arith;
+          names = (bytes_eq-Decides (get_or table i []) name).0 (ap (λ j. bytes_eq (get_or table j []) name) none_left ∙ f.passes);
+        }
+
+-- equal numbers are those of one name
+apart : (table : List (List ℕ)) (a b : List ℕ) → is_some (number_in table a) ≡ true → is_some (number_in table b) ≡ true
+    → bytes_eq a b ≡ false → eqb (place_in table a) (place_in table b) ≡ false
+apart table a b h k e =
+    let m = numbered_in table a h in
+    let n = numbered_in table b k in
+    by_test (eqb (place_in table a) (place_in table b))
+    (λ f. let same : place_in table a ≡ place_in table b = eqb-true (place_in table a) (place_in table b) f in
+        let numbers : m.number ≡ n.number = sym (ap or_zero m.is) ∙ same ∙ ap or_zero n.is in
+        let names : a ≡ b = sym m.names ∙ ap (λ i. get_or table i []) numbers ∙ n.names in
+        let clash : false ≡ true = sym e ∙ ap (λ x. bytes_eq a x) (sym names) ∙ bytes_same a in absurd (cc))
+    (λ f. f)
+
+all_apart : (table : List (List ℕ)) (a : List ℕ) (names : List (List ℕ)) → is_some (number_in table a) ≡ true → AreIn table names
+    → AllByRecursion (λ y. bytes_eq a y ≡ false) names → AllByRecursion (λ y. eqb (place_in table a) y ≡ false) (map (place_in table) names)
+all_apart table a [] h k e = tt
+all_apart table a (b ∷ names) h k e = (apart table a b h k.0 e.0, all_apart table a names h k.1 e.1)
+
+numbers_once : (table names : List (List ℕ)) → IsDistinct bytes_eq names → AreIn table names → IsDistinct eqb (map (place_in table) names)
+unfolding IsDistinct
+numbers_once table [] h k = tt
+numbers_once table (a ∷ names) h k = (all_apart table a names k.0 k.1 h.0, numbers_once table names h.1 k.1)
+
+numbers_below : (table names : List (List ℕ)) → AreIn table names → (q : ℕ) → list_any (eqb q) (map (place_in table) names) ≡ true → q < length table
+numbers_below table [] k q e = absurd (cc)
+numbers_below table (a ∷ names) k q e =
+    by_test (eqb q (place_in table a))
+    (λ f. let n = numbered_in table a k.0 in
+        let same : q ≡ place_in table a = eqb-true q (place_in table a) f in
+        let number : place_in table a ≡ n.number = ap or_zero n.is in
+        let below = n.below in omega arith)
+    (λ f. numbers_below table names k.1 q (sym (ap (λ b. b || list_any (eqb q) (map (place_in table) names)) f) ∙ e))
+
+-- a table of names of another one is no longer
+pub few_names : (s table : List (List ℕ)) → IsAmong s table → length s ≤ length table
+few_names s table h =
+    let short : length (map (place_in table) s) ≤ length table =
+        length-le_from_distinct_below (map (place_in table) s) (length table) (numbers_once table s h.once h.inside) (numbers_below table s h.inside) in
+    omega (arith, length-map s (place_in table))
+
+none_passes : (t : List ℕ → Bool) (k : ℕ) (names : List (List ℕ)) → position_from t k names ≡ None → AllByRecursion (λ x. t x ≡ false) names
+none_passes t k [] e = tt
+none_passes t k (x ∷ names) e =
+    by_test (t x)
+    (λ f. some_none (sym (ap (λ b. cond b (Some k) (position_from t (k + 1) names)) f) ∙ e))
+    (λ f. (f, none_passes t (k + 1) names (sym (ap (λ b. cond b (Some k) (position_from t (k + 1) names)) f) ∙ e)))
+
+all_push : (P : List ℕ → Type 0) (names : List (List ℕ)) (name : List ℕ) → AllByRecursion P names → P name → AllByRecursion P (names ++ name ∷ [])
+all_push P [] name h p = (p, tt)
+all_push P (x ∷ names) name h p = (h.0, all_push P names name h.1 p)
+
+distinct_push : (names : List (List ℕ)) (name : List ℕ) → IsDistinct bytes_eq names → AllByRecursion (λ x. bytes_eq x name ≡ false) names → IsDistinct bytes_eq (names ++ name ∷ [])
+unfolding IsDistinct
+distinct_push [] name d h = (tt, tt)
+distinct_push (x ∷ names) name d h = (all_push (λ y. bytes_eq x y ≡ false) names name d.0 h.0, distinct_push names name d.1 h.1)
+
+pub push_among : (s table : List (List ℕ)) (name : List ℕ) → IsAmong s table → number_in s name ≡ None → is_some (number_in table name) ≡ true → IsAmong (s ++ name ∷ []) table
+push_among s table name h new inside = record {
+  once = distinct_push s name h.once (none_passes (λ x. bytes_eq x name) 0 s new);
+  inside = all_push (λ x. is_some (number_in table x) ≡ true) s name h.inside inside;
+}
+
+-- a name of a table of at most 64 gets its number
+pub record Added (s table : List (List ℕ)) (name : List ℕ) : Type 0 where
+  pub number : ℕ
+  pub added : number_added s name ≡ Some number
+  pub after : number_in (names_added s name) name ≡ Some number
+  pub within : Within s (names_added s name)
+  pub among : IsAmong (names_added s name) table
+
+pub place_added : (s table : List (List ℕ)) (name : List ℕ) → IsAmong s table → length table ≤ 64 → is_some (number_in table name) ≡ true → Added s table name
+place_added s table name h few inside = of_number (number_in s name) refl
+  where
+    of_number : (o : Option ℕ) → number_in s name ≡ o → Added s table name
+    of_number (Some i) e = record {
+      number = i;
+      added = rw e refl;
+      after = ap (λ o. number_in (with_name o s name) name) e ∙ e;
+      within = subst (Within s) (sym (ap (λ o. with_name o s name) e)) (within_self s);
+      among = subst (λ x. IsAmong x table) (sym (ap (λ o. with_name o s name) e)) h;
+    }
+    of_number None e =
+        let more = push_among s table name h e inside in
+        let short = few_names (s ++ name ∷ []) table more in
+        let room : nat_lt (length s) 64 ≡ true = lt-ltb (length s) 64 (omega (arith, length-append s (name ∷ []))) in
+        let is : names_added s name ≡ s ++ name ∷ [] = ap (λ o. with_name o s name) e ∙ rw room refl in
+        record {
+          number = length s;
+          added = ap (λ o. number_or_next o (length s)) e ∙ rw room refl;
+          after = ap (λ x. number_in x name) is ∙ pos_last (λ x. bytes_eq x name) 0 s name e (bytes_same name) ∙ ap Some (zero-add (length s));
+          within = record { more = name ∷ []; is = is };
+          among = subst (λ x. IsAmong x table) (sym is) more;
+        }

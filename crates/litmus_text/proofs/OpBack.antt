@@ -1,0 +1,150 @@
+-- The name of an operation gets the number that the plan of the columns has for it.
+use Rattle.std.proofs.Common.{◌≡◌, ◌≢◌, ◌<◌, ◌≤◌, ◌+◌, ◌-◌, ◌==◌, ℕ, zero, suc, List, [], ◌∷◌, ◌++◌, Some, None, Ok, true, false, cond, length, map, max, get_or, refl, sym, ap, ◌∙◌, subst, arith, add-zero, zero-add, inl, inr}
+use Rattle.std.specs.Prelude.{Bool, not, ◌&&◌, ◌||◌, Option, nat_lt, nat_le, is_some, codes, Err}
+use Rattle.std.specs.List.{list_all, position_from, range_with_len}
+use Rattle.std.specs.Str.{bytes_eq}
+use Rattle.std.proofs.lemmas.Bool.{eqb-true, eq-eqb, eqb-false, lt-ltb, cases_lt, leb-true, ltb-true}
+use Rattle.std.proofs.lemmas.List.{length-map}
+use Rattle.std.proofs.lemmas.List.Sums.{AllPass-from_list_all}
+use Rattle.std.proofs.lemmas.List.FromFn.{length-range_with_len, get_or-range_with_len, map-range_with_len_more, length-map-range_with_len}
+use Rattle.final_cond.specs.Names.{is_place_name, is_register_name}
+use Rattle.micro_ops.specs.declared.operation.Micro.{Micro}
+use Rattle.micro_ops.specs.declared.operation.Micro.TheVariants as ops
+use Rattle.arch_trait.specs.declared.reading.InstrError.TheVariants as errors
+use Rattle.arch_trait.specs.Names.{number_in, number_added, names_added, number_or_next, with_name}
+use Rattle.arch_trait.specs.Reading.{numbered, with_place, with_label, ReadInstr}
+use Rattle.arch_trait.specs.Writing.{name_of, with_number, label_name, is_named}
+use Rattle.litmus_text.specs.Placing.{or_zero, place_in, renumbered, mentioned}
+use Rattle.litmus_text.specs.Progress.{is_next, is_placed}
+use Rattle.litmus_text.specs.TablePlan.{labels_after, label_table}
+use Rattle.litmus_text.proofs.CutBack.{by_test, both}
+use Rattle.litmus_text.proofs.NamesBack.{Within, within_number, IsAmong, Added, place_added}
+
+same_bool : Bool → Bool → Bool
+same_bool true b = b
+same_bool false b = not b
+
+same_is : (a b : Bool) → same_bool a b ≡ true → a ≡ b
+unfolding same_bool
+same_is true true h = refl
+same_is true false h = cc
+same_is false true h = cc
+same_is false false h = refl
+
+-- labels below 64 have names of their own
+all_apart : list_all (λ i. list_all (λ j. same_bool (bytes_eq (label_name i) (label_name j)) (i == j)) (range_with_len 0 64)) (range_with_len 0 64) ≡ true
+unfolding same_bool
+all_apart = refl
+
+label_same : (i j : ℕ) → i < 64 → j < 64 → bytes_eq (label_name i) (label_name j) ≡ (i == j)
+label_same i j h k =
+    let row = AllPass-from_list_all (λ i. list_all (λ j. same_bool (bytes_eq (label_name i) (label_name j)) (i == j)) (range_with_len 0 64)) (range_with_len 0 64) all_apart i 0 h in
+    let at_i : get_or (range_with_len 0 64) i 0 ≡ i = get_or-range_with_len 0 64 i 0 h ∙ zero-add i in
+    let at_j : get_or (range_with_len 0 64) j 0 ≡ j = get_or-range_with_len 0 64 j 0 k ∙ zero-add j in
+    let row_i : list_all (λ j. same_bool (bytes_eq (label_name i) (label_name j)) (i == j)) (range_with_len 0 64) ≡ true =
+        ap (λ n. list_all (λ j. same_bool (bytes_eq (label_name n) (label_name j)) (n == j)) (range_with_len 0 64)) (sym at_i) ∙ row in
+    let cell = AllPass-from_list_all (λ j. same_bool (bytes_eq (label_name i) (label_name j)) (i == j)) (range_with_len 0 64) row_i j 0 k in
+    same_is (bytes_eq (label_name i) (label_name j)) (i == j) (ap (λ n. same_bool (bytes_eq (label_name i) (label_name n)) (i == n)) (sym at_j) ∙ cell)
+
+-- the names of labels below 64 have the form of labels
+all_formed : list_all (λ i. is_register_name (label_name i)) (range_with_len 0 64) ≡ true
+unfolding is_register_name
+all_formed = refl
+
+pub label_formed : (i : ℕ) → i < 64 → is_register_name (label_name i) ≡ true
+label_formed i h =
+    let row = AllPass-from_list_all (λ i. is_register_name (label_name i)) (range_with_len 0 64) all_formed i 0 h in
+    ap (λ n. is_register_name (label_name n)) (sym (get_or-range_with_len 0 64 i 0 h ∙ zero-add i)) ∙ row
+
+-- where a label stands in the table
+stands : (a count label : ℕ) → a ≤ label → label < a + count → a + count ≤ 64
+    → position_from (λ x. bytes_eq x (label_name label)) a (map label_name (range_with_len a count)) ≡ Some label
+stands a zero label low high few = absurd (omega arith)
+stands a (suc count) label low high few =
+    by_test (a == label)
+    (λ e. let same : a ≡ label = eqb-true a label e in rw (label_same a label (omega arith) (omega arith), e) (ap Some same))
+    (λ e. let apart = eqb-false a label e in
+        rw (label_same a label (omega arith) (omega arith), e) (stands (a + 1) count label (omega arith) (omega arith) (omega arith)))
+
+absent : (a count label : ℕ) → a + count ≤ label → label < 64
+    → position_from (λ x. bytes_eq x (label_name label)) a (map label_name (range_with_len a count)) ≡ None
+absent a zero label high few = refl
+absent a (suc count) label high few =
+    by_test (a == label)
+    (λ e. let same : a ≡ label = eqb-true a label e in absurd (omega arith))
+    (λ e. rw (label_same a label (omega arith) few, e) (absent (a + 1) count label (omega arith) few))
+
+-- a label in the table, or the next one
+pub record LabelAdded (count label : ℕ) : Type 0 where
+  pub number : number_added (label_table count) (label_name label) ≡ Some label
+  pub after : names_added (label_table count) (label_name label) ≡ label_table (max count (label + 1))
+
+known_label : (count label : ℕ) → label < count → count ≤ 64 → LabelAdded count label
+known_label count label h small =
+    let is : number_in (label_table count) (label_name label) ≡ Some label = stands 0 count label (omega arith) (omega arith) (omega arith) in
+    let kept : max count (label + 1) ≡ count = omega arith in
+    record {
+      number = ap (λ o. number_or_next o (length (label_table count))) is;
+      after = ap (λ o. with_name o (label_table count) (label_name label)) is ∙ sym (ap label_table kept);
+    }
+
+next_label : (count label : ℕ) → label ≡ count → label < 64 → LabelAdded count label
+next_label count label e few =
+    let is : number_in (label_table count) (label_name label) ≡ None = absent 0 count label (omega arith) few in
+    let size : length (label_table count) ≡ count = length-map-range_with_len label_name 0 count in
+    let room : nat_lt (length (label_table count)) 64 ≡ true = lt-ltb (length (label_table count)) 64 (omega arith) in
+    let grown : max count (label + 1) ≡ count + 1 = omega arith in
+    let number : length (label_table count) ≡ label = size ∙ sym e in
+    record {
+      number = ap (λ o. number_or_next o (length (label_table count))) is ∙ rw room (ap Some number);
+      after =
+          ap (λ o. with_name o (label_table count) (label_name label)) is ∙ rw room refl
+          ∙ sym (ap label_table grown ∙ map-range_with_len_more label_name 0 count label (omega arith));
+    }
+
+pub label_added : (count label : ℕ) → label ≤ count → label < 64 → count ≤ 64 → LabelAdded count label
+label_added count label low few small =
+    elim (cases_lt label count) [ inl h ↦ known_label count label h small | inr h ↦ next_label count label (omega arith) few ]
+
+place_step : (op : Micro) (s table final labels : List (List ℕ)) (name : List ℕ) → IsAmong s table → length table ≤ 64 → is_place_name name ≡ true
+    → is_some (number_in table name) ≡ true → Within (names_added s name) final
+    → cond (is_place_name name) (with_place op (number_added s name) (names_added s name) labels) (Err errors.BadInstruction)
+    ≡ Ok (record { op = with_number op (place_in final name); places = names_added s name; labels = labels })
+place_step op s table final labels name among few formed inside within =
+    let added = place_added s table name among few inside in
+    let last : place_in final name ≡ added.number = ap or_zero (within_number (names_added s name) final name added.number within added.after) in
+    rw (formed, added.added) (ap (λ i. Ok (record { op = with_number op i; places = names_added s name; labels = labels })) (sym last))
+
+label_step : (op : Micro) (s : List (List ℕ)) (count label : ℕ) → (nat_le label count && nat_lt label 64) ≡ true → count ≤ 64
+    → cond (is_register_name (label_name label)) (with_label op (number_added (label_table count) (label_name label)) s (names_added (label_table count) (label_name label))) (Err errors.BadInstruction)
+    ≡ Ok (record { op = with_number op label; places = s; labels = label_table (max count (label + 1)) })
+label_step op s count label next small =
+    let parts = both (nat_le label count) (nat_lt label 64) next in
+    let low = leb-true label count parts.0 in
+    let high = ltb-true label 64 parts.1 in
+    let added = label_added count label low high small in
+    rw (label_formed label high, added.number, added.after) refl
+
+-- the operation, its place and its label with their numbers
+pub numbers_back : (op : Micro) (names : ℕ → List ℕ) (s table final : List (List ℕ)) (count : ℕ) → IsAmong s table → length table ≤ 64
+    → is_placed table names op ≡ true → is_next count op ≡ true → count ≤ 64 → Within (mentioned names s op) final
+    → numbered (with_number op 0) (name_of names op) s (label_table count)
+    ≡ Ok (record { op = renumbered final names op; places = mentioned names s op; labels = label_table (labels_after count op) })
+numbers_back (ops.LoadAt dst place) names s table final count among few placed next small within =
+    let parts = both (is_place_name (names place)) (is_some (number_in table (names place))) placed in
+    place_step (ops.LoadAt dst 0) s table final (label_table count) (names place) among few parts.0 parts.1 within
+numbers_back (ops.StoreAt place n) names s table final count among few placed next small within =
+    let parts = both (is_place_name (names place)) (is_some (number_in table (names place))) placed in
+    place_step (ops.StoreAt 0 n) s table final (label_table count) (names place) among few parts.0 parts.1 within
+numbers_back (ops.BranchEq label) names s table final count among few placed next small within = label_step (ops.BranchEq 0) s count label next small
+numbers_back (ops.BranchNz a label) names s table final count among few placed next small within = label_step (ops.BranchNz a 0) s count label next small
+numbers_back (ops.Label label) names s table final count among few placed next small within = label_step (ops.Label 0) s count label next small
+numbers_back (ops.Imm dst n) names s table final count among few placed next small within = refl
+numbers_back (ops.Xor dst a b) names s table final count among few placed next small within = refl
+numbers_back (ops.AddImm dst a n) names s table final count among few placed next small within = refl
+numbers_back (ops.OrImm dst a n) names s table final count among few placed next small within = refl
+numbers_back (ops.Add dst a b) names s table final count among few placed next small within = refl
+numbers_back (ops.Load dst base index) names s table final count among few placed next small within = refl
+numbers_back (ops.Store src base index) names s table final count among few placed next small within = refl
+numbers_back (ops.Cmp a b) names s table final count among few placed next small within = refl
+numbers_back (ops.Barrier kind) names s table final count among few placed next small within = refl

@@ -1,0 +1,366 @@
+-- The rows of a printed table are read back.
+use Rattle.std.proofs.Common.{◌≡◌, ◌≢◌, ◌<◌, ◌≤◌, ◌+◌, ◌-◌, ◌==◌, ℕ, zero, suc, List, [], ◌∷◌, ◌++◌, Some, None, Ok, true, false, cond, length, map, max, get_or, length-append, refl, sym, ap, ◌∙◌, subst, arith, append_assoc, append-nil, add-zero, zero-add}
+use Rattle.std.specs.Prelude.{Bool, not, ◌&&◌, ◌||◌, Option, nat_lt, nat_le, is_some, codes, count_by, Result}
+use Rattle.std.specs.List.{list_all, AllByRecursion, range_with_len}
+use Rattle.std.proofs.lemmas.Bool.{eqb-true, eq-eqb, lt-ltb, leb-true, ltb-true}
+use Rattle.std.proofs.lemmas.List.Sums.{sum_by-append, sum_by-cons, AllPass-from_list_all}
+use Rattle.std.proofs.lemmas.List.FromFn.{get_or-range_with_len}
+use Rattle.final_cond.specs.Runs.{is_blank}
+use Rattle.final_cond.specs.Names.{is_place_name, is_register_name}
+use Rattle.micro_ops.specs.declared.operation.Micro.{Micro}
+use Rattle.micro_ops.specs.declared.operation.Micro.TheVariants as ops
+use Rattle.arch_trait.specs.declared.reading.InstrError.{InstrError}
+use Rattle.arch_trait.specs.Threads.{Puts}
+use Rattle.arch_trait.specs.Names.{number_in, names_added, with_name}
+use Rattle.arch_trait.specs.Reading.{ReadInstr, instr_read}
+use Rattle.arch_trait.specs.Writing.{Writing, WritesBack, op_text, name_of, is_named, label_name, is_plain, text_of, listed}
+use Rattle.arch_trait.proofs.Spelling.{instr_back, IsWord, word_is, IsByte}
+use Rattle.litmus_text.specs.declared.errors.TextError.{TextError}
+use Rattle.litmus_text.specs.Lines.{Lines, line, ◌>>=◌}
+use Rattle.litmus_text.specs.Table.{Placed, Column, Among, among, is_access, has_room, with_op, instr_put, cell_read, row_read, before_columns, ends_rows, rows_read, cells_of, Cells}
+use Rattle.litmus_text.specs.Placing.{renumbered, mentioned}
+use Rattle.litmus_text.specs.TablePlan.{placed_from, labels_after, labels_in, label_table, column_so_far}
+use Rattle.litmus_text.specs.Progress.{Progress, progress, moved, advanced, column_at, mentioned_first, row_mentions, is_next, is_placed, OpFits, CodeFits}
+use Rattle.litmus_text.specs.Printable.{is_cell_byte}
+use Rattle.litmus_text.specs.Spoken.{WritesCells, is_label_op}
+use Rattle.litmus_text.proofs.CutBack.{by_test, both, both_are}
+use Rattle.litmus_text.proofs.LineBack.{before}
+use Rattle.litmus_text.proofs.NamesBack.{Within, within_self, within_trans, IsAmong, Added, place_added}
+use Rattle.litmus_text.proofs.CellBack.{padded, Begins, empty_back, plain_back, label_back}
+use Rattle.litmus_text.proofs.OpBack.{numbers_back, label_formed}
+
+-- what an operation names has its form
+pub named_op : (op : Micro) (table : List (List ℕ)) (names : ℕ → List ℕ) (count : ℕ) → is_placed table names op ≡ true → is_next count op ≡ true → is_named (name_of names op) ≡ true
+named_op (ops.LoadAt dst place) table names count placed next = (both (is_place_name (names place)) (is_some (number_in table (names place))) placed).0
+named_op (ops.StoreAt place n) table names count placed next = (both (is_place_name (names place)) (is_some (number_in table (names place))) placed).0
+named_op (ops.BranchEq label) table names count placed next = label_formed label (ltb-true label 64 (both (nat_le label count) (nat_lt label 64) next).1)
+named_op (ops.BranchNz a label) table names count placed next = label_formed label (ltb-true label 64 (both (nat_le label count) (nat_lt label 64) next).1)
+named_op (ops.Label label) table names count placed next = label_formed label (ltb-true label 64 (both (nat_le label count) (nat_lt label 64) next).1)
+named_op (ops.Imm dst n) table names count placed next = refl
+named_op (ops.Xor dst a b) table names count placed next = refl
+named_op (ops.AddImm dst a n) table names count placed next = refl
+named_op (ops.OrImm dst a n) table names count placed next = refl
+named_op (ops.Add dst a b) table names count placed next = refl
+named_op (ops.Load dst base index) table names count placed next = refl
+named_op (ops.Store src base index) table names count placed next = refl
+named_op (ops.Cmp a b) table names count placed next = refl
+named_op (ops.Barrier kind) table names count placed next = refl
+
+pub few_labels : (op : Micro) (count : ℕ) → is_next count op ≡ true → count ≤ 64 → labels_after count op ≤ 64
+few_labels (ops.BranchEq label) count next h = let small = ltb-true label 64 (both (nat_le label count) (nat_lt label 64) next).1 in omega arith
+few_labels (ops.BranchNz a label) count next h = let small = ltb-true label 64 (both (nat_le label count) (nat_lt label 64) next).1 in omega arith
+few_labels (ops.Label label) count next h = let small = ltb-true label 64 (both (nat_le label count) (nat_lt label 64) next).1 in omega arith
+few_labels (ops.LoadAt dst place) count next h = h
+few_labels (ops.StoreAt place n) count next h = h
+few_labels (ops.Imm dst n) count next h = h
+few_labels (ops.Xor dst a b) count next h = h
+few_labels (ops.AddImm dst a n) count next h = h
+few_labels (ops.OrImm dst a n) count next h = h
+few_labels (ops.Add dst a b) count next h = h
+few_labels (ops.Load dst base index) count next h = h
+few_labels (ops.Store src base index) count next h = h
+few_labels (ops.Cmp a b) count next h = h
+few_labels (ops.Barrier kind) count next h = h
+
+-- mentions make a table grow, within a larger one
+pub added_within : (s : List (List ℕ)) (name : List ℕ) → Within s (names_added s name)
+added_within s name = of (number_in s name) refl
+  where
+    of : (o : Option ℕ) → number_in s name ≡ o → Within s (names_added s name)
+    of (Some i) e = subst (Within s) (sym (ap (λ o. with_name o s name) e)) (within_self s)
+    of None e =
+        by_test (nat_lt (length s) 64)
+        (λ f. subst (Within s) (sym (ap (λ o. with_name o s name) e ∙ rw f refl)) (record { more = name ∷ []; is = refl }))
+        (λ f. subst (Within s) (sym (ap (λ o. with_name o s name) e ∙ rw f refl)) (within_self s))
+
+pub mention_within : (names : ℕ → List ℕ) (s : List (List ℕ)) (op : Micro) → Within s (mentioned names s op)
+mention_within names s (ops.LoadAt dst place) = added_within s (names place)
+mention_within names s (ops.StoreAt place n) = added_within s (names place)
+mention_within names s (ops.BranchEq label) = within_self s
+mention_within names s (ops.BranchNz a label) = within_self s
+mention_within names s (ops.Label label) = within_self s
+mention_within names s (ops.Imm dst n) = within_self s
+mention_within names s (ops.Xor dst a b) = within_self s
+mention_within names s (ops.AddImm dst a n) = within_self s
+mention_within names s (ops.OrImm dst a n) = within_self s
+mention_within names s (ops.Add dst a b) = within_self s
+mention_within names s (ops.Load dst base index) = within_self s
+mention_within names s (ops.Store src base index) = within_self s
+mention_within names s (ops.Cmp a b) = within_self s
+mention_within names s (ops.Barrier kind) = within_self s
+
+pub mention_among : (table : List (List ℕ)) (names : ℕ → List ℕ) (s : List (List ℕ)) (op : Micro) → IsAmong s table → length table ≤ 64 → is_placed table names op ≡ true
+    → IsAmong (mentioned names s op) table
+mention_among table names s (ops.LoadAt dst place) h few placed = (place_added s table (names place) h few (both (is_place_name (names place)) (is_some (number_in table (names place))) placed).1).among
+mention_among table names s (ops.StoreAt place n) h few placed = (place_added s table (names place) h few (both (is_place_name (names place)) (is_some (number_in table (names place))) placed).1).among
+mention_among table names s (ops.BranchEq label) h few placed = h
+mention_among table names s (ops.BranchNz a label) h few placed = h
+mention_among table names s (ops.Label label) h few placed = h
+mention_among table names s (ops.Imm dst n) h few placed = h
+mention_among table names s (ops.Xor dst a b) h few placed = h
+mention_among table names s (ops.AddImm dst a n) h few placed = h
+mention_among table names s (ops.OrImm dst a n) h few placed = h
+mention_among table names s (ops.Add dst a b) h few placed = h
+mention_among table names s (ops.Load dst base index) h few placed = h
+mention_among table names s (ops.Store src base index) h few placed = h
+mention_among table names s (ops.Cmp a b) h few placed = h
+mention_among table names s (ops.Barrier kind) h few placed = h
+
+access_same : (table : List (List ℕ)) (names : ℕ → List ℕ) (op : Micro) → is_access (renumbered table names op) ≡ is_access op
+access_same table names (ops.LoadAt dst place) = refl
+access_same table names (ops.StoreAt place n) = refl
+access_same table names (ops.BranchEq label) = refl
+access_same table names (ops.BranchNz a label) = refl
+access_same table names (ops.Label label) = refl
+access_same table names (ops.Imm dst n) = refl
+access_same table names (ops.Xor dst a b) = refl
+access_same table names (ops.AddImm dst a n) = refl
+access_same table names (ops.OrImm dst a n) = refl
+access_same table names (ops.Add dst a b) = refl
+access_same table names (ops.Load dst base index) = refl
+access_same table names (ops.Store src base index) = refl
+access_same table names (ops.Cmp a b) = refl
+access_same table names (ops.Barrier kind) = refl
+
+first_within : (names : ℕ → List ℕ) (s : List (List ℕ)) (left : List Micro) → Within s (mentioned_first names s left)
+first_within names s [] = within_self s
+first_within names s (op ∷ left) = mention_within names s op
+
+pub row_within : (names : ℕ → List ℕ) (s : List (List ℕ)) (ps : List Progress) → Within s (row_mentions names s ps)
+row_within names s [] = within_self s
+row_within names s (p ∷ ps) =
+    within_trans s (mentioned_first names s p.left) (row_mentions names s (p ∷ ps)) (first_within names s p.left) (row_within names (mentioned_first names s p.left) ps)
+
+-- how many accesses operations are
+abbrev pub accesses_in : List Micro → ℕ
+accesses_in code = count_by is_access code
+
+accesses_placed : (table : List (List ℕ)) (names : ℕ → List ℕ) (n : ℕ) (code : List Micro) → count_by (λ placed. is_access placed.op) (placed_from table names n code) ≡ accesses_in code
+accesses_placed table names n [] = refl
+accesses_placed table names n (op ∷ code) =
+    sum_by-cons (λ placed. cond (is_access placed.op) 1 0) (record { op = renumbered table names op; at_line = n }) (placed_from table names (n + 1) code)
+    ∙ ap (λ b. cond b 1 0 + count_by (λ placed. is_access placed.op) (placed_from table names (n + 1) code)) (access_same table names op)
+    ∙ ap (λ m. cond (is_access op) 1 0 + m) (accesses_placed table names (n + 1) code)
+    ∙ sym (sum_by-cons (λ op. cond (is_access op) 1 0) op code)
+
+accesses_more : (code : List Micro) (op : Micro) → accesses_in (code ++ op ∷ []) ≡ accesses_in code + cond (is_access op) 1 0
+accesses_more code op = sum_by-append (λ op. cond (is_access op) 1 0) code (op ∷ []) ∙ ap (λ m. accesses_in code + m) (zero-add (cond (is_access op) 1 0))
+
+placed_more : (table : List (List ℕ)) (names : ℕ → List ℕ) (n m : ℕ) (code : List Micro) (op : Micro) → n + length code ≡ m
+    → placed_from table names n code ++ (record { op = renumbered table names op; at_line = m }) ∷ [] ≡ placed_from table names n (code ++ op ∷ [])
+placed_more table names n m [] op h = let same : n ≡ m = omega arith in rw same refl
+placed_more table names n m (x ∷ code) op h =
+    ap (λ rest. record { op = renumbered table names x; at_line = n } ∷ rest) (placed_more table names (n + 1) m code op (omega arith))
+
+labels_more : (count : ℕ) (code : List Micro) (op : Micro) → labels_in count (code ++ op ∷ []) ≡ labels_after (labels_in count code) op
+labels_more count [] op = refl
+labels_more count (x ∷ code) op = labels_more (labels_after count x) code op
+
+not_true : (b : Bool) → not b ≡ true → b ≡ false
+not_true true e = cc
+not_true false e = refl
+
+word_begins : (b : ℕ) (rest behind word : List ℕ) → word ≡ b ∷ rest → list_all (λ x. not (is_blank x) && not (x == 44)) word ≡ true → Begins (word ++ behind)
+word_begins b rest behind word e h =
+    let all : list_all (λ x. not (is_blank x) && not (x == 44)) (b ∷ rest) ≡ true = ap (list_all (λ x. not (is_blank x) && not (x == 44))) (sym e) ∙ h in
+    let first = both (not (is_blank b) && not (b == 44)) (list_all (λ x. not (is_blank x) && not (x == 44)) rest) all in
+    let inked = both (not (is_blank b)) (not (b == 44)) first.0 in
+    record { first = b; rest = rest ++ behind; is = ap (λ x. x ++ behind) e; inked = not_true (is_blank b) inked.0 }
+
+-- the text of an operation begins with no blank
+pub text_begins : (a : Puts) (w : Writing) (names : ℕ → List ℕ) (op : Micro) → WritesBack a w → a.has op ≡ true → is_named (name_of names op) ≡ true → Begins (op_text w names op)
+text_begins a w names op laws has named =
+    let word = word_is (w.written names op).word (laws.word names op has named) in
+    word_begins word.first word.rest (listed (w.written names op).operands) (w.written names op).word word.is word.bytes
+
+-- a thread whose rows were read up to a line: what is left of it fits
+pub record IsReady (a : Puts) (table : List (List ℕ)) (names : ℕ → List ℕ) (first n : ℕ) (p : Progress) : Type 0 where
+  pub code : CodeFits a table names (labels_in 0 p.done) (accesses_in p.done) p.left
+  pub few : labels_in 0 p.done ≤ 64
+  pub line : 0 < length p.left → first + length p.done ≡ n
+
+-- what one operation more makes of a column
+op_put : (a : Puts) (w : Writing) (table final s : List (List ℕ)) (names : ℕ → List ℕ) (first n : ℕ) (done : List Micro) (op : Micro)
+    → WritesBack a w → OpFits a table names (labels_in 0 done) (accesses_in done) op → labels_in 0 done ≤ 64 → first + length done ≡ n
+    → IsAmong s table → length table ≤ 64 → Within (mentioned names s op) final
+    → instr_put n (column_so_far final names first done) (instr_read w (op_text w names op) s (label_table (labels_in 0 done)))
+    ≡ Ok (among (mentioned names s op) (column_so_far final names first (done ++ op ∷ [])))
+op_put a w table final s names first n done op laws fits few at_line among_table short within =
+    let named = named_op op table names (labels_in 0 done) fits.placed fits.next in
+    let read = instr_back a w laws names op s (label_table (labels_in 0 done)) fits.has named
+        ∙ numbers_back op names s table final (labels_in 0 done) among_table short fits.placed fits.next few within in
+    let room : has_room (column_so_far final names first done) (renumbered final names op) ≡ true =
+        ap (λ b. not b || nat_lt (count_by (λ placed. is_access placed.op) (placed_from final names first done)) 64) (access_same final names op)
+        ∙ ap (λ m. not (is_access op) || nat_lt m 64) (accesses_placed final names first done) ∙ fits.room in
+    ap (instr_put n (column_so_far final names first done)) read
+    ∙ rw room refl
+    ∙ ap (λ placed. Ok (among (mentioned names s op) (record { ops = placed; labels = label_table (labels_after (labels_in 0 done) op) }))) (placed_more final names first n done op at_line)
+    ∙ ap (λ count. Ok (among (mentioned names s op) (record { ops = placed_from final names first (done ++ op ∷ []); labels = label_table count }))) (sym (labels_more 0 done op))
+
+-- the text of the next operation, or nothing
+abbrev pub next_text : Writing → (ℕ → List ℕ) → List Micro → List ℕ
+next_text w names [] = []
+next_text w names (op ∷ left) = op_text w names op
+
+all_label_bytes : list_all (λ i. list_all is_cell_byte (label_name i)) (range_with_len 0 64) ≡ true
+all_label_bytes = refl
+
+pub label_bytes : (label : ℕ) → label < 64 → list_all is_cell_byte (label_name label) ≡ true
+label_bytes label h =
+    let row = AllPass-from_list_all (λ i. list_all is_cell_byte (label_name i)) (range_with_len 0 64) all_label_bytes label 0 h in
+    ap (λ n. list_all is_cell_byte (label_name n)) (sym (get_or-range_with_len 0 64 label 0 h ∙ zero-add label)) ∙ row
+
+labelled : (op : Micro) (a : Puts) (w : Writing) (names : ℕ → List ℕ) (count n k : ℕ) (s t : Among Column) → is_label_op op ≡ true → WritesCells a w → a.has op ≡ true
+    → is_next count op ≡ true → Begins (op_text w names op) → instr_put n s.value (instr_read w (op_text w names op) s.names s.value.labels) ≡ Ok t
+    → cell_read w n (padded k (op_text w names op)) s ≡ Ok t
+labelled (ops.Label label) a w names count n k s t e cells has next begins put =
+    label_back w n k (label_name label) (op_text w names (ops.Label label)) s t (cells.labels names label has) begins
+    (label_bytes label (ltb-true label 64 (both (nat_le label count) (nat_lt label 64) next).1)) put
+labelled op a w names count n k s t e cells has next begins put = absurd (cc)
+
+op_cell : (a : Puts) (w : Writing) (names : ℕ → List ℕ) (op : Micro) (count n k : ℕ) (s t : Among Column) → WritesCells a w → a.has op ≡ true → is_named (name_of names op) ≡ true
+    → is_next count op ≡ true → Begins (op_text w names op) → instr_put n s.value (instr_read w (op_text w names op) s.names s.value.labels) ≡ Ok t
+    → cell_read w n (padded k (op_text w names op)) s ≡ Ok t
+op_cell a w names op count n k s t cells has named next begins put =
+    by_test (is_label_op op)
+    (λ e. labelled op a w names count n k s t e cells has next begins put)
+    (λ e. plain_back w n k (op_text w names op) s begins (cells.cells names op has named e) ∙ put)
+
+-- the cell of a thread
+pub thread_back : (a : Puts) (w : Writing) (table final s : List (List ℕ)) (names : ℕ → List ℕ) (first n k : ℕ) (p : Progress)
+    → WritesBack a w → WritesCells a w → IsReady a table names first n p → IsAmong s table → length table ≤ 64 → Within (mentioned_first names s p.left) final
+    → cell_read w n (padded k (next_text w names p.left)) (among s (column_at final names first p))
+    ≡ Ok (among (mentioned_first names s p.left) (column_at final names first (advanced p)))
+thread_back a w table final s names first n k p laws cells ready among_table short within = go p.done p.left ready.code ready.few ready.line within
+  where
+    go : (done left : List Micro) → CodeFits a table names (labels_in 0 done) (accesses_in done) left → labels_in 0 done ≤ 64 → (0 < length left → first + length done ≡ n)
+        → Within (mentioned_first names s left) final
+        → cell_read w n (padded k (next_text w names left)) (among s (column_at final names first (progress done left)))
+        ≡ Ok (among (mentioned_first names s left) (column_at final names first (moved done left)))
+    go done [] fits few at_line within = empty_back w n k (among s (column_at final names first (progress done [])))
+    go done (op ∷ left) fits few at_line within =
+        let named = named_op op table names (labels_in 0 done) fits.0.placed fits.0.next in
+        op_cell a w names op (labels_in 0 done) n k (among s (column_so_far final names first done)) (among (mentioned names s op) (column_so_far final names first (done ++ op ∷ [])))
+        cells fits.0.has named fits.0.next (text_begins a w names op laws fits.0.has named)
+        (op_put a w table final s names first n done op laws fits.0 few (at_line (omega arith)) among_table short within)
+
+-- the cells of a row are those of the threads, with blanks
+abbrev pub AreCells : Writing → (ℕ → List ℕ) → List (List ℕ) → List Progress → Type 0
+AreCells w names [] [] = Unit {0}
+AreCells w names (cell ∷ cells) (p ∷ ps) = ((k : ℕ) × (cell ≡ padded k (next_text w names p.left))) × AreCells w names cells ps
+AreCells w names _ _ = ⊥
+
+-- a row
+pub row_back : (a : Puts) (w : Writing) (table final : List (List ℕ)) (names : ℕ → List ℕ) (first n : ℕ) (cells : List (List ℕ)) (ps : List Progress) (s : List (List ℕ))
+    → WritesBack a w → WritesCells a w → AreCells w names cells ps → AllByRecursion (IsReady a table names first n) ps → IsAmong s table → length table ≤ 64
+    → Within (row_mentions names s ps) final
+    → row_read w n true cells s (map (column_at final names first) ps) ≡ Ok (among (row_mentions names s ps) (map (λ p. column_at final names first (advanced p)) ps))
+unfolding row_read
+row_back a w table final names first n [] [] s laws spoken are ready among_table short within = refl
+row_back a w table final names first n [] (p ∷ ps) s laws spoken are ready among_table short within = absurd are
+row_back a w table final names first n (cell ∷ cells) [] s laws spoken are ready among_table short within = absurd are
+row_back a w table final names first n (cell ∷ cells) (p ∷ ps) s laws spoken are ready among_table short within =
+    let here = row_within names (mentioned_first names s p.left) ps in
+    let read : cell_read w n cell (among s (column_at final names first p)) ≡ Ok (among (mentioned_first names s p.left) (column_at final names first (advanced p))) =
+        ap (λ x. cell_read w n x (among s (column_at final names first p))) are.0.1
+        ∙ thread_back a w table final s names first n are.0.0 p laws spoken ready.0 among_table short (within_trans (mentioned_first names s p.left) (row_mentions names s (p ∷ ps)) final here within) in
+    let others = row_back a w table final names first n cells ps (mentioned_first names s p.left) laws spoken are.1 ready.1 (first_among table names s p.left (labels_in 0 p.done) (accesses_in p.done) (ready.0.code) among_table short) short within in
+    rw read (ap (λ o. o >>= λ others. Ok (before_columns (column_at final names first (advanced p)) others)) others)
+  where
+    first_among : (table : List (List ℕ)) (names : ℕ → List ℕ) (s : List (List ℕ)) (left : List Micro) (labels accesses : ℕ) → CodeFits a table names labels accesses left
+        → IsAmong s table → length table ≤ 64 → IsAmong (mentioned_first names s left) table
+    first_among table names s [] labels accesses fits h few = h
+    first_among table names s (op ∷ left) labels accesses fits h few = mention_among table names s op h few fits.0.placed
+
+-- the threads after a row are ready for the next
+advance_ready : (a : Puts) (table : List (List ℕ)) (names : ℕ → List ℕ) (first n : ℕ) (p : Progress) → IsReady a table names first n p → IsReady a table names first (n + 1) (advanced p)
+advance_ready a table names first n p ready = go p.done p.left ready.code ready.few ready.line
+  where
+    go : (done left : List Micro) → CodeFits a table names (labels_in 0 done) (accesses_in done) left → labels_in 0 done ≤ 64 → (0 < length left → first + length done ≡ n)
+        → IsReady a table names first (n + 1) (moved done left)
+    go done [] fits few at_line = record { code = tt; few = few; line = λ h. absurd (omega arith) }
+    go done (op ∷ left) fits few at_line =
+        let here = at_line (omega arith) in
+        let longer : length (done ++ op ∷ []) ≡ length done + 1 = length-append done (op ∷ []) in
+        record {
+          code = subst (λ labels. CodeFits a table names labels (accesses_in (done ++ op ∷ [])) left) (sym (labels_more 0 done op))
+              (subst (λ accesses. CodeFits a table names (labels_after (labels_in 0 done) op) accesses left) (sym (accesses_more done op)) fits.1);
+          few = subst (λ labels. labels ≤ 64) (sym (labels_more 0 done op)) (few_labels op (labels_in 0 done) fits.0.next few);
+          line = λ h. omega arith;
+        }
+
+pub all_advance : (a : Puts) (table : List (List ℕ)) (names : ℕ → List ℕ) (first n : ℕ) (ps : List Progress) → AllByRecursion (IsReady a table names first n) ps
+    → AllByRecursion (IsReady a table names first (n + 1)) (map advanced ps)
+all_advance a table names first n [] h = tt
+all_advance a table names first n (p ∷ ps) h = (advance_ready a table names first n p h.0, all_advance a table names first n ps h.1)
+
+map_map : {X Y Z : Type 0} (f : Y → Z) (g : X → Y) (xs : List X) → map f (map g xs) ≡ map (λ x. f (g x)) xs
+map_map f g [] = refl
+map_map f g (x ∷ xs) = ap (λ rest. f (g x) ∷ rest) (map_map f g xs)
+
+-- a line is the row of the threads
+pub record IsRow (w : Writing) (names : ℕ → List ℕ) (text : List ℕ) (ps : List Progress) : Type 0 where
+  pub whole : (cells_of text).whole ≡ true
+  pub cells : AreCells w names (cells_of text).texts ps
+  pub row : ends_rows text ≡ false
+
+-- lines are the rows of the threads, one after another
+abbrev pub AreRows : Writing → (ℕ → List ℕ) → List (List ℕ) → List Progress → Type 0
+AreRows w names [] ps = Unit {0}
+AreRows w names (text ∷ texts) ps = IsRow w names text ps × AreRows w names texts (map advanced ps)
+
+-- the threads after rows
+abbrev pub after_rows : List (List ℕ) → List Progress → List Progress
+after_rows [] ps = ps
+after_rows (text ∷ texts) ps = after_rows texts (map advanced ps)
+
+-- the table of names after rows
+abbrev pub rows_mention : (ℕ → List ℕ) → List (List ℕ) → List (List ℕ) → List Progress → List (List ℕ)
+rows_mention names s [] ps = s
+rows_mention names s (text ∷ texts) ps = rows_mention names (row_mentions names s ps) texts (map advanced ps)
+
+pub rows_within : (names : ℕ → List ℕ) (s texts : List (List ℕ)) (ps : List Progress) → Within s (rows_mention names s texts ps)
+rows_within names s [] ps = within_self s
+rows_within names s (text ∷ texts) ps =
+    within_trans s (row_mentions names s ps) (rows_mention names s (text ∷ texts) ps) (row_within names s ps) (rows_within names (row_mentions names s ps) texts (map advanced ps))
+
+pub row_among : (a : Puts) (table : List (List ℕ)) (names : ℕ → List ℕ) (first n : ℕ) (ps : List Progress) (s : List (List ℕ)) → AllByRecursion (IsReady a table names first n) ps
+    → IsAmong s table → length table ≤ 64 → IsAmong (row_mentions names s ps) table
+row_among a table names first n [] s ready h few = h
+row_among a table names first n (p ∷ ps) s ready h few =
+    row_among a table names first n ps (mentioned_first names s p.left) ready.1 (one p.left (labels_in 0 p.done) (accesses_in p.done) ready.0.code) few
+  where
+    one : (left : List Micro) (labels accesses : ℕ) → CodeFits a table names labels accesses left → IsAmong (mentioned_first names s left) table
+    one [] labels accesses fits = h
+    one (op ∷ left) labels accesses fits = mention_among table names s op h few fits.0.placed
+
+pub rows_among : (a : Puts) (table : List (List ℕ)) (names : ℕ → List ℕ) (first n : ℕ) (texts : List (List ℕ)) (ps : List Progress) (s : List (List ℕ)) → AllByRecursion (IsReady a table names first n) ps
+    → IsAmong s table → length table ≤ 64 → IsAmong (rows_mention names s texts ps) table
+rows_among a table names first n [] ps s ready h few = h
+rows_among a table names first n (text ∷ texts) ps s ready h few =
+    rows_among a table names first (n + 1) texts (map advanced ps) (row_mentions names s ps) (all_advance a table names first n ps ready) (row_among a table names first n ps s ready h few) few
+
+-- rows, up to a line that ends them
+pub rows_back : (a : Puts) (w : Writing) (table final : List (List ℕ)) (names : ℕ → List ℕ) (first n k : ℕ) (texts : List (List ℕ)) (ps : List Progress) (s : List (List ℕ)) (rest : ℕ → Lines)
+    (m : ℕ) (last : List ℕ) (behind : Lines) → rest (n + length texts) ≡ line m last behind → ends_rows last ≡ true
+    → WritesBack a w → WritesCells a w → AreRows w names texts ps → AllByRecursion (IsReady a table names first n) ps → IsAmong s table → length table ≤ 64
+    → Within (rows_mention names s texts ps) final → k + length texts ≤ 1024
+    → rows_read w k (among s (map (column_at final names first) ps)) (before n texts rest)
+    ≡ Ok (among (rows_mention names s texts ps) (map (column_at final names first) (after_rows texts ps)), line m last behind)
+unfolding rows_read
+rows_back a w table final names first n k [] ps s rest m last behind at_rest ends laws spoken are ready among_table short within few =
+    let here : rest n ≡ line m last behind = ap rest (sym (add-zero n)) ∙ at_rest in
+    rw (here, ends) refl
+rows_back a w table final names first n k (text ∷ texts) ps s rest m last behind at_rest ends laws spoken are ready among_table short within few =
+    let room : nat_lt k 1024 ≡ true = lt-ltb k 1024 (omega arith) in
+    let further = rows_within names (row_mentions names s ps) texts (map advanced ps) in
+    let row = row_back a w table final names first n (cells_of text).texts ps s laws spoken are.0.cells ready among_table short
+        (within_trans (row_mentions names s ps) (rows_mention names s (text ∷ texts) ps) final further within) in
+    let count : n + length (text ∷ texts) ≡ (n + 1) + length texts = omega arith in
+    let rest_at : rest ((n + 1) + length texts) ≡ line m last behind = ap rest (sym count) ∙ at_rest in
+    let next = rows_back a w table final names first (n + 1) (k + 1) texts (map advanced ps) (row_mentions names s ps) rest m last behind rest_at ends laws spoken are.1
+        (all_advance a table names first n ps ready) (row_among a table names first n ps s ready among_table short) short within (omega arith) in
+    rw (are.0.row, room, are.0.whole)
+    (ap (λ r. r >>= λ next. rows_read w (k + 1) next (before (n + 1) texts rest)) row
+    ∙ ap (λ columns. rows_read w (k + 1) (among (row_mentions names s ps) columns) (before (n + 1) texts rest)) (sym (map_map (column_at final names first) advanced ps))
+    ∙ next)

@@ -1,0 +1,5 @@
+use Rattle.litmus_text.proofs.MentionedBack.{reads_back}
+use Rattle.litmus_text.proofs.law.printed_reads_back.Goals as goal
+
+pub returns : goal.returns
+returns g c = λ cells name test h. reads_back g.A.Arch.puts g.A.Arch.NAME g.A.Arch.writing name test g.met.A.Arch.reads_back cells h

@@ -1,0 +1,43 @@
+-- The table by which a printed test is read back names all that the test names.
+-- Source: own.
+use Rattle.std.specs.Prelude.{◌≡◌, ℕ, Bool, true, is_some, List, Ok}
+use Rattle.std.specs.List.{AllByRecursion, IsDistinct}
+use Rattle.std.specs.Str.{bytes_eq}
+use Rattle.relax_edges.specs.declared.kinds.ArchName.{ArchName}
+use Rattle.micro_ops.specs.declared.operation.Micro.{Micro}
+use Rattle.micro_ops.specs.declared.operation.Micro.TheVariants as ops
+use Rattle.final_cond.specs.Conditions.{LeftSeen, InRegister, AtPlace, TermSeen}
+use Rattle.arch_trait.specs.Threads.{Puts, ThreadCode}
+use Rattle.arch_trait.specs.Names.{number_in}
+use Rattle.arch_trait.specs.Writing.{Writing, name_in}
+use Rattle.litmus_text.specs.TestText.{TestSeen, test_text}
+use Rattle.litmus_text.specs.TestReading.{test_read}
+use Rattle.litmus_text.specs.Items.{Link, links_of}
+use Rattle.litmus_text.specs.Reread.{reread}
+
+-- a name stands in a table
+abbrev pub is_in : List (List ℕ) → List ℕ → Bool
+is_in table name = is_some (number_in table name)
+
+-- the place of an operation stands in a table, if it has one
+abbrev pub op_is_in : List (List ℕ) → (ℕ → List ℕ) → Micro → Bool
+op_is_in table names (ops.LoadAt dst place) = is_in table (names place)
+op_is_in table names (ops.StoreAt place n) = is_in table (names place)
+op_is_in table names op = true
+
+-- the place of a left side stands in a table, if it is one
+abbrev pub left_is_in : List (List ℕ) → LeftSeen → Bool
+left_is_in table (InRegister thread name) = true
+left_is_in table (AtPlace name) = is_in table name
+
+-- The text of a test under a name is read as the test, its places numbered by a table. The table holds each name
+-- once, no name but those of the test's places, and each place that stands in an operation, at an address register
+-- or in the condition.
+pub record ReadsBack (arch : ArchName) (w : Writing) (name : List ℕ) (test : TestSeen) : Type 0 where
+  pub table : List (List ℕ)
+  pub read : test_read arch w (test_text arch w name test) ≡ Ok (reread table name test)
+  pub once : IsDistinct bytes_eq table
+  pub among : AllByRecursion (λ place. is_in test.places place ≡ true) table
+  pub codes : AllByRecursion (λ t. AllByRecursion (λ op. op_is_in table (name_in test.places) op ≡ true) t.instrs) test.threads
+  pub links : AllByRecursion (λ link. is_in table (name_in test.places link.1.1) ≡ true) (links_of 0 test.threads)
+  pub terms : AllByRecursion (λ term. left_is_in table term.left ≡ true) test.cond.terms

@@ -1,0 +1,27 @@
+-- The bytes of a printed test.
+-- Source: own.
+use Rattle.std.specs.Prelude.{◌≡◌, ℕ, ◌==◌, Bool, true, false, not, ◌&&◌, ◌||◌, nat_le, List, length}
+use Rattle.std.specs.Char.{is_ascii_alphanumeric}
+use Rattle.std.specs.List.{list_all}
+
+-- a byte of a printed line: a space or a graphic character, but no `*`
+abbrev pub is_line_byte : ℕ → Bool
+is_line_byte byte = (nat_le 32 byte && nat_le byte 126) && not (byte == 42)
+
+-- a byte of a cell: one of a line that ends neither a cell nor a row, and no colon
+abbrev pub is_cell_byte : ℕ → Bool
+is_cell_byte byte = is_line_byte byte && not (byte == 124 || (byte == 59 || byte == 58))
+
+-- a byte of a row's cells: one of a line that ends neither a cell nor a row
+abbrev pub is_row_byte : ℕ → Bool
+is_row_byte byte = is_line_byte byte && not (byte == 124 || byte == 59)
+
+-- a byte of the name of a test: a letter, a digit, `+`, `-`, `.` or `_`
+abbrev pub is_name_byte : ℕ → Bool
+is_name_byte byte = is_ascii_alphanumeric byte || (byte == 43 || (byte == 45 || (byte == 46 || byte == 95)))
+
+-- a name of a test: 1 to 800 such bytes
+pub record IsTestName (name : List ℕ) : Type 0 where
+  pub some : nat_le 1 (length name) ≡ true
+  pub short : nat_le (length name) 800 ≡ true
+  pub bytes : list_all is_name_byte name ≡ true

@@ -1,0 +1,83 @@
+-- How far the rows of a printed table were read: for each thread the operations that were read and those that are left.
+-- Source: own.
+use Rattle.std.specs.Prelude.{◌≡◌, ℕ, ◌+◌, ◌-◌, ◌==◌, Bool, true, not, ◌&&◌, ◌||◌, nat_le, nat_lt, is_some, cond, List, [], ◌∷◌, ◌++◌, map, length, count_by}
+use Rattle.std.specs.List.{list_all}
+use Rattle.final_cond.specs.Names.{is_place_name}
+use Rattle.micro_ops.specs.declared.operation.Micro.{Micro}
+use Rattle.micro_ops.specs.declared.operation.Micro.TheVariants as ops
+use Rattle.arch_trait.specs.Threads.{Puts}
+use Rattle.arch_trait.specs.Names.{number_in}
+use Rattle.litmus_text.specs.Table.{Column, is_access, is_label_of}
+use Rattle.litmus_text.specs.Placing.{mentioned}
+use Rattle.litmus_text.specs.TablePlan.{labels_after, labels_in, column_so_far}
+
+pub record Progress : Type 0 where
+  pub done : List Micro
+  pub left : List Micro
+
+abbrev pub progress : List Micro → List Micro → Progress
+progress done left = record { done = done; left = left }
+
+-- one row more was read
+abbrev pub moved : List Micro → List Micro → Progress
+moved done [] = progress done []
+moved done (op ∷ left) = progress (done ++ op ∷ []) left
+
+abbrev pub advanced : Progress → Progress
+advanced p = moved p.done p.left
+
+-- the column that was read so far
+abbrev pub column_at : List (List ℕ) → (ℕ → List ℕ) → ℕ → Progress → Column
+column_at table names first p = column_so_far table names first p.done
+
+-- the table after the first operation that is left was mentioned
+abbrev pub mentioned_first : (ℕ → List ℕ) → List (List ℕ) → List Micro → List (List ℕ)
+mentioned_first names s [] = s
+mentioned_first names s (op ∷ left) = mentioned names s op
+
+-- after a row
+abbrev pub row_mentions : (ℕ → List ℕ) → List (List ℕ) → List Progress → List (List ℕ)
+row_mentions names s [] = s
+row_mentions names s (p ∷ ps) = row_mentions names (mentioned_first names s p.left) ps
+
+-- the label of an operation has a number, or gets the next one
+abbrev pub is_next : ℕ → Micro → Bool
+is_next count (ops.BranchEq label) = nat_le label count && nat_lt label 64
+is_next count (ops.BranchNz a label) = nat_le label count && nat_lt label 64
+is_next count (ops.Label label) = nat_le label count && nat_lt label 64
+is_next count op = true
+
+-- the place of an operation has a name of its form in a table
+abbrev pub is_placed : List (List ℕ) → (ℕ → List ℕ) → Micro → Bool
+is_placed table names (ops.LoadAt dst place) = is_place_name (names place) && is_some (number_in table (names place))
+is_placed table names (ops.StoreAt place n) = is_place_name (names place) && is_some (number_in table (names place))
+is_placed table names op = true
+
+-- an operation behind others, with so many labels: it is the architecture's, its place and label get numbers, and
+-- it is no access too many
+pub record OpFits (a : Puts) (table : List (List ℕ)) (names : ℕ → List ℕ) (labels accesses : ℕ) (op : Micro) : Type 0 where
+  pub has : a.has op ≡ true
+  pub placed : is_placed table names op ≡ true
+  pub next : is_next labels op ≡ true
+  pub room : (not (is_access op) || nat_lt accesses 64) ≡ true
+
+-- the same of operations one after another
+abbrev pub CodeFits : Puts → List (List ℕ) → (ℕ → List ℕ) → ℕ → ℕ → List Micro → Type 0
+CodeFits a table names labels accesses [] = Unit {0}
+CodeFits a table names labels accesses (op ∷ code) =
+    OpFits a table names labels accesses op × CodeFits a table names (labels_after labels op) (accesses + cond (is_access op) 1 0) code
+
+-- a label stands once in a thread, behind the branch
+abbrev pub stands_once : ℕ → List Micro → List Micro → Bool
+stands_once label all behind = (count_by (is_label_of label) all == 1) && (count_by (is_label_of label) behind == 1)
+
+-- where an operation is a branch, its label stands as it must
+abbrev pub op_lands : Micro → List Micro → List Micro → Bool
+op_lands (ops.BranchEq label) all behind = stands_once label all behind
+op_lands (ops.BranchNz a label) all behind = stands_once label all behind
+op_lands op all behind = true
+
+-- the label of each branch of a thread, from an operation on, stands once in the thread and behind the branch
+abbrev pub code_lands : List Micro → List Micro → Bool
+code_lands all [] = true
+code_lands all (op ∷ behind) = op_lands op all behind && code_lands all behind
