@@ -3,10 +3,9 @@
 
 use diy_io::{NoMemory, StdSink, Words};
 use diy_tools::run;
-use std::env;
-use std::io;
 use std::io::Write;
 use std::process::ExitCode;
+use std::{env, io};
 
 /// The words that the program was called with, or the status that their want ends it with.
 fn words_of(rt: &HostRuntime) -> Result<Words, ExitCode> {

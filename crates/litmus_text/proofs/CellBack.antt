@@ -151,10 +151,10 @@ pub label_back : (w : Writing) (n k : ℕ) (name text : List ℕ) (s t : Among C
 unfolding cell_read instr_in
 label_back w n k name text s t is h bytes put =
     let parts : cut_at 58 (padded k text) ≡ Some (32 ∷ name, blanks k) =
-        ap (λ x. cut_at 58 (32 ∷ (x ++ blanks k))) is ∙ ap (λ x. cut_at 58 (32 ∷ x)) (append_assoc name (58 ∷ []) (blanks k))
-        ∙ cut_back 58 (32 ∷ name) (blanks k) (without_class is_cell_byte 58 (32 ∷ name) refl (both_are (is_cell_byte 32) (list_all is_cell_byte name) refl bytes)) in
+    ap (λ x. cut_at 58 (32 ∷ (x ++ blanks k))) is ∙ ap (λ x. cut_at 58 (32 ∷ x)) (append_assoc name (58 ∷ []) (blanks k))
+    ∙ cut_back 58 (32 ∷ name) (blanks k) (without_class is_cell_byte 58 (32 ∷ name) refl (both_are (is_cell_byte 32) (list_all is_cell_byte name) refl bytes)) in
     let whole : (32 ∷ name) ++ 58 ∷ [] ≡ padded 0 text = ap (λ x. 32 ∷ x) (sym is ∙ sym (append-nil text)) in
     let read : instr_put n s.value (instr_read w ((32 ∷ name) ++ 58 ∷ []) s.names s.value.labels) ≡ Ok t =
-        ap (λ x. instr_put n s.value (instr_read w x s.names s.value.labels)) whole
-        ∙ ap (instr_put n s.value) (instr_padded w text 0 s.names s.value.labels h) ∙ put in
+    ap (λ x. instr_put n s.value (instr_read w x s.names s.value.labels)) whole
+    ∙ ap (instr_put n s.value) (instr_padded w text 0 s.names s.value.labels h) ∙ put in
     rw (parts, read) (nothing_back w n k t)

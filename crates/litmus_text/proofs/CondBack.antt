@@ -49,7 +49,7 @@ left_stays (InRegister thread name) rest h =
     let small = (named thread name h).few in
     let digits = digits_of thread (omega arith) in
     let shape : ((decimal thread ++ codes ":") ++ name) ++ rest ≡ decimal thread ++ (58 ∷ (name ++ rest)) =
-        append_assoc (decimal thread ++ codes ":") name rest ∙ append_assoc (decimal thread) (58 ∷ []) (name ++ rest) in
+    append_assoc (decimal thread ++ codes ":") name rest ∙ append_assoc (decimal thread) (58 ∷ []) (name ++ rest) in
     ap unblanked shape ∙ digits_stay (decimal thread) (58 ∷ (name ++ rest)) digits.all digits.some ∙ sym shape
 left_stays (AtPlace name) rest h = refl
 
@@ -83,7 +83,7 @@ term_back w here table s term rest fits among_table short stop =
   where
     go : (text behind : List ℕ) → text ≡ left_text term.left ++ behind → left_read has_form (left_text term.left ++ behind) ≡ Ok (term.left, behind) → right_read behind ≡ Ok (term.value, rest)
         → (at_begin here.begins (left_read has_form text) >>= λ left. left_put w here (line_of_rest here text) (state s) left.0 >>= λ next.
-            at_begin here.begins (right_read left.1) >>= λ right. Ok (read_as left.0 right.0 next right.1))
+        at_begin here.begins (right_read left.1) >>= λ right. Ok (read_as left.0 right.0 next right.1))
         ≡ Ok (record { term = term; state = state (left_mention s term.left); rest = rest })
     go text behind e left right =
         rw (e, left, left_put_back w here (line_of_rest here (left_text term.left ++ behind)) table s term.left fits.known among_table short, right) refl
@@ -121,7 +121,7 @@ terms_back w here table s (suc room) term (next ∷ terms) rest few fits among_t
     let more : List ℕ = terms_text (next ∷ terms) in
     let text : List ℕ = more ++ 41 ∷ rest in
     let further = terms_back w here table (left_mention s term.left) room next terms rest (omega arith) fits.1
-        (term_among w here.threads table s term.left fits.0.known among_table short) short in
+    (term_among w here.threads table s term.left fits.0.known among_table short) short in
     rw (append_assoc (term_text term) (32 ∷ 47 ∷ 92 ∷ 32 ∷ more) (41 ∷ rest), term_back w here table s term (32 ∷ 47 ∷ 92 ∷ 32 ∷ text) fits.0 among_table short refl, joining (32 ∷ text))
     (rw (terms_blank w here room (state (left_mention s term.left)) text, further) refl)
 
@@ -224,6 +224,7 @@ cond_line_is w threads table condition h = of condition.quantifier
   where
     bytes : list_all is_line_byte (terms_text condition.terms ++ codes ")") ≡ true
     bytes = all_both is_line_byte (terms_text condition.terms) (codes ")") (terms_bytes w threads table condition.terms h) refl
+
     of : (q : Quantifier) → IsLine (((quantifier_word q ++ codes " (") ++ terms_text condition.terms) ++ codes ")")
     of Exists = line_is (codes "exists (" ++ (terms_text condition.terms ++ codes ")")) bytes refl
     of NotExists = line_is (codes "~exists (" ++ (terms_text condition.terms ++ codes ")")) bytes refl

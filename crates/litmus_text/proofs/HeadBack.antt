@@ -123,9 +123,9 @@ no_comment (a ∷ []) h = by_test (a == 40) (λ e. rw e refl) (λ e. rw e refl)
 no_comment (a ∷ b ∷ text) h =
     by_test (b == 42)
     (λ e. let same : b ≡ 42 = eqb-true b 42 e in
-        let parts = both (is_line_byte a) (list_all is_line_byte (b ∷ text)) h in
-        let second = both (is_line_byte b) (list_all is_line_byte text) parts.1 in
-        let clash : true ≡ false = sym second.0 ∙ ap is_line_byte same in absurd (cc))
+    let parts = both (is_line_byte a) (list_all is_line_byte (b ∷ text)) h in
+    let second = both (is_line_byte b) (list_all is_line_byte text) parts.1 in
+    let clash : true ≡ false = sym second.0 ∙ ap is_line_byte same in absurd (cc))
     (λ e. by_test (a == 40) (λ f. rw (f, e) refl) (λ f. rw f refl))
 
 -- a printed line with a byte that is no blank stays

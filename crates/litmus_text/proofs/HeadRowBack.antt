@@ -55,7 +55,7 @@ unfolding cell_text column_of
 head_cell w places n t h =
     let left = width_of (column_of w places (n, t)) - length (80 ∷ decimal n) in
     let shape : spaced (cell_text 0) (column_of w places (n, t)) ≡ padded (left + 1) (80 ∷ decimal n) =
-        ap (λ x. 32 ∷ x) (append_assoc (80 ∷ decimal n) (replicate left 32) (32 ∷ []) ∙ ap (λ x. (80 ∷ decimal n) ++ x) (replicate_more left 32)) in
+    ap (λ x. 32 ∷ x) (append_assoc (80 ∷ decimal n) (replicate left 32) (32 ∷ []) ∙ ap (λ x. (80 ∷ decimal n) ++ x) (replicate_more left 32)) in
     ap (λ x. bytes_eq (trimmed x) (80 ∷ decimal n)) shape ∙ ap (λ x. bytes_eq x (80 ∷ decimal n)) (head_trimmed n (left + 1) h) ∙ bytes_same (80 ∷ decimal n)
 
 heads_back : (w : Writing) (places : List (List ℕ)) (line_number n : ℕ) (threads : List ThreadCode) → n + length threads ≤ 64
@@ -73,11 +73,12 @@ head_bytes : (w : Writing) (places : List (List ℕ)) (n : ℕ) (threads : List 
 unfolding cell_text column_of
 head_bytes w places n [] h = tt
 head_bytes w places n (t ∷ threads) h =
-    let digits = digits_of n (omega arith) in
-    (all_both is_row_byte (80 ∷ decimal n) (replicate (width_of (column_of w places (n, t)) - length (80 ∷ decimal n)) 32)
-    (both_are true (list_all is_row_byte (decimal n)) refl (weaker is_ascii_digit is_row_byte digit_on_row (decimal n) digits.all))
-    (blanks_class is_row_byte (width_of (column_of w places (n, t)) - length (80 ∷ decimal n)) refl),
-    head_bytes w places (n + 1) threads (omega arith))
+    let digits = digits_of n (omega arith) in (
+      all_both is_row_byte (80 ∷ decimal n) (replicate (width_of (column_of w places (n, t)) - length (80 ∷ decimal n)) 32)
+          (both_are true (list_all is_row_byte (decimal n)) refl (weaker is_ascii_digit is_row_byte digit_on_row (decimal n) digits.all))
+          (blanks_class is_row_byte (width_of (column_of w places (n, t)) - length (80 ∷ decimal n)) refl),
+      head_bytes w places (n + 1) threads (omega arith),
+    )
 
 -- the header of a test with threads
 pub head_back : (w : Writing) (places : List (List ℕ)) (n : ℕ) (t : ThreadCode) (threads : List ThreadCode) (begun : Begun) (rest : Lines) → length (t ∷ threads) ≤ 64

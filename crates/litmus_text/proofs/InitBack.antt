@@ -134,12 +134,14 @@ item_line_is : (a : Puts) (w : Writing) (table places : List (List ℕ)) (n : �
     → AllByRecursion ItemLine (items_lines w places n links)
 item_line_is a w table places n [] laws fits = tt
 item_line_is a w table places n (link ∷ links) laws fits =
-    let more = flat_map (λ y. codes " " ++ item_text w places n y) links in
-    (record {
-      bytes = all_both is_items_byte (item_text w places n link) more (item_bytes a w table places (n, link) laws fits.0) (further_bytes a w table places n links laws fits.1);
-      inked = ap (λ t. list_all is_blank (t ++ more)) (core_is w places (n, link)) ∙ ap (list_all is_blank) (append_assoc (core w (name_in places) (n, link)) (59 ∷ []) more)
-          ∙ not_all_blank (core w (name_in places) (n, link)) 59 more refl;
-    }, tt)
+    let more = flat_map (λ y. codes " " ++ item_text w places n y) links in (
+      record {
+        bytes = all_both is_items_byte (item_text w places n link) more (item_bytes a w table places (n, link) laws fits.0) (further_bytes a w table places n links laws fits.1);
+        inked = ap (λ t. list_all is_blank (t ++ more)) (core_is w places (n, link)) ∙ ap (list_all is_blank) (append_assoc (core w (name_in places) (n, link)) (59 ∷ []) more)
+            ∙ not_all_blank (core w (name_in places) (n, link)) 59 more refl;
+      },
+      tt,
+    )
 
 pub all_join : {X : Type 0} (P : X → Type 0) (xs ys : List X) → AllByRecursion P xs → AllByRecursion P ys → AllByRecursion P (xs ++ ys)
 all_join P [] ys h k = k
@@ -169,11 +171,12 @@ no_brace_in text h = without_class is_items_byte 125 text refl h.bytes
 pub initial_lines_are : (a : Puts) (w : Writing) (table places : List (List ℕ)) (threads : List ThreadCode) → WritesBack a w → AllByRecursion (LinkFits w table (name_in places)) (links_of 0 threads)
     → AllByRecursion IsLine (initial_lines w places threads)
 unfolding initial_lines
-initial_lines_are a w table places threads laws fits =
-    (line_is (123 ∷ []) refl refl,
-    all_join IsLine (item_lines w places 0 threads) ((125 ∷ []) ∷ [])
-    (all_map ItemLine IsLine (λ l h. line_is l (weaker is_items_byte is_line_byte items_on_line l h.bytes) h.inked) (item_lines w places 0 threads) (item_lines_are a w table places 0 threads laws fits))
-    (line_is (125 ∷ []) refl refl, tt))
+initial_lines_are a w table places threads laws fits = (
+  line_is (123 ∷ []) refl refl,
+  all_join IsLine (item_lines w places 0 threads) ((125 ∷ []) ∷ [])
+      (all_map ItemLine IsLine (λ l h. line_is l (weaker is_items_byte is_line_byte items_on_line l h.bytes) h.inked) (item_lines w places 0 threads) (item_lines_are a w table places 0 threads laws fits))
+      (line_is (125 ∷ []) refl refl, tt),
+)
 
 -- the initial state of a printed test
 pub initial_back : (a : Puts) (w : Writing) (table final places : List (List ℕ)) (threads : List ThreadCode) (n : ℕ) (after : ℕ → Lines)
@@ -186,7 +189,7 @@ initial_back a w table final places threads n after laws fits among_table short 
     let lines = item_lines w places 0 threads in
     let gather = gathered no_text n [] (n + 1) lines after refl (all_map ItemLine (λ l. is_without 125 l ≡ true) no_brace_in lines (item_lines_are a w table places 0 threads laws fits)) in
     let items = all_items_back a w table final (name_in places) (links_of 0 threads) gather.whole laws fits among_table short within once
-        (gather.bytes ∙ ap (λ x. x ++ 32 ∷ []) (all_joined_items w places 0 threads)) in
+    (gather.bytes ∙ ap (λ x. x ++ 32 ∷ []) (all_joined_items w places 0 threads)) in
     let size : length (lines ++ (125 ∷ []) ∷ []) ≡ length lines + 1 = length-append lines ((125 ∷ []) ∷ []) in
     let count : (n + 1) + (length lines + 1) ≡ n + length ((123 ∷ []) ∷ (lines ++ (125 ∷ []) ∷ [])) = omega arith in
     ap (braced_read w) gather.is
@@ -206,6 +209,7 @@ links_there table names n m (t ∷ threads) h =
     values_split : (table : List (List ℕ)) (names : ℕ → List ℕ) (xs ys : List Link) → link_values table names (xs ++ ys) ≡ link_values table names xs ++ link_values table names ys
     values_split table names [] ys = refl
     values_split table names (x ∷ xs) ys = ap (λ rest. (x.0, (x.1.0, values.Place (place_in table (names x.1.1)))) ∷ rest) (values_split table names xs ys)
+
     here : (links : List (ℕ × ℕ)) → list_all (λ v. nat_lt v.0 m) (link_values table names (map (λ link. (n, link)) links)) ≡ true
     here [] = refl
     here (link ∷ links) = both_are (nat_lt n m) (list_all (λ v. nat_lt v.0 m) (link_values table names (map (λ link. (n, link)) links))) (lt-ltb n m (omega arith)) (here links)

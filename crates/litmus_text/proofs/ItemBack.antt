@@ -182,7 +182,7 @@ item_back a w table names link laws fits =
     let side_trimmed = trimmed_item side (side_bytes a w link laws fits.thread fits.register) in
     let name_trimmed = trimmed_item name (name_bytes name fits.formed) in
     let left : whole_left (left_at_front (trimmed side)) ≡ Some (InRegister link.0 (name_in w.registers link.1.0)) =
-        ap (λ t. whole_left (left_at_front t)) side_trimmed ∙ ap whole_left (side_back a w link laws fits.thread fits.register) in
+    ap (λ t. whole_left (left_at_front t)) side_trimmed ∙ ap whole_left (side_back a w link laws fits.thread fits.register) in
     let small : nat_lt link.0 64 ≡ true = lt-ltb link.0 64 fits.thread in
     ap (some_item w) (behind_blank (core w names link) (core_bytes a w table names link laws fits))
     ∙ core_some w side name ∙ ap (item_parts w) cut
@@ -246,7 +246,7 @@ items_back a w table final s names done (link ∷ links) joined place laws fits 
     let added = place_added s table (names link.1.1) among_table short fits.0.inside in
     let further = links_within names (names_added s (names link.1.1)) links in
     let step = item_step a w table final s names done link joined place laws fits.0 among_table short
-        (within_trans (names_added s (names link.1.1)) (links_mention names s (link ∷ links)) final further within) (not_true (list_any (λ d. (d.0 == link.0) && (d.1.0 == link.1.0)) done) parts.0) in
+    (within_trans (names_added s (names link.1.1)) (links_mention names s (link ∷ links)) final further within) (not_true (list_any (λ d. (d.0 == link.0) && (d.1.0 == link.1.0)) done) parts.0) in
     rw step
     (items_back a w table final (names_added s (names link.1.1)) names (done ++ link ∷ []) links joined (place + (length (32 ∷ core w names link) + 1)) laws fits.1 added.among short within parts.1
     ∙ ap (λ d. Ok (begun_at (links_mention names s (link ∷ links)) final names d)) (append_assoc done (link ∷ []) links))
@@ -259,7 +259,7 @@ item_pieces a w table names (link ∷ links) laws fits =
     let text = core w names link in
     let rest = flat_map (λ link. 32 ∷ (core w names link ++ 59 ∷ [])) links ++ 32 ∷ [] in
     let shape : (32 ∷ (text ++ 59 ∷ []) ++ flat_map (λ link. 32 ∷ (core w names link ++ 59 ∷ [])) links) ++ 32 ∷ [] ≡ (32 ∷ text) ++ 59 ∷ rest =
-        append_assoc (32 ∷ (text ++ 59 ∷ [])) (flat_map (λ link. 32 ∷ (core w names link ++ 59 ∷ [])) links) (32 ∷ []) ∙ append_assoc (32 ∷ text) (59 ∷ []) rest in
+    append_assoc (32 ∷ (text ++ 59 ∷ [])) (flat_map (λ link. 32 ∷ (core w names link ++ 59 ∷ [])) links) (32 ∷ []) ∙ append_assoc (32 ∷ text) (59 ∷ []) rest in
     ap (pieces 59) shape
     ∙ piece_back 59 (32 ∷ text) rest (both_are true (is_without 59 text) refl (without_class is_item_byte 59 text refl (core_bytes a w table names link laws fits.0)))
     ∙ ap (λ ps. (32 ∷ text) ∷ ps) (item_pieces a w table names links laws fits.1)

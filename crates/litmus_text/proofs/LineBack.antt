@@ -42,7 +42,7 @@ lines_back n [] h = refl
 lines_back n (text ∷ texts) h =
     let behind = flat_map ended texts in
     let split : slice_split is_line_feed ((text ++ 10 ∷ []) ++ behind) ≡ text ∷ slice_split is_line_feed behind =
-        ap (slice_split is_line_feed) (append_assoc text (10 ∷ []) behind) ∙ piece_back 10 text behind (without_class is_line_byte 10 text refl h.0.bytes) in
+    ap (slice_split is_line_feed) (append_assoc text (10 ∷ []) behind) ∙ piece_back 10 text behind (without_class is_line_byte 10 text refl h.0.bytes) in
     let first = first_piece is_line_feed behind in
     ap (lines_in n) (split ∙ ap (λ pieces. text ∷ pieces) first.is)
     ∙ one_line n text first.rest first.piece h.0

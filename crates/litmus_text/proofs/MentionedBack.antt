@@ -89,10 +89,11 @@ first_among a table s names labels accesses (op ∷ left) fits h few = mention_a
 row_in : (a : Puts) (table s final : List (List ℕ)) (names : ℕ → List ℕ) (first n : ℕ) (ps : List Progress) → AllByRecursion (IsReady a table names first n) ps → IsAmong s table → length table ≤ 64
     → Within (row_mentions names s ps) final → AllByRecursion (λ p. FirstIn final names p.left) ps
 row_in a table s final names first n [] ready h few within = tt
-row_in a table s final names first n (p ∷ ps) ready h few within =
-    (first_in a table s final names (labels_in 0 p.done) (accesses_in p.done) p.left ready.0.code h few
-    (within_trans (mentioned_first names s p.left) (row_mentions names s (p ∷ ps)) final (row_within names (mentioned_first names s p.left) ps) within),
-    row_in a table (mentioned_first names s p.left) final names first n ps ready.1 (first_among a table s names (labels_in 0 p.done) (accesses_in p.done) p.left ready.0.code h few) few within)
+row_in a table s final names first n (p ∷ ps) ready h few within = (
+  first_in a table s final names (labels_in 0 p.done) (accesses_in p.done) p.left ready.0.code h few
+      (within_trans (mentioned_first names s p.left) (row_mentions names s (p ∷ ps)) final (row_within names (mentioned_first names s p.left) ps) within),
+  row_in a table (mentioned_first names s p.left) final names first n ps ready.1 (first_among a table s names (labels_in 0 p.done) (accesses_in p.done) p.left ready.0.code h few) few within,
+)
 
 -- the first operation and then the others
 then_others : (table : List (List ℕ)) (names : ℕ → List ℕ) (ps : List Progress) → AllByRecursion (λ p. FirstIn table names p.left) ps → AllByRecursion (λ p. OpsIn table names p.left) (map advanced ps)
@@ -120,6 +121,7 @@ rows_in a table s final names first n [] ps ready short h few within = none ps s
     nothing : (left : List Micro) → length left ≤ 0 → OpsIn final names left
     nothing [] h = tt
     nothing (op ∷ left) h = absurd (omega arith)
+
     none : (ps : List Progress) → AllByRecursion (λ p. length p.left ≤ 0) ps → AllByRecursion (λ p. OpsIn final names p.left) ps
     none [] h = tt
     none (p ∷ ps) h = (nothing p.left h.0, none ps h.1)
@@ -135,16 +137,18 @@ links_in : (w : Writing) (table s final : List (List ℕ)) (names : ℕ → List
 links_in w table s final names [] fits h few within = tt
 links_in w table s final names (link ∷ links) fits h few within =
     let added = place_added s table (names link.1.1) h few fits.0.inside in
-    let further = links_within names (names_added s (names link.1.1)) links in
-    (in_larger (names_added s (names link.1.1)) final (names link.1.1) (within_trans (names_added s (names link.1.1)) (links_mention names s (link ∷ links)) final further within) (ap is_some added.after),
-    links_in w table (names_added s (names link.1.1)) final names links fits.1 added.among few within)
+    let further = links_within names (names_added s (names link.1.1)) links in (
+      in_larger (names_added s (names link.1.1)) final (names link.1.1) (within_trans (names_added s (names link.1.1)) (links_mention names s (link ∷ links)) final further within) (ap is_some added.after),
+      links_in w table (names_added s (names link.1.1)) final names links fits.1 added.among few within,
+    )
 
 terms_in : (w : Writing) (threads : ℕ) (table s final : List (List ℕ)) (terms : List TermSeen) → AllByRecursion (TermFits w threads table) terms → IsAmong s table → length table ≤ 64
     → Within (terms_mention s terms) final → AllByRecursion (λ term. left_is_in final term.left ≡ true) terms
 terms_in w threads table s final [] fits h few within = tt
-terms_in w threads table s final (term ∷ terms) fits h few within =
-    (one term.left fits.0.known (within_trans (left_mention s term.left) (terms_mention s (term ∷ terms)) final (terms_within (left_mention s term.left) terms) within),
-    terms_in w threads table (left_mention s term.left) final terms fits.1 (term_among w threads table s term.left fits.0.known h few) few within)
+terms_in w threads table s final (term ∷ terms) fits h few within = (
+  one term.left fits.0.known (within_trans (left_mention s term.left) (terms_mention s (term ∷ terms)) final (terms_within (left_mention s term.left) terms) within),
+  terms_in w threads table (left_mention s term.left) final terms fits.1 (term_among w threads table s term.left fits.0.known h few) few within,
+)
   where
     one : (left : LeftSeen) → is_known w threads table left ≡ true → Within (left_mention s left) final → left_is_in final left ≡ true
     one (InRegister thread name) known within = refl

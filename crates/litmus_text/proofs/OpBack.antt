@@ -42,7 +42,7 @@ label_same i j h k =
     let at_i : get_or (range_with_len 0 64) i 0 ≡ i = get_or-range_with_len 0 64 i 0 h ∙ zero-add i in
     let at_j : get_or (range_with_len 0 64) j 0 ≡ j = get_or-range_with_len 0 64 j 0 k ∙ zero-add j in
     let row_i : list_all (λ j. same_bool (bytes_eq (label_name i) (label_name j)) (i == j)) (range_with_len 0 64) ≡ true =
-        ap (λ n. list_all (λ j. same_bool (bytes_eq (label_name n) (label_name j)) (n == j)) (range_with_len 0 64)) (sym at_i) ∙ row in
+    ap (λ n. list_all (λ j. same_bool (bytes_eq (label_name n) (label_name j)) (n == j)) (range_with_len 0 64)) (sym at_i) ∙ row in
     let cell = AllPass-from_list_all (λ j. same_bool (bytes_eq (label_name i) (label_name j)) (i == j)) (range_with_len 0 64) row_i j 0 k in
     same_is (bytes_eq (label_name i) (label_name j)) (i == j) (ap (λ n. same_bool (bytes_eq (label_name i) (label_name n)) (i == n)) (sym at_j) ∙ cell)
 
@@ -64,7 +64,7 @@ stands a (suc count) label low high few =
     by_test (a == label)
     (λ e. let same : a ≡ label = eqb-true a label e in rw (label_same a label (omega arith) (omega arith), e) (ap Some same))
     (λ e. let apart = eqb-false a label e in
-        rw (label_same a label (omega arith) (omega arith), e) (stands (a + 1) count label (omega arith) (omega arith) (omega arith)))
+    rw (label_same a label (omega arith) (omega arith), e) (stands (a + 1) count label (omega arith) (omega arith) (omega arith)))
 
 absent : (a count label : ℕ) → a + count ≤ label → label < 64
     → position_from (λ x. bytes_eq x (label_name label)) a (map label_name (range_with_len a count)) ≡ None

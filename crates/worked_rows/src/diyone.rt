@@ -44,25 +44,81 @@ const TESTS: [(&str, &str); 9] = [
 
 /// Words that are refused or make no request, with the exit status and the line on `err`.
 const REFUSED: [(&str, u8, &str); 20] = [
-    ("diyone7 -arch X86 -name A Rfe PosRR Fre", 1, "diy: refused CoherenceOnly\n"),
-    ("diyone7 -arch X86 -name A PodWR Rfe", 1, "diy: refused DoesNotCompose 0\n"),
-    ("diyone7 -arch X86 -name A PodWR Fre", 1, "diy: refused TooFewThreads\n"),
-    ("diyone7 -arch X86 -name A LwSyncdWW Rfe PodRR Fre", 1, "diy: refused NotOfArch 0\n"),
-    ("diyone7 -arch X86 -name A PodWW LwSyncdWW Rfe", 1, "diy: refused NotOfArch 1\n"),
-    ("diyone7 -arch X86 -name A PodWW Rfe PodRR PodRR PodRR PodRR PodRR PodRR Fre", 1, "diy: refused TooManyRegisters 1\n"),
-    ("diyone7 -arch X86 -name A PodWR Fre PodWR Fre PodWR Fre PodWR Fre PodWR Fre PodWR Fre PodWR Fre PodWR Fre PodWR Fre PodWR Fre PodWR Fre PodWR Fre PodWR", 1, "diy: refused TooLong\n"),
+    (
+        "diyone7 -arch X86 -name A Rfe PosRR Fre",
+        1,
+        "diy: refused CoherenceOnly\n",
+    ),
+    (
+        "diyone7 -arch X86 -name A PodWR Rfe",
+        1,
+        "diy: refused DoesNotCompose 0\n",
+    ),
+    (
+        "diyone7 -arch X86 -name A PodWR Fre",
+        1,
+        "diy: refused TooFewThreads\n",
+    ),
+    (
+        "diyone7 -arch X86 -name A LwSyncdWW Rfe PodRR Fre",
+        1,
+        "diy: refused NotOfArch 0\n",
+    ),
+    (
+        "diyone7 -arch X86 -name A PodWW LwSyncdWW Rfe",
+        1,
+        "diy: refused NotOfArch 1\n",
+    ),
+    (
+        "diyone7 -arch X86 -name A PodWW Rfe PodRR PodRR PodRR PodRR PodRR PodRR Fre",
+        1,
+        "diy: refused TooManyRegisters 1\n",
+    ),
+    (
+        "diyone7 -arch X86 -name A PodWR Fre PodWR Fre PodWR Fre PodWR Fre PodWR Fre PodWR Fre PodWR Fre PodWR Fre PodWR Fre PodWR Fre PodWR Fre PodWR Fre PodWR",
+        1,
+        "diy: refused TooLong\n",
+    ),
     ("diyone7 -arch X86 -name A", 1, "diy: refused Empty\n"),
-    ("diyone7 -arch ARM PodWR", 2, "diy: usage UnknownArch: ARM\n"),
+    (
+        "diyone7 -arch ARM PodWR",
+        2,
+        "diy: usage UnknownArch: ARM\n",
+    ),
     ("diyone7 -arch", 2, "diy: usage MissingValue: -arch\n"),
     ("", 2, "diy: usage UnknownTool\n"),
     ("diyone8 -arch X86", 2, "diy: usage UnknownTool: diyone8\n"),
-    ("diyone7 -arch X86 -size 4 PodWR", 2, "diy: usage UnknownOption: -size\n"),
-    ("diyone7 -arch X86 -name a/b PodWR Fre", 2, "diy: usage BadName: a/b\n"),
-    ("diyone7 -arch X86 PodWR Foo -arch ARM", 2, "diy: usage UnknownEdge: Foo\n"),
+    (
+        "diyone7 -arch X86 -size 4 PodWR",
+        2,
+        "diy: usage UnknownOption: -size\n",
+    ),
+    (
+        "diyone7 -arch X86 -name a/b PodWR Fre",
+        2,
+        "diy: usage BadName: a/b\n",
+    ),
+    (
+        "diyone7 -arch X86 PodWR Foo -arch ARM",
+        2,
+        "diy: usage UnknownEdge: Foo\n",
+    ),
     ("diyone7 PodWR Fre PodWR Fre", 2, "diy: usage MissingArch\n"),
-    ("diyone7 -arch X86 PodWR Fre PodWR Fre", 2, "diy: usage NotBuilt\n"),
-    ("diyone7 -arch RISCV -name A PodWR", 2, "diy: usage NotBuilt: RISCV\n"),
-    ("diyone7 -obs force -arch X86", 2, "diy: usage NotBuilt: -obs\n"),
+    (
+        "diyone7 -arch X86 PodWR Fre PodWR Fre",
+        2,
+        "diy: usage NotBuilt\n",
+    ),
+    (
+        "diyone7 -arch RISCV -name A PodWR",
+        2,
+        "diy: usage NotBuilt: RISCV\n",
+    ),
+    (
+        "diyone7 -obs force -arch X86",
+        2,
+        "diy: usage NotBuilt: -obs\n",
+    ),
     ("norm7 -arch X86", 2, "diy: usage NotBuilt: norm7\n"),
 ];
 
@@ -92,23 +148,41 @@ fn refusals_have_their_line(rt: HostRuntime) -> Result<(), Fail> {
 #[test]
 fn a_cycle_of_24_edges_has_twelve_threads(rt: HostRuntime) -> Result<(), Fail> {
     let mut words = Words::new(rt.alloc());
-    for word in ["diyone7", "-arch", "X86", "-name", "B", "PodWR Fre\tPodWR Fre ", " PodWR  Fre PodWR Fre", ""] {
+    for word in [
+        "diyone7",
+        "-arch",
+        "X86",
+        "-name",
+        "B",
+        "PodWR Fre\tPodWR Fre ",
+        " PodWR  Fre PodWR Fre",
+        "",
+    ] {
         words.push(word)?;
     }
     for _ in 0..8 {
         words.push("PodWR Fre")?;
     }
     let ran = ran_on(rt.alloc(), &words, 4096)?;
-    let condition = "exists (0:EAX=0 /\\ 1:EAX=0 /\\ 2:EAX=0 /\\ 3:EAX=0 /\\ 4:EAX=0 /\\ 5:EAX=0 /\\ 6:EAX=0 /\\ 7:EAX=0 /\\ 8:EAX=0 /\\ 9:EAX=0 /\\ 10:EAX=0 /\\ 11:EAX=0)\n";
+    let condition =
+        "exists (0:EAX=0 /\\ 1:EAX=0 /\\ 2:EAX=0 /\\ 3:EAX=0 /\\ 4:EAX=0 /\\ 5:EAX=0 /\\ 6:EAX=0 /\\ 7:EAX=0 /\\ 8:EAX=0 /\\ 9:EAX=0 /\\ 10:EAX=0 /\\ 11:EAX=0)\n";
     assert_eq!(rt; ran.status.exit(), 0);
     assert!(rt; ran.out.bytes().ends_with(condition.as_bytes()));
-    assert!(rt; ran.out.bytes().starts_with(b"X86 B\n\"PodWR Fre PodWR Fre PodWR".as_slice()));
+    assert!(rt;
+        ran.out
+            .bytes()
+            .starts_with(b"X86 B\n\"PodWR Fre PodWR Fre PodWR".as_slice())
+    );
     Ok(())
 }
 
 #[test]
 fn a_full_sink_is_a_write_fault(rt: HostRuntime) -> Result<(), Fail> {
-    let ran = ran(rt.alloc(), "diyone7 -arch X86 -name SB PodWR Fre PodWR Fre", 20)?;
+    let ran = ran(
+        rt.alloc(),
+        "diyone7 -arch X86 -name SB PodWR Fre PodWR Fre",
+        20,
+    )?;
     assert_eq!(rt; ran.status.exit(), 3);
     assert_eq!(rt; ran.out.bytes(), b"X86 SB\n\"PodWR Fre Po".as_slice());
     assert_eq!(rt; ran.err.bytes(), b"diy: write fault: out\n".as_slice());
