@@ -1,0 +1,4 @@
+//! Power.
+#![tactic(auto)]
+
+pub struct Power;
