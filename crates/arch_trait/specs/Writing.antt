@@ -2,6 +2,7 @@
 -- Source: the litmus format of the herdtools, whose cells hold one instruction each.
 use Rattle.std.specs.Prelude.{ℕ, ◌+◌, ◌-◌, ◌/◌, ◌%◌, ◌==◌, ◌≡◌, Bool, true, false, cond, not, ◌&&◌, nat_lt, nat_le, List, [], ◌∷◌, ◌++◌, Option, Some, None, get_or, take, drop, length, codes}
 use Rattle.std.specs.List.{list_all, IsDistinct}
+use Rattle.std.specs.Fmt.{decimal}
 use Rattle.std.specs.Str.{bytes_eq}
 use Rattle.final_cond.specs.Names.{is_place_name, is_register_name}
 use Rattle.final_cond.specs.Numbers.{number_of}
@@ -65,6 +66,10 @@ name_in names i = get_or names i []
 -- the name of label n: LC and the number in two digits
 abbrev pub label_name : ℕ → List ℕ
 label_name n = codes "LC" ++ (48 + n / 10) ∷ (48 + n % 10) ∷ []
+
+-- a label as an instruction of its own: its name and a colon
+abbrev pub label_word : ℕ → List ℕ
+label_word n = label_name n ++ 58 ∷ []
 
 -- the operation with another place or label
 abbrev pub with_number : Micro → ℕ → Micro
@@ -141,6 +146,27 @@ has_brackets text =
 
 unfoldable pub inside_brackets : List ℕ → Option (List ℕ)
 inside_brackets text = cond (has_brackets text) (Some (take (length text - 2) (drop 1 text))) None
+
+-- a label, where the word ends with a colon
+unfoldable pub label_raw : List ℕ → Option RawInstr
+label_raw word = cond (nat_le 1 (length word) && get_or word (length word - 1) 0 == 58)
+    (Some (record { op = ops.Label 0; name = label (take (length word - 1) word) })) None
+
+-- a register whose name is a letter and a number: register r of those that begin with number first
+abbrev pub register_text : ℕ → ℕ → ℕ → List ℕ
+register_text letter first r = letter ∷ decimal (first + r)
+
+-- the register of a number, among so many that begin with number first
+abbrev pub register_at : ℕ → ℕ → Option ℕ → Option ℕ
+register_at first count None = None
+register_at first count (Some n) =
+    cond (nat_le first n && nat_lt (n - first) count) (Some (n - first)) None
+
+-- the register that a text names by a letter and a number
+unfoldable pub register_read : ℕ → ℕ → ℕ → List ℕ → Option ℕ
+register_read letter first count [] = None
+register_read letter first count (b ∷ digits) =
+    cond (b == letter) (register_at first count (number_of digits)) None
 
 -- each operation of an architecture reads back from its text, and its registers have names of their
 -- own

@@ -2,6 +2,7 @@ ghost use Rattle.std.specs.Prelude.{◌≡◌, ◌<◌, ◌≤◌, ◌++◌, ◌
 ghost use Rattle.final_cond.specs.Names.{is_place_name};
 ghost use Rattle.arch_trait.specs.Names.{IsTable, letters, location_name, number_in, number_added, names_added};
 
+use crate::operand::push_ascii;
 use crate::step::MAX_STEPS;
 use arrayvec::ArrayVec;
 use final_cond::{PlaceName, place_name};
@@ -155,13 +156,4 @@ fn location_name(i: u8) -> PlaceName
         push_ascii(&mut name, b'0' + lap);
     }
     name
-}
-
-#[tactic(auto, using(std::proofs::lemmas::Str::encode_ascii))]
-fn push_ascii(name: &mut PlaceName, byte: u8)
-    requires ascii { byte < 128 }
-    requires room { length name.old.bytes < 16 }
-    ensures { name.new.bytes ≡ name.old.bytes ++ byte ∷ [] }
-{
-    name.push(char::from(byte));
 }

@@ -1,5 +1,8 @@
+use Rattle.std.proofs.Common.{◌<◌, length, ap, arith}
 use Rattle.arch_trait.proofs.Tables.{letter_ascii}
 use Rattle.arch_trait.proofs.places.location_name.Goals as goal
 
-pub push_ascii-requires-clause-ascii : goal.push_ascii-requires-clause-ascii
-push_ascii-requires-clause-ascii c = letter_ascii c.from.result
+pub push_ascii-requires : goal.push_ascii-requires
+push_ascii-requires c =
+    let room : length c.new-name.result.bytes < 16 = omega (arith, ap length c.new-name.ensures) in
+    (omega arith, (letter_ascii c.from.result, room))
