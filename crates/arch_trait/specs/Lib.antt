@@ -10,3 +10,4 @@ pub mod Reading
 pub mod Pieces
 pub mod Cuts
 pub mod Renumbering
+pub mod Cells

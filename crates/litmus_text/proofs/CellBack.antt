@@ -15,12 +15,11 @@ use Rattle.arch_trait.specs.Names.{number_in, number_added, names_added}
 use Rattle.arch_trait.specs.Reading.{before_blanks, kept_before, trimmed, is_inked, operands_in, operands_if, written_in, instr_read, number_raw, numbered, ReadInstr}
 use Rattle.arch_trait.specs.Writing.{Writing, WritesBack, Written, op_text, name_in, name_of, is_named, with_number, label_name, is_plain}
 use Rattle.arch_trait.proofs.Spelling.{instr_back, IsWord, word_is}
+use Rattle.arch_trait.specs.Cells.{WritesCells, is_cell_byte, is_label_op}
 use Rattle.litmus_text.specs.Lines.{bad}
 use Rattle.litmus_text.specs.Cuts.{cut_at, is_nil}
 use Rattle.litmus_text.specs.Table.{Placed, Column, Among, among, is_access, has_room, with_op, instr_put, instr_in, instr_or_nothing, cell_if, cell_read}
 use Rattle.litmus_text.specs.Placing.{or_zero, place_in, renumbered, mentioned}
-use Rattle.litmus_text.specs.Printable.{is_cell_byte}
-use Rattle.litmus_text.specs.Spoken.{WritesCells, is_label_op}
 use Rattle.litmus_text.proofs.CutBack.{by_test, both, both_are, without_class, cut_back, cut_none, all_both}
 
 abbrev pub blanks : ℕ → List ℕ

@@ -19,13 +19,13 @@ use Rattle.final_cond.specs.ReadBack.{IsFormedTerm, IsFormed}
 use Rattle.final_cond.proofs.BackLaws.{Digits, digits_of, named, place_bytes, left_back, right_back, stops}
 use Rattle.arch_trait.specs.Names.{number_in, number_added, names_added}
 use Rattle.arch_trait.specs.Writing.{Writing}
+use Rattle.arch_trait.specs.Cells.{ends_rows, first_word, is_line_byte}
 use Rattle.litmus_text.specs.declared.errors.TextError.{TextError}
 use Rattle.litmus_text.specs.Lines.{Lines, ends, line, ◌>>=◌}
 use Rattle.litmus_text.specs.Joined.{no_text, with_text, all_joined}
-use Rattle.litmus_text.specs.Table.{first_word, ends_rows, after_locations}
+use Rattle.litmus_text.specs.Table.{after_locations}
 use Rattle.litmus_text.specs.Condition.{Setting, Mentioned, TermRead, TermsRead, CondRead, at_begin, place_put, left_put, line_of_rest, term_here, and_more, before_read, terms_here, cond_here, condition_read}
 use Rattle.litmus_text.specs.Terms.{left_mention, terms_mention, is_known, TermFits}
-use Rattle.litmus_text.specs.Printable.{is_line_byte}
 use Rattle.litmus_text.proofs.CutBack.{by_test, both, both_are, all_both, weaker}
 use Rattle.litmus_text.proofs.LineBack.{IsLine}
 use Rattle.litmus_text.proofs.HeadBack.{line_is}

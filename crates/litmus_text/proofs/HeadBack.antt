@@ -17,10 +17,11 @@ use Rattle.relax_edges.specs.AllEdges.{edges_in_order}
 use Rattle.relax_edges.proofs.Ranks.{each_edge}
 use Rattle.final_cond.specs.Runs.{is_blank, run_of, after_run, unblanked}
 use Rattle.arch_trait.specs.Reading.{before_blanks, kept_before, trimmed}
+use Rattle.arch_trait.specs.Cells.{is_line_byte}
 use Rattle.litmus_text.specs.Lines.{Lines, ends, line, is_passed, is_comment}
 use Rattle.litmus_text.specs.Cuts.{is_nil, cut_at, words}
 use Rattle.litmus_text.specs.Header.{header_read, quote_read, is_setting, after_settings, name_in_header, two_words, quote_cut}
-use Rattle.litmus_text.specs.Printable.{is_line_byte, is_name_byte, IsTestName}
+use Rattle.litmus_text.specs.Printable.{is_name_byte, IsTestName}
 use Rattle.litmus_text.specs.TestText.{header_line, edges_line}
 use Rattle.litmus_text.proofs.CutBack.{by_test, both, both_are, weaker, all_both, is_without, without_class, cut_back, bytes_same}
 use Rattle.litmus_text.proofs.LineBack.{IsLine}

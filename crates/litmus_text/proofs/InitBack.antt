@@ -6,6 +6,7 @@ use Rattle.std.proofs.Math.ListN.{replicate}
 use Rattle.std.proofs.lemmas.Bool.{lt-ltb}
 use Rattle.std.proofs.lemmas.Bool.Decides.{nat_tests}
 use Rattle.relax_edges.specs.declared.kinds.Value.TheVariants as values
+use Rattle.arch_trait.specs.Cells.{is_line_byte}
 use Rattle.litmus_text.specs.Placing.{place_in}
 use Rattle.std.proofs.lemmas.List.Concat.{flat_map-append}
 use Rattle.std.proofs.lemmas.List.Folds.{list_all-append}
@@ -19,7 +20,6 @@ use Rattle.litmus_text.specs.Joined.{Joined, no_text, with_text}
 use Rattle.litmus_text.specs.InitialState.{Begun, nothing_begun, items_read, Braced, closed, braced_if, braced, brace_ends, braced_read, initial_line, initial_read}
 use Rattle.litmus_text.specs.TestText.{item_text, items_lines, initial_lines}
 use Rattle.litmus_text.specs.Items.{Link, links_of, links_mention, link_values, links_once, LinkFits}
-use Rattle.litmus_text.specs.Printable.{is_line_byte}
 use Rattle.litmus_text.proofs.CutBack.{by_test, both, both_are, is_without, without_class, cut_back, cut_none, all_both, weaker}
 use Rattle.litmus_text.proofs.LineBack.{IsLine, before}
 use Rattle.litmus_text.proofs.HeadBack.{line_is, not_all_blank}

@@ -22,6 +22,7 @@ use Rattle.arch_trait.specs.Threads.{Puts}
 use Rattle.arch_trait.specs.Names.{number_in, number_added, names_added}
 use Rattle.arch_trait.specs.Reading.{before_blanks, trimmed}
 use Rattle.arch_trait.specs.Writing.{Writing, WritesBack, name_in}
+use Rattle.arch_trait.specs.Cells.{is_line_byte}
 use Rattle.litmus_text.specs.declared.errors.TextError.{TextError}
 use Rattle.litmus_text.specs.Lines.{Lines, line, ◌>>=◌}
 use Rattle.litmus_text.specs.Cuts.{cut_at, pieces, is_nil}
@@ -30,7 +31,6 @@ use Rattle.litmus_text.specs.InitialState.{Item, gives, a_place, empty, worth_of
 use Rattle.litmus_text.specs.TestText.{item_text}
 use Rattle.litmus_text.specs.Placing.{or_zero, place_in}
 use Rattle.litmus_text.specs.Items.{Link, links_mention, link_values, links_once, LinkFits}
-use Rattle.litmus_text.specs.Printable.{is_line_byte}
 use Rattle.litmus_text.proofs.CutBack.{by_test, both, both_are, is_without, without_class, cut_back, piece_back, piece_last, all_both, weaker, bytes_same}
 use Rattle.litmus_text.proofs.NamesBack.{Within, within_self, within_trans, within_number, IsAmong, Added, place_added}
 use Rattle.litmus_text.proofs.RowBack.{added_within}

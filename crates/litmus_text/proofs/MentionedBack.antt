@@ -11,13 +11,13 @@ use Rattle.final_cond.specs.Conditions.{LeftSeen, InRegister, AtPlace, TermSeen,
 use Rattle.arch_trait.specs.Threads.{Puts, ThreadCode}
 use Rattle.arch_trait.specs.Names.{number_in, names_added}
 use Rattle.arch_trait.specs.Writing.{Writing, WritesBack, name_in}
+use Rattle.arch_trait.specs.Cells.{WritesCells}
 use Rattle.litmus_text.specs.TestText.{TestSeen, columns_of, row_line}
 use Rattle.litmus_text.specs.Placing.{mentioned}
 use Rattle.litmus_text.specs.Progress.{Progress, progress, moved, advanced, mentioned_first, row_mentions, is_placed, OpFits, CodeFits}
 use Rattle.litmus_text.specs.TablePlan.{labels_in, labels_after}
 use Rattle.litmus_text.specs.Items.{Link, links_of, links_mention, LinkFits}
 use Rattle.litmus_text.specs.Terms.{left_mention, terms_mention, is_known, TermFits}
-use Rattle.litmus_text.specs.Spoken.{WritesCells}
 use Rattle.litmus_text.specs.Reread.{IsReadable}
 use Rattle.litmus_text.specs.Mentioned.{is_in, op_is_in, left_is_in, ReadsBack}
 use Rattle.litmus_text.proofs.CutBack.{both}

@@ -15,14 +15,13 @@ use Rattle.arch_trait.specs.Names.{number_in, names_added, with_name}
 use Rattle.arch_trait.specs.Reading.{ReadInstr, instr_read}
 use Rattle.arch_trait.specs.Writing.{Writing, WritesBack, op_text, name_of, is_named, label_name, is_plain, text_of, listed}
 use Rattle.arch_trait.proofs.Spelling.{instr_back, IsWord, word_is, IsByte}
+use Rattle.arch_trait.specs.Cells.{WritesCells, ends_rows, is_cell_byte, is_label_op}
 use Rattle.litmus_text.specs.declared.errors.TextError.{TextError}
 use Rattle.litmus_text.specs.Lines.{Lines, line, ◌>>=◌}
-use Rattle.litmus_text.specs.Table.{Placed, Column, Among, among, is_access, has_room, with_op, instr_put, cell_read, row_read, before_columns, ends_rows, rows_read, cells_of, Cells}
+use Rattle.litmus_text.specs.Table.{Placed, Column, Among, among, is_access, has_room, with_op, instr_put, cell_read, row_read, before_columns, rows_read, cells_of, Cells}
 use Rattle.litmus_text.specs.Placing.{renumbered, mentioned}
 use Rattle.litmus_text.specs.TablePlan.{placed_from, labels_after, labels_in, label_table, column_so_far}
 use Rattle.litmus_text.specs.Progress.{Progress, progress, moved, advanced, column_at, mentioned_first, row_mentions, is_next, is_placed, OpFits, CodeFits}
-use Rattle.litmus_text.specs.Printable.{is_cell_byte}
-use Rattle.litmus_text.specs.Spoken.{WritesCells, is_label_op}
 use Rattle.litmus_text.proofs.CutBack.{by_test, both, both_are}
 use Rattle.litmus_text.proofs.LineBack.{before}
 use Rattle.litmus_text.proofs.NamesBack.{Within, within_self, within_trans, IsAmong, Added, place_added}

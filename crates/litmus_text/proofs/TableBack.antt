@@ -13,12 +13,12 @@ use Rattle.micro_ops.specs.declared.operation.Micro.{Micro}
 use Rattle.micro_ops.specs.declared.operation.Micro.TheVariants as ops
 use Rattle.arch_trait.specs.Threads.{Puts, ThreadCode}
 use Rattle.arch_trait.specs.Writing.{Writing, WritesBack, op_text, name_in, name_of, is_named, label_name}
+use Rattle.arch_trait.specs.Cells.{WritesCells, ends_rows, first_word, is_cell_byte, is_label_op, is_line_byte}
 use Rattle.litmus_text.specs.Cuts.{cut_at, pieces, is_nil}
-use Rattle.litmus_text.specs.Table.{is_access, Cells, cells_if, cells_of, first_word, ends_rows}
+use Rattle.litmus_text.specs.Table.{is_access, Cells, cells_if, cells_of}
 use Rattle.litmus_text.specs.TestText.{column_of, columns_of, width_of, cell_text, row_line}
 use Rattle.litmus_text.specs.Progress.{Progress, progress, moved, advanced}
-use Rattle.litmus_text.specs.Printable.{is_line_byte, is_cell_byte, is_row_byte}
-use Rattle.litmus_text.specs.Spoken.{WritesCells, is_label_op}
+use Rattle.litmus_text.specs.Printable.{is_row_byte}
 use Rattle.litmus_text.specs.Progress.{CodeFits, OpFits, is_next, is_placed}
 use Rattle.litmus_text.specs.TablePlan.{labels_after}
 use Rattle.litmus_text.proofs.LineBack.{IsLine}

@@ -16,6 +16,7 @@ use Rattle.micro_ops.specs.declared.operation.Micro.{Micro}
 use Rattle.final_cond.specs.CondText.{cond_text}
 use Rattle.arch_trait.specs.Threads.{Puts, ThreadCode}
 use Rattle.arch_trait.specs.Writing.{Writing, WritesBack, op_text, name_in}
+use Rattle.arch_trait.specs.Cells.{WritesCells}
 use Rattle.litmus_text.specs.declared.errors.TextError.{TextError}
 use Rattle.litmus_text.specs.Lines.{Lines, ends, line, lines_from, ◌>>=◌}
 use Rattle.litmus_text.specs.Header.{header_read, quote_read, after_settings}
@@ -29,7 +30,6 @@ use Rattle.litmus_text.specs.TablePlan.{placed_from, labels_in, column_so_far}
 use Rattle.litmus_text.specs.Progress.{Progress, progress, CodeFits, code_lands, column_at}
 use Rattle.litmus_text.specs.Items.{Link, links_of, links_mention, link_values, LinkFits}
 use Rattle.litmus_text.specs.Terms.{terms_mention, TermFits}
-use Rattle.litmus_text.specs.Spoken.{WritesCells}
 use Rattle.litmus_text.specs.Reread.{thread_reread, reread, IsReadable}
 use Rattle.litmus_text.proofs.CutBack.{by_test}
 use Rattle.litmus_text.proofs.LineBack.{IsLine, before, lines_back}

@@ -9,12 +9,12 @@ use Rattle.relax_edges.specs.Words.{word_of}
 use Rattle.final_cond.specs.declared.cond.TheConstants.{MAX_TERMS}
 use Rattle.arch_trait.specs.Threads.{Puts, ThreadCode}
 use Rattle.arch_trait.specs.Writing.{Writing, WritesBack, name_in}
+use Rattle.arch_trait.specs.Cells.{WritesCells}
 use Rattle.litmus_text.specs.declared.limits.TheConstants.{MAX_TEXT, MAX_THREADS, MAX_ROWS}
 use Rattle.litmus_text.specs.TestText.{TestSeen, test_text}
 use Rattle.litmus_text.specs.TestReading.{ThreadRead, TestRead, test_read}
 use Rattle.litmus_text.specs.Placing.{place_in, renumbered}
 use Rattle.litmus_text.specs.Printable.{IsTestName}
-use Rattle.litmus_text.specs.Spoken.{WritesCells}
 use Rattle.litmus_text.specs.Progress.{CodeFits, code_lands}
 use Rattle.litmus_text.specs.Items.{links_of, links_once, LinkFits}
 use Rattle.litmus_text.specs.Terms.{TermFits}

@@ -9,6 +9,7 @@ use Rattle.micro_ops.specs.declared.operation.Micro.{Micro}
 use Rattle.micro_ops.specs.declared.operation.Micro.TheVariants as ops
 use Rattle.final_cond.specs.Runs.{run_of, unblanked}
 use Rattle.final_cond.specs.Reading.{is_word_byte}
+use Rattle.arch_trait.specs.Cells.{first_word, ends_rows}
 use Rattle.arch_trait.specs.declared.reading.InstrError.{InstrError}
 use Rattle.arch_trait.specs.declared.reading.InstrError.TheVariants as instrs
 use Rattle.arch_trait.specs.Reading.{trimmed, ReadInstr, instr_read}
@@ -140,14 +141,6 @@ row_read w n whole (cell ∷ cells) names (column ∷ columns) = do
   read ← cell_read w n cell (among names column)
   others ← row_read w n whole cells read.names columns
   Ok (before_columns read.value others)
-
--- the first word of a line
-abbrev pub first_word : List ℕ → List ℕ
-first_word text = run_of is_word_byte (unblanked text)
-
--- the first word of a line ends the rows
-unfoldable pub ends_rows : List ℕ → Bool
-ends_rows text = list_any (bytes_eq (first_word text)) (codes "exists" ∷ codes "~exists" ∷ codes "forall" ∷ codes "locations" ∷ [])
 
 -- the rows, of which k were read before, up to the line that ends them
 unfoldable pub rows_read : Writing → ℕ → Among (List Column) → Lines → Read (Among (List Column))
