@@ -11,3 +11,4 @@ pub mod Spelling
 pub mod Blanks
 pub mod PlainTexts
 pub mod Renumbered
+pub mod CellTexts
