@@ -12,3 +12,4 @@ pub mod Blanks
 pub mod PlainTexts
 pub mod Renumbered
 pub mod CellTexts
+pub mod Ordered

@@ -11,3 +11,4 @@ pub mod Pieces
 pub mod Cuts
 pub mod Renumbering
 pub mod Cells
+pub mod LabelOrder

@@ -1,21 +1,20 @@
 -- X86's instructions stand in the cells of a table.
-use Rattle.std.proofs.Common.{ℕ, zero, suc, ◌<◌, ◌≤◌, ◌+◌, ◌^◌, ◌≡◌, refl, true, false, List, [], ◌∷◌, ◌++◌, length, length-append, ◌∙◌, ap, arith}
-use Rattle.std.specs.Prelude.{Bool}
+use Rattle.std.proofs.Common.{ℕ, zero, suc, ◌<◌, ◌≤◌, ◌≡◌, refl, true, false, List, ◌∷◌, ◌++◌, length, length-append, arith}
+use Rattle.std.specs.Prelude.{Option}
 use Rattle.std.specs.Fmt.{decimal}
 use Rattle.std.specs.List.{list_all}
 use Rattle.std.proofs.lemmas.Bool.{and_from, ltb-true, leb-true}
 use Rattle.std.proofs.lemmas.Fmt.{length-decimal-le}
-use Rattle.relax_edges.specs.declared.kinds.FenceKind.TheVariants as fences
 use Rattle.micro_ops.specs.declared.operation.Micro.{Micro}
 use Rattle.micro_ops.specs.declared.operation.Micro.TheVariants as ops
-use Rattle.micro_ops.specs.declared.operation.Barrier.TheVariants as barriers
 use Rattle.final_cond.specs.Runs.{run_of, after_run}
-use Rattle.final_cond.specs.Names.{is_place_name}
 use Rattle.final_cond.proofs.NameLaws.{place_name_short}
-use Rattle.arch_trait.specs.Cells.{is_cell_byte, ends_rows, is_label_op, WritesCells}
+use Rattle.arch_trait.specs.declared.link.Link.{Link}
+use Rattle.arch_trait.specs.declared.link.Link.TheVariants as links
+use Rattle.arch_trait.specs.Cells.{is_cell_byte, ends_rows, is_label_op, WritesCells, accesses_in, MakesOneAccess}
 use Rattle.arch_trait.specs.Writing.{op_text, name_of, is_named, name_in, bracketed}
 use Rattle.arch_trait.proofs.CellTexts.{all_both, place_cell, decimal_cell, bracketed_cell, length-bracketed}
-use Rattle.arch_x86.specs.Puts.{puts, has}
+use Rattle.arch_x86.specs.Puts.{puts, has, link_code}
 use Rattle.arch_x86.specs.Text.{writing, register_names}
 
 register_cell : (r : ℕ) → r < 6 → list_all is_cell_byte (name_in register_names r) ≡ true
@@ -74,4 +73,21 @@ writes_cells = record {
   rows = λ names op h named. rows names op;
   labels = λ names label h. cc;
   short = short;
+}
+
+no_access : (link : Link) (from : Option ℕ) (n : ℕ) → accesses_in (link_code link from n) ≡ 0
+no_access (links.Fence kind) from n = refl
+no_access links.Plain from n = refl
+no_access links.Addr from n = refl
+no_access links.Data from n = refl
+no_access links.Ctrl from n = refl
+no_access links.CtrlIsync from n = refl
+no_access links.CtrlIsb from n = refl
+
+-- each of X86's loads and stores is one instruction
+pub makes_one_access : MakesOneAccess puts
+makes_one_access = record {
+  link = no_access;
+  load = λ g link from p. refl;
+  store = λ g link from p v. refl;
 }

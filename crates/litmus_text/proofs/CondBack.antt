@@ -1,10 +1,9 @@
 -- The printed condition is read back.
-use Rattle.std.proofs.Common.{◌≡◌, ◌<◌, ◌≤◌, ◌+◌, ◌-◌, ◌^◌, ◌==◌, ℕ, zero, suc, List, [], ◌∷◌, ◌++◌, Some, None, Ok, true, false, cond, length, map, refl, sym, ap, ◌∙◌, subst, arith, append_assoc, append-nil, add-zero, zero-add}
-use Rattle.std.specs.Prelude.{Bool, not, ◌&&◌, ◌||◌, Option, Result, nat_lt, is_some, codes}
+use Rattle.std.proofs.Common.{◌≡◌, ◌<◌, ◌≤◌, ℕ, zero, suc, List, [], ◌∷◌, ◌++◌, None, Ok, true, false, length, refl, sym, ap, ◌∙◌, arith, append_assoc, append-nil}
+use Rattle.std.specs.Prelude.{codes}
 use Rattle.std.specs.Char.{is_ascii_digit, is_ascii_alphanumeric}
 use Rattle.std.specs.Fmt.{decimal}
 use Rattle.std.specs.List.{list_all, flat_map, AllByRecursion}
-use Rattle.std.proofs.lemmas.Bool.{lt-ltb}
 use Rattle.std.proofs.lemmas.Bool.Decides.{nat_tests}
 use Rattle.final_cond.specs.declared.cond.TheConstants.{MAX_TERMS}
 use Rattle.final_cond.specs.declared.cond.Quantifier.{Quantifier}
@@ -15,22 +14,20 @@ use Rattle.final_cond.specs.Runs.{is_blank, run_of, after_run, unblanked}
 use Rattle.final_cond.specs.Conditions.{LeftSeen, InRegister, AtPlace, TermSeen, CondSeen}
 use Rattle.final_cond.specs.CondText.{quantifier_word, left_text, term_text, further_term_text, terms_text, cond_text}
 use Rattle.final_cond.specs.Reading.{opening_read, sign_read, left_read, right_read, follow_read, has_form}
-use Rattle.final_cond.specs.ReadBack.{IsFormedTerm, IsFormed}
-use Rattle.final_cond.proofs.BackLaws.{Digits, digits_of, named, place_bytes, left_back, right_back, stops}
-use Rattle.arch_trait.specs.Names.{number_in, number_added, names_added}
+use Rattle.final_cond.specs.ReadBack.{IsFormedTerm}
+use Rattle.final_cond.proofs.BackLaws.{digits_of, named, place_bytes, left_back, right_back, stops}
 use Rattle.arch_trait.specs.Writing.{Writing}
-use Rattle.arch_trait.specs.Cells.{ends_rows, first_word, is_line_byte}
-use Rattle.litmus_text.specs.declared.errors.TextError.{TextError}
+use Rattle.arch_trait.specs.Cells.{ends_rows, is_line_byte}
 use Rattle.litmus_text.specs.Lines.{Lines, ends, line, ◌>>=◌}
 use Rattle.litmus_text.specs.Joined.{no_text, with_text, all_joined}
 use Rattle.litmus_text.specs.Table.{after_locations}
-use Rattle.litmus_text.specs.Condition.{Setting, Mentioned, TermRead, TermsRead, CondRead, at_begin, place_put, left_put, line_of_rest, term_here, and_more, before_read, terms_here, cond_here, condition_read}
+use Rattle.litmus_text.specs.Condition.{Setting, Mentioned, TermRead, at_begin, place_put, left_put, line_of_rest, term_here, terms_here, cond_here, condition_read}
 use Rattle.litmus_text.specs.Terms.{left_mention, terms_mention, is_known, TermFits}
-use Rattle.litmus_text.proofs.CutBack.{by_test, both, both_are, all_both, weaker}
+use Rattle.litmus_text.proofs.CutBack.{both, all_both, weaker}
 use Rattle.litmus_text.proofs.LineBack.{IsLine}
 use Rattle.litmus_text.proofs.HeadBack.{line_is}
 use Rattle.litmus_text.proofs.RowBack.{added_within}
-use Rattle.litmus_text.proofs.NamesBack.{Within, within_self, within_trans, IsAmong, Added, place_added}
+use Rattle.litmus_text.proofs.NamesBack.{Within, within_self, within_trans, IsAmong, place_added}
 
 state : List (List ℕ) → Mentioned
 state s = record { names = s; over = None }
@@ -49,7 +46,7 @@ left_stays (InRegister thread name) rest h =
     let small = (named thread name h).few in
     let digits = digits_of thread (omega arith) in
     let shape : ((decimal thread ++ codes ":") ++ name) ++ rest ≡ decimal thread ++ (58 ∷ (name ++ rest)) =
-        append_assoc (decimal thread ++ codes ":") name rest ∙ append_assoc (decimal thread) (58 ∷ []) (name ++ rest) in
+    append_assoc (decimal thread ++ codes ":") name rest ∙ append_assoc (decimal thread) (58 ∷ []) (name ++ rest) in
     ap unblanked shape ∙ digits_stay (decimal thread) (58 ∷ (name ++ rest)) digits.all digits.some ∙ sym shape
 left_stays (AtPlace name) rest h = refl
 
@@ -83,7 +80,7 @@ term_back w here table s term rest fits among_table short stop =
   where
     go : (text behind : List ℕ) → text ≡ left_text term.left ++ behind → left_read has_form (left_text term.left ++ behind) ≡ Ok (term.left, behind) → right_read behind ≡ Ok (term.value, rest)
         → (at_begin here.begins (left_read has_form text) >>= λ left. left_put w here (line_of_rest here text) (state s) left.0 >>= λ next.
-            at_begin here.begins (right_read left.1) >>= λ right. Ok (read_as left.0 right.0 next right.1))
+        at_begin here.begins (right_read left.1) >>= λ right. Ok (read_as left.0 right.0 next right.1))
         ≡ Ok (record { term = term; state = state (left_mention s term.left); rest = rest })
     go text behind e left right =
         rw (e, left, left_put_back w here (line_of_rest here (left_text term.left ++ behind)) table s term.left fits.known among_table short, right) refl
@@ -121,7 +118,7 @@ terms_back w here table s (suc room) term (next ∷ terms) rest few fits among_t
     let more : List ℕ = terms_text (next ∷ terms) in
     let text : List ℕ = more ++ 41 ∷ rest in
     let further = terms_back w here table (left_mention s term.left) room next terms rest (omega arith) fits.1
-        (term_among w here.threads table s term.left fits.0.known among_table short) short in
+    (term_among w here.threads table s term.left fits.0.known among_table short) short in
     rw (append_assoc (term_text term) (32 ∷ 47 ∷ 92 ∷ 32 ∷ more) (41 ∷ rest), term_back w here table s term (32 ∷ 47 ∷ 92 ∷ 32 ∷ text) fits.0 among_table short refl, joining (32 ∷ text))
     (rw (terms_blank w here room (state (left_mention s term.left)) text, further) refl)
 
@@ -224,6 +221,7 @@ cond_line_is w threads table condition h = of condition.quantifier
   where
     bytes : list_all is_line_byte (terms_text condition.terms ++ codes ")") ≡ true
     bytes = all_both is_line_byte (terms_text condition.terms) (codes ")") (terms_bytes w threads table condition.terms h) refl
+
     of : (q : Quantifier) → IsLine (((quantifier_word q ++ codes " (") ++ terms_text condition.terms) ++ codes ")")
     of Exists = line_is (codes "exists (" ++ (terms_text condition.terms ++ codes ")")) bytes refl
     of NotExists = line_is (codes "~exists (" ++ (terms_text condition.terms ++ codes ")")) bytes refl

@@ -1,8 +1,7 @@
 -- The printed header and the printed edges are read back.
-use Rattle.std.proofs.Common.{◌≡◌, ◌<◌, ◌≤◌, ◌+◌, ◌==◌, ℕ, zero, suc, List, [], ◌∷◌, ◌++◌, Some, None, Ok, true, false, cond, length, get_or, take, drop, refl, sym, ap, ◌∙◌, subst, arith, append_assoc, append-nil}
-use Rattle.std.specs.Prelude.{Bool, not, ◌&&◌, ◌||◌, codes, nat_le, Option}
-use Rattle.std.specs.Char.{is_ascii_alphanumeric, is_ascii_alphabetic}
-use Rattle.std.specs.List.{list_all, All, filter, flat_map, join_by, slice_split}
+use Rattle.std.proofs.Common.{◌≡◌, ◌==◌, ℕ, List, [], ◌∷◌, ◌++◌, Some, Ok, true, false, get_or, take, refl, sym, ap, ◌∙◌, arith}
+use Rattle.std.specs.Prelude.{Bool, not, ◌&&◌, codes}
+use Rattle.std.specs.List.{list_all, All, filter, flat_map, join_by}
 use Rattle.std.specs.Str.{bytes_eq}
 use Rattle.std.proofs.lemmas.Bool.{eqb-true}
 use Rattle.std.proofs.lemmas.Bool.Decides.{nat_tests}
@@ -11,19 +10,19 @@ use Rattle.std.proofs.lemmas.List.Splits.{slice_split_none, slice_split_at}
 use Rattle.relax_edges.specs.declared.kinds.ArchName.{ArchName}
 use Rattle.relax_edges.specs.declared.kinds.ArchName.TheVariants.{X86, PPC, AArch64, RISCV}
 use Rattle.relax_edges.specs.declared.edge.Edge.{Edge}
-use Rattle.relax_edges.specs.Architectures.{arch_word, arch_of}
+use Rattle.relax_edges.specs.Architectures.{arch_word}
 use Rattle.relax_edges.specs.Words.{word_of}
 use Rattle.relax_edges.specs.AllEdges.{edges_in_order}
 use Rattle.relax_edges.proofs.Ranks.{each_edge}
 use Rattle.final_cond.specs.Runs.{is_blank, run_of, after_run, unblanked}
 use Rattle.arch_trait.specs.Reading.{before_blanks, kept_before, trimmed}
 use Rattle.arch_trait.specs.Cells.{is_line_byte}
-use Rattle.litmus_text.specs.Lines.{Lines, ends, line, is_passed, is_comment}
-use Rattle.litmus_text.specs.Cuts.{is_nil, cut_at, words}
+use Rattle.litmus_text.specs.Lines.{Lines, line, is_passed}
+use Rattle.litmus_text.specs.Cuts.{is_nil, words}
 use Rattle.litmus_text.specs.Header.{header_read, quote_read, is_setting, after_settings, name_in_header, two_words, quote_cut}
 use Rattle.litmus_text.specs.Printable.{is_name_byte, IsTestName}
 use Rattle.litmus_text.specs.TestText.{header_line, edges_line}
-use Rattle.litmus_text.proofs.CutBack.{by_test, both, both_are, weaker, all_both, is_without, without_class, cut_back, bytes_same}
+use Rattle.litmus_text.proofs.CutBack.{by_test, both, both_are, weaker, all_both, without_class, cut_back, bytes_same}
 use Rattle.litmus_text.proofs.LineBack.{IsLine}
 
 -- a name byte is one of a line, and no blank
@@ -124,9 +123,9 @@ no_comment (a ∷ []) h = by_test (a == 40) (λ e. rw e refl) (λ e. rw e refl)
 no_comment (a ∷ b ∷ text) h =
     by_test (b == 42)
     (λ e. let same : b ≡ 42 = eqb-true b 42 e in
-        let parts = both (is_line_byte a) (list_all is_line_byte (b ∷ text)) h in
-        let second = both (is_line_byte b) (list_all is_line_byte text) parts.1 in
-        let clash : true ≡ false = sym second.0 ∙ ap is_line_byte same in absurd (cc))
+    let parts = both (is_line_byte a) (list_all is_line_byte (b ∷ text)) h in
+    let second = both (is_line_byte b) (list_all is_line_byte text) parts.1 in
+    let clash : true ≡ false = sym second.0 ∙ ap is_line_byte same in absurd (cc))
     (λ e. by_test (a == 40) (λ f. rw (f, e) refl) (λ f. rw f refl))
 
 -- a printed line with a byte that is no blank stays

@@ -1,8 +1,7 @@
 -- The printed initial state is read back.
-use Rattle.std.proofs.Common.{◌≡◌, ◌<◌, ◌≤◌, ◌+◌, ◌==◌, ℕ, zero, suc, List, [], ◌∷◌, ◌++◌, Some, None, Ok, true, false, length, length-append, map, refl, sym, ap, ◌∙◌, subst, arith, append_assoc, append-nil, add-zero, zero-add}
-use Rattle.std.specs.Prelude.{Bool, not, ◌&&◌, ◌||◌, Option, Result, nat_lt, codes}
+use Rattle.std.proofs.Common.{◌≡◌, ◌≤◌, ◌+◌, ◌==◌, ℕ, List, [], ◌∷◌, ◌++◌, Ok, true, false, length, length-append, map, refl, sym, ap, ◌∙◌, arith, append_assoc, append-nil}
+use Rattle.std.specs.Prelude.{Bool, not, ◌&&◌, nat_lt, codes}
 use Rattle.std.specs.List.{list_all, flat_map, join_by, AllByRecursion, enumerate_from}
-use Rattle.std.proofs.Math.ListN.{replicate}
 use Rattle.std.proofs.lemmas.Bool.{lt-ltb}
 use Rattle.std.proofs.lemmas.Bool.Decides.{nat_tests}
 use Rattle.relax_edges.specs.declared.kinds.Value.TheVariants as values
@@ -13,18 +12,16 @@ use Rattle.std.proofs.lemmas.List.Folds.{list_all-append}
 use Rattle.final_cond.specs.Runs.{is_blank}
 use Rattle.arch_trait.specs.Threads.{Puts, ThreadCode}
 use Rattle.arch_trait.specs.Writing.{Writing, WritesBack, name_in}
-use Rattle.litmus_text.specs.declared.errors.TextError.{TextError}
 use Rattle.litmus_text.specs.Lines.{Lines, ends, line, ◌>>=◌}
-use Rattle.litmus_text.specs.Cuts.{cut_at, pieces}
 use Rattle.litmus_text.specs.Joined.{Joined, no_text, with_text}
-use Rattle.litmus_text.specs.InitialState.{Begun, nothing_begun, items_read, Braced, closed, braced_if, braced, brace_ends, braced_read, initial_line, initial_read}
+use Rattle.litmus_text.specs.InitialState.{closed, braced_if, braced, brace_ends, braced_read, initial_read}
 use Rattle.litmus_text.specs.TestText.{item_text, items_lines, initial_lines}
 use Rattle.litmus_text.specs.Items.{Link, links_of, links_mention, link_values, links_once, LinkFits}
-use Rattle.litmus_text.proofs.CutBack.{by_test, both, both_are, is_without, without_class, cut_back, cut_none, all_both, weaker}
+use Rattle.litmus_text.proofs.CutBack.{both, both_are, is_without, without_class, cut_back, cut_none, all_both, weaker}
 use Rattle.litmus_text.proofs.LineBack.{IsLine, before}
 use Rattle.litmus_text.proofs.HeadBack.{line_is, not_all_blank}
 use Rattle.litmus_text.proofs.NamesBack.{Within, IsAmong}
-use Rattle.litmus_text.proofs.ItemBack.{core, core_is, core_bytes, is_item_byte, item_on_line, all_items_back}
+use Rattle.litmus_text.proofs.ItemBack.{core, core_is, core_bytes, is_item_byte, all_items_back}
 
 -- the text between braces that lines give
 pub record Gathered (joined : Joined) (n : ℕ) (text : List ℕ) (m : ℕ) (lines : List (List ℕ)) (after : ℕ → Lines) : Type 0 where
@@ -134,12 +131,14 @@ item_line_is : (a : Puts) (w : Writing) (table places : List (List ℕ)) (n : �
     → AllByRecursion ItemLine (items_lines w places n links)
 item_line_is a w table places n [] laws fits = tt
 item_line_is a w table places n (link ∷ links) laws fits =
-    let more = flat_map (λ y. codes " " ++ item_text w places n y) links in
-    (record {
-      bytes = all_both is_items_byte (item_text w places n link) more (item_bytes a w table places (n, link) laws fits.0) (further_bytes a w table places n links laws fits.1);
-      inked = ap (λ t. list_all is_blank (t ++ more)) (core_is w places (n, link)) ∙ ap (list_all is_blank) (append_assoc (core w (name_in places) (n, link)) (59 ∷ []) more)
-          ∙ not_all_blank (core w (name_in places) (n, link)) 59 more refl;
-    }, tt)
+    let more = flat_map (λ y. codes " " ++ item_text w places n y) links in (
+      record {
+        bytes = all_both is_items_byte (item_text w places n link) more (item_bytes a w table places (n, link) laws fits.0) (further_bytes a w table places n links laws fits.1);
+        inked = ap (λ t. list_all is_blank (t ++ more)) (core_is w places (n, link)) ∙ ap (list_all is_blank) (append_assoc (core w (name_in places) (n, link)) (59 ∷ []) more)
+            ∙ not_all_blank (core w (name_in places) (n, link)) 59 more refl;
+      },
+      tt,
+    )
 
 pub all_join : {X : Type 0} (P : X → Type 0) (xs ys : List X) → AllByRecursion P xs → AllByRecursion P ys → AllByRecursion P (xs ++ ys)
 all_join P [] ys h k = k
@@ -169,11 +168,12 @@ no_brace_in text h = without_class is_items_byte 125 text refl h.bytes
 pub initial_lines_are : (a : Puts) (w : Writing) (table places : List (List ℕ)) (threads : List ThreadCode) → WritesBack a w → AllByRecursion (LinkFits w table (name_in places)) (links_of 0 threads)
     → AllByRecursion IsLine (initial_lines w places threads)
 unfolding initial_lines
-initial_lines_are a w table places threads laws fits =
-    (line_is (123 ∷ []) refl refl,
-    all_join IsLine (item_lines w places 0 threads) ((125 ∷ []) ∷ [])
-    (all_map ItemLine IsLine (λ l h. line_is l (weaker is_items_byte is_line_byte items_on_line l h.bytes) h.inked) (item_lines w places 0 threads) (item_lines_are a w table places 0 threads laws fits))
-    (line_is (125 ∷ []) refl refl, tt))
+initial_lines_are a w table places threads laws fits = (
+  line_is (123 ∷ []) refl refl,
+  all_join IsLine (item_lines w places 0 threads) ((125 ∷ []) ∷ [])
+      (all_map ItemLine IsLine (λ l h. line_is l (weaker is_items_byte is_line_byte items_on_line l h.bytes) h.inked) (item_lines w places 0 threads) (item_lines_are a w table places 0 threads laws fits))
+      (line_is (125 ∷ []) refl refl, tt),
+)
 
 -- the initial state of a printed test
 pub initial_back : (a : Puts) (w : Writing) (table final places : List (List ℕ)) (threads : List ThreadCode) (n : ℕ) (after : ℕ → Lines)
@@ -186,7 +186,7 @@ initial_back a w table final places threads n after laws fits among_table short 
     let lines = item_lines w places 0 threads in
     let gather = gathered no_text n [] (n + 1) lines after refl (all_map ItemLine (λ l. is_without 125 l ≡ true) no_brace_in lines (item_lines_are a w table places 0 threads laws fits)) in
     let items = all_items_back a w table final (name_in places) (links_of 0 threads) gather.whole laws fits among_table short within once
-        (gather.bytes ∙ ap (λ x. x ++ 32 ∷ []) (all_joined_items w places 0 threads)) in
+    (gather.bytes ∙ ap (λ x. x ++ 32 ∷ []) (all_joined_items w places 0 threads)) in
     let size : length (lines ++ (125 ∷ []) ∷ []) ≡ length lines + 1 = length-append lines ((125 ∷ []) ∷ []) in
     let count : (n + 1) + (length lines + 1) ≡ n + length ((123 ∷ []) ∷ (lines ++ (125 ∷ []) ∷ [])) = omega arith in
     ap (braced_read w) gather.is
@@ -206,6 +206,7 @@ links_there table names n m (t ∷ threads) h =
     values_split : (table : List (List ℕ)) (names : ℕ → List ℕ) (xs ys : List Link) → link_values table names (xs ++ ys) ≡ link_values table names xs ++ link_values table names ys
     values_split table names [] ys = refl
     values_split table names (x ∷ xs) ys = ap (λ rest. (x.0, (x.1.0, values.Place (place_in table (names x.1.1)))) ∷ rest) (values_split table names xs ys)
+
     here : (links : List (ℕ × ℕ)) → list_all (λ v. nat_lt v.0 m) (link_values table names (map (λ link. (n, link)) links)) ≡ true
     here [] = refl
     here (link ∷ links) = both_are (nat_lt n m) (list_all (λ v. nat_lt v.0 m) (link_values table names (map (λ link. (n, link)) links))) (lt-ltb n m (omega arith)) (here links)

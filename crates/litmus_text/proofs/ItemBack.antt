@@ -1,11 +1,11 @@
 -- The printed items of the initial state are read back.
-use Rattle.std.proofs.Common.{◌≡◌, ◌≢◌, ◌<◌, ◌≤◌, ◌+◌, ◌-◌, ◌^◌, ◌==◌, ℕ, zero, suc, List, [], ◌∷◌, ◌++◌, Some, None, Ok, Err, true, false, cond, length, map, get_or, refl, sym, ap, ◌∙◌, subst, arith, append_assoc, append-nil, add-zero, zero-add}
-use Rattle.std.specs.Prelude.{Bool, not, ◌&&◌, ◌||◌, Option, Result, nat_lt, nat_le, is_some, codes}
+use Rattle.std.proofs.Common.{◌≡◌, ◌<◌, ◌≤◌, ◌+◌, ◌==◌, ℕ, zero, suc, List, [], ◌∷◌, ◌++◌, Some, None, Ok, true, false, length, map, get_or, refl, sym, ap, ◌∙◌, arith, append_assoc, append-nil, add-zero, zero-add}
+use Rattle.std.specs.Prelude.{Bool, not, ◌&&◌, ◌||◌, Option, Result, nat_lt, nat_le, codes}
 use Rattle.std.specs.Char.{is_ascii_digit, is_ascii_alphanumeric}
 use Rattle.std.specs.Fmt.{decimal}
 use Rattle.std.specs.List.{list_all, list_any, flat_map, position_from, IsDistinct, AllByRecursion}
 use Rattle.std.specs.Str.{bytes_eq}
-use Rattle.std.proofs.lemmas.Bool.{lt-ltb, eqb-true}
+use Rattle.std.proofs.lemmas.Bool.{lt-ltb}
 use Rattle.std.proofs.lemmas.Bool.Decides.{nat_tests}
 use Rattle.std.proofs.lemmas.List.Sums.{AllPass-from_list_all}
 use Rattle.relax_edges.specs.declared.kinds.Value.TheVariants as values
@@ -13,26 +13,24 @@ use Rattle.final_cond.specs.declared.errors.CondKind.TheVariants.{BadTerm}
 use Rattle.final_cond.specs.Names.{is_place_name, is_register_name, is_place_byte, begins_place}
 use Rattle.final_cond.specs.Numbers.{number_of}
 use Rattle.final_cond.specs.Runs.{is_blank, after_run, unblanked}
-use Rattle.final_cond.specs.Conditions.{LeftSeen, InRegister, AtPlace}
+use Rattle.final_cond.specs.Conditions.{LeftSeen, InRegister}
 use Rattle.final_cond.specs.CondText.{left_text}
 use Rattle.final_cond.specs.Reading.{Fault, found, only_known, left_at_front, left_read, has_form}
 use Rattle.final_cond.proofs.BackLaws.{digits_of, left_back, named, place_bytes}
 use Rattle.final_cond.proofs.NumberLaws.{not_digits}
 use Rattle.arch_trait.specs.Threads.{Puts}
-use Rattle.arch_trait.specs.Names.{number_in, number_added, names_added}
+use Rattle.arch_trait.specs.Names.{number_in, names_added}
 use Rattle.arch_trait.specs.Reading.{before_blanks, trimmed}
 use Rattle.arch_trait.specs.Writing.{Writing, WritesBack, name_in}
 use Rattle.arch_trait.specs.Cells.{is_line_byte}
-use Rattle.litmus_text.specs.declared.errors.TextError.{TextError}
-use Rattle.litmus_text.specs.Lines.{Lines, line, ◌>>=◌}
-use Rattle.litmus_text.specs.Cuts.{cut_at, pieces, is_nil}
+use Rattle.litmus_text.specs.Cuts.{cut_at, pieces}
 use Rattle.litmus_text.specs.Joined.{Joined}
-use Rattle.litmus_text.specs.InitialState.{Item, gives, a_place, empty, worth_of, worth_if, given, item_with, item_if, item_parts, whole_left, some_item, item_of, Begun, nothing_begun, is_given, with_value, with_address, item_put, item_read, items_read}
+use Rattle.litmus_text.specs.InitialState.{gives, a_place, worth_of, worth_if, item_with, item_if, item_parts, whole_left, some_item, item_of, Begun, nothing_begun, is_given, item_read, items_read}
 use Rattle.litmus_text.specs.TestText.{item_text}
 use Rattle.litmus_text.specs.Placing.{or_zero, place_in}
 use Rattle.litmus_text.specs.Items.{Link, links_mention, link_values, links_once, LinkFits}
-use Rattle.litmus_text.proofs.CutBack.{by_test, both, both_are, is_without, without_class, cut_back, piece_back, piece_last, all_both, weaker, bytes_same}
-use Rattle.litmus_text.proofs.NamesBack.{Within, within_self, within_trans, within_number, IsAmong, Added, place_added}
+use Rattle.litmus_text.proofs.CutBack.{both, both_are, is_without, without_class, cut_back, piece_back, piece_last, all_both, weaker, bytes_same}
+use Rattle.litmus_text.proofs.NamesBack.{Within, within_self, within_trans, within_number, IsAmong, place_added}
 use Rattle.litmus_text.proofs.RowBack.{added_within}
 use Rattle.litmus_text.proofs.HeadRowBack.{inked_ends}
 
@@ -182,7 +180,7 @@ item_back a w table names link laws fits =
     let side_trimmed = trimmed_item side (side_bytes a w link laws fits.thread fits.register) in
     let name_trimmed = trimmed_item name (name_bytes name fits.formed) in
     let left : whole_left (left_at_front (trimmed side)) ≡ Some (InRegister link.0 (name_in w.registers link.1.0)) =
-        ap (λ t. whole_left (left_at_front t)) side_trimmed ∙ ap whole_left (side_back a w link laws fits.thread fits.register) in
+    ap (λ t. whole_left (left_at_front t)) side_trimmed ∙ ap whole_left (side_back a w link laws fits.thread fits.register) in
     let small : nat_lt link.0 64 ≡ true = lt-ltb link.0 64 fits.thread in
     ap (some_item w) (behind_blank (core w names link) (core_bytes a w table names link laws fits))
     ∙ core_some w side name ∙ ap (item_parts w) cut
@@ -246,7 +244,7 @@ items_back a w table final s names done (link ∷ links) joined place laws fits 
     let added = place_added s table (names link.1.1) among_table short fits.0.inside in
     let further = links_within names (names_added s (names link.1.1)) links in
     let step = item_step a w table final s names done link joined place laws fits.0 among_table short
-        (within_trans (names_added s (names link.1.1)) (links_mention names s (link ∷ links)) final further within) (not_true (list_any (λ d. (d.0 == link.0) && (d.1.0 == link.1.0)) done) parts.0) in
+    (within_trans (names_added s (names link.1.1)) (links_mention names s (link ∷ links)) final further within) (not_true (list_any (λ d. (d.0 == link.0) && (d.1.0 == link.1.0)) done) parts.0) in
     rw step
     (items_back a w table final (names_added s (names link.1.1)) names (done ++ link ∷ []) links joined (place + (length (32 ∷ core w names link) + 1)) laws fits.1 added.among short within parts.1
     ∙ ap (λ d. Ok (begun_at (links_mention names s (link ∷ links)) final names d)) (append_assoc done (link ∷ []) links))
@@ -259,7 +257,7 @@ item_pieces a w table names (link ∷ links) laws fits =
     let text = core w names link in
     let rest = flat_map (λ link. 32 ∷ (core w names link ++ 59 ∷ [])) links ++ 32 ∷ [] in
     let shape : (32 ∷ (text ++ 59 ∷ []) ++ flat_map (λ link. 32 ∷ (core w names link ++ 59 ∷ [])) links) ++ 32 ∷ [] ≡ (32 ∷ text) ++ 59 ∷ rest =
-        append_assoc (32 ∷ (text ++ 59 ∷ [])) (flat_map (λ link. 32 ∷ (core w names link ++ 59 ∷ [])) links) (32 ∷ []) ∙ append_assoc (32 ∷ text) (59 ∷ []) rest in
+    append_assoc (32 ∷ (text ++ 59 ∷ [])) (flat_map (λ link. 32 ∷ (core w names link ++ 59 ∷ [])) links) (32 ∷ []) ∙ append_assoc (32 ∷ text) (59 ∷ []) rest in
     ap (pieces 59) shape
     ∙ piece_back 59 (32 ∷ text) rest (both_are true (is_without 59 text) refl (without_class is_item_byte 59 text refl (core_bytes a w table names link laws fits.0)))
     ∙ ap (λ ps. (32 ∷ text) ∷ ps) (item_pieces a w table names links laws fits.1)

@@ -1,10 +1,9 @@
 -- Printed lines are the lines of their text.
-use Rattle.std.proofs.Common.{◌≡◌, ◌+◌, ◌==◌, ℕ, List, [], ◌∷◌, ◌++◌, true, false, cond, refl, sym, ap, ◌∙◌, subst, append_assoc}
-use Rattle.std.specs.Prelude.{Bool, not, ◌&&◌}
+use Rattle.std.proofs.Common.{◌≡◌, ◌+◌, ◌==◌, ℕ, List, [], ◌∷◌, ◌++◌, true, false, refl, sym, ap, ◌∙◌, append_assoc}
 use Rattle.std.specs.List.{list_all, flat_map, slice_split, AllByRecursion}
 use Rattle.std.proofs.lemmas.Bool.{eqb-true}
 use Rattle.arch_trait.specs.Cells.{is_line_byte}
-use Rattle.litmus_text.specs.Lines.{Lines, ends, line, is_passed, kept, last_line, without_return, last_byte, lines_in, is_line_feed, lines_from}
+use Rattle.litmus_text.specs.Lines.{Lines, ends, line, is_passed, without_return, lines_in, is_line_feed, lines_from}
 use Rattle.litmus_text.specs.TestText.{ended}
 use Rattle.litmus_text.proofs.CutBack.{both, by_test, without_class, piece_back, first_piece}
 
@@ -42,7 +41,7 @@ lines_back n [] h = refl
 lines_back n (text ∷ texts) h =
     let behind = flat_map ended texts in
     let split : slice_split is_line_feed ((text ++ 10 ∷ []) ++ behind) ≡ text ∷ slice_split is_line_feed behind =
-        ap (slice_split is_line_feed) (append_assoc text (10 ∷ []) behind) ∙ piece_back 10 text behind (without_class is_line_byte 10 text refl h.0.bytes) in
+    ap (slice_split is_line_feed) (append_assoc text (10 ∷ []) behind) ∙ piece_back 10 text behind (without_class is_line_byte 10 text refl h.0.bytes) in
     let first = first_piece is_line_feed behind in
     ap (lines_in n) (split ∙ ap (λ pieces. text ∷ pieces) first.is)
     ∙ one_line n text first.rest first.piece h.0

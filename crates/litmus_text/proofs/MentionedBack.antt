@@ -1,29 +1,29 @@
 -- All names that a test uses stand in the table of its reading.
-use Rattle.std.proofs.Common.{◌≡◌, ◌<◌, ◌≤◌, ◌+◌, ◌-◌, ℕ, zero, suc, List, [], ◌∷◌, ◌++◌, Some, None, Ok, true, false, length, map, take, drop, refl, sym, ap, ◌∙◌, subst, arith, add-zero, zero-add}
-use Rattle.std.specs.Prelude.{Bool, Option, is_some}
+use Rattle.std.proofs.Common.{◌≡◌, ◌≤◌, ◌+◌, ℕ, suc, List, [], ◌∷◌, Some, true, length, map, refl, sym, ap, ◌∙◌, subst, arith}
+use Rattle.std.specs.Prelude.{Option, is_some}
 use Rattle.std.specs.List.{AllByRecursion, range_with_len}
-use Rattle.std.proofs.lemmas.List.{length-map, length-drop}
+use Rattle.std.proofs.lemmas.List.{length-map}
 use Rattle.std.proofs.lemmas.List.FromFn.{length-range_with_len}
 use Rattle.relax_edges.specs.declared.kinds.ArchName.{ArchName}
 use Rattle.micro_ops.specs.declared.operation.Micro.{Micro}
 use Rattle.micro_ops.specs.declared.operation.Micro.TheVariants as ops
-use Rattle.final_cond.specs.Conditions.{LeftSeen, InRegister, AtPlace, TermSeen, CondSeen}
+use Rattle.final_cond.specs.Conditions.{LeftSeen, InRegister, AtPlace, TermSeen}
 use Rattle.arch_trait.specs.Threads.{Puts, ThreadCode}
 use Rattle.arch_trait.specs.Names.{number_in, names_added}
 use Rattle.arch_trait.specs.Writing.{Writing, WritesBack, name_in}
-use Rattle.arch_trait.specs.Cells.{WritesCells}
+use Rattle.arch_trait.specs.Cells.{WritesCells, accesses_in}
+use Rattle.arch_trait.specs.LabelOrder.{labels_in}
 use Rattle.litmus_text.specs.TestText.{TestSeen, columns_of, row_line}
 use Rattle.litmus_text.specs.Placing.{mentioned}
-use Rattle.litmus_text.specs.Progress.{Progress, progress, moved, advanced, mentioned_first, row_mentions, is_placed, OpFits, CodeFits}
-use Rattle.litmus_text.specs.TablePlan.{labels_in, labels_after}
+use Rattle.litmus_text.specs.Progress.{Progress, moved, advanced, mentioned_first, row_mentions, is_placed, CodeFits}
 use Rattle.litmus_text.specs.Items.{Link, links_of, links_mention, LinkFits}
 use Rattle.litmus_text.specs.Terms.{left_mention, terms_mention, is_known, TermFits}
 use Rattle.litmus_text.specs.Reread.{IsReadable}
 use Rattle.litmus_text.specs.Mentioned.{is_in, op_is_in, left_is_in, ReadsBack}
 use Rattle.litmus_text.proofs.CutBack.{both}
-use Rattle.litmus_text.proofs.NamesBack.{Within, within_self, within_trans, within_number, Numbered, numbered_in, IsAmong, Added, place_added, none_among}
+use Rattle.litmus_text.proofs.NamesBack.{Within, within_self, within_trans, within_number, numbered_in, IsAmong, place_added, none_among}
 use Rattle.litmus_text.proofs.ItemBack.{links_within, links_among}
-use Rattle.litmus_text.proofs.RowBack.{IsReady, accesses_in, after_rows, row_within, rows_mention, rows_within, all_advance, row_among, mention_among, rows_among}
+use Rattle.litmus_text.proofs.RowBack.{IsReady, row_within, rows_mention, rows_within, all_advance, row_among, mention_among, rows_among}
 use Rattle.litmus_text.proofs.TableBack.{at_row}
 use Rattle.litmus_text.proofs.CondBack.{terms_within, term_among}
 use Rattle.litmus_text.proofs.WholeBack.{longest, covers, start_ready, drop_none, mentions, whole_back}
@@ -89,10 +89,11 @@ first_among a table s names labels accesses (op ∷ left) fits h few = mention_a
 row_in : (a : Puts) (table s final : List (List ℕ)) (names : ℕ → List ℕ) (first n : ℕ) (ps : List Progress) → AllByRecursion (IsReady a table names first n) ps → IsAmong s table → length table ≤ 64
     → Within (row_mentions names s ps) final → AllByRecursion (λ p. FirstIn final names p.left) ps
 row_in a table s final names first n [] ready h few within = tt
-row_in a table s final names first n (p ∷ ps) ready h few within =
-    (first_in a table s final names (labels_in 0 p.done) (accesses_in p.done) p.left ready.0.code h few
-    (within_trans (mentioned_first names s p.left) (row_mentions names s (p ∷ ps)) final (row_within names (mentioned_first names s p.left) ps) within),
-    row_in a table (mentioned_first names s p.left) final names first n ps ready.1 (first_among a table s names (labels_in 0 p.done) (accesses_in p.done) p.left ready.0.code h few) few within)
+row_in a table s final names first n (p ∷ ps) ready h few within = (
+  first_in a table s final names (labels_in 0 p.done) (accesses_in p.done) p.left ready.0.code h few
+      (within_trans (mentioned_first names s p.left) (row_mentions names s (p ∷ ps)) final (row_within names (mentioned_first names s p.left) ps) within),
+  row_in a table (mentioned_first names s p.left) final names first n ps ready.1 (first_among a table s names (labels_in 0 p.done) (accesses_in p.done) p.left ready.0.code h few) few within,
+)
 
 -- the first operation and then the others
 then_others : (table : List (List ℕ)) (names : ℕ → List ℕ) (ps : List Progress) → AllByRecursion (λ p. FirstIn table names p.left) ps → AllByRecursion (λ p. OpsIn table names p.left) (map advanced ps)
@@ -120,6 +121,7 @@ rows_in a table s final names first n [] ps ready short h few within = none ps s
     nothing : (left : List Micro) → length left ≤ 0 → OpsIn final names left
     nothing [] h = tt
     nothing (op ∷ left) h = absurd (omega arith)
+
     none : (ps : List Progress) → AllByRecursion (λ p. length p.left ≤ 0) ps → AllByRecursion (λ p. OpsIn final names p.left) ps
     none [] h = tt
     none (p ∷ ps) h = (nothing p.left h.0, none ps h.1)
@@ -135,16 +137,18 @@ links_in : (w : Writing) (table s final : List (List ℕ)) (names : ℕ → List
 links_in w table s final names [] fits h few within = tt
 links_in w table s final names (link ∷ links) fits h few within =
     let added = place_added s table (names link.1.1) h few fits.0.inside in
-    let further = links_within names (names_added s (names link.1.1)) links in
-    (in_larger (names_added s (names link.1.1)) final (names link.1.1) (within_trans (names_added s (names link.1.1)) (links_mention names s (link ∷ links)) final further within) (ap is_some added.after),
-    links_in w table (names_added s (names link.1.1)) final names links fits.1 added.among few within)
+    let further = links_within names (names_added s (names link.1.1)) links in (
+      in_larger (names_added s (names link.1.1)) final (names link.1.1) (within_trans (names_added s (names link.1.1)) (links_mention names s (link ∷ links)) final further within) (ap is_some added.after),
+      links_in w table (names_added s (names link.1.1)) final names links fits.1 added.among few within,
+    )
 
 terms_in : (w : Writing) (threads : ℕ) (table s final : List (List ℕ)) (terms : List TermSeen) → AllByRecursion (TermFits w threads table) terms → IsAmong s table → length table ≤ 64
     → Within (terms_mention s terms) final → AllByRecursion (λ term. left_is_in final term.left ≡ true) terms
 terms_in w threads table s final [] fits h few within = tt
-terms_in w threads table s final (term ∷ terms) fits h few within =
-    (one term.left fits.0.known (within_trans (left_mention s term.left) (terms_mention s (term ∷ terms)) final (terms_within (left_mention s term.left) terms) within),
-    terms_in w threads table (left_mention s term.left) final terms fits.1 (term_among w threads table s term.left fits.0.known h few) few within)
+terms_in w threads table s final (term ∷ terms) fits h few within = (
+  one term.left fits.0.known (within_trans (left_mention s term.left) (terms_mention s (term ∷ terms)) final (terms_within (left_mention s term.left) terms) within),
+  terms_in w threads table (left_mention s term.left) final terms fits.1 (term_among w threads table s term.left fits.0.known h few) few within,
+)
   where
     one : (left : LeftSeen) → is_known w threads table left ≡ true → Within (left_mention s left) final → left_is_in final left ≡ true
     one (InRegister thread name) known within = refl

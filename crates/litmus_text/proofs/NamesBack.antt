@@ -1,16 +1,16 @@
 -- Tables of names that grow by names of a larger table.
-use Rattle.std.proofs.Common.{◌≡◌, ◌≢◌, ◌<◌, ◌≤◌, ◌+◌, ◌-◌, ◌==◌, ℕ, zero, suc, List, [], ◌∷◌, ◌++◌, Some, None, true, false, cond, length, map, get_or, length-append, refl, sym, ap, ◌∙◌, subst, arith, append_assoc, append-nil, add-zero, zero-add}
-use Rattle.std.specs.Prelude.{Bool, not, ◌&&◌, ◌||◌, Option, nat_lt, is_some}
-use Rattle.std.specs.List.{list_all, list_any, position_from, IsDistinct, AllByRecursion}
+use Rattle.std.proofs.Common.{◌≡◌, ◌<◌, ◌≤◌, ◌+◌, ◌-◌, ℕ, suc, List, [], ◌∷◌, ◌++◌, Some, None, true, false, cond, length, map, get_or, length-append, refl, sym, ap, ◌∙◌, subst, arith, append_assoc, append-nil, add-zero, zero-add}
+use Rattle.std.specs.Prelude.{Bool, ◌||◌, Option, nat_lt, is_some}
+use Rattle.std.specs.List.{list_any, position_from, IsDistinct, AllByRecursion}
 use Rattle.std.specs.Str.{bytes_eq}
 use Rattle.std.proofs.Math.Dec.{eqb}
-use Rattle.std.proofs.lemmas.Bool.{eqb-true, eqb-false, eq-eqb, lt-ltb}
+use Rattle.std.proofs.lemmas.Bool.{eqb-true, lt-ltb}
 use Rattle.std.proofs.lemmas.List.{length-map}
 use Rattle.std.proofs.lemmas.Map.Steps.{length-le_from_distinct_below}
 use Rattle.std.proofs.lemmas.Slice.Eq.{bytes_eq-Decides}
-use Rattle.arch_trait.specs.Names.{number_in, number_added, names_added, number_or_next, with_name, IsTable}
+use Rattle.arch_trait.specs.Names.{number_in, number_added, names_added, number_or_next, with_name}
 use Rattle.litmus_text.specs.Placing.{or_zero, place_in}
-use Rattle.litmus_text.proofs.CutBack.{by_test, both, bytes_same}
+use Rattle.litmus_text.proofs.CutBack.{by_test, bytes_same}
 
 none_some : {i : ℕ} {G : Type 0} → None ≡ Some i → G
 none_some e = cc
@@ -34,11 +34,11 @@ found t k [] i e = none_some e
 found t k (x ∷ xs) i e =
     by_test (t x)
     (λ h. let here : Some k ≡ Some i = sym (ap (λ b. cond b (Some k) (position_from t (k + 1) xs)) h) ∙ e in
-        let same : k ≡ i = cc in found_here t k x xs i h same)
+    let same : k ≡ i = cc in found_here t k x xs i h same)
     (λ h. let later = found t (k + 1) xs i (sym (ap (λ b. cond b (Some k) (position_from t (k + 1) xs)) h) ∙ e) in
-        let low = later.low in let high = later.high in
-        let step : i - k ≡ suc (i - (k + 1)) = omega arith in
-        record { low = omega arith; high = omega arith; passes = rw step later.passes })
+    let low = later.low in let high = later.high in
+    let step : i - k ≡ suc (i - (k + 1)) = omega arith in
+    record { low = omega arith; high = omega arith; passes = rw step later.passes })
 
 pub pos_more : (t : List ℕ → Bool) (k : ℕ) (xs ys : List (List ℕ)) (i : ℕ) → position_from t k xs ≡ Some i → position_from t k (xs ++ ys) ≡ Some i
 pos_more t k [] ys i e = none_some e
@@ -53,7 +53,7 @@ pos_last t k (x ∷ xs) y e h =
     by_test (t x)
     (λ f. some_none (sym (ap (λ b. cond b (Some k) (position_from t (k + 1) xs)) f) ∙ e))
     (λ f. let count : (k + 1) + length xs ≡ k + length (x ∷ xs) = omega arith in
-        rw f (pos_last t (k + 1) xs y (sym (ap (λ b. cond b (Some k) (position_from t (k + 1) xs)) f) ∙ e) h ∙ ap Some count))
+    rw f (pos_last t (k + 1) xs y (sym (ap (λ b. cond b (Some k) (position_from t (k + 1) xs)) f) ∙ e) h ∙ ap Some count))
 
 -- a table goes on to a larger one
 pub record Within (s S : List (List ℕ)) : Type 0 where
@@ -113,9 +113,9 @@ apart table a b h k e =
     let n = numbered_in table b k in
     by_test (eqb (place_in table a) (place_in table b))
     (λ f. let same : place_in table a ≡ place_in table b = eqb-true (place_in table a) (place_in table b) f in
-        let numbers : m.number ≡ n.number = sym (ap or_zero m.is) ∙ same ∙ ap or_zero n.is in
-        let names : a ≡ b = sym m.names ∙ ap (λ i. get_or table i []) numbers ∙ n.names in
-        let clash : false ≡ true = sym e ∙ ap (λ x. bytes_eq a x) (sym names) ∙ bytes_same a in absurd (cc))
+    let numbers : m.number ≡ n.number = sym (ap or_zero m.is) ∙ same ∙ ap or_zero n.is in
+    let names : a ≡ b = sym m.names ∙ ap (λ i. get_or table i []) numbers ∙ n.names in
+    let clash : false ≡ true = sym e ∙ ap (λ x. bytes_eq a x) (sym names) ∙ bytes_same a in absurd (cc))
     (λ f. f)
 
 all_apart : (table : List (List ℕ)) (a : List ℕ) (names : List (List ℕ)) → is_some (number_in table a) ≡ true → AreIn table names
@@ -133,16 +133,16 @@ numbers_below table [] k q e = absurd (cc)
 numbers_below table (a ∷ names) k q e =
     by_test (eqb q (place_in table a))
     (λ f. let n = numbered_in table a k.0 in
-        let same : q ≡ place_in table a = eqb-true q (place_in table a) f in
-        let number : place_in table a ≡ n.number = ap or_zero n.is in
-        let below = n.below in omega arith)
+    let same : q ≡ place_in table a = eqb-true q (place_in table a) f in
+    let number : place_in table a ≡ n.number = ap or_zero n.is in
+    let below = n.below in omega arith)
     (λ f. numbers_below table names k.1 q (sym (ap (λ b. b || list_any (eqb q) (map (place_in table) names)) f) ∙ e))
 
 -- a table of names of another one is no longer
 pub few_names : (s table : List (List ℕ)) → IsAmong s table → length s ≤ length table
 few_names s table h =
     let short : length (map (place_in table) s) ≤ length table =
-        length-le_from_distinct_below (map (place_in table) s) (length table) (numbers_once table s h.once h.inside) (numbers_below table s h.inside) in
+    length-le_from_distinct_below (map (place_in table) s) (length table) (numbers_once table s h.once h.inside) (numbers_below table s h.inside) in
     omega (arith, length-map s (place_in table))
 
 none_passes : (t : List ℕ → Bool) (k : ℕ) (names : List (List ℕ)) → position_from t k names ≡ None → AllByRecursion (λ x. t x ≡ false) names

@@ -1,24 +1,24 @@
 -- The name of an operation gets the number that the plan of the columns has for it.
-use Rattle.std.proofs.Common.{◌≡◌, ◌≢◌, ◌<◌, ◌≤◌, ◌+◌, ◌-◌, ◌==◌, ℕ, zero, suc, List, [], ◌∷◌, ◌++◌, Some, None, Ok, true, false, cond, length, map, max, get_or, refl, sym, ap, ◌∙◌, subst, arith, add-zero, zero-add, inl, inr}
-use Rattle.std.specs.Prelude.{Bool, not, ◌&&◌, ◌||◌, Option, nat_lt, nat_le, is_some, codes, Err}
+use Rattle.std.proofs.Common.{◌≡◌, ◌<◌, ◌≤◌, ◌+◌, ◌==◌, ℕ, zero, suc, List, Some, None, Ok, true, false, cond, length, map, max, get_or, refl, sym, ap, ◌∙◌, arith, zero-add, inl, inr}
+use Rattle.std.specs.Prelude.{Bool, not, ◌&&◌, nat_lt, nat_le, is_some, Err}
 use Rattle.std.specs.List.{list_all, position_from, range_with_len}
 use Rattle.std.specs.Str.{bytes_eq}
-use Rattle.std.proofs.lemmas.Bool.{eqb-true, eq-eqb, eqb-false, lt-ltb, cases_lt, leb-true, ltb-true}
-use Rattle.std.proofs.lemmas.List.{length-map}
+use Rattle.std.proofs.lemmas.Bool.{eqb-true, eqb-false, lt-ltb, cases_lt, leb-true, ltb-true}
 use Rattle.std.proofs.lemmas.List.Sums.{AllPass-from_list_all}
-use Rattle.std.proofs.lemmas.List.FromFn.{length-range_with_len, get_or-range_with_len, map-range_with_len_more, length-map-range_with_len}
+use Rattle.std.proofs.lemmas.List.FromFn.{get_or-range_with_len, map-range_with_len_more, length-map-range_with_len}
 use Rattle.final_cond.specs.Names.{is_place_name, is_register_name}
 use Rattle.micro_ops.specs.declared.operation.Micro.{Micro}
 use Rattle.micro_ops.specs.declared.operation.Micro.TheVariants as ops
 use Rattle.arch_trait.specs.declared.reading.InstrError.TheVariants as errors
 use Rattle.arch_trait.specs.Names.{number_in, number_added, names_added, number_or_next, with_name}
-use Rattle.arch_trait.specs.Reading.{numbered, with_place, with_label, ReadInstr}
-use Rattle.arch_trait.specs.Writing.{name_of, with_number, label_name, is_named}
+use Rattle.arch_trait.specs.Reading.{numbered, with_place, with_label}
+use Rattle.arch_trait.specs.Writing.{name_of, with_number, label_name}
+use Rattle.arch_trait.specs.LabelOrder.{is_next, labels_after}
 use Rattle.litmus_text.specs.Placing.{or_zero, place_in, renumbered, mentioned}
-use Rattle.litmus_text.specs.Progress.{is_next, is_placed}
-use Rattle.litmus_text.specs.TablePlan.{labels_after, label_table}
+use Rattle.litmus_text.specs.Progress.{is_placed}
+use Rattle.litmus_text.specs.TablePlan.{label_table}
 use Rattle.litmus_text.proofs.CutBack.{by_test, both}
-use Rattle.litmus_text.proofs.NamesBack.{Within, within_number, IsAmong, Added, place_added}
+use Rattle.litmus_text.proofs.NamesBack.{Within, within_number, IsAmong, place_added}
 
 same_bool : Bool → Bool → Bool
 same_bool true b = b
@@ -42,7 +42,7 @@ label_same i j h k =
     let at_i : get_or (range_with_len 0 64) i 0 ≡ i = get_or-range_with_len 0 64 i 0 h ∙ zero-add i in
     let at_j : get_or (range_with_len 0 64) j 0 ≡ j = get_or-range_with_len 0 64 j 0 k ∙ zero-add j in
     let row_i : list_all (λ j. same_bool (bytes_eq (label_name i) (label_name j)) (i == j)) (range_with_len 0 64) ≡ true =
-        ap (λ n. list_all (λ j. same_bool (bytes_eq (label_name n) (label_name j)) (n == j)) (range_with_len 0 64)) (sym at_i) ∙ row in
+    ap (λ n. list_all (λ j. same_bool (bytes_eq (label_name n) (label_name j)) (n == j)) (range_with_len 0 64)) (sym at_i) ∙ row in
     let cell = AllPass-from_list_all (λ j. same_bool (bytes_eq (label_name i) (label_name j)) (i == j)) (range_with_len 0 64) row_i j 0 k in
     same_is (bytes_eq (label_name i) (label_name j)) (i == j) (ap (λ n. same_bool (bytes_eq (label_name i) (label_name n)) (i == n)) (sym at_j) ∙ cell)
 
@@ -64,7 +64,7 @@ stands a (suc count) label low high few =
     by_test (a == label)
     (λ e. let same : a ≡ label = eqb-true a label e in rw (label_same a label (omega arith) (omega arith), e) (ap Some same))
     (λ e. let apart = eqb-false a label e in
-        rw (label_same a label (omega arith) (omega arith), e) (stands (a + 1) count label (omega arith) (omega arith) (omega arith)))
+    rw (label_same a label (omega arith) (omega arith), e) (stands (a + 1) count label (omega arith) (omega arith) (omega arith)))
 
 absent : (a count label : ℕ) → a + count ≤ label → label < 64
     → position_from (λ x. bytes_eq x (label_name label)) a (map label_name (range_with_len a count)) ≡ None

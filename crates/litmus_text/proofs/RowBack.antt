@@ -1,30 +1,29 @@
 -- The rows of a printed table are read back.
-use Rattle.std.proofs.Common.{◌≡◌, ◌≢◌, ◌<◌, ◌≤◌, ◌+◌, ◌-◌, ◌==◌, ℕ, zero, suc, List, [], ◌∷◌, ◌++◌, Some, None, Ok, true, false, cond, length, map, max, get_or, length-append, refl, sym, ap, ◌∙◌, subst, arith, append_assoc, append-nil, add-zero, zero-add}
-use Rattle.std.specs.Prelude.{Bool, not, ◌&&◌, ◌||◌, Option, nat_lt, nat_le, is_some, codes, count_by, Result}
+use Rattle.std.proofs.Common.{◌≡◌, ◌<◌, ◌≤◌, ◌+◌, ◌==◌, ℕ, List, [], ◌∷◌, ◌++◌, Some, None, Ok, true, false, cond, length, map, length-append, refl, sym, ap, ◌∙◌, subst, arith, add-zero, zero-add}
+use Rattle.std.specs.Prelude.{Bool, not, ◌&&◌, ◌||◌, Option, nat_lt, nat_le, is_some, count_by}
 use Rattle.std.specs.List.{list_all, AllByRecursion, range_with_len}
-use Rattle.std.proofs.lemmas.Bool.{eqb-true, eq-eqb, lt-ltb, leb-true, ltb-true}
+use Rattle.std.proofs.lemmas.Bool.{lt-ltb, ltb-true}
 use Rattle.std.proofs.lemmas.List.Sums.{sum_by-append, sum_by-cons, AllPass-from_list_all}
 use Rattle.std.proofs.lemmas.List.FromFn.{get_or-range_with_len}
 use Rattle.final_cond.specs.Runs.{is_blank}
-use Rattle.final_cond.specs.Names.{is_place_name, is_register_name}
+use Rattle.final_cond.specs.Names.{is_place_name}
 use Rattle.micro_ops.specs.declared.operation.Micro.{Micro}
 use Rattle.micro_ops.specs.declared.operation.Micro.TheVariants as ops
-use Rattle.arch_trait.specs.declared.reading.InstrError.{InstrError}
 use Rattle.arch_trait.specs.Threads.{Puts}
 use Rattle.arch_trait.specs.Names.{number_in, names_added, with_name}
-use Rattle.arch_trait.specs.Reading.{ReadInstr, instr_read}
-use Rattle.arch_trait.specs.Writing.{Writing, WritesBack, op_text, name_of, is_named, label_name, is_plain, text_of, listed}
-use Rattle.arch_trait.proofs.Spelling.{instr_back, IsWord, word_is, IsByte}
-use Rattle.arch_trait.specs.Cells.{WritesCells, ends_rows, is_cell_byte, is_label_op}
-use Rattle.litmus_text.specs.declared.errors.TextError.{TextError}
+use Rattle.arch_trait.specs.Reading.{instr_read}
+use Rattle.arch_trait.specs.Writing.{Writing, WritesBack, op_text, name_of, is_named, label_name, listed}
+use Rattle.arch_trait.proofs.Spelling.{instr_back, word_is}
+use Rattle.arch_trait.specs.Cells.{WritesCells, accesses_in, ends_rows, is_access, is_cell_byte, is_label_op}
+use Rattle.arch_trait.specs.LabelOrder.{is_next, labels_after, labels_in}
 use Rattle.litmus_text.specs.Lines.{Lines, line, ◌>>=◌}
-use Rattle.litmus_text.specs.Table.{Placed, Column, Among, among, is_access, has_room, with_op, instr_put, cell_read, row_read, before_columns, rows_read, cells_of, Cells}
+use Rattle.litmus_text.specs.Table.{Column, Among, among, has_room, instr_put, cell_read, row_read, before_columns, rows_read, cells_of}
 use Rattle.litmus_text.specs.Placing.{renumbered, mentioned}
-use Rattle.litmus_text.specs.TablePlan.{placed_from, labels_after, labels_in, label_table, column_so_far}
-use Rattle.litmus_text.specs.Progress.{Progress, progress, moved, advanced, column_at, mentioned_first, row_mentions, is_next, is_placed, OpFits, CodeFits}
-use Rattle.litmus_text.proofs.CutBack.{by_test, both, both_are}
+use Rattle.litmus_text.specs.TablePlan.{placed_from, label_table, column_so_far}
+use Rattle.litmus_text.specs.Progress.{Progress, progress, moved, advanced, column_at, mentioned_first, row_mentions, is_placed, OpFits, CodeFits}
+use Rattle.litmus_text.proofs.CutBack.{by_test, both}
 use Rattle.litmus_text.proofs.LineBack.{before}
-use Rattle.litmus_text.proofs.NamesBack.{Within, within_self, within_trans, IsAmong, Added, place_added}
+use Rattle.litmus_text.proofs.NamesBack.{Within, within_self, within_trans, IsAmong, place_added}
 use Rattle.litmus_text.proofs.CellBack.{padded, Begins, empty_back, plain_back, label_back}
 use Rattle.litmus_text.proofs.OpBack.{numbers_back, label_formed}
 
@@ -130,10 +129,6 @@ row_within names s [] = within_self s
 row_within names s (p ∷ ps) =
     within_trans s (mentioned_first names s p.left) (row_mentions names s (p ∷ ps)) (first_within names s p.left) (row_within names (mentioned_first names s p.left) ps)
 
--- how many accesses operations are
-abbrev pub accesses_in : List Micro → ℕ
-accesses_in code = count_by is_access code
-
 accesses_placed : (table : List (List ℕ)) (names : ℕ → List ℕ) (n : ℕ) (code : List Micro) → count_by (λ placed. is_access placed.op) (placed_from table names n code) ≡ accesses_in code
 accesses_placed table names n [] = refl
 accesses_placed table names n (op ∷ code) =
@@ -187,10 +182,10 @@ op_put : (a : Puts) (w : Writing) (table final s : List (List ℕ)) (names : ℕ
 op_put a w table final s names first n done op laws fits few at_line among_table short within =
     let named = named_op op table names (labels_in 0 done) fits.placed fits.next in
     let read = instr_back a w laws names op s (label_table (labels_in 0 done)) fits.has named
-        ∙ numbers_back op names s table final (labels_in 0 done) among_table short fits.placed fits.next few within in
+    ∙ numbers_back op names s table final (labels_in 0 done) among_table short fits.placed fits.next few within in
     let room : has_room (column_so_far final names first done) (renumbered final names op) ≡ true =
-        ap (λ b. not b || nat_lt (count_by (λ placed. is_access placed.op) (placed_from final names first done)) 64) (access_same final names op)
-        ∙ ap (λ m. not (is_access op) || nat_lt m 64) (accesses_placed final names first done) ∙ fits.room in
+    ap (λ b. not b || nat_lt (count_by (λ placed. is_access placed.op) (placed_from final names first done)) 64) (access_same final names op)
+    ∙ ap (λ m. not (is_access op) || nat_lt m 64) (accesses_placed final names first done) ∙ fits.room in
     ap (instr_put n (column_so_far final names first done)) read
     ∙ rw room refl
     ∙ ap (λ placed. Ok (among (mentioned names s op) (record { ops = placed; labels = label_table (labels_after (labels_in 0 done) op) }))) (placed_more final names first n done op at_line)
@@ -261,8 +256,8 @@ row_back a w table final names first n (cell ∷ cells) [] s laws spoken are rea
 row_back a w table final names first n (cell ∷ cells) (p ∷ ps) s laws spoken are ready among_table short within =
     let here = row_within names (mentioned_first names s p.left) ps in
     let read : cell_read w n cell (among s (column_at final names first p)) ≡ Ok (among (mentioned_first names s p.left) (column_at final names first (advanced p))) =
-        ap (λ x. cell_read w n x (among s (column_at final names first p))) are.0.1
-        ∙ thread_back a w table final s names first n are.0.0 p laws spoken ready.0 among_table short (within_trans (mentioned_first names s p.left) (row_mentions names s (p ∷ ps)) final here within) in
+    ap (λ x. cell_read w n x (among s (column_at final names first p))) are.0.1
+    ∙ thread_back a w table final s names first n are.0.0 p laws spoken ready.0 among_table short (within_trans (mentioned_first names s p.left) (row_mentions names s (p ∷ ps)) final here within) in
     let others = row_back a w table final names first n cells ps (mentioned_first names s p.left) laws spoken are.1 ready.1 (first_among table names s p.left (labels_in 0 p.done) (accesses_in p.done) (ready.0.code) among_table short) short within in
     rw read (ap (λ o. o >>= λ others. Ok (before_columns (column_at final names first (advanced p)) others)) others)
   where
@@ -354,11 +349,11 @@ rows_back a w table final names first n k (text ∷ texts) ps s rest m last behi
     let room : nat_lt k 1024 ≡ true = lt-ltb k 1024 (omega arith) in
     let further = rows_within names (row_mentions names s ps) texts (map advanced ps) in
     let row = row_back a w table final names first n (cells_of text).texts ps s laws spoken are.0.cells ready among_table short
-        (within_trans (row_mentions names s ps) (rows_mention names s (text ∷ texts) ps) final further within) in
+    (within_trans (row_mentions names s ps) (rows_mention names s (text ∷ texts) ps) final further within) in
     let count : n + length (text ∷ texts) ≡ (n + 1) + length texts = omega arith in
     let rest_at : rest ((n + 1) + length texts) ≡ line m last behind = ap rest (sym count) ∙ at_rest in
     let next = rows_back a w table final names first (n + 1) (k + 1) texts (map advanced ps) (row_mentions names s ps) rest m last behind rest_at ends laws spoken are.1
-        (all_advance a table names first n ps ready) (row_among a table names first n ps s ready among_table short) short within (omega arith) in
+    (all_advance a table names first n ps ready) (row_among a table names first n ps s ready among_table short) short within (omega arith) in
     rw (are.0.row, room, are.0.whole)
     (ap (λ r. r >>= λ next. rows_read w (k + 1) next (before (n + 1) texts rest)) row
     ∙ ap (λ columns. rows_read w (k + 1) (among (row_mentions names s ps) columns) (before (n + 1) texts rest)) (sym (map_map (column_at final names first) advanced ps))

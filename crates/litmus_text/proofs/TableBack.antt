@@ -1,6 +1,6 @@
 -- The printed rows are the rows of the threads.
-use Rattle.std.proofs.Common.{◌≡◌, ◌≢◌, ◌<◌, ◌≤◌, ◌+◌, ◌-◌, ◌==◌, ℕ, zero, suc, List, [], ◌∷◌, ◌++◌, Some, None, Ok, true, false, cond, length, map, max, take, drop, get_or, fold, length-append, refl, sym, ap, ◌∙◌, subst, arith, append_assoc, append-nil, add-zero, zero-add, add-one, ◌⊎◌, inl, inr}
-use Rattle.std.specs.Prelude.{Bool, not, ◌&&◌, ◌||◌, Option, nat_lt, nat_le, is_some, codes, count_by, Result}
+use Rattle.std.proofs.Common.{◌≡◌, ◌+◌, ◌-◌, ◌==◌, ℕ, zero, suc, List, [], ◌∷◌, ◌++◌, Some, true, false, cond, length, map, take, drop, get_or, refl, sym, ap, ◌∙◌, subst, arith, append_assoc, append-nil, add-zero, add-one, ◌⊎◌, inl, inr}
+use Rattle.std.specs.Prelude.{Bool, not, ◌||◌, nat_lt, nat_le, codes}
 use Rattle.std.specs.List.{list_all, list_any, flat_map, join_by, AllByRecursion, enumerate_from, range_with_len}
 use Rattle.std.specs.Str.{bytes_eq}
 use Rattle.std.proofs.Math.ListN.{replicate}
@@ -12,20 +12,20 @@ use Rattle.final_cond.specs.Reading.{is_word_byte}
 use Rattle.micro_ops.specs.declared.operation.Micro.{Micro}
 use Rattle.micro_ops.specs.declared.operation.Micro.TheVariants as ops
 use Rattle.arch_trait.specs.Threads.{Puts, ThreadCode}
-use Rattle.arch_trait.specs.Writing.{Writing, WritesBack, op_text, name_in, name_of, is_named, label_name}
-use Rattle.arch_trait.specs.Cells.{WritesCells, ends_rows, first_word, is_cell_byte, is_label_op, is_line_byte}
-use Rattle.litmus_text.specs.Cuts.{cut_at, pieces, is_nil}
-use Rattle.litmus_text.specs.Table.{is_access, Cells, cells_if, cells_of}
+use Rattle.arch_trait.specs.Writing.{Writing, WritesBack, op_text, name_in, label_name}
+use Rattle.arch_trait.specs.Cells.{WritesCells, ends_rows, first_word, is_access, is_cell_byte, is_label_op, is_line_byte}
+use Rattle.arch_trait.specs.LabelOrder.{is_next, labels_after}
+use Rattle.litmus_text.specs.Cuts.{cut_at, pieces}
+use Rattle.litmus_text.specs.Table.{cells_if, cells_of}
 use Rattle.litmus_text.specs.TestText.{column_of, columns_of, width_of, cell_text, row_line}
 use Rattle.litmus_text.specs.Progress.{Progress, progress, moved, advanced}
 use Rattle.litmus_text.specs.Printable.{is_row_byte}
-use Rattle.litmus_text.specs.Progress.{CodeFits, OpFits, is_next, is_placed}
-use Rattle.litmus_text.specs.TablePlan.{labels_after}
+use Rattle.litmus_text.specs.Progress.{CodeFits, OpFits}
 use Rattle.litmus_text.proofs.LineBack.{IsLine}
 use Rattle.litmus_text.proofs.HeadBack.{line_is, not_all_blank}
 use Rattle.litmus_text.proofs.CutBack.{by_test, both, both_are, is_without, without_class, cut_back, piece_back, piece_last, all_both, weaker}
 use Rattle.litmus_text.proofs.CellBack.{padded, Begins, blanks_class}
-use Rattle.litmus_text.proofs.RowBack.{next_text, AreCells, IsRow, AreRows, after_rows, named_op, text_begins, label_bytes, few_labels}
+use Rattle.litmus_text.proofs.RowBack.{next_text, AreCells, IsRow, AreRows, after_rows, named_op, text_begins, label_bytes}
 
 -- the cells of a row, with a blank on both sides
 abbrev pub spaced : (List (List ℕ) → List ℕ) → List (List ℕ) → List ℕ
@@ -47,9 +47,9 @@ bars f x (y ∷ ys) h =
     let more = flat_map (λ y. codes " | " ++ f y) ys in
     let rest : List ℕ = 32 ∷ ((f y ++ more) ++ 32 ∷ []) in
     let shape : 32 ∷ ((f x ++ ((codes " | " ++ f y) ++ more)) ++ 32 ∷ []) ≡ spaced f x ++ 124 ∷ rest =
-        ap (λ t. 32 ∷ t)
-        (append_assoc (f x) ((codes " | " ++ f y) ++ more) (32 ∷ [])
-        ∙ sym (append_assoc (f x) (32 ∷ []) (124 ∷ rest))) in
+    ap (λ t. 32 ∷ t)
+    (append_assoc (f x) ((codes " | " ++ f y) ++ more) (32 ∷ [])
+    ∙ sym (append_assoc (f x) (32 ∷ []) (124 ∷ rest))) in
     ap (pieces 124) shape
     ∙ piece_back 124 (spaced f x) rest (both_are true (is_without 124 (f x ++ 32 ∷ [])) refl (all_both (λ b. not (b == 124)) (f x) (32 ∷ []) h.0 refl))
     ∙ ap (λ t. spaced f x ∷ t) (bars f y ys h.1)
@@ -68,7 +68,7 @@ row_cells f x xs no_bar no_end =
     let shape : 32 ∷ (cells ++ codes " ;") ≡ front ++ 59 ∷ [] = ap (λ t. 32 ∷ t) (sym (append_assoc cells (32 ∷ []) (59 ∷ []))) in
     let clear : is_without 59 cells ≡ true = all_both (λ b. not (b == 59)) (f x) (flat_map (λ y. codes " | " ++ f y) xs) no_end.0 (each_without f xs no_end.1) in
     let cut : cut_at 59 (32 ∷ (cells ++ codes " ;")) ≡ Some (front, []) =
-        ap (cut_at 59) shape ∙ cut_back 59 front [] (both_are true (is_without 59 (cells ++ 32 ∷ [])) refl (all_both (λ b. not (b == 59)) cells (32 ∷ []) clear refl)) in
+    ap (cut_at 59) shape ∙ cut_back 59 front [] (both_are true (is_without 59 (cells ++ 32 ∷ [])) refl (all_both (λ b. not (b == 59)) cells (32 ∷ []) clear refl)) in
     ap (cells_if (32 ∷ (cells ++ codes " ;"))) cut ∙ ap (λ texts. record { texts = texts; whole = true }) (bars f x xs no_bar)
 
 -- the threads before a row of operations
@@ -97,10 +97,11 @@ padded_cell : (w : Writing) (places : List (List ℕ)) (t : ℕ × ThreadCode) (
 unfolding cell_text column_of
 padded_cell w places t i =
     let text = get_or (map (op_text w (name_in places)) t.1.instrs) i [] in
-    let left = width_of (column_of w places t) - length text in
-    (left + 1,
-    ap (λ x. 32 ∷ x) (append_assoc text (replicate left 32) (32 ∷ []) ∙ ap (λ x. text ++ x) (replicate_more left 32))
-    ∙ ap (λ x. padded (left + 1) x) (sym (next_at w (name_in places) t.1.instrs i)))
+    let left = width_of (column_of w places t) - length text in (
+      left + 1,
+      ap (λ x. 32 ∷ x) (append_assoc text (replicate left 32) (32 ∷ []) ∙ ap (λ x. text ++ x) (replicate_more left 32))
+          ∙ ap (λ x. padded (left + 1) x) (sym (next_at w (name_in places) t.1.instrs i)),
+    )
 
 pub are_cells : (w : Writing) (places : List (List ℕ)) (i n : ℕ) (threads : List ThreadCode)
     → AreCells w (name_in places) (map (spaced (cell_text (suc i))) (map (column_of w places) (enumerate_from n threads))) (map (at_row i) threads)
@@ -190,21 +191,21 @@ word_same text k tail rest begins at_tail =
     let shape : (text ++ replicate k 32) ++ tail ≡ text ++ 32 ∷ rest = append_assoc text (replicate k 32) tail ∙ ap (λ t. text ++ t) at_tail in
     let alone : unblanked text ≡ text = ap unblanked begins.is ∙ rw begins.inked (sym begins.is) in
     let front : unblanked (text ++ 32 ∷ rest) ≡ text ++ 32 ∷ rest =
-        ap (λ t. unblanked (t ++ 32 ∷ rest)) begins.is ∙ rw begins.inked (ap (λ t. t ++ 32 ∷ rest) (sym begins.is)) in
+    ap (λ t. unblanked (t ++ 32 ∷ rest)) begins.is ∙ rw begins.inked (ap (λ t. t ++ 32 ∷ rest) (sym begins.is)) in
     ap (λ t. run_of is_word_byte (unblanked t)) shape ∙ ap (run_of is_word_byte) front ∙ run_stops is_word_byte text 32 rest refl
     ∙ ap (run_of is_word_byte) (sym alone)
 
 keeps_row : (text : List ℕ) (k : ℕ) (tail : List ℕ) → CellText text → Tail tail → ends_rows (32 ∷ ((text ++ replicate k 32) ++ tail)) ≡ false
 unfolding ends_rows after_run
 keeps_row text k tail cell behind = elim cell.kind [
-    inl e ↦
-        ap (λ t. ends_rows (32 ∷ ((t ++ replicate k 32) ++ tail))) e ∙ ap (λ t. ends_rows (32 ∷ (replicate k 32 ++ t))) behind.is
-        ∙ ap (λ t. list_any (bytes_eq (run_of is_word_byte t)) keywords) (skip_blanks k (32 ∷ behind.sign ∷ behind.more))
-        ∙ sign_stays behind.sign behind.more behind.which
-    | inr h ↦
-        (let first = blank_first k (behind.sign ∷ behind.more) in
-        ap (λ word. list_any (bytes_eq word) keywords) (word_same text k tail first.0 h.0 (ap (λ t. replicate k 32 ++ t) behind.is ∙ first.1)) ∙ h.1)
-  ]
+  | inl e ↦
+      ap (λ t. ends_rows (32 ∷ ((t ++ replicate k 32) ++ tail))) e ∙ ap (λ t. ends_rows (32 ∷ (replicate k 32 ++ t))) behind.is
+      ∙ ap (λ t. list_any (bytes_eq (run_of is_word_byte t)) keywords) (skip_blanks k (32 ∷ behind.sign ∷ behind.more))
+      ∙ sign_stays behind.sign behind.more behind.which
+  | inr h ↦
+      (let first = blank_first k (behind.sign ∷ behind.more) in
+      ap (λ word. list_any (bytes_eq word) keywords) (word_same text k tail first.0 h.0 (ap (λ t. replicate k 32 ++ t) behind.is ∙ first.1)) ∙ h.1)
+]
   where
     keywords : List (List ℕ)
     keywords = codes "exists" ∷ codes "~exists" ∷ codes "forall" ∷ codes "locations" ∷ []
@@ -249,7 +250,7 @@ row_line_is row x xs h =
     let f = cell_text row in
     let cells = f x ++ flat_map (λ y. codes " | " ++ f y) xs in
     let bytes : list_all is_line_byte cells ≡ true =
-        all_both is_line_byte (f x) (flat_map (λ y. codes " | " ++ f y) xs) (weaker is_row_byte is_line_byte row_on_line (f x) h.0) (more_on_line f xs h.1) in
+    all_both is_line_byte (f x) (flat_map (λ y. codes " | " ++ f y) xs) (weaker is_row_byte is_line_byte row_on_line (f x) h.0) (more_on_line f xs h.1) in
     line_is (32 ∷ (cells ++ codes " ;")) (all_both is_line_byte cells (codes " ;") bytes refl)
     (ap (λ t. list_all is_blank (32 ∷ t)) (sym (append_assoc cells (32 ∷ []) (59 ∷ []))) ∙ not_all_blank (32 ∷ (cells ++ 32 ∷ [])) 59 [] refl)
 
@@ -276,6 +277,7 @@ row_is_read w places i t threads h =
       cells = subst (λ c. AreCells w (name_in places) c.texts (map (at_row i) (t ∷ threads))) (sym cells) (are_cells w places i 0 (t ∷ threads));
       row = first_cell w places i t (flat_map (λ y. codes " | " ++ f y) xs) (cell_of w places (0, t) i h.0) (tail_of f xs);
     }
+
 all_advance_at : (i : ℕ) (threads : List ThreadCode) → map advanced (map (at_row i) threads) ≡ map (at_row (suc i)) threads
 all_advance_at i [] = refl
 all_advance_at i (t ∷ threads) = rw (advance_at t.instrs i, all_advance_at i threads) refl
@@ -284,18 +286,20 @@ all_advance_at i (t ∷ threads) = rw (advance_at t.instrs i, all_advance_at i t
 pub rows_are_read : (w : Writing) (places : List (List ℕ)) (i count : ℕ) (t : ThreadCode) (threads : List ThreadCode) → AreTexts w (name_in places) (t ∷ threads)
     → AreRows w (name_in places) (map (row_line (columns_of w places (t ∷ threads))) (range_with_len (suc i) count)) (map (at_row i) (t ∷ threads))
 rows_are_read w places i zero t threads h = tt
-rows_are_read w places i (suc count) t threads h =
-    (row_is_read w places i t threads h,
-    subst (λ k. AreRows w (name_in places) (map (row_line (columns_of w places (t ∷ threads))) (range_with_len k count)) (map advanced (map (at_row i) (t ∷ threads)))) (sym (add-one (suc i)))
-    (subst (AreRows w (name_in places) (map (row_line (columns_of w places (t ∷ threads))) (range_with_len (suc (suc i)) count))) (sym (all_advance_at i (t ∷ threads)))
-    (rows_are_read w places (suc i) count t threads h)))
+rows_are_read w places i (suc count) t threads h = (
+  row_is_read w places i t threads h,
+  subst (λ k. AreRows w (name_in places) (map (row_line (columns_of w places (t ∷ threads))) (range_with_len k count)) (map advanced (map (at_row i) (t ∷ threads)))) (sym (add-one (suc i)))
+      (subst (AreRows w (name_in places) (map (row_line (columns_of w places (t ∷ threads))) (range_with_len (suc (suc i)) count))) (sym (all_advance_at i (t ∷ threads)))
+      (rows_are_read w places (suc i) count t threads h)),
+)
 
 pub rows_are_lines : (w : Writing) (places : List (List ℕ)) (i count : ℕ) (t : ThreadCode) (threads : List ThreadCode) → AreTexts w (name_in places) (t ∷ threads)
     → AllByRecursion IsLine (map (row_line (columns_of w places (t ∷ threads))) (range_with_len (suc i) count))
 rows_are_lines w places i zero t threads h = tt
-rows_are_lines w places i (suc count) t threads h =
-    (row_line_is (suc i) (column_of w places (0, t)) (map (column_of w places) (enumerate_from (0 + 1) threads)) (all_cells w places i 0 (t ∷ threads) h),
-    subst (λ k. AllByRecursion IsLine (map (row_line (columns_of w places (t ∷ threads))) (range_with_len k count))) (sym (add-one (suc i))) (rows_are_lines w places (suc i) count t threads h))
+rows_are_lines w places i (suc count) t threads h = (
+  row_line_is (suc i) (column_of w places (0, t)) (map (column_of w places) (enumerate_from (0 + 1) threads)) (all_cells w places i 0 (t ∷ threads) h),
+  subst (λ k. AllByRecursion IsLine (map (row_line (columns_of w places (t ∷ threads))) (range_with_len k count))) (sym (add-one (suc i))) (rows_are_lines w places (suc i) count t threads h),
+)
 
 -- after as many rows as the longest thread has operations all of them are read
 pub rows_end : (texts : List (List ℕ)) (i : ℕ) (threads : List ThreadCode) → after_rows texts (map (at_row i) threads) ≡ map (at_row (i + length texts)) threads

@@ -1,10 +1,9 @@
 -- A printed test reads back.
-use Rattle.std.proofs.Common.{◌≡◌, ◌≢◌, ◌<◌, ◌≤◌, ◌+◌, ◌-◌, ◌==◌, ℕ, zero, suc, List, [], ◌∷◌, ◌++◌, Some, None, Ok, true, false, cond, length, length-append, map, max, take, drop, fold, refl, sym, ap, ◌∙◌, subst, arith, append_assoc, append-nil, add-zero, zero-add}
-use Rattle.std.specs.Prelude.{Bool, not, ◌&&◌, Option, Result, nat_lt, codes}
-use Rattle.std.specs.List.{flat_map, join_by, filter, AllByRecursion, enumerate_from, range_with_len}
-use Rattle.std.proofs.Math.ListN.{replicate}
-use Rattle.std.proofs.lemmas.Bool.{eqb-true, eq-eqb, eqb-false, lt-ltb, ltb-true, cases_lt}
-use Rattle.std.proofs.lemmas.List.{length-map, take_all, drop_all}
+use Rattle.std.proofs.Common.{◌≡◌, ◌≢◌, ◌<◌, ◌≤◌, ◌+◌, ◌==◌, ℕ, suc, List, [], ◌∷◌, ◌++◌, Some, Ok, true, false, length, map, max, take, drop, fold, refl, sym, ap, ◌∙◌, subst, arith, append-nil, add-zero, zero-add}
+use Rattle.std.specs.Prelude.{Option, nat_lt, codes}
+use Rattle.std.specs.List.{flat_map, join_by, AllByRecursion, enumerate_from, range_with_len}
+use Rattle.std.proofs.lemmas.Bool.{eqb-true, eq-eqb, ltb-true}
+use Rattle.std.proofs.lemmas.List.{length-map, take_all}
 use Rattle.std.proofs.lemmas.List.FromFn.{length-range_with_len}
 use Rattle.relax_edges.specs.declared.kinds.ArchName.{ArchName}
 use Rattle.relax_edges.specs.declared.kinds.Value.{Value}
@@ -17,29 +16,28 @@ use Rattle.final_cond.specs.CondText.{cond_text}
 use Rattle.arch_trait.specs.Threads.{Puts, ThreadCode}
 use Rattle.arch_trait.specs.Writing.{Writing, WritesBack, op_text, name_in}
 use Rattle.arch_trait.specs.Cells.{WritesCells}
-use Rattle.litmus_text.specs.declared.errors.TextError.{TextError}
-use Rattle.litmus_text.specs.Lines.{Lines, ends, line, lines_from, ◌>>=◌}
+use Rattle.litmus_text.specs.Lines.{Lines, ends, line}
 use Rattle.litmus_text.specs.Header.{header_read, quote_read, after_settings}
 use Rattle.litmus_text.specs.InitialState.{Begun, initial_read}
-use Rattle.litmus_text.specs.Table.{Column, no_column, among, head_read, rows_read, all_labels_judged, no_columns, after_locations}
+use Rattle.litmus_text.specs.Table.{Column, among, head_read, rows_read, all_labels_judged, no_columns, after_locations}
 use Rattle.litmus_text.specs.Condition.{condition_read}
-use Rattle.litmus_text.specs.TestReading.{ThreadRead, TestRead, values_of, threads_of, lines_read, test_read}
-use Rattle.litmus_text.specs.TestText.{TestSeen, header_line, edges_line, items_lines, initial_lines, column_of, columns_of, row_line, row_count, table_lines, ended, test_lines, test_text}
+use Rattle.litmus_text.specs.TestReading.{ThreadRead, values_of, threads_of, lines_read, test_read}
+use Rattle.litmus_text.specs.TestText.{TestSeen, items_lines, initial_lines, column_of, columns_of, row_line, row_count, table_lines, ended, test_lines, test_text}
 use Rattle.litmus_text.specs.Placing.{place_in, renumbered}
-use Rattle.litmus_text.specs.TablePlan.{placed_from, labels_in, column_so_far}
-use Rattle.litmus_text.specs.Progress.{Progress, progress, CodeFits, code_lands, column_at}
-use Rattle.litmus_text.specs.Items.{Link, links_of, links_mention, link_values, LinkFits}
-use Rattle.litmus_text.specs.Terms.{terms_mention, TermFits}
+use Rattle.litmus_text.specs.TablePlan.{placed_from, column_so_far}
+use Rattle.litmus_text.specs.Progress.{progress, CodeFits, code_lands, column_at}
+use Rattle.litmus_text.specs.Items.{Link, links_of, links_mention, link_values}
+use Rattle.litmus_text.specs.Terms.{terms_mention}
 use Rattle.litmus_text.specs.Reread.{thread_reread, reread, IsReadable}
 use Rattle.litmus_text.proofs.CutBack.{by_test}
 use Rattle.litmus_text.proofs.LineBack.{IsLine, before, lines_back}
 use Rattle.litmus_text.proofs.HeadBack.{header_back, quote_back, settings_back, header_line_is, edges_line_is}
-use Rattle.litmus_text.proofs.NamesBack.{Within, within_self, within_trans, IsAmong, none_among}
+use Rattle.litmus_text.proofs.NamesBack.{within_trans, none_among}
 use Rattle.litmus_text.proofs.InitBack.{initial_back, initial_lines_are, links_there, all_join}
-use Rattle.litmus_text.proofs.ItemBack.{links_within, links_among}
+use Rattle.litmus_text.proofs.ItemBack.{links_among}
 use Rattle.litmus_text.proofs.HeadRowBack.{head_back, head_line_is}
-use Rattle.litmus_text.proofs.RowBack.{IsReady, AreRows, after_rows, rows_mention, rows_within, rows_among, rows_back}
-use Rattle.litmus_text.proofs.TableBack.{OpText, AreTexts, code_texts, at_row, rows_are_read, rows_are_lines, rows_end}
+use Rattle.litmus_text.proofs.RowBack.{IsReady, after_rows, rows_mention, rows_within, rows_among, rows_back}
+use Rattle.litmus_text.proofs.TableBack.{AreTexts, code_texts, at_row, rows_are_read, rows_are_lines, rows_end}
 use Rattle.litmus_text.proofs.LabelBack.{labels_back}
 use Rattle.litmus_text.proofs.CondBack.{terms_within, condition_back, cond_ends, no_locations, cond_line_is}
 
@@ -168,11 +166,11 @@ values_read : (table : List (List ℕ)) (names : ℕ → List ℕ) (line_number 
 values_read table names m n [] all h = refl
 values_read table names m n (t ∷ threads) all h =
     let own : values_of n all ≡ map (λ link. (link.0, values.Place (place_in table (names link.1)))) t.links =
-        h n (omega arith) ∙ own_values table names n t.links (links_of (n + 1) threads)
-        ∙ ap (λ rest. map (λ link. (link.0, values.Place (place_in table (names link.1)))) t.links ++ rest) (later_values table names n (n + 1) threads (omega arith))
-        ∙ append-nil (map (λ link. (link.0, values.Place (place_in table (names link.1)))) t.links) in
+    h n (omega arith) ∙ own_values table names n t.links (links_of (n + 1) threads)
+    ∙ ap (λ rest. map (λ link. (link.0, values.Place (place_in table (names link.1)))) t.links ++ rest) (later_values table names n (n + 1) threads (omega arith))
+    ∙ append-nil (map (λ link. (link.0, values.Place (place_in table (names link.1)))) t.links) in
     let rest = values_read table names m (n + 1) threads all
-        (λ k low. h k (omega arith) ∙ others_values table names k n t.links (links_of (n + 1) threads) (eqb-false_from n k (omega arith))) in
+    (λ k low. h k (omega arith) ∙ others_values table names k n t.links (links_of (n + 1) threads) (eqb-false_from n k (omega arith))) in
     ap (λ init. made init (map (λ placed. placed.op) (placed_from table names m t.instrs)) ∷ map (λ c. made (values_of c.0 all) (map (λ placed. placed.op) c.1.ops)) (enumerate_from (n + 1) (map (column_so_far table names m) (map (λ t. t.instrs) threads)))) own
     ∙ ap (λ code. made (map (λ link. (link.0, values.Place (place_in table (names link.1)))) t.links) code ∷ map (λ c. made (values_of c.0 all) (map (λ placed. placed.op) c.1.ops)) (enumerate_from (n + 1) (map (column_so_far table names m) (map (λ t. t.instrs) threads)))) (ops_of table names m t.instrs)
     ∙ ap (λ more. thread_reread table names t ∷ more) rest
@@ -201,15 +199,19 @@ lines_are : (a : Puts) (arch : ArchName) (w : Writing) (name : List ℕ) (edges 
 unfolding test_lines
 lines_are a arch w name edges places t threads condition laws cells h =
     let rows = map (row_line (columns_of w places (t ∷ threads))) (range_with_len 1 (longest 0 (t ∷ threads))) in
-    let texts = all_texts a w places (name_in places) (t ∷ threads) laws cells h.codes in
-    (header_line_is arch name h.named,
-    (edges_line_is edges,
-    all_join IsLine (initial_lines w places (t ∷ threads)) (table_lines (columns_of w places (t ∷ threads)) ++ cond_text condition ∷ [])
-    (initial_lines_are a w places places (t ∷ threads) laws h.links)
-    (subst (λ table. AllByRecursion IsLine (table ++ cond_text condition ∷ [])) (sym (table_is w places t threads))
-    (head_line_is w places t threads h.threads_few,
-    all_join IsLine rows (cond_text condition ∷ []) (rows_are_lines w places 0 (longest 0 (t ∷ threads)) t threads texts)
-    (cond_line_is w (length (t ∷ threads)) places condition h.terms, tt)))))
+    let texts = all_texts a w places (name_in places) (t ∷ threads) laws cells h.codes in (
+      header_line_is arch name h.named,
+      (
+        edges_line_is edges,
+        all_join IsLine (initial_lines w places (t ∷ threads)) (table_lines (columns_of w places (t ∷ threads)) ++ cond_text condition ∷ [])
+            (initial_lines_are a w places places (t ∷ threads) laws h.links)
+            (subst (λ table. AllByRecursion IsLine (table ++ cond_text condition ∷ [])) (sym (table_is w places t threads)) (
+              head_line_is w places t threads h.threads_few,
+              all_join IsLine rows (cond_text condition ∷ []) (rows_are_lines w places 0 (longest 0 (t ∷ threads)) t threads texts)
+                  (cond_line_is w (length (t ∷ threads)) places condition h.terms, tt),
+            )),
+      ),
+    )
 
 settled : (w : Writing) (places : List (List ℕ)) (threads : List ThreadCode) (n : ℕ) (after : ℕ → Lines) → after_settings (before n (initial_lines w places threads) after) ≡ before n (initial_lines w places threads) after
 unfolding initial_lines
@@ -248,28 +250,28 @@ parts_back a arch w name edges places t threads condition laws cells h =
     let few : k ≤ 1024 = longest_bound 0 1024 all (omega arith) h.rows_few in
     let rest : List (List ℕ) = cond_text condition ∷ [] in
     let e3 : initial_read w (after_settings (before 3 (lines ++ (table_lines columns ++ rest)) ends)) ≡ Ok (record { names = m0; values = link_values m2 names links }, before n (table_lines columns ++ rest) ends) =
-        ap (λ l. initial_read w (after_settings l)) (before_append 3 lines (table_lines columns ++ rest) ends)
-        ∙ ap (initial_read w) (settled w places all 3 (λ k. before k (table_lines columns ++ rest) ends))
-        ∙ initial_back a w places m2 places all 3 (λ k. before k (table_lines columns ++ rest) ends) laws h.links (none_among places) h.places_few links_final h.links_single in
+    ap (λ l. initial_read w (after_settings l)) (before_append 3 lines (table_lines columns ++ rest) ends)
+    ∙ ap (initial_read w) (settled w places all 3 (λ k. before k (table_lines columns ++ rest) ends))
+    ∙ initial_back a w places m2 places all 3 (λ k. before k (table_lines columns ++ rest) ends) laws h.links (none_among places) h.places_few links_final h.links_single in
     let e4 : head_read (record { names = m0; values = link_values m2 names links }) (before n (table_lines columns ++ rest) ends) ≡ Ok (length all, before (n + 1) (rows ++ rest) ends) =
-        ap (λ table. head_read (record { names = m0; values = link_values m2 names links }) (before n (table ++ rest) ends)) (table_is w places t threads)
-        ∙ head_back w places n t threads (record { names = m0; values = link_values m2 names links }) (before (n + 1) (rows ++ rest) ends) h.threads_few
-        (links_there m2 names 0 (length all) all (omega arith)) in
+    ap (λ table. head_read (record { names = m0; values = link_values m2 names links }) (before n (table ++ rest) ends)) (table_is w places t threads)
+    ∙ head_back w places n t threads (record { names = m0; values = link_values m2 names links }) (before (n + 1) (rows ++ rest) ends) h.threads_few
+    (links_there m2 names 0 (length all) all (omega arith)) in
     let e5 : rows_read w 0 (among m0 (no_columns (length all))) (before (n + 1) (rows ++ rest) ends)
-        ≡ Ok (among m1 (map (column_at m2 names (n + 1)) (after_rows rows ps)), line ((n + 1) + length rows) (cond_text condition) (ends (((n + 1) + length rows) + 1))) =
-        ap (λ c. rows_read w 0 (among m0 c) (before (n + 1) (rows ++ rest) ends)) (start_columns m2 names (n + 1) all)
-        ∙ ap (rows_read w 0 (among m0 (map (column_at m2 names (n + 1)) ps))) (before_append (n + 1) rows rest ends)
-        ∙ rows_back a w places m2 names (n + 1) (n + 1) 0 rows ps m0 (λ k. before k rest ends) ((n + 1) + length rows) (cond_text condition) (ends (((n + 1) + length rows) + 1)) refl (cond_ends condition)
-        laws cells (rows_are_read w places 0 k t threads texts) ready among0 h.places_few rows_final (omega arith) in
+    ≡ Ok (among m1 (map (column_at m2 names (n + 1)) (after_rows rows ps)), line ((n + 1) + length rows) (cond_text condition) (ends (((n + 1) + length rows) + 1))) =
+    ap (λ c. rows_read w 0 (among m0 c) (before (n + 1) (rows ++ rest) ends)) (start_columns m2 names (n + 1) all)
+    ∙ ap (rows_read w 0 (among m0 (map (column_at m2 names (n + 1)) ps))) (before_append (n + 1) rows rest ends)
+    ∙ rows_back a w places m2 names (n + 1) (n + 1) 0 rows ps m0 (λ k. before k rest ends) ((n + 1) + length rows) (cond_text condition) (ends (((n + 1) + length rows) + 1)) refl (cond_ends condition)
+    laws cells (rows_are_read w places 0 k t threads texts) ready among0 h.places_few rows_final (omega arith) in
     let done : map (column_at m2 names (n + 1)) (after_rows rows ps) ≡ map (column_so_far m2 names (n + 1)) (map (λ t. t.instrs) all) =
-        ap (map (column_at m2 names (n + 1))) (rows_end rows 0 all)
-        ∙ ap (λ i. map (column_at m2 names (n + 1)) (map (at_row i) all)) (zero-add (length rows) ∙ size)
-        ∙ end_columns m2 names (n + 1) k all (covers 0 k all (omega arith)) in
+    ap (map (column_at m2 names (n + 1))) (rows_end rows 0 all)
+    ∙ ap (λ i. map (column_at m2 names (n + 1)) (map (at_row i) all)) (zero-add (length rows) ∙ size)
+    ∙ end_columns m2 names (n + 1) k all (covers 0 k all (omega arith)) in
     let e6 : all_labels_judged (map (column_at m2 names (n + 1)) (after_rows rows ps)) ≡ Ok tt =
-        ap all_labels_judged done ∙ labels_back m2 names (n + 1) (map (λ t. t.instrs) all) (all_codes (λ code. code_lands code code ≡ true) all h.lands) in
+    ap all_labels_judged done ∙ labels_back m2 names (n + 1) (map (λ t. t.instrs) all) (all_codes (λ code. code_lands code code ≡ true) all h.lands) in
     let e7 : condition_read w (length all) m1 (after_locations (line ((n + 1) + length rows) (cond_text condition) (ends (((n + 1) + length rows) + 1)))) ≡ Ok (record { cond = condition; names = m2 }) =
-        ap (condition_read w (length all) m1) (no_locations condition ((n + 1) + length rows) (ends (((n + 1) + length rows) + 1)))
-        ∙ condition_back w (length all) places m1 condition ((n + 1) + length rows) (((n + 1) + length rows) + 1) h.terms_some h.terms_few h.terms among1 h.places_few in
+    ap (condition_read w (length all) m1) (no_locations condition ((n + 1) + length rows) (ends (((n + 1) + length rows) + 1)))
+    ∙ condition_back w (length all) places m1 condition ((n + 1) + length rows) (((n + 1) + length rows) + 1) h.terms_some h.terms_few h.terms among1 h.places_few in
     let values = values_read m2 names (n + 1) 0 all (link_values m2 names links) (λ k low. refl) in
     chain arch w _ _ _ _ _ _ name (Some (join_by word_of (codes " ") edges)) (record { names = m0; values = link_values m2 names links }) (length all) m1 m2 (map (column_at m2 names (n + 1)) (after_rows rows ps)) condition
     (header_back arch name 1 _ h.named) (quote_back edges 2 _) e3 e4 e5 e6 e7

@@ -1,15 +1,13 @@
 -- The table of a test: its header, its rows, and the labels in its columns.
 -- Source: the litmus format of the herdtools manual; what is a fault, and where, is own.
 use Rattle.std.specs.Prelude.{ℕ, ◌+◌, ◌==◌, Bool, true, false, cond, not, ◌&&◌, ◌||◌, nat_lt, List, [], ◌∷◌, ◌++◌, Option, Some, None, Result, Ok, Err, codes, count_by}
-use Rattle.std.specs.List.{list_all, list_any}
+use Rattle.std.specs.List.{list_all}
 use Rattle.std.specs.Fmt.{decimal}
 use Rattle.std.specs.Str.{bytes_eq}
 use Rattle.std.proofs.Math.ListN.{replicate}
 use Rattle.micro_ops.specs.declared.operation.Micro.{Micro}
 use Rattle.micro_ops.specs.declared.operation.Micro.TheVariants as ops
-use Rattle.final_cond.specs.Runs.{run_of, unblanked}
-use Rattle.final_cond.specs.Reading.{is_word_byte}
-use Rattle.arch_trait.specs.Cells.{first_word, ends_rows}
+use Rattle.arch_trait.specs.Cells.{ends_rows, first_word, is_access}
 use Rattle.arch_trait.specs.declared.reading.InstrError.{InstrError}
 use Rattle.arch_trait.specs.declared.reading.InstrError.TheVariants as instrs
 use Rattle.arch_trait.specs.Reading.{trimmed, ReadInstr, instr_read}
@@ -82,14 +80,6 @@ pub record Among (A : Type 0) : Type 0 where
 
 abbrev pub among : {A : Type 0} → List (List ℕ) → A → Among A
 among names value = record { names = names; value = value }
-
--- an operation reads or writes a place
-abbrev pub is_access : Micro → Bool
-is_access (ops.Load _ _ _) = true
-is_access (ops.LoadAt _ _) = true
-is_access (ops.Store _ _ _) = true
-is_access (ops.StoreAt _ _) = true
-is_access _ = false
 
 -- a column has room for an operation: one access more is not too many
 abbrev pub has_room : Column → Micro → Bool
