@@ -11,3 +11,5 @@ pub mod Spelling
 pub mod Blanks
 pub mod PlainTexts
 pub mod Renumbered
+pub mod CellTexts
+pub mod Ordered

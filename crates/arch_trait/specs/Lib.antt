@@ -10,3 +10,5 @@ pub mod Reading
 pub mod Pieces
 pub mod Cuts
 pub mod Renumbering
+pub mod Cells
+pub mod LabelOrder

@@ -1,27 +1,15 @@
 -- A printed cell is read back, whatever blanks fill it.
-use Rattle.std.proofs.Common.{◌≡◌, ◌≢◌, ◌<◌, ◌≤◌, ◌+◌, ◌-◌, ◌==◌, ℕ, zero, suc, List, [], ◌∷◌, ◌++◌, Some, None, Ok, true, false, cond, length, map, max, get_or, refl, sym, ap, ◌∙◌, subst, arith, append_assoc, append-nil}
-use Rattle.std.specs.Prelude.{Bool, not, ◌&&◌, ◌||◌, Option, nat_lt, is_some, codes, count_by, Result}
-use Rattle.std.specs.List.{list_all, position_from, range_with_len}
-use Rattle.std.specs.Str.{bytes_eq}
+use Rattle.std.proofs.Common.{◌≡◌, ℕ, zero, suc, List, [], ◌∷◌, ◌++◌, Some, None, Ok, true, false, refl, sym, ap, ◌∙◌, append_assoc, append-nil}
+use Rattle.std.specs.Prelude.{Bool}
+use Rattle.std.specs.List.{list_all}
 use Rattle.std.proofs.Math.ListN.{replicate}
-use Rattle.std.proofs.lemmas.Bool.{eqb-true, eq-eqb, lt-ltb}
-use Rattle.final_cond.specs.Names.{is_place_name, is_register_name}
 use Rattle.final_cond.specs.Runs.{is_blank, run_of, after_run, unblanked}
-use Rattle.micro_ops.specs.declared.operation.Micro.{Micro}
-use Rattle.micro_ops.specs.declared.operation.Micro.TheVariants as ops
-use Rattle.arch_trait.specs.declared.reading.InstrError.{InstrError}
-use Rattle.arch_trait.specs.Threads.{Puts}
-use Rattle.arch_trait.specs.Names.{number_in, number_added, names_added}
-use Rattle.arch_trait.specs.Reading.{before_blanks, kept_before, trimmed, is_inked, operands_in, operands_if, written_in, instr_read, number_raw, numbered, ReadInstr}
-use Rattle.arch_trait.specs.Writing.{Writing, WritesBack, Written, op_text, name_in, name_of, is_named, with_number, label_name, is_plain}
-use Rattle.arch_trait.proofs.Spelling.{instr_back, IsWord, word_is}
-use Rattle.litmus_text.specs.Lines.{bad}
+use Rattle.arch_trait.specs.Reading.{before_blanks, kept_before, trimmed, is_inked, operands_in, operands_if, written_in, instr_read, number_raw}
+use Rattle.arch_trait.specs.Writing.{Writing, Written}
+use Rattle.arch_trait.specs.Cells.{is_cell_byte}
 use Rattle.litmus_text.specs.Cuts.{cut_at, is_nil}
-use Rattle.litmus_text.specs.Table.{Placed, Column, Among, among, is_access, has_room, with_op, instr_put, instr_in, instr_or_nothing, cell_if, cell_read}
-use Rattle.litmus_text.specs.Placing.{or_zero, place_in, renumbered, mentioned}
-use Rattle.litmus_text.specs.Printable.{is_cell_byte}
-use Rattle.litmus_text.specs.Spoken.{WritesCells, is_label_op}
-use Rattle.litmus_text.proofs.CutBack.{by_test, both, both_are, without_class, cut_back, cut_none, all_both}
+use Rattle.litmus_text.specs.Table.{Column, Among, instr_put, instr_in, instr_or_nothing, cell_read}
+use Rattle.litmus_text.proofs.CutBack.{by_test, both_are, without_class, cut_back, cut_none, all_both}
 
 abbrev pub blanks : ℕ → List ℕ
 blanks k = replicate k 32

@@ -1,10 +1,9 @@
 -- The printed condition is read back.
-use Rattle.std.proofs.Common.{◌≡◌, ◌<◌, ◌≤◌, ◌+◌, ◌-◌, ◌^◌, ◌==◌, ℕ, zero, suc, List, [], ◌∷◌, ◌++◌, Some, None, Ok, true, false, cond, length, map, refl, sym, ap, ◌∙◌, subst, arith, append_assoc, append-nil, add-zero, zero-add}
-use Rattle.std.specs.Prelude.{Bool, not, ◌&&◌, ◌||◌, Option, Result, nat_lt, is_some, codes}
+use Rattle.std.proofs.Common.{◌≡◌, ◌<◌, ◌≤◌, ℕ, zero, suc, List, [], ◌∷◌, ◌++◌, None, Ok, true, false, length, refl, sym, ap, ◌∙◌, arith, append_assoc, append-nil}
+use Rattle.std.specs.Prelude.{codes}
 use Rattle.std.specs.Char.{is_ascii_digit, is_ascii_alphanumeric}
 use Rattle.std.specs.Fmt.{decimal}
 use Rattle.std.specs.List.{list_all, flat_map, AllByRecursion}
-use Rattle.std.proofs.lemmas.Bool.{lt-ltb}
 use Rattle.std.proofs.lemmas.Bool.Decides.{nat_tests}
 use Rattle.final_cond.specs.declared.cond.TheConstants.{MAX_TERMS}
 use Rattle.final_cond.specs.declared.cond.Quantifier.{Quantifier}
@@ -15,22 +14,20 @@ use Rattle.final_cond.specs.Runs.{is_blank, run_of, after_run, unblanked}
 use Rattle.final_cond.specs.Conditions.{LeftSeen, InRegister, AtPlace, TermSeen, CondSeen}
 use Rattle.final_cond.specs.CondText.{quantifier_word, left_text, term_text, further_term_text, terms_text, cond_text}
 use Rattle.final_cond.specs.Reading.{opening_read, sign_read, left_read, right_read, follow_read, has_form}
-use Rattle.final_cond.specs.ReadBack.{IsFormedTerm, IsFormed}
-use Rattle.final_cond.proofs.BackLaws.{Digits, digits_of, named, place_bytes, left_back, right_back, stops}
-use Rattle.arch_trait.specs.Names.{number_in, number_added, names_added}
+use Rattle.final_cond.specs.ReadBack.{IsFormedTerm}
+use Rattle.final_cond.proofs.BackLaws.{digits_of, named, place_bytes, left_back, right_back, stops}
 use Rattle.arch_trait.specs.Writing.{Writing}
-use Rattle.litmus_text.specs.declared.errors.TextError.{TextError}
+use Rattle.arch_trait.specs.Cells.{ends_rows, is_line_byte}
 use Rattle.litmus_text.specs.Lines.{Lines, ends, line, ◌>>=◌}
 use Rattle.litmus_text.specs.Joined.{no_text, with_text, all_joined}
-use Rattle.litmus_text.specs.Table.{first_word, ends_rows, after_locations}
-use Rattle.litmus_text.specs.Condition.{Setting, Mentioned, TermRead, TermsRead, CondRead, at_begin, place_put, left_put, line_of_rest, term_here, and_more, before_read, terms_here, cond_here, condition_read}
+use Rattle.litmus_text.specs.Table.{after_locations}
+use Rattle.litmus_text.specs.Condition.{Setting, Mentioned, TermRead, at_begin, place_put, left_put, line_of_rest, term_here, terms_here, cond_here, condition_read}
 use Rattle.litmus_text.specs.Terms.{left_mention, terms_mention, is_known, TermFits}
-use Rattle.litmus_text.specs.Printable.{is_line_byte}
-use Rattle.litmus_text.proofs.CutBack.{by_test, both, both_are, all_both, weaker}
+use Rattle.litmus_text.proofs.CutBack.{both, all_both, weaker}
 use Rattle.litmus_text.proofs.LineBack.{IsLine}
 use Rattle.litmus_text.proofs.HeadBack.{line_is}
 use Rattle.litmus_text.proofs.RowBack.{added_within}
-use Rattle.litmus_text.proofs.NamesBack.{Within, within_self, within_trans, IsAmong, Added, place_added}
+use Rattle.litmus_text.proofs.NamesBack.{Within, within_self, within_trans, IsAmong, place_added}
 
 state : List (List ℕ) → Mentioned
 state s = record { names = s; over = None }

@@ -1,16 +1,14 @@
 -- Cuts and splits of printed texts.
-use Rattle.std.proofs.Common.{◌≡◌, ◌<◌, ◌≤◌, ◌+◌, ◌-◌, ◌==◌, ℕ, zero, suc, List, [], ◌∷◌, ◌++◌, Some, None, true, false, cond, length, map, get_or, refl, sym, ap, ◌∙◌, subst, arith, append_assoc, append-nil}
-use Rattle.std.specs.Prelude.{Bool, not, ◌&&◌, ◌||◌, Option, nat_le}
-use Rattle.std.specs.List.{list_all, All, slice_split, onto_first}
+use Rattle.std.proofs.Common.{◌≡◌, ◌==◌, ℕ, List, [], ◌∷◌, ◌++◌, Some, None, true, false, get_or, refl, sym, ap, ◌∙◌}
+use Rattle.std.specs.Prelude.{Bool, not, ◌&&◌}
+use Rattle.std.specs.List.{list_all, All, slice_split}
 use Rattle.std.proofs.lemmas.Bool.{eqb-true, eq-eqb}
 use Rattle.std.specs.Str.{bytes_eq}
 use Rattle.std.proofs.lemmas.Slice.Eq.{bytes_eq-Decides}
 use Rattle.std.proofs.lemmas.List.Sums.{AllPass-from_list_all}
 use Rattle.std.proofs.lemmas.List.Folds.{list_all-append}
 use Rattle.std.proofs.lemmas.List.Splits.{slice_split_none, slice_split_at}
-use Rattle.final_cond.specs.Runs.{is_blank, run_of, after_run, unblanked}
-use Rattle.arch_trait.specs.Reading.{before_blanks, trimmed}
-use Rattle.litmus_text.specs.Cuts.{cut_at, before_cut, pieces, is_nil}
+use Rattle.litmus_text.specs.Cuts.{cut_at, before_cut, pieces}
 
 -- cases of a test
 pub by_test : {G : Type 0} (b : Bool) → (b ≡ true → G) → (b ≡ false → G) → G

@@ -1,8 +1,7 @@
 -- The printed header and the printed edges are read back.
-use Rattle.std.proofs.Common.{◌≡◌, ◌<◌, ◌≤◌, ◌+◌, ◌==◌, ℕ, zero, suc, List, [], ◌∷◌, ◌++◌, Some, None, Ok, true, false, cond, length, get_or, take, drop, refl, sym, ap, ◌∙◌, subst, arith, append_assoc, append-nil}
-use Rattle.std.specs.Prelude.{Bool, not, ◌&&◌, ◌||◌, codes, nat_le, Option}
-use Rattle.std.specs.Char.{is_ascii_alphanumeric, is_ascii_alphabetic}
-use Rattle.std.specs.List.{list_all, All, filter, flat_map, join_by, slice_split}
+use Rattle.std.proofs.Common.{◌≡◌, ◌==◌, ℕ, List, [], ◌∷◌, ◌++◌, Some, Ok, true, false, get_or, take, refl, sym, ap, ◌∙◌, arith}
+use Rattle.std.specs.Prelude.{Bool, not, ◌&&◌, codes}
+use Rattle.std.specs.List.{list_all, All, filter, flat_map, join_by}
 use Rattle.std.specs.Str.{bytes_eq}
 use Rattle.std.proofs.lemmas.Bool.{eqb-true}
 use Rattle.std.proofs.lemmas.Bool.Decides.{nat_tests}
@@ -11,18 +10,19 @@ use Rattle.std.proofs.lemmas.List.Splits.{slice_split_none, slice_split_at}
 use Rattle.relax_edges.specs.declared.kinds.ArchName.{ArchName}
 use Rattle.relax_edges.specs.declared.kinds.ArchName.TheVariants.{X86, PPC, AArch64, RISCV}
 use Rattle.relax_edges.specs.declared.edge.Edge.{Edge}
-use Rattle.relax_edges.specs.Architectures.{arch_word, arch_of}
+use Rattle.relax_edges.specs.Architectures.{arch_word}
 use Rattle.relax_edges.specs.Words.{word_of}
 use Rattle.relax_edges.specs.AllEdges.{edges_in_order}
 use Rattle.relax_edges.proofs.Ranks.{each_edge}
 use Rattle.final_cond.specs.Runs.{is_blank, run_of, after_run, unblanked}
 use Rattle.arch_trait.specs.Reading.{before_blanks, kept_before, trimmed}
-use Rattle.litmus_text.specs.Lines.{Lines, ends, line, is_passed, is_comment}
-use Rattle.litmus_text.specs.Cuts.{is_nil, cut_at, words}
+use Rattle.arch_trait.specs.Cells.{is_line_byte}
+use Rattle.litmus_text.specs.Lines.{Lines, line, is_passed}
+use Rattle.litmus_text.specs.Cuts.{is_nil, words}
 use Rattle.litmus_text.specs.Header.{header_read, quote_read, is_setting, after_settings, name_in_header, two_words, quote_cut}
-use Rattle.litmus_text.specs.Printable.{is_line_byte, is_name_byte, IsTestName}
+use Rattle.litmus_text.specs.Printable.{is_name_byte, IsTestName}
 use Rattle.litmus_text.specs.TestText.{header_line, edges_line}
-use Rattle.litmus_text.proofs.CutBack.{by_test, both, both_are, weaker, all_both, is_without, without_class, cut_back, bytes_same}
+use Rattle.litmus_text.proofs.CutBack.{by_test, both, both_are, weaker, all_both, without_class, cut_back, bytes_same}
 use Rattle.litmus_text.proofs.LineBack.{IsLine}
 
 -- a name byte is one of a line, and no blank

@@ -1,26 +1,25 @@
 -- The printed header of the table is read back.
-use Rattle.std.proofs.Common.{◌≡◌, ◌<◌, ◌≤◌, ◌+◌, ◌-◌, ◌==◌, ◌^◌, ℕ, zero, suc, List, [], ◌∷◌, ◌++◌, Ok, true, false, cond, length, map, get_or, refl, sym, ap, ◌∙◌, subst, arith, append_assoc, append-nil, add-zero, zero-add}
-use Rattle.std.specs.Prelude.{Bool, not, ◌&&◌, ◌||◌, nat_lt, codes}
+use Rattle.std.proofs.Common.{◌≡◌, ◌<◌, ◌≤◌, ◌+◌, ◌-◌, ◌^◌, ℕ, List, [], ◌∷◌, ◌++◌, Ok, true, false, length, map, refl, sym, ap, ◌∙◌, arith, append_assoc, add-zero, zero-add}
+use Rattle.std.specs.Prelude.{Bool, not, nat_lt}
 use Rattle.std.specs.Char.{is_ascii_digit}
 use Rattle.std.specs.Fmt.{decimal}
-use Rattle.std.specs.List.{list_all, flat_map, join_by, AllByRecursion, enumerate_from}
+use Rattle.std.specs.List.{list_all, AllByRecursion, enumerate_from}
 use Rattle.std.specs.Str.{bytes_eq}
 use Rattle.std.proofs.Math.ListN.{replicate}
 use Rattle.std.proofs.lemmas.Bool.{lt-ltb}
 use Rattle.std.proofs.lemmas.Bool.Decides.{nat_tests}
 use Rattle.std.proofs.lemmas.List.{replicate_more}
-use Rattle.final_cond.specs.Runs.{is_blank, after_run, unblanked}
+use Rattle.final_cond.specs.Runs.{is_blank, after_run}
 use Rattle.final_cond.proofs.BackLaws.{digits_of}
 use Rattle.arch_trait.specs.Reading.{before_blanks, kept_before, trimmed}
 use Rattle.arch_trait.specs.Threads.{ThreadCode}
 use Rattle.arch_trait.specs.Writing.{Writing}
-use Rattle.litmus_text.specs.declared.errors.TextError.{TextError}
-use Rattle.litmus_text.specs.Lines.{Lines, line, ◌>>=◌}
+use Rattle.litmus_text.specs.Lines.{Lines, line}
 use Rattle.litmus_text.specs.InitialState.{Begun}
-use Rattle.litmus_text.specs.Table.{Cells, cells_of, is_head, heads_read, head_read, threads_there}
+use Rattle.litmus_text.specs.Table.{Cells, is_head, heads_read, head_read}
 use Rattle.litmus_text.specs.TestText.{column_of, columns_of, width_of, cell_text, row_line}
 use Rattle.litmus_text.specs.Printable.{is_row_byte}
-use Rattle.litmus_text.proofs.CutBack.{by_test, both, both_are, all_both, weaker, bytes_same}
+use Rattle.litmus_text.proofs.CutBack.{both, both_are, all_both, weaker, bytes_same}
 use Rattle.litmus_text.proofs.CellBack.{padded, blanks_class, before_padded}
 use Rattle.litmus_text.proofs.LineBack.{IsLine}
 use Rattle.litmus_text.proofs.TableBack.{spaced, row_cells, cells_without, row_line_is}

@@ -1,30 +1,27 @@
 -- The printed initial state is read back.
-use Rattle.std.proofs.Common.{◌≡◌, ◌<◌, ◌≤◌, ◌+◌, ◌==◌, ℕ, zero, suc, List, [], ◌∷◌, ◌++◌, Some, None, Ok, true, false, length, length-append, map, refl, sym, ap, ◌∙◌, subst, arith, append_assoc, append-nil, add-zero, zero-add}
-use Rattle.std.specs.Prelude.{Bool, not, ◌&&◌, ◌||◌, Option, Result, nat_lt, codes}
+use Rattle.std.proofs.Common.{◌≡◌, ◌≤◌, ◌+◌, ◌==◌, ℕ, List, [], ◌∷◌, ◌++◌, Ok, true, false, length, length-append, map, refl, sym, ap, ◌∙◌, arith, append_assoc, append-nil}
+use Rattle.std.specs.Prelude.{Bool, not, ◌&&◌, nat_lt, codes}
 use Rattle.std.specs.List.{list_all, flat_map, join_by, AllByRecursion, enumerate_from}
-use Rattle.std.proofs.Math.ListN.{replicate}
 use Rattle.std.proofs.lemmas.Bool.{lt-ltb}
 use Rattle.std.proofs.lemmas.Bool.Decides.{nat_tests}
 use Rattle.relax_edges.specs.declared.kinds.Value.TheVariants as values
+use Rattle.arch_trait.specs.Cells.{is_line_byte}
 use Rattle.litmus_text.specs.Placing.{place_in}
 use Rattle.std.proofs.lemmas.List.Concat.{flat_map-append}
 use Rattle.std.proofs.lemmas.List.Folds.{list_all-append}
 use Rattle.final_cond.specs.Runs.{is_blank}
 use Rattle.arch_trait.specs.Threads.{Puts, ThreadCode}
 use Rattle.arch_trait.specs.Writing.{Writing, WritesBack, name_in}
-use Rattle.litmus_text.specs.declared.errors.TextError.{TextError}
 use Rattle.litmus_text.specs.Lines.{Lines, ends, line, ◌>>=◌}
-use Rattle.litmus_text.specs.Cuts.{cut_at, pieces}
 use Rattle.litmus_text.specs.Joined.{Joined, no_text, with_text}
-use Rattle.litmus_text.specs.InitialState.{Begun, nothing_begun, items_read, Braced, closed, braced_if, braced, brace_ends, braced_read, initial_line, initial_read}
+use Rattle.litmus_text.specs.InitialState.{closed, braced_if, braced, brace_ends, braced_read, initial_read}
 use Rattle.litmus_text.specs.TestText.{item_text, items_lines, initial_lines}
 use Rattle.litmus_text.specs.Items.{Link, links_of, links_mention, link_values, links_once, LinkFits}
-use Rattle.litmus_text.specs.Printable.{is_line_byte}
-use Rattle.litmus_text.proofs.CutBack.{by_test, both, both_are, is_without, without_class, cut_back, cut_none, all_both, weaker}
+use Rattle.litmus_text.proofs.CutBack.{both, both_are, is_without, without_class, cut_back, cut_none, all_both, weaker}
 use Rattle.litmus_text.proofs.LineBack.{IsLine, before}
 use Rattle.litmus_text.proofs.HeadBack.{line_is, not_all_blank}
 use Rattle.litmus_text.proofs.NamesBack.{Within, IsAmong}
-use Rattle.litmus_text.proofs.ItemBack.{core, core_is, core_bytes, is_item_byte, item_on_line, all_items_back}
+use Rattle.litmus_text.proofs.ItemBack.{core, core_is, core_bytes, is_item_byte, all_items_back}
 
 -- the text between braces that lines give
 pub record Gathered (joined : Joined) (n : ℕ) (text : List ℕ) (m : ℕ) (lines : List (List ℕ)) (after : ℕ → Lines) : Type 0 where

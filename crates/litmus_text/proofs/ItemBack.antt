@@ -1,11 +1,11 @@
 -- The printed items of the initial state are read back.
-use Rattle.std.proofs.Common.{◌≡◌, ◌≢◌, ◌<◌, ◌≤◌, ◌+◌, ◌-◌, ◌^◌, ◌==◌, ℕ, zero, suc, List, [], ◌∷◌, ◌++◌, Some, None, Ok, Err, true, false, cond, length, map, get_or, refl, sym, ap, ◌∙◌, subst, arith, append_assoc, append-nil, add-zero, zero-add}
-use Rattle.std.specs.Prelude.{Bool, not, ◌&&◌, ◌||◌, Option, Result, nat_lt, nat_le, is_some, codes}
+use Rattle.std.proofs.Common.{◌≡◌, ◌<◌, ◌≤◌, ◌+◌, ◌==◌, ℕ, zero, suc, List, [], ◌∷◌, ◌++◌, Some, None, Ok, true, false, length, map, get_or, refl, sym, ap, ◌∙◌, arith, append_assoc, append-nil, add-zero, zero-add}
+use Rattle.std.specs.Prelude.{Bool, not, ◌&&◌, ◌||◌, Option, Result, nat_lt, nat_le, codes}
 use Rattle.std.specs.Char.{is_ascii_digit, is_ascii_alphanumeric}
 use Rattle.std.specs.Fmt.{decimal}
 use Rattle.std.specs.List.{list_all, list_any, flat_map, position_from, IsDistinct, AllByRecursion}
 use Rattle.std.specs.Str.{bytes_eq}
-use Rattle.std.proofs.lemmas.Bool.{lt-ltb, eqb-true}
+use Rattle.std.proofs.lemmas.Bool.{lt-ltb}
 use Rattle.std.proofs.lemmas.Bool.Decides.{nat_tests}
 use Rattle.std.proofs.lemmas.List.Sums.{AllPass-from_list_all}
 use Rattle.relax_edges.specs.declared.kinds.Value.TheVariants as values
@@ -13,26 +13,24 @@ use Rattle.final_cond.specs.declared.errors.CondKind.TheVariants.{BadTerm}
 use Rattle.final_cond.specs.Names.{is_place_name, is_register_name, is_place_byte, begins_place}
 use Rattle.final_cond.specs.Numbers.{number_of}
 use Rattle.final_cond.specs.Runs.{is_blank, after_run, unblanked}
-use Rattle.final_cond.specs.Conditions.{LeftSeen, InRegister, AtPlace}
+use Rattle.final_cond.specs.Conditions.{LeftSeen, InRegister}
 use Rattle.final_cond.specs.CondText.{left_text}
 use Rattle.final_cond.specs.Reading.{Fault, found, only_known, left_at_front, left_read, has_form}
 use Rattle.final_cond.proofs.BackLaws.{digits_of, left_back, named, place_bytes}
 use Rattle.final_cond.proofs.NumberLaws.{not_digits}
 use Rattle.arch_trait.specs.Threads.{Puts}
-use Rattle.arch_trait.specs.Names.{number_in, number_added, names_added}
+use Rattle.arch_trait.specs.Names.{number_in, names_added}
 use Rattle.arch_trait.specs.Reading.{before_blanks, trimmed}
 use Rattle.arch_trait.specs.Writing.{Writing, WritesBack, name_in}
-use Rattle.litmus_text.specs.declared.errors.TextError.{TextError}
-use Rattle.litmus_text.specs.Lines.{Lines, line, ◌>>=◌}
-use Rattle.litmus_text.specs.Cuts.{cut_at, pieces, is_nil}
+use Rattle.arch_trait.specs.Cells.{is_line_byte}
+use Rattle.litmus_text.specs.Cuts.{cut_at, pieces}
 use Rattle.litmus_text.specs.Joined.{Joined}
-use Rattle.litmus_text.specs.InitialState.{Item, gives, a_place, empty, worth_of, worth_if, given, item_with, item_if, item_parts, whole_left, some_item, item_of, Begun, nothing_begun, is_given, with_value, with_address, item_put, item_read, items_read}
+use Rattle.litmus_text.specs.InitialState.{gives, a_place, worth_of, worth_if, item_with, item_if, item_parts, whole_left, some_item, item_of, Begun, nothing_begun, is_given, item_read, items_read}
 use Rattle.litmus_text.specs.TestText.{item_text}
 use Rattle.litmus_text.specs.Placing.{or_zero, place_in}
 use Rattle.litmus_text.specs.Items.{Link, links_mention, link_values, links_once, LinkFits}
-use Rattle.litmus_text.specs.Printable.{is_line_byte}
-use Rattle.litmus_text.proofs.CutBack.{by_test, both, both_are, is_without, without_class, cut_back, piece_back, piece_last, all_both, weaker, bytes_same}
-use Rattle.litmus_text.proofs.NamesBack.{Within, within_self, within_trans, within_number, IsAmong, Added, place_added}
+use Rattle.litmus_text.proofs.CutBack.{both, both_are, is_without, without_class, cut_back, piece_back, piece_last, all_both, weaker, bytes_same}
+use Rattle.litmus_text.proofs.NamesBack.{Within, within_self, within_trans, within_number, IsAmong, place_added}
 use Rattle.litmus_text.proofs.RowBack.{added_within}
 use Rattle.litmus_text.proofs.HeadRowBack.{inked_ends}
 

@@ -1,11 +1,11 @@
 -- The labels of printed threads are judged to stand as they must.
-use Rattle.std.proofs.Common.{◌≡◌, ◌+◌, ◌==◌, ℕ, List, [], ◌∷◌, ◌++◌, Ok, true, false, cond, map, take, drop, length, refl, sym, ap, ◌∙◌, subst}
-use Rattle.std.specs.Prelude.{Bool, ◌&&◌, count_by}
+use Rattle.std.proofs.Common.{◌≡◌, ◌+◌, ℕ, List, [], ◌∷◌, Ok, true, cond, map, refl, sym, ap, ◌∙◌}
+use Rattle.std.specs.Prelude.{count_by}
 use Rattle.std.specs.List.{AllByRecursion}
 use Rattle.std.proofs.lemmas.List.Sums.{sum_by-cons}
 use Rattle.micro_ops.specs.declared.operation.Micro.{Micro}
 use Rattle.micro_ops.specs.declared.operation.Micro.TheVariants as ops
-use Rattle.litmus_text.specs.Table.{Placed, Column, is_label_of, is_label, lands_once, is_landing, labels_judged, all_labels_judged}
+use Rattle.litmus_text.specs.Table.{is_label_of, is_label, lands_once, is_landing, labels_judged, all_labels_judged}
 use Rattle.litmus_text.specs.Placing.{renumbered}
 use Rattle.litmus_text.specs.TablePlan.{placed_from, column_so_far}
 use Rattle.litmus_text.specs.Progress.{stands_once, op_lands, code_lands}

@@ -20,3 +20,4 @@ pub mod InitBack
 pub mod CondBack
 pub mod WholeBack
 pub mod MentionedBack
+pub mod FormedFits

@@ -1,10 +1,9 @@
 -- Printed lines are the lines of their text.
-use Rattle.std.proofs.Common.{◌≡◌, ◌+◌, ◌==◌, ℕ, List, [], ◌∷◌, ◌++◌, true, false, cond, refl, sym, ap, ◌∙◌, subst, append_assoc}
-use Rattle.std.specs.Prelude.{Bool, not, ◌&&◌}
+use Rattle.std.proofs.Common.{◌≡◌, ◌+◌, ◌==◌, ℕ, List, [], ◌∷◌, ◌++◌, true, false, refl, sym, ap, ◌∙◌, append_assoc}
 use Rattle.std.specs.List.{list_all, flat_map, slice_split, AllByRecursion}
 use Rattle.std.proofs.lemmas.Bool.{eqb-true}
-use Rattle.litmus_text.specs.Lines.{Lines, ends, line, is_passed, kept, last_line, without_return, last_byte, lines_in, is_line_feed, lines_from}
-use Rattle.litmus_text.specs.Printable.{is_line_byte}
+use Rattle.arch_trait.specs.Cells.{is_line_byte}
+use Rattle.litmus_text.specs.Lines.{Lines, ends, line, is_passed, without_return, lines_in, is_line_feed, lines_from}
 use Rattle.litmus_text.specs.TestText.{ended}
 use Rattle.litmus_text.proofs.CutBack.{both, by_test, without_class, piece_back, first_piece}
 

@@ -1,29 +1,29 @@
 -- All names that a test uses stand in the table of its reading.
-use Rattle.std.proofs.Common.{◌≡◌, ◌<◌, ◌≤◌, ◌+◌, ◌-◌, ℕ, zero, suc, List, [], ◌∷◌, ◌++◌, Some, None, Ok, true, false, length, map, take, drop, refl, sym, ap, ◌∙◌, subst, arith, add-zero, zero-add}
-use Rattle.std.specs.Prelude.{Bool, Option, is_some}
+use Rattle.std.proofs.Common.{◌≡◌, ◌≤◌, ◌+◌, ℕ, suc, List, [], ◌∷◌, Some, true, length, map, refl, sym, ap, ◌∙◌, subst, arith}
+use Rattle.std.specs.Prelude.{Option, is_some}
 use Rattle.std.specs.List.{AllByRecursion, range_with_len}
-use Rattle.std.proofs.lemmas.List.{length-map, length-drop}
+use Rattle.std.proofs.lemmas.List.{length-map}
 use Rattle.std.proofs.lemmas.List.FromFn.{length-range_with_len}
 use Rattle.relax_edges.specs.declared.kinds.ArchName.{ArchName}
 use Rattle.micro_ops.specs.declared.operation.Micro.{Micro}
 use Rattle.micro_ops.specs.declared.operation.Micro.TheVariants as ops
-use Rattle.final_cond.specs.Conditions.{LeftSeen, InRegister, AtPlace, TermSeen, CondSeen}
+use Rattle.final_cond.specs.Conditions.{LeftSeen, InRegister, AtPlace, TermSeen}
 use Rattle.arch_trait.specs.Threads.{Puts, ThreadCode}
 use Rattle.arch_trait.specs.Names.{number_in, names_added}
 use Rattle.arch_trait.specs.Writing.{Writing, WritesBack, name_in}
+use Rattle.arch_trait.specs.Cells.{WritesCells, accesses_in}
+use Rattle.arch_trait.specs.LabelOrder.{labels_in}
 use Rattle.litmus_text.specs.TestText.{TestSeen, columns_of, row_line}
 use Rattle.litmus_text.specs.Placing.{mentioned}
-use Rattle.litmus_text.specs.Progress.{Progress, progress, moved, advanced, mentioned_first, row_mentions, is_placed, OpFits, CodeFits}
-use Rattle.litmus_text.specs.TablePlan.{labels_in, labels_after}
+use Rattle.litmus_text.specs.Progress.{Progress, moved, advanced, mentioned_first, row_mentions, is_placed, CodeFits}
 use Rattle.litmus_text.specs.Items.{Link, links_of, links_mention, LinkFits}
 use Rattle.litmus_text.specs.Terms.{left_mention, terms_mention, is_known, TermFits}
-use Rattle.litmus_text.specs.Spoken.{WritesCells}
 use Rattle.litmus_text.specs.Reread.{IsReadable}
 use Rattle.litmus_text.specs.Mentioned.{is_in, op_is_in, left_is_in, ReadsBack}
 use Rattle.litmus_text.proofs.CutBack.{both}
-use Rattle.litmus_text.proofs.NamesBack.{Within, within_self, within_trans, within_number, Numbered, numbered_in, IsAmong, Added, place_added, none_among}
+use Rattle.litmus_text.proofs.NamesBack.{Within, within_self, within_trans, within_number, numbered_in, IsAmong, place_added, none_among}
 use Rattle.litmus_text.proofs.ItemBack.{links_within, links_among}
-use Rattle.litmus_text.proofs.RowBack.{IsReady, accesses_in, after_rows, row_within, rows_mention, rows_within, all_advance, row_among, mention_among, rows_among}
+use Rattle.litmus_text.proofs.RowBack.{IsReady, row_within, rows_mention, rows_within, all_advance, row_among, mention_among, rows_among}
 use Rattle.litmus_text.proofs.TableBack.{at_row}
 use Rattle.litmus_text.proofs.CondBack.{terms_within, term_among}
 use Rattle.litmus_text.proofs.WholeBack.{longest, covers, start_ready, drop_none, mentions, whole_back}

@@ -1,16 +1,16 @@
 -- Tables of names that grow by names of a larger table.
-use Rattle.std.proofs.Common.{◌≡◌, ◌≢◌, ◌<◌, ◌≤◌, ◌+◌, ◌-◌, ◌==◌, ℕ, zero, suc, List, [], ◌∷◌, ◌++◌, Some, None, true, false, cond, length, map, get_or, length-append, refl, sym, ap, ◌∙◌, subst, arith, append_assoc, append-nil, add-zero, zero-add}
-use Rattle.std.specs.Prelude.{Bool, not, ◌&&◌, ◌||◌, Option, nat_lt, is_some}
-use Rattle.std.specs.List.{list_all, list_any, position_from, IsDistinct, AllByRecursion}
+use Rattle.std.proofs.Common.{◌≡◌, ◌<◌, ◌≤◌, ◌+◌, ◌-◌, ℕ, suc, List, [], ◌∷◌, ◌++◌, Some, None, true, false, cond, length, map, get_or, length-append, refl, sym, ap, ◌∙◌, subst, arith, append_assoc, append-nil, add-zero, zero-add}
+use Rattle.std.specs.Prelude.{Bool, ◌||◌, Option, nat_lt, is_some}
+use Rattle.std.specs.List.{list_any, position_from, IsDistinct, AllByRecursion}
 use Rattle.std.specs.Str.{bytes_eq}
 use Rattle.std.proofs.Math.Dec.{eqb}
-use Rattle.std.proofs.lemmas.Bool.{eqb-true, eqb-false, eq-eqb, lt-ltb}
+use Rattle.std.proofs.lemmas.Bool.{eqb-true, lt-ltb}
 use Rattle.std.proofs.lemmas.List.{length-map}
 use Rattle.std.proofs.lemmas.Map.Steps.{length-le_from_distinct_below}
 use Rattle.std.proofs.lemmas.Slice.Eq.{bytes_eq-Decides}
-use Rattle.arch_trait.specs.Names.{number_in, number_added, names_added, number_or_next, with_name, IsTable}
+use Rattle.arch_trait.specs.Names.{number_in, number_added, names_added, number_or_next, with_name}
 use Rattle.litmus_text.specs.Placing.{or_zero, place_in}
-use Rattle.litmus_text.proofs.CutBack.{by_test, both, bytes_same}
+use Rattle.litmus_text.proofs.CutBack.{by_test, bytes_same}
 
 none_some : {i : ℕ} {G : Type 0} → None ≡ Some i → G
 none_some e = cc

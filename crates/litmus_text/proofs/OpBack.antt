@@ -1,24 +1,24 @@
 -- The name of an operation gets the number that the plan of the columns has for it.
-use Rattle.std.proofs.Common.{◌≡◌, ◌≢◌, ◌<◌, ◌≤◌, ◌+◌, ◌-◌, ◌==◌, ℕ, zero, suc, List, [], ◌∷◌, ◌++◌, Some, None, Ok, true, false, cond, length, map, max, get_or, refl, sym, ap, ◌∙◌, subst, arith, add-zero, zero-add, inl, inr}
-use Rattle.std.specs.Prelude.{Bool, not, ◌&&◌, ◌||◌, Option, nat_lt, nat_le, is_some, codes, Err}
+use Rattle.std.proofs.Common.{◌≡◌, ◌<◌, ◌≤◌, ◌+◌, ◌==◌, ℕ, zero, suc, List, Some, None, Ok, true, false, cond, length, map, max, get_or, refl, sym, ap, ◌∙◌, arith, zero-add, inl, inr}
+use Rattle.std.specs.Prelude.{Bool, not, ◌&&◌, nat_lt, nat_le, is_some, Err}
 use Rattle.std.specs.List.{list_all, position_from, range_with_len}
 use Rattle.std.specs.Str.{bytes_eq}
-use Rattle.std.proofs.lemmas.Bool.{eqb-true, eq-eqb, eqb-false, lt-ltb, cases_lt, leb-true, ltb-true}
-use Rattle.std.proofs.lemmas.List.{length-map}
+use Rattle.std.proofs.lemmas.Bool.{eqb-true, eqb-false, lt-ltb, cases_lt, leb-true, ltb-true}
 use Rattle.std.proofs.lemmas.List.Sums.{AllPass-from_list_all}
-use Rattle.std.proofs.lemmas.List.FromFn.{length-range_with_len, get_or-range_with_len, map-range_with_len_more, length-map-range_with_len}
+use Rattle.std.proofs.lemmas.List.FromFn.{get_or-range_with_len, map-range_with_len_more, length-map-range_with_len}
 use Rattle.final_cond.specs.Names.{is_place_name, is_register_name}
 use Rattle.micro_ops.specs.declared.operation.Micro.{Micro}
 use Rattle.micro_ops.specs.declared.operation.Micro.TheVariants as ops
 use Rattle.arch_trait.specs.declared.reading.InstrError.TheVariants as errors
 use Rattle.arch_trait.specs.Names.{number_in, number_added, names_added, number_or_next, with_name}
-use Rattle.arch_trait.specs.Reading.{numbered, with_place, with_label, ReadInstr}
-use Rattle.arch_trait.specs.Writing.{name_of, with_number, label_name, is_named}
+use Rattle.arch_trait.specs.Reading.{numbered, with_place, with_label}
+use Rattle.arch_trait.specs.Writing.{name_of, with_number, label_name}
+use Rattle.arch_trait.specs.LabelOrder.{is_next, labels_after}
 use Rattle.litmus_text.specs.Placing.{or_zero, place_in, renumbered, mentioned}
-use Rattle.litmus_text.specs.Progress.{is_next, is_placed}
-use Rattle.litmus_text.specs.TablePlan.{labels_after, label_table}
+use Rattle.litmus_text.specs.Progress.{is_placed}
+use Rattle.litmus_text.specs.TablePlan.{label_table}
 use Rattle.litmus_text.proofs.CutBack.{by_test, both}
-use Rattle.litmus_text.proofs.NamesBack.{Within, within_number, IsAmong, Added, place_added}
+use Rattle.litmus_text.proofs.NamesBack.{Within, within_number, IsAmong, place_added}
 
 same_bool : Bool → Bool → Bool
 same_bool true b = b

@@ -20,13 +20,14 @@ use Rattle.final_cond.specs.Reading.{opening_read, sign_read, left_read, left_at
 use Rattle.arch_trait.specs.Names.{number_in}
 use Rattle.arch_trait.specs.Reading.{before_blanks, operands_in}
 use Rattle.arch_trait.specs.Writing.{OperandTexts, none, one, two, Written, nothing, place, label, RawInstr, Writing, inside_brackets, immediate}
+use Rattle.arch_trait.specs.Cells.{ends_rows}
 use Rattle.litmus_text.specs.declared.errors.TestKind.TheVariants.{BadHeader, BadQuote, BadInit, BadTable, BadInstruction, BadLabel, BadCondition, TooLarge, EndMissing}
 use Rattle.litmus_text.specs.Lines.{lines_from, lines_in, is_passed, without_return, bad}
 use Rattle.litmus_text.specs.Cuts.{cut_at, words}
 use Rattle.litmus_text.specs.Header.{header_read, arch_read, quote_read, is_setting, after_settings}
 use Rattle.litmus_text.specs.Joined.{all_joined}
 use Rattle.litmus_text.specs.InitialState.{item_of, item_read, items_read, braced, initial_read}
-use Rattle.litmus_text.specs.Table.{cells_of, heads_read, head_read, instr_in, cell_read, row_read, ends_rows, rows_read, labels_judged, all_labels_judged, after_locations}
+use Rattle.litmus_text.specs.Table.{cells_of, heads_read, head_read, instr_in, cell_read, row_read, rows_read, labels_judged, all_labels_judged, after_locations}
 use Rattle.litmus_text.specs.Condition.{term_here, terms_here, cond_here, condition_read}
 use Rattle.litmus_text.specs.TestReading.{ThreadRead, lines_read, test_read, arch_in_text}
 

@@ -1,31 +1,29 @@
 -- The rows of a printed table are read back.
-use Rattle.std.proofs.Common.{◌≡◌, ◌≢◌, ◌<◌, ◌≤◌, ◌+◌, ◌-◌, ◌==◌, ℕ, zero, suc, List, [], ◌∷◌, ◌++◌, Some, None, Ok, true, false, cond, length, map, max, get_or, length-append, refl, sym, ap, ◌∙◌, subst, arith, append_assoc, append-nil, add-zero, zero-add}
-use Rattle.std.specs.Prelude.{Bool, not, ◌&&◌, ◌||◌, Option, nat_lt, nat_le, is_some, codes, count_by, Result}
+use Rattle.std.proofs.Common.{◌≡◌, ◌<◌, ◌≤◌, ◌+◌, ◌==◌, ℕ, List, [], ◌∷◌, ◌++◌, Some, None, Ok, true, false, cond, length, map, length-append, refl, sym, ap, ◌∙◌, subst, arith, add-zero, zero-add}
+use Rattle.std.specs.Prelude.{Bool, not, ◌&&◌, ◌||◌, Option, nat_lt, nat_le, is_some, count_by}
 use Rattle.std.specs.List.{list_all, AllByRecursion, range_with_len}
-use Rattle.std.proofs.lemmas.Bool.{eqb-true, eq-eqb, lt-ltb, leb-true, ltb-true}
+use Rattle.std.proofs.lemmas.Bool.{lt-ltb, ltb-true}
 use Rattle.std.proofs.lemmas.List.Sums.{sum_by-append, sum_by-cons, AllPass-from_list_all}
 use Rattle.std.proofs.lemmas.List.FromFn.{get_or-range_with_len}
 use Rattle.final_cond.specs.Runs.{is_blank}
-use Rattle.final_cond.specs.Names.{is_place_name, is_register_name}
+use Rattle.final_cond.specs.Names.{is_place_name}
 use Rattle.micro_ops.specs.declared.operation.Micro.{Micro}
 use Rattle.micro_ops.specs.declared.operation.Micro.TheVariants as ops
-use Rattle.arch_trait.specs.declared.reading.InstrError.{InstrError}
 use Rattle.arch_trait.specs.Threads.{Puts}
 use Rattle.arch_trait.specs.Names.{number_in, names_added, with_name}
-use Rattle.arch_trait.specs.Reading.{ReadInstr, instr_read}
-use Rattle.arch_trait.specs.Writing.{Writing, WritesBack, op_text, name_of, is_named, label_name, is_plain, text_of, listed}
-use Rattle.arch_trait.proofs.Spelling.{instr_back, IsWord, word_is, IsByte}
-use Rattle.litmus_text.specs.declared.errors.TextError.{TextError}
+use Rattle.arch_trait.specs.Reading.{instr_read}
+use Rattle.arch_trait.specs.Writing.{Writing, WritesBack, op_text, name_of, is_named, label_name, listed}
+use Rattle.arch_trait.proofs.Spelling.{instr_back, word_is}
+use Rattle.arch_trait.specs.Cells.{WritesCells, accesses_in, ends_rows, is_access, is_cell_byte, is_label_op}
+use Rattle.arch_trait.specs.LabelOrder.{is_next, labels_after, labels_in}
 use Rattle.litmus_text.specs.Lines.{Lines, line, ◌>>=◌}
-use Rattle.litmus_text.specs.Table.{Placed, Column, Among, among, is_access, has_room, with_op, instr_put, cell_read, row_read, before_columns, ends_rows, rows_read, cells_of, Cells}
+use Rattle.litmus_text.specs.Table.{Column, Among, among, has_room, instr_put, cell_read, row_read, before_columns, rows_read, cells_of}
 use Rattle.litmus_text.specs.Placing.{renumbered, mentioned}
-use Rattle.litmus_text.specs.TablePlan.{placed_from, labels_after, labels_in, label_table, column_so_far}
-use Rattle.litmus_text.specs.Progress.{Progress, progress, moved, advanced, column_at, mentioned_first, row_mentions, is_next, is_placed, OpFits, CodeFits}
-use Rattle.litmus_text.specs.Printable.{is_cell_byte}
-use Rattle.litmus_text.specs.Spoken.{WritesCells, is_label_op}
-use Rattle.litmus_text.proofs.CutBack.{by_test, both, both_are}
+use Rattle.litmus_text.specs.TablePlan.{placed_from, label_table, column_so_far}
+use Rattle.litmus_text.specs.Progress.{Progress, progress, moved, advanced, column_at, mentioned_first, row_mentions, is_placed, OpFits, CodeFits}
+use Rattle.litmus_text.proofs.CutBack.{by_test, both}
 use Rattle.litmus_text.proofs.LineBack.{before}
-use Rattle.litmus_text.proofs.NamesBack.{Within, within_self, within_trans, IsAmong, Added, place_added}
+use Rattle.litmus_text.proofs.NamesBack.{Within, within_self, within_trans, IsAmong, place_added}
 use Rattle.litmus_text.proofs.CellBack.{padded, Begins, empty_back, plain_back, label_back}
 use Rattle.litmus_text.proofs.OpBack.{numbers_back, label_formed}
 
@@ -130,10 +128,6 @@ pub row_within : (names : ℕ → List ℕ) (s : List (List ℕ)) (ps : List Pro
 row_within names s [] = within_self s
 row_within names s (p ∷ ps) =
     within_trans s (mentioned_first names s p.left) (row_mentions names s (p ∷ ps)) (first_within names s p.left) (row_within names (mentioned_first names s p.left) ps)
-
--- how many accesses operations are
-abbrev pub accesses_in : List Micro → ℕ
-accesses_in code = count_by is_access code
 
 accesses_placed : (table : List (List ℕ)) (names : ℕ → List ℕ) (n : ℕ) (code : List Micro) → count_by (λ placed. is_access placed.op) (placed_from table names n code) ≡ accesses_in code
 accesses_placed table names n [] = refl

@@ -1,6 +1,6 @@
 -- The printed rows are the rows of the threads.
-use Rattle.std.proofs.Common.{◌≡◌, ◌≢◌, ◌<◌, ◌≤◌, ◌+◌, ◌-◌, ◌==◌, ℕ, zero, suc, List, [], ◌∷◌, ◌++◌, Some, None, Ok, true, false, cond, length, map, max, take, drop, get_or, fold, length-append, refl, sym, ap, ◌∙◌, subst, arith, append_assoc, append-nil, add-zero, zero-add, add-one, ◌⊎◌, inl, inr}
-use Rattle.std.specs.Prelude.{Bool, not, ◌&&◌, ◌||◌, Option, nat_lt, nat_le, is_some, codes, count_by, Result}
+use Rattle.std.proofs.Common.{◌≡◌, ◌+◌, ◌-◌, ◌==◌, ℕ, zero, suc, List, [], ◌∷◌, ◌++◌, Some, true, false, cond, length, map, take, drop, get_or, refl, sym, ap, ◌∙◌, subst, arith, append_assoc, append-nil, add-zero, add-one, ◌⊎◌, inl, inr}
+use Rattle.std.specs.Prelude.{Bool, not, ◌||◌, nat_lt, nat_le, codes}
 use Rattle.std.specs.List.{list_all, list_any, flat_map, join_by, AllByRecursion, enumerate_from, range_with_len}
 use Rattle.std.specs.Str.{bytes_eq}
 use Rattle.std.proofs.Math.ListN.{replicate}
@@ -12,20 +12,20 @@ use Rattle.final_cond.specs.Reading.{is_word_byte}
 use Rattle.micro_ops.specs.declared.operation.Micro.{Micro}
 use Rattle.micro_ops.specs.declared.operation.Micro.TheVariants as ops
 use Rattle.arch_trait.specs.Threads.{Puts, ThreadCode}
-use Rattle.arch_trait.specs.Writing.{Writing, WritesBack, op_text, name_in, name_of, is_named, label_name}
-use Rattle.litmus_text.specs.Cuts.{cut_at, pieces, is_nil}
-use Rattle.litmus_text.specs.Table.{is_access, Cells, cells_if, cells_of, first_word, ends_rows}
+use Rattle.arch_trait.specs.Writing.{Writing, WritesBack, op_text, name_in, label_name}
+use Rattle.arch_trait.specs.Cells.{WritesCells, ends_rows, first_word, is_access, is_cell_byte, is_label_op, is_line_byte}
+use Rattle.arch_trait.specs.LabelOrder.{is_next, labels_after}
+use Rattle.litmus_text.specs.Cuts.{cut_at, pieces}
+use Rattle.litmus_text.specs.Table.{cells_if, cells_of}
 use Rattle.litmus_text.specs.TestText.{column_of, columns_of, width_of, cell_text, row_line}
 use Rattle.litmus_text.specs.Progress.{Progress, progress, moved, advanced}
-use Rattle.litmus_text.specs.Printable.{is_line_byte, is_cell_byte, is_row_byte}
-use Rattle.litmus_text.specs.Spoken.{WritesCells, is_label_op}
-use Rattle.litmus_text.specs.Progress.{CodeFits, OpFits, is_next, is_placed}
-use Rattle.litmus_text.specs.TablePlan.{labels_after}
+use Rattle.litmus_text.specs.Printable.{is_row_byte}
+use Rattle.litmus_text.specs.Progress.{CodeFits, OpFits}
 use Rattle.litmus_text.proofs.LineBack.{IsLine}
 use Rattle.litmus_text.proofs.HeadBack.{line_is, not_all_blank}
 use Rattle.litmus_text.proofs.CutBack.{by_test, both, both_are, is_without, without_class, cut_back, piece_back, piece_last, all_both, weaker}
 use Rattle.litmus_text.proofs.CellBack.{padded, Begins, blanks_class}
-use Rattle.litmus_text.proofs.RowBack.{next_text, AreCells, IsRow, AreRows, after_rows, named_op, text_begins, label_bytes, few_labels}
+use Rattle.litmus_text.proofs.RowBack.{next_text, AreCells, IsRow, AreRows, after_rows, named_op, text_begins, label_bytes}
 
 -- the cells of a row, with a blank on both sides
 abbrev pub spaced : (List (List ℕ) → List ℕ) → List (List ℕ) → List ℕ

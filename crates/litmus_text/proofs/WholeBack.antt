@@ -1,10 +1,9 @@
 -- A printed test reads back.
-use Rattle.std.proofs.Common.{◌≡◌, ◌≢◌, ◌<◌, ◌≤◌, ◌+◌, ◌-◌, ◌==◌, ℕ, zero, suc, List, [], ◌∷◌, ◌++◌, Some, None, Ok, true, false, cond, length, length-append, map, max, take, drop, fold, refl, sym, ap, ◌∙◌, subst, arith, append_assoc, append-nil, add-zero, zero-add}
-use Rattle.std.specs.Prelude.{Bool, not, ◌&&◌, Option, Result, nat_lt, codes}
-use Rattle.std.specs.List.{flat_map, join_by, filter, AllByRecursion, enumerate_from, range_with_len}
-use Rattle.std.proofs.Math.ListN.{replicate}
-use Rattle.std.proofs.lemmas.Bool.{eqb-true, eq-eqb, eqb-false, lt-ltb, ltb-true, cases_lt}
-use Rattle.std.proofs.lemmas.List.{length-map, take_all, drop_all}
+use Rattle.std.proofs.Common.{◌≡◌, ◌≢◌, ◌<◌, ◌≤◌, ◌+◌, ◌==◌, ℕ, suc, List, [], ◌∷◌, ◌++◌, Some, Ok, true, false, length, map, max, take, drop, fold, refl, sym, ap, ◌∙◌, subst, arith, append-nil, add-zero, zero-add}
+use Rattle.std.specs.Prelude.{Option, nat_lt, codes}
+use Rattle.std.specs.List.{flat_map, join_by, AllByRecursion, enumerate_from, range_with_len}
+use Rattle.std.proofs.lemmas.Bool.{eqb-true, eq-eqb, ltb-true}
+use Rattle.std.proofs.lemmas.List.{length-map, take_all}
 use Rattle.std.proofs.lemmas.List.FromFn.{length-range_with_len}
 use Rattle.relax_edges.specs.declared.kinds.ArchName.{ArchName}
 use Rattle.relax_edges.specs.declared.kinds.Value.{Value}
@@ -16,30 +15,29 @@ use Rattle.micro_ops.specs.declared.operation.Micro.{Micro}
 use Rattle.final_cond.specs.CondText.{cond_text}
 use Rattle.arch_trait.specs.Threads.{Puts, ThreadCode}
 use Rattle.arch_trait.specs.Writing.{Writing, WritesBack, op_text, name_in}
-use Rattle.litmus_text.specs.declared.errors.TextError.{TextError}
-use Rattle.litmus_text.specs.Lines.{Lines, ends, line, lines_from, ◌>>=◌}
+use Rattle.arch_trait.specs.Cells.{WritesCells}
+use Rattle.litmus_text.specs.Lines.{Lines, ends, line}
 use Rattle.litmus_text.specs.Header.{header_read, quote_read, after_settings}
 use Rattle.litmus_text.specs.InitialState.{Begun, initial_read}
-use Rattle.litmus_text.specs.Table.{Column, no_column, among, head_read, rows_read, all_labels_judged, no_columns, after_locations}
+use Rattle.litmus_text.specs.Table.{Column, among, head_read, rows_read, all_labels_judged, no_columns, after_locations}
 use Rattle.litmus_text.specs.Condition.{condition_read}
-use Rattle.litmus_text.specs.TestReading.{ThreadRead, TestRead, values_of, threads_of, lines_read, test_read}
-use Rattle.litmus_text.specs.TestText.{TestSeen, header_line, edges_line, items_lines, initial_lines, column_of, columns_of, row_line, row_count, table_lines, ended, test_lines, test_text}
+use Rattle.litmus_text.specs.TestReading.{ThreadRead, values_of, threads_of, lines_read, test_read}
+use Rattle.litmus_text.specs.TestText.{TestSeen, items_lines, initial_lines, column_of, columns_of, row_line, row_count, table_lines, ended, test_lines, test_text}
 use Rattle.litmus_text.specs.Placing.{place_in, renumbered}
-use Rattle.litmus_text.specs.TablePlan.{placed_from, labels_in, column_so_far}
-use Rattle.litmus_text.specs.Progress.{Progress, progress, CodeFits, code_lands, column_at}
-use Rattle.litmus_text.specs.Items.{Link, links_of, links_mention, link_values, LinkFits}
-use Rattle.litmus_text.specs.Terms.{terms_mention, TermFits}
-use Rattle.litmus_text.specs.Spoken.{WritesCells}
+use Rattle.litmus_text.specs.TablePlan.{placed_from, column_so_far}
+use Rattle.litmus_text.specs.Progress.{progress, CodeFits, code_lands, column_at}
+use Rattle.litmus_text.specs.Items.{Link, links_of, links_mention, link_values}
+use Rattle.litmus_text.specs.Terms.{terms_mention}
 use Rattle.litmus_text.specs.Reread.{thread_reread, reread, IsReadable}
 use Rattle.litmus_text.proofs.CutBack.{by_test}
 use Rattle.litmus_text.proofs.LineBack.{IsLine, before, lines_back}
 use Rattle.litmus_text.proofs.HeadBack.{header_back, quote_back, settings_back, header_line_is, edges_line_is}
-use Rattle.litmus_text.proofs.NamesBack.{Within, within_self, within_trans, IsAmong, none_among}
+use Rattle.litmus_text.proofs.NamesBack.{within_trans, none_among}
 use Rattle.litmus_text.proofs.InitBack.{initial_back, initial_lines_are, links_there, all_join}
-use Rattle.litmus_text.proofs.ItemBack.{links_within, links_among}
+use Rattle.litmus_text.proofs.ItemBack.{links_among}
 use Rattle.litmus_text.proofs.HeadRowBack.{head_back, head_line_is}
-use Rattle.litmus_text.proofs.RowBack.{IsReady, AreRows, after_rows, rows_mention, rows_within, rows_among, rows_back}
-use Rattle.litmus_text.proofs.TableBack.{OpText, AreTexts, code_texts, at_row, rows_are_read, rows_are_lines, rows_end}
+use Rattle.litmus_text.proofs.RowBack.{IsReady, after_rows, rows_mention, rows_within, rows_among, rows_back}
+use Rattle.litmus_text.proofs.TableBack.{AreTexts, code_texts, at_row, rows_are_read, rows_are_lines, rows_end}
 use Rattle.litmus_text.proofs.LabelBack.{labels_back}
 use Rattle.litmus_text.proofs.CondBack.{terms_within, condition_back, cond_ends, no_locations, cond_line_is}
 

@@ -1,13 +1,13 @@
 -- The items of the initial state of a printed test.
 -- Source: own.
 use Rattle.std.specs.Prelude.{◌≡◌, ◌<◌, ℕ, ◌==◌, Bool, true, not, ◌&&◌, is_some, List, [], ◌∷◌, ◌++◌, map, length}
-use Rattle.std.specs.List.{list_any, flat_map, enumerate_from, AllByRecursion}
+use Rattle.std.specs.List.{list_any, flat_map, enumerate_from}
 use Rattle.relax_edges.specs.declared.kinds.Value.{Value}
 use Rattle.relax_edges.specs.declared.kinds.Value.TheVariants as values
 use Rattle.final_cond.specs.Names.{is_place_name}
 use Rattle.arch_trait.specs.Threads.{ThreadCode}
 use Rattle.arch_trait.specs.Names.{number_in, names_added}
-use Rattle.arch_trait.specs.Writing.{Writing, name_in}
+use Rattle.arch_trait.specs.Writing.{Writing}
 use Rattle.litmus_text.specs.Placing.{place_in}
 
 -- an address register of a thread, and its place

@@ -13,7 +13,6 @@ pub mod TestReading
 pub mod Printable
 pub mod Placing
 pub mod TablePlan
-pub mod Spoken
 pub mod Progress
 pub mod Items
 pub mod Terms

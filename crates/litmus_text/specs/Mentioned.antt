@@ -6,13 +6,12 @@ use Rattle.std.specs.Str.{bytes_eq}
 use Rattle.relax_edges.specs.declared.kinds.ArchName.{ArchName}
 use Rattle.micro_ops.specs.declared.operation.Micro.{Micro}
 use Rattle.micro_ops.specs.declared.operation.Micro.TheVariants as ops
-use Rattle.final_cond.specs.Conditions.{LeftSeen, InRegister, AtPlace, TermSeen}
-use Rattle.arch_trait.specs.Threads.{Puts, ThreadCode}
+use Rattle.final_cond.specs.Conditions.{LeftSeen, InRegister, AtPlace}
 use Rattle.arch_trait.specs.Names.{number_in}
 use Rattle.arch_trait.specs.Writing.{Writing, name_in}
 use Rattle.litmus_text.specs.TestText.{TestSeen, test_text}
 use Rattle.litmus_text.specs.TestReading.{test_read}
-use Rattle.litmus_text.specs.Items.{Link, links_of}
+use Rattle.litmus_text.specs.Items.{links_of}
 use Rattle.litmus_text.specs.Reread.{reread}
 
 -- a name stands in a table

@@ -1,16 +1,9 @@
 -- The bytes of a printed test.
 -- Source: own.
-use Rattle.std.specs.Prelude.{◌≡◌, ℕ, ◌==◌, Bool, true, false, not, ◌&&◌, ◌||◌, nat_le, List, length}
+use Rattle.std.specs.Prelude.{◌≡◌, ℕ, ◌==◌, Bool, true, not, ◌&&◌, ◌||◌, nat_le, List, length}
 use Rattle.std.specs.Char.{is_ascii_alphanumeric}
 use Rattle.std.specs.List.{list_all}
-
--- a byte of a printed line: a space or a graphic character, but no `*`
-abbrev pub is_line_byte : ℕ → Bool
-is_line_byte byte = (nat_le 32 byte && nat_le byte 126) && not (byte == 42)
-
--- a byte of a cell: one of a line that ends neither a cell nor a row, and no colon
-abbrev pub is_cell_byte : ℕ → Bool
-is_cell_byte byte = is_line_byte byte && not (byte == 124 || (byte == 59 || byte == 58))
+use Rattle.arch_trait.specs.Cells.{is_line_byte}
 
 -- a byte of a row's cells: one of a line that ends neither a cell nor a row
 abbrev pub is_row_byte : ℕ → Bool

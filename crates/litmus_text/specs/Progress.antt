@@ -1,15 +1,16 @@
 -- How far the rows of a printed table were read: for each thread the operations that were read and those that are left.
 -- Source: own.
-use Rattle.std.specs.Prelude.{◌≡◌, ℕ, ◌+◌, ◌-◌, ◌==◌, Bool, true, not, ◌&&◌, ◌||◌, nat_le, nat_lt, is_some, cond, List, [], ◌∷◌, ◌++◌, map, length, count_by}
-use Rattle.std.specs.List.{list_all}
+use Rattle.std.specs.Prelude.{◌≡◌, ℕ, ◌+◌, ◌==◌, Bool, true, not, ◌&&◌, ◌||◌, nat_lt, is_some, cond, List, [], ◌∷◌, ◌++◌, count_by}
 use Rattle.final_cond.specs.Names.{is_place_name}
 use Rattle.micro_ops.specs.declared.operation.Micro.{Micro}
 use Rattle.micro_ops.specs.declared.operation.Micro.TheVariants as ops
 use Rattle.arch_trait.specs.Threads.{Puts}
 use Rattle.arch_trait.specs.Names.{number_in}
-use Rattle.litmus_text.specs.Table.{Column, is_access, is_label_of}
+use Rattle.arch_trait.specs.Cells.{is_access}
+use Rattle.arch_trait.specs.LabelOrder.{is_next, labels_after}
+use Rattle.litmus_text.specs.Table.{Column, is_label_of}
 use Rattle.litmus_text.specs.Placing.{mentioned}
-use Rattle.litmus_text.specs.TablePlan.{labels_after, labels_in, column_so_far}
+use Rattle.litmus_text.specs.TablePlan.{column_so_far}
 
 pub record Progress : Type 0 where
   pub done : List Micro
@@ -39,13 +40,6 @@ mentioned_first names s (op ∷ left) = mentioned names s op
 abbrev pub row_mentions : (ℕ → List ℕ) → List (List ℕ) → List Progress → List (List ℕ)
 row_mentions names s [] = s
 row_mentions names s (p ∷ ps) = row_mentions names (mentioned_first names s p.left) ps
-
--- the label of an operation has a number, or gets the next one
-abbrev pub is_next : ℕ → Micro → Bool
-is_next count (ops.BranchEq label) = nat_le label count && nat_lt label 64
-is_next count (ops.BranchNz a label) = nat_le label count && nat_lt label 64
-is_next count (ops.Label label) = nat_le label count && nat_lt label 64
-is_next count op = true
 
 -- the place of an operation has a name of its form in a table
 abbrev pub is_placed : List (List ℕ) → (ℕ → List ℕ) → Micro → Bool

@@ -1,20 +1,18 @@
 -- What the text of a test is read as, and for which tests.
 -- Source: own.
-use Rattle.std.specs.Prelude.{◌≡◌, ◌<◌, ◌≤◌, ℕ, true, List, [], ◌∷◌, ◌++◌, Option, Some, Ok, map, length, codes}
+use Rattle.std.specs.Prelude.{◌≡◌, ◌<◌, ◌≤◌, ℕ, true, List, [], Some, map, length, codes}
 use Rattle.std.specs.List.{join_by, AllByRecursion}
 use Rattle.relax_edges.specs.declared.kinds.ArchName.{ArchName}
-use Rattle.relax_edges.specs.declared.kinds.Value.{Value}
 use Rattle.relax_edges.specs.declared.kinds.Value.TheVariants as values
 use Rattle.relax_edges.specs.Words.{word_of}
 use Rattle.final_cond.specs.declared.cond.TheConstants.{MAX_TERMS}
 use Rattle.arch_trait.specs.Threads.{Puts, ThreadCode}
-use Rattle.arch_trait.specs.Writing.{Writing, WritesBack, name_in}
+use Rattle.arch_trait.specs.Writing.{Writing, name_in}
 use Rattle.litmus_text.specs.declared.limits.TheConstants.{MAX_TEXT, MAX_THREADS, MAX_ROWS}
 use Rattle.litmus_text.specs.TestText.{TestSeen, test_text}
-use Rattle.litmus_text.specs.TestReading.{ThreadRead, TestRead, test_read}
+use Rattle.litmus_text.specs.TestReading.{ThreadRead, TestRead}
 use Rattle.litmus_text.specs.Placing.{place_in, renumbered}
 use Rattle.litmus_text.specs.Printable.{IsTestName}
-use Rattle.litmus_text.specs.Spoken.{WritesCells}
 use Rattle.litmus_text.specs.Progress.{CodeFits, code_lands}
 use Rattle.litmus_text.specs.Items.{links_of, links_once, LinkFits}
 use Rattle.litmus_text.specs.Terms.{TermFits}

@@ -1,14 +1,13 @@
 -- The table of a test: its header, its rows, and the labels in its columns.
 -- Source: the litmus format of the herdtools manual; what is a fault, and where, is own.
 use Rattle.std.specs.Prelude.{ℕ, ◌+◌, ◌==◌, Bool, true, false, cond, not, ◌&&◌, ◌||◌, nat_lt, List, [], ◌∷◌, ◌++◌, Option, Some, None, Result, Ok, Err, codes, count_by}
-use Rattle.std.specs.List.{list_all, list_any}
+use Rattle.std.specs.List.{list_all}
 use Rattle.std.specs.Fmt.{decimal}
 use Rattle.std.specs.Str.{bytes_eq}
 use Rattle.std.proofs.Math.ListN.{replicate}
 use Rattle.micro_ops.specs.declared.operation.Micro.{Micro}
 use Rattle.micro_ops.specs.declared.operation.Micro.TheVariants as ops
-use Rattle.final_cond.specs.Runs.{run_of, unblanked}
-use Rattle.final_cond.specs.Reading.{is_word_byte}
+use Rattle.arch_trait.specs.Cells.{ends_rows, first_word, is_access}
 use Rattle.arch_trait.specs.declared.reading.InstrError.{InstrError}
 use Rattle.arch_trait.specs.declared.reading.InstrError.TheVariants as instrs
 use Rattle.arch_trait.specs.Reading.{trimmed, ReadInstr, instr_read}
@@ -82,14 +81,6 @@ pub record Among (A : Type 0) : Type 0 where
 abbrev pub among : {A : Type 0} → List (List ℕ) → A → Among A
 among names value = record { names = names; value = value }
 
--- an operation reads or writes a place
-abbrev pub is_access : Micro → Bool
-is_access (ops.Load _ _ _) = true
-is_access (ops.LoadAt _ _) = true
-is_access (ops.Store _ _ _) = true
-is_access (ops.StoreAt _ _) = true
-is_access _ = false
-
 -- a column has room for an operation: one access more is not too many
 abbrev pub has_room : Column → Micro → Bool
 has_room column op = not (is_access op) || nat_lt (count_by (λ placed. is_access placed.op) column.ops) MAX_ACCESSES
@@ -140,14 +131,6 @@ row_read w n whole (cell ∷ cells) names (column ∷ columns) = do
   read ← cell_read w n cell (among names column)
   others ← row_read w n whole cells read.names columns
   Ok (before_columns read.value others)
-
--- the first word of a line
-abbrev pub first_word : List ℕ → List ℕ
-first_word text = run_of is_word_byte (unblanked text)
-
--- the first word of a line ends the rows
-unfoldable pub ends_rows : List ℕ → Bool
-ends_rows text = list_any (bytes_eq (first_word text)) (codes "exists" ∷ codes "~exists" ∷ codes "forall" ∷ codes "locations" ∷ [])
 
 -- the rows, of which k were read before, up to the line that ends them
 unfoldable pub rows_read : Writing → ℕ → Among (List Column) → Lines → Read (Among (List Column))

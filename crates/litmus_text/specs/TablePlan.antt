@@ -1,28 +1,17 @@
 -- The columns that the rows of a printed table are read as, row by row.
 -- Source: own.
-use Rattle.std.specs.Prelude.{ℕ, zero, suc, ◌+◌, max, List, [], ◌∷◌, map, length, take, Option, Some, None}
+use Rattle.std.specs.Prelude.{ℕ, ◌+◌, List, [], ◌∷◌, map}
 use Rattle.std.specs.List.{range_with_len}
 use Rattle.micro_ops.specs.declared.operation.Micro.{Micro}
-use Rattle.micro_ops.specs.declared.operation.Micro.TheVariants as ops
+use Rattle.arch_trait.specs.LabelOrder.{labels_in}
 use Rattle.arch_trait.specs.Writing.{label_name}
 use Rattle.litmus_text.specs.Table.{Placed, Column}
-use Rattle.litmus_text.specs.Placing.{renumbered, mentioned}
+use Rattle.litmus_text.specs.Placing.{renumbered}
 
 -- operations with their lines, from a line on
 abbrev pub placed_from : List (List ℕ) → (ℕ → List ℕ) → ℕ → List Micro → List Placed
 placed_from table names n [] = []
 placed_from table names n (op ∷ code) = record { op = renumbered table names op; at_line = n } ∷ placed_from table names (n + 1) code
-
--- how many labels have numbers after an operation
-abbrev pub labels_after : ℕ → Micro → ℕ
-labels_after count (ops.BranchEq label) = max count (label + 1)
-labels_after count (ops.BranchNz a label) = max count (label + 1)
-labels_after count (ops.Label label) = max count (label + 1)
-labels_after count op = count
-
-abbrev pub labels_in : ℕ → List Micro → ℕ
-labels_in count [] = count
-labels_in count (op ∷ code) = labels_in (labels_after count op) code
 
 -- the names of so many labels
 abbrev pub label_table : ℕ → List (List ℕ)

@@ -1,6 +1,6 @@
 ghost use Rattle.std.specs.Prelude.{ℕ, List};
+ghost use Rattle.arch_trait.specs.Cells.{WritesCells};
 ghost use Rattle.litmus_text.specs.TestText.{TestSeen};
-ghost use Rattle.litmus_text.specs.Spoken.{WritesCells};
 ghost use Rattle.litmus_text.specs.Reread.{IsReadable};
 ghost use Rattle.litmus_text.specs.Mentioned.{ReadsBack};
 

@@ -1,0 +1,231 @@
+-- The labels of a thread are in the order of their first mention, and it makes as many accesses as it has steps.
+use Rattle.std.proofs.Common.{◌≡◌, ◌<◌, ◌≤◌, ◌+◌, ◌==◌, ℕ, List, [], ◌∷◌, ◌++◌, true, false, cond, length, max, refl, sym, ap, ◌∙◌, subst, arith, append-nil}
+use Rattle.std.specs.Prelude.{Bool, ◌&&◌, ◌||◌, Option, nat_lt, nat_le, is_some}
+use Rattle.std.specs.List.{list_all}
+use Rattle.std.proofs.lemmas.Bool.{eqb-true, eq-eqb, lt-ltb, le-leb}
+use Rattle.std.proofs.lemmas.List.Sums.{sum_by-append, sum_by-cons}
+use Rattle.relax_edges.specs.declared.kinds.Dir.{Dir}
+use Rattle.relax_edges.specs.declared.kinds.Dir.TheVariants as dirs
+use Rattle.micro_ops.specs.declared.operation.Micro.{Micro}
+use Rattle.micro_ops.specs.declared.operation.Micro.TheVariants as ops
+use Rattle.micro_ops.specs.Running.{labels_of, lands, stands}
+use Rattle.micro_ops.proofs.Laws.{labels_append, lands_append}
+use Rattle.arch_trait.specs.declared.step.Step.{Step}
+use Rattle.arch_trait.specs.declared.way.Way.{Way}
+use Rattle.arch_trait.specs.Cells.{is_access, accesses_in, MakesOneAccess}
+use Rattle.arch_trait.specs.LabelOrder.{labels_after, labels_in, is_next, labels_ordered}
+use Rattle.arch_trait.proofs.Taking.{by_test}
+use Rattle.arch_trait.specs.Links.{branches}
+use Rattle.arch_trait.specs.Laws.{IsArch, HasLink}
+use Rattle.arch_trait.specs.Taking.{Taken}
+use Rattle.arch_trait.specs.Threads.{Puts, FitStep, FitSteps, is_load_dir, from_of, put_of, filled_by, next_put, further, step_code, thread_code, branches_in, setting_out, compiled}
+
+both : (p q : Bool) → p && q ≡ true → (p ≡ true) × (q ≡ true)
+both true q h = (refl, h)
+both false q h = cc
+
+both_are : (p q : Bool) → p ≡ true → q ≡ true → p && q ≡ true
+both_are p q h k = rw (h, k) refl
+
+ordered_append : (count : ℕ) (xs ys : List Micro) → labels_ordered count xs ≡ true → labels_ordered (labels_in count xs) ys ≡ true → labels_ordered count (xs ++ ys) ≡ true
+ordered_append count [] ys h k = k
+ordered_append count (op ∷ xs) ys h k =
+    let parts = both (is_next count op) (labels_ordered (labels_after count op) xs) h in
+    both_are (is_next count op) (labels_ordered (labels_after count op) (xs ++ ys)) parts.0 (ordered_append (labels_after count op) xs ys parts.1 k)
+
+-- a label that stands is one of the labels
+stands_passes : (p : ℕ → Bool) (label : ℕ) (code : List Micro) → list_all p (labels_of code) ≡ true → stands label code ≡ true → p label ≡ true
+stands_passes p label [] h s = absurd (cc)
+stands_passes p label (ops.Label k ∷ code) h s =
+    let parts = both (p k) (list_all p (labels_of code)) h in
+    by_test (k == label)
+    (λ e. subst (λ l. p l ≡ true) (eqb-true k label e) parts.0)
+    (λ e. stands_passes p label code parts.1 (sym (ap (λ b. b || stands label code) e) ∙ s))
+stands_passes p label (ops.LoadAt d q ∷ code) h s = stands_passes p label code h s
+stands_passes p label (ops.StoreAt q n ∷ code) h s = stands_passes p label code h s
+stands_passes p label (ops.Imm d n ∷ code) h s = stands_passes p label code h s
+stands_passes p label (ops.Xor d a b ∷ code) h s = stands_passes p label code h s
+stands_passes p label (ops.AddImm d a n ∷ code) h s = stands_passes p label code h s
+stands_passes p label (ops.OrImm d a n ∷ code) h s = stands_passes p label code h s
+stands_passes p label (ops.Add d a b ∷ code) h s = stands_passes p label code h s
+stands_passes p label (ops.Load d b i ∷ code) h s = stands_passes p label code h s
+stands_passes p label (ops.Store r b i ∷ code) h s = stands_passes p label code h s
+stands_passes p label (ops.Cmp a b ∷ code) h s = stands_passes p label code h s
+stands_passes p label (ops.BranchEq l ∷ code) h s = stands_passes p label code h s
+stands_passes p label (ops.BranchNz a l ∷ code) h s = stands_passes p label code h s
+stands_passes p label (ops.Barrier k ∷ code) h s = stands_passes p label code h s
+
+-- what is known of a label that is n, where the labels up to n have numbers
+next_is : (count n label : ℕ) → n ≤ count → n < 64 → (label == n) ≡ true → (nat_le label count && nat_lt label 64) ≡ true
+next_is count n label low small e =
+    let same : label ≡ n = eqb-true label n e in
+    both_are (nat_le label count) (nat_lt label 64) (le-leb label count (omega arith)) (lt-ltb label 64 (omega arith))
+
+-- code whose only label is n
+one_ordered : (count n : ℕ) (code : List Micro) → n ≤ count → n < 64 → lands code ≡ true → list_all (λ l. l == n) (labels_of code) ≡ true → labels_ordered count code ≡ true
+one_ordered count n [] low small l h = refl
+one_ordered count n (ops.Label k ∷ code) low small l h =
+    let parts = both (k == n) (list_all (λ l. l == n) (labels_of code)) h in
+    both_are (nat_le k count && nat_lt k 64) (labels_ordered (max count (k + 1)) code) (next_is count n k low small parts.0) (one_ordered (max count (k + 1)) n code (omega arith) small l parts.1)
+one_ordered count n (ops.BranchEq k ∷ code) low small l h =
+    let parts = both (stands k code) (lands code) l in
+    both_are (nat_le k count && nat_lt k 64) (labels_ordered (max count (k + 1)) code) (next_is count n k low small (stands_passes (λ l. l == n) k code h parts.0)) (one_ordered (max count (k + 1)) n code (omega arith) small parts.1 h)
+one_ordered count n (ops.BranchNz a k ∷ code) low small l h =
+    let parts = both (stands k code) (lands code) l in
+    both_are (nat_le k count && nat_lt k 64) (labels_ordered (max count (k + 1)) code) (next_is count n k low small (stands_passes (λ l. l == n) k code h parts.0)) (one_ordered (max count (k + 1)) n code (omega arith) small parts.1 h)
+one_ordered count n (ops.LoadAt d q ∷ code) low small l h = one_ordered count n code low small l h
+one_ordered count n (ops.StoreAt q m ∷ code) low small l h = one_ordered count n code low small l h
+one_ordered count n (ops.Imm d m ∷ code) low small l h = one_ordered count n code low small l h
+one_ordered count n (ops.Xor d a b ∷ code) low small l h = one_ordered count n code low small l h
+one_ordered count n (ops.AddImm d a m ∷ code) low small l h = one_ordered count n code low small l h
+one_ordered count n (ops.OrImm d a m ∷ code) low small l h = one_ordered count n code low small l h
+one_ordered count n (ops.Add d a b ∷ code) low small l h = one_ordered count n code low small l h
+one_ordered count n (ops.Load d b i ∷ code) low small l h = one_ordered count n code low small l h
+one_ordered count n (ops.Store r b i ∷ code) low small l h = one_ordered count n code low small l h
+one_ordered count n (ops.Cmp a b ∷ code) low small l h = one_ordered count n code low small l h
+one_ordered count n (ops.Barrier k ∷ code) low small l h = one_ordered count n code low small l h
+
+-- the count of labels grows, and covers each label that stands
+labels_grow : (count : ℕ) (code : List Micro) → count ≤ labels_in count code
+labels_grow count [] = omega arith
+labels_grow count (op ∷ code) = let more = labels_grow (labels_after count op) code in let here = after_grows op in omega arith
+  where
+    after_grows : (op : Micro) → count ≤ labels_after count op
+    after_grows (ops.BranchEq l) = omega arith
+    after_grows (ops.BranchNz a l) = omega arith
+    after_grows (ops.Label l) = omega arith
+    after_grows (ops.LoadAt d q) = omega arith
+    after_grows (ops.StoreAt q m) = omega arith
+    after_grows (ops.Imm d m) = omega arith
+    after_grows (ops.Xor d a b) = omega arith
+    after_grows (ops.AddImm d a m) = omega arith
+    after_grows (ops.OrImm d a m) = omega arith
+    after_grows (ops.Add d a b) = omega arith
+    after_grows (ops.Load d b i) = omega arith
+    after_grows (ops.Store r b i) = omega arith
+    after_grows (ops.Cmp a b) = omega arith
+    after_grows (ops.Barrier k) = omega arith
+
+labels_cover : (count n : ℕ) (code : List Micro) (rest : List ℕ) → labels_of code ≡ n ∷ rest → n + 1 ≤ labels_in count code
+labels_cover count n [] rest e = absurd (cc)
+labels_cover count n (ops.Label k ∷ code) rest e =
+    let same : k ≡ n = cc in let more = labels_grow (max count (k + 1)) code in omega arith
+labels_cover count n (ops.BranchEq l ∷ code) rest e = labels_cover (max count (l + 1)) n code rest e
+labels_cover count n (ops.BranchNz a l ∷ code) rest e = labels_cover (max count (l + 1)) n code rest e
+labels_cover count n (ops.LoadAt d q ∷ code) rest e = labels_cover count n code rest e
+labels_cover count n (ops.StoreAt q m ∷ code) rest e = labels_cover count n code rest e
+labels_cover count n (ops.Imm d m ∷ code) rest e = labels_cover count n code rest e
+labels_cover count n (ops.Xor d a b ∷ code) rest e = labels_cover count n code rest e
+labels_cover count n (ops.AddImm d a m ∷ code) rest e = labels_cover count n code rest e
+labels_cover count n (ops.OrImm d a m ∷ code) rest e = labels_cover count n code rest e
+labels_cover count n (ops.Add d a b ∷ code) rest e = labels_cover count n code rest e
+labels_cover count n (ops.Load d b i ∷ code) rest e = labels_cover count n code rest e
+labels_cover count n (ops.Store r b i ∷ code) rest e = labels_cover count n code rest e
+labels_cover count n (ops.Cmp a b ∷ code) rest e = labels_cover count n code rest e
+labels_cover count n (ops.Barrier k ∷ code) rest e = labels_cover count n code rest e
+
+labels_in_append : (count : ℕ) (xs ys : List Micro) → labels_in count (xs ++ ys) ≡ labels_in (labels_in count xs) ys
+labels_in_append count [] ys = refl
+labels_in_append count (op ∷ xs) ys = labels_in_append (labels_after count op) xs ys
+
+-- the code of one access with its link: its labels, and where its branches land
+record StepLabels (n : ℕ) (branching : Bool) (code : List Micro) : Type 0 where
+  labels : labels_of code ≡ cond branching (n ∷ []) []
+  jumps : lands code ≡ true
+
+no_target : {G : Type 0} (label : ℕ) (code : List Micro) → stands label code ≡ true → labels_of code ≡ [] → G
+no_target label code h e = let clash : false ≡ true = stands_passes (λ l. false) label code (ap (list_all (λ l. false)) e) h in absurd (cc)
+
+-- code without labels
+none_ordered : (count : ℕ) (code : List Micro) → lands code ≡ true → labels_of code ≡ [] → labels_ordered count code ≡ true
+none_ordered count [] l e = refl
+none_ordered count (ops.Label k ∷ code) l e = absurd (cc)
+none_ordered count (ops.BranchEq k ∷ code) l e = no_target k code (both (stands k code) (lands code) l).0 e
+none_ordered count (ops.BranchNz a k ∷ code) l e = no_target k code (both (stands k code) (lands code) l).0 e
+none_ordered count (ops.LoadAt d q ∷ code) l e = none_ordered count code l e
+none_ordered count (ops.StoreAt q m ∷ code) l e = none_ordered count code l e
+none_ordered count (ops.Imm d m ∷ code) l e = none_ordered count code l e
+none_ordered count (ops.Xor d a b ∷ code) l e = none_ordered count code l e
+none_ordered count (ops.AddImm d a m ∷ code) l e = none_ordered count code l e
+none_ordered count (ops.OrImm d a m ∷ code) l e = none_ordered count code l e
+none_ordered count (ops.Add d a b ∷ code) l e = none_ordered count code l e
+none_ordered count (ops.Load d b i ∷ code) l e = none_ordered count code l e
+none_ordered count (ops.Store r b i ∷ code) l e = none_ordered count code l e
+none_ordered count (ops.Cmp a b ∷ code) l e = none_ordered count code l e
+none_ordered count (ops.Barrier k ∷ code) l e = none_ordered count code l e
+
+step_ordered : (count n : ℕ) (branching : Bool) (code : List Micro) → StepLabels n branching code → n ≤ count → n + cond branching 1 0 ≤ 64 → labels_ordered count code ≡ true
+step_ordered count n true code h low few = one_ordered count n code low (omega arith) h.jumps (ap (list_all (λ l. l == n)) h.labels ∙ rw (eq-eqb n n refl) refl)
+step_ordered count n false code h low few = none_ordered count code h.jumps h.labels
+
+step_covers : (count n : ℕ) (branching : Bool) (code : List Micro) → StepLabels n branching code → n ≤ count → n + cond branching 1 0 ≤ labels_in count code
+step_covers count n true code h low = labels_cover count n code [] h.labels
+step_covers count n false code h low = let more = labels_grow count code in omega arith
+
+-- a load before gives its register
+IsGiven : Bool → Option ℕ → Type 0
+IsGiven b last = b ≡ true → is_some last ≡ true
+
+given_after : (a : Puts) (g : Taken) (from : Option ℕ) (s : Step) (d : Dir) → IsGiven (is_load_dir d) (filled_by a g from s d)
+unfolding IsGiven
+given_after a g from s dirs.R = λ e. refl
+given_after a g from s dirs.W = λ e. cc
+
+link_given : (a : Puts) (b : Bool) (last : Option ℕ) (s : Step) → FitStep a.name b s → IsGiven b last → HasLink a s.link (from_of s.link last)
+unfolding IsGiven
+link_given a b last s fit given = record {
+  of_arch = fit.of_arch;
+  given = λ d. rw d (given (fit.after d));
+}
+
+-- what the laws of an access say, by its direction
+put_no_label : (a : Puts) → IsArch a → (g : Taken) (from : Option ℕ) (s : Step) (d : Dir) → s.value < 256 → (labels_of (put_of a g from s d).code ≡ []) × (lands (put_of a g from s d).code ≡ true)
+put_no_label a laws g from s dirs.R v = (laws.loads.access.no_label g s.link from s.place, laws.loads.access.no_jump g s.link from s.place)
+put_no_label a laws g from s dirs.W v = ((laws.stores.access s.value v).no_label g s.link from s.place, (laws.stores.access s.value v).no_jump g s.link from s.place)
+
+step_labels : (a : Puts) → IsArch a → (w : Way) (s : Step) (b : Bool) → FitStep a.name b s → IsGiven b w.last → StepLabels w.label (branches s.link) (step_code a w s)
+step_labels a laws w s b fit given =
+    let from = from_of s.link w.last in
+    let access = put_no_label a laws w.regs from s s.dir fit.value in
+    record {
+      labels = labels_append (a.link s.link from w.label) (next_put a w s).code
+          ∙ ap (λ l. labels_of (a.link s.link from w.label) ++ l) access.0 ∙ append-nil (labels_of (a.link s.link from w.label))
+          ∙ laws.links.labels s.link from w.label (link_given a b w.last s fit given);
+      jumps = lands_append (a.link s.link from w.label) (next_put a w s).code (laws.links.jumps s.link from w.label) access.1;
+    }
+
+-- the labels of a thread are in the order of their first mention
+thread_ordered : (a : Puts) → IsArch a → (b : Bool) (w : Way) (ss : List Step) (count : ℕ) → FitSteps a.name b ss → IsGiven b w.last → w.label ≤ count → w.label + branches_in ss ≤ 64
+    → labels_ordered count (thread_code a w ss) ≡ true
+thread_ordered a laws b w [] count fit given low few = refl
+thread_ordered a laws b w (s ∷ ss) count fit given low few =
+    let step = step_labels a laws w s b fit.0 given in
+    let total : branches_in (s ∷ ss) ≡ cond (branches s.link) 1 0 + branches_in ss = sum_by-cons (λ t. cond (branches t.link) 1 0) s ss in
+    ordered_append count (step_code a w s) (thread_code a (further a w s) ss)
+    (step_ordered count w.label (branches s.link) (step_code a w s) step low (omega arith))
+    (thread_ordered a laws (is_load_dir s.dir) (further a w s) ss (labels_in count (step_code a w s)) fit.1 (given_after a w.regs (from_of s.link w.last) s s.dir)
+    (step_covers count w.label (branches s.link) (step_code a w s) step low) (omega arith))
+
+-- it makes as many accesses as it has steps
+put_access : (a : Puts) → MakesOneAccess a → (g : Taken) (from : Option ℕ) (s : Step) (d : Dir) → accesses_in (put_of a g from s d).code ≡ 1
+put_access a one g from s dirs.R = one.load g s.link from s.place
+put_access a one g from s dirs.W = one.store g s.link from s.place s.value
+
+accesses_append : (xs ys : List Micro) → accesses_in (xs ++ ys) ≡ accesses_in xs + accesses_in ys
+accesses_append xs ys = sum_by-append (λ op. cond (is_access op) 1 0) xs ys
+
+thread_accesses : (a : Puts) → MakesOneAccess a → (w : Way) (ss : List Step) → accesses_in (thread_code a w ss) ≡ length ss
+thread_accesses a one w [] = refl
+thread_accesses a one w (s ∷ ss) =
+    let link = one.link s.link (from_of s.link w.last) w.label in
+    let access = put_access a one w.regs (from_of s.link w.last) s s.dir in
+    let rest = thread_accesses a one (further a w s) ss in
+    omega (arith, accesses_append (step_code a w s) (thread_code a (further a w s) ss), accesses_append (a.link s.link (from_of s.link w.last) w.label) (next_put a w s).code)
+
+-- the same of the code of a whole thread
+pub compiled_ordered : (a : Puts) → IsArch a → (ss : List Step) → FitSteps a.name false ss → branches_in ss ≤ 64 → labels_ordered 0 (compiled a ss).instrs ≡ true
+unfolding IsGiven
+compiled_ordered a laws ss fit few = thread_ordered a laws false (setting_out a.registers) ss 0 fit (λ e. cc) (omega arith) (omega arith)
+
+pub compiled_accesses : (a : Puts) → MakesOneAccess a → (ss : List Step) → accesses_in (compiled a ss).instrs ≡ length ss
+compiled_accesses a one ss = thread_accesses a one (setting_out a.registers) ss

@@ -1,0 +1,270 @@
+-- The code of a thread reads back.
+use Rattle.std.proofs.Common.{◌≡◌, ◌≢◌, ◌<◌, ◌≤◌, ◌+◌, ◌==◌, ℕ, zero, suc, List, [], ◌∷◌, ◌++◌, true, false, cond, length, map, refl, sym, ap, ◌∙◌, subst, arith, append_assoc, append-nil, zero-add}
+use Rattle.std.specs.Prelude.{Bool, not, ◌&&◌, ◌||◌, nat_lt, is_some, count_by}
+use Rattle.std.specs.List.{list_all, list_any, range_with_len, AllByRecursion}
+use Rattle.std.proofs.lemmas.Bool.{eqb-true, eq-eqb, lt-ltb, ltb-true}
+use Rattle.std.proofs.lemmas.List.Sums.{sum_by-append, sum_by-cons}
+use Rattle.micro_ops.specs.declared.operation.Micro.{Micro}
+use Rattle.micro_ops.specs.declared.operation.Micro.TheVariants as ops
+use Rattle.micro_ops.specs.Running.{labels_of, lands, stands}
+use Rattle.final_cond.specs.Names.{is_place_name}
+use Rattle.arch_trait.specs.declared.step.Step.{Step}
+use Rattle.arch_trait.specs.Cells.{is_access, accesses_in}
+use Rattle.arch_trait.specs.LabelOrder.{labels_after, is_next, labels_ordered}
+use Rattle.arch_trait.specs.Codes.{is_within}
+use Rattle.arch_trait.specs.Laws.{InOrder}
+use Rattle.arch_trait.specs.Names.{number_in}
+use Rattle.arch_trait.specs.Threads.{Puts, ThreadCode, visits}
+use Rattle.arch_trait.specs.Writing.{Writing}
+use Rattle.litmus_text.specs.Table.{is_label_of}
+use Rattle.litmus_text.specs.Progress.{is_placed, CodeFits, stands_once, code_lands}
+use Rattle.litmus_text.specs.Items.{Link, links_of, links_once, LinkFits}
+use Rattle.litmus_text.proofs.CutBack.{by_test, both, both_are}
+
+-- the place of each visit has a name of its form in a table
+abbrev pub HasPlaces : List (List ℕ) → (ℕ → List ℕ) → List Step → Type 0
+HasPlaces table names ss = (place : ℕ) → visits place ss ≡ true → (is_place_name (names place) && is_some (number_in table (names place))) ≡ true
+
+op_placed : (table : List (List ℕ)) (names : ℕ → List ℕ) (ss : List Step) (op : Micro) → HasPlaces table names ss → is_within ss op ≡ true → is_placed table names op ≡ true
+op_placed table names ss (ops.LoadAt dst place) has h = has place h
+op_placed table names ss (ops.StoreAt place n) has h = has place h
+op_placed table names ss (ops.BranchEq label) has h = refl
+op_placed table names ss (ops.BranchNz a label) has h = refl
+op_placed table names ss (ops.Label label) has h = refl
+op_placed table names ss (ops.Imm dst n) has h = refl
+op_placed table names ss (ops.Xor dst a b) has h = refl
+op_placed table names ss (ops.AddImm dst a n) has h = refl
+op_placed table names ss (ops.OrImm dst a n) has h = refl
+op_placed table names ss (ops.Add dst a b) has h = refl
+op_placed table names ss (ops.Load dst base index) has h = refl
+op_placed table names ss (ops.Store src base index) has h = refl
+op_placed table names ss (ops.Cmp a b) has h = refl
+op_placed table names ss (ops.Barrier kind) has h = refl
+
+access_room : (op : Micro) (accesses : ℕ) → accesses + cond (is_access op) 1 0 ≤ 64 → (not (is_access op) || nat_lt accesses 64) ≡ true
+access_room op accesses h = by_test (is_access op)
+    (λ e. rw e (lt-ltb accesses 64 (room e)))
+    (λ e. rw e refl)
+  where
+    room : is_access op ≡ true → accesses < 64
+    room e = let one : cond {A = ℕ} (is_access op) 1 0 ≡ 1 = ap (λ b. cond {A = ℕ} b 1 0) e in omega arith
+
+-- operations of the architecture, with places that have names, with labels in order, and not too many accesses
+pub code_fits : (a : Puts) (table : List (List ℕ)) (names : ℕ → List ℕ) (ss : List Step) (labels accesses : ℕ) (code : List Micro) → HasPlaces table names ss
+    → list_all a.has code ≡ true → list_all (is_within ss) code ≡ true → labels_ordered labels code ≡ true → accesses + accesses_in code ≤ 64 → CodeFits a table names labels accesses code
+code_fits a table names ss labels accesses [] places has within ordered few = tt
+code_fits a table names ss labels accesses (op ∷ code) places has within ordered few =
+    let h = both (a.has op) (list_all a.has code) has in
+    let w = both (is_within ss op) (list_all (is_within ss) code) within in
+    let o = both (is_next labels op) (labels_ordered (labels_after labels op) code) ordered in
+    let count : accesses_in (op ∷ code) ≡ cond (is_access op) 1 0 + accesses_in code = sum_by-cons (λ op. cond (is_access op) 1 0) op code in (
+      record { has = h.0; placed = op_placed table names ss op places w.0; next = o.0; room = access_room op accesses (omega arith) },
+      code_fits a table names ss (labels_after labels op) (accesses + cond (is_access op) 1 0) code places h.1 w.1 o.1 (omega arith),
+    )
+
+-- how often a label stands
+count_labels : (label : ℕ) (code : List Micro) → count_by (is_label_of label) code ≡ count_by (λ l. l == label) (labels_of code)
+count_labels label [] = refl
+count_labels label (ops.Label l ∷ code) =
+    sum_by-cons (λ op. cond (is_label_of label op) 1 0) (ops.Label l) code ∙ ap (λ m. cond (l == label) 1 0 + m) (count_labels label code)
+    ∙ sym (sum_by-cons (λ l. cond (l == label) 1 0) l (labels_of code))
+count_labels label (ops.LoadAt d q ∷ code) = sum_by-cons (λ op. cond (is_label_of label op) 1 0) (ops.LoadAt d q) code ∙ zero-add _ ∙ count_labels label code
+count_labels label (ops.StoreAt q m ∷ code) = sum_by-cons (λ op. cond (is_label_of label op) 1 0) (ops.StoreAt q m) code ∙ zero-add _ ∙ count_labels label code
+count_labels label (ops.Imm d m ∷ code) = sum_by-cons (λ op. cond (is_label_of label op) 1 0) (ops.Imm d m) code ∙ zero-add _ ∙ count_labels label code
+count_labels label (ops.Xor d a b ∷ code) = sum_by-cons (λ op. cond (is_label_of label op) 1 0) (ops.Xor d a b) code ∙ zero-add _ ∙ count_labels label code
+count_labels label (ops.AddImm d a m ∷ code) = sum_by-cons (λ op. cond (is_label_of label op) 1 0) (ops.AddImm d a m) code ∙ zero-add _ ∙ count_labels label code
+count_labels label (ops.OrImm d a m ∷ code) = sum_by-cons (λ op. cond (is_label_of label op) 1 0) (ops.OrImm d a m) code ∙ zero-add _ ∙ count_labels label code
+count_labels label (ops.Add d a b ∷ code) = sum_by-cons (λ op. cond (is_label_of label op) 1 0) (ops.Add d a b) code ∙ zero-add _ ∙ count_labels label code
+count_labels label (ops.Load d b i ∷ code) = sum_by-cons (λ op. cond (is_label_of label op) 1 0) (ops.Load d b i) code ∙ zero-add _ ∙ count_labels label code
+count_labels label (ops.Store r b i ∷ code) = sum_by-cons (λ op. cond (is_label_of label op) 1 0) (ops.Store r b i) code ∙ zero-add _ ∙ count_labels label code
+count_labels label (ops.Cmp a b ∷ code) = sum_by-cons (λ op. cond (is_label_of label op) 1 0) (ops.Cmp a b) code ∙ zero-add _ ∙ count_labels label code
+count_labels label (ops.BranchEq l ∷ code) = sum_by-cons (λ op. cond (is_label_of label op) 1 0) (ops.BranchEq l) code ∙ zero-add _ ∙ count_labels label code
+count_labels label (ops.BranchNz a l ∷ code) = sum_by-cons (λ op. cond (is_label_of label op) 1 0) (ops.BranchNz a l) code ∙ zero-add _ ∙ count_labels label code
+count_labels label (ops.Barrier k ∷ code) = sum_by-cons (λ op. cond (is_label_of label op) 1 0) (ops.Barrier k) code ∙ zero-add _ ∙ count_labels label code
+
+-- in a range each number stands at most once
+later_none : (label a n : ℕ) → label < a → count_by (λ l. l == label) (range_with_len a n) ≡ 0
+later_none label a zero h = refl
+later_none label a (suc n) h =
+    sum_by-cons (λ l. cond (l == label) 1 0) a (range_with_len (a + 1) n)
+    ∙ rw (other a label (omega arith)) (zero-add _ ∙ later_none label (a + 1) n (omega arith))
+  where
+    other : (a b : ℕ) → a ≢ b → (a == b) ≡ false
+    other a b ne = by_test (a == b) (λ e. absurd (ne (eqb-true a b e))) (λ e. e)
+
+range_once : (label a n : ℕ) → count_by (λ l. l == label) (range_with_len a n) ≤ 1
+range_once label a zero = omega arith
+range_once label a (suc n) =
+    let cons = sum_by-cons (λ l. cond (l == label) 1 0) a (range_with_len (a + 1) n) in
+    by_test (a == label)
+    (λ e. let same : a ≡ label = eqb-true a label e in
+    let rest = later_none label (a + 1) n (omega arith) in
+    let one : cond {A = ℕ} (a == label) 1 0 ≡ 1 = ap (λ b. cond {A = ℕ} b 1 0) e in omega arith)
+    (λ e. let rest = range_once label (a + 1) n in
+    let none : cond {A = ℕ} (a == label) 1 0 ≡ 0 = ap (λ b. cond {A = ℕ} b 1 0) e in omega arith)
+
+-- a label that stands stands at least once
+stands_some : (label : ℕ) (code : List Micro) → stands label code ≡ true → 1 ≤ count_by (is_label_of label) code
+stands_some label [] h = absurd (cc)
+stands_some label (op ∷ code) h =
+    let cons = sum_by-cons (λ op. cond (is_label_of label op) 1 0) op code in
+    by_test (is_label_of label op)
+    (λ e. let one : cond {A = ℕ} (is_label_of label op) 1 0 ≡ 1 = ap (λ b. cond {A = ℕ} b 1 0) e in omega arith)
+    (λ e. let later = stands_some label code (rest op h e) in omega arith)
+  where
+    rest : (op : Micro) → stands label (op ∷ code) ≡ true → is_label_of label op ≡ false → stands label code ≡ true
+    rest (ops.Label l) h e = sym (ap (λ b. b || stands label code) e) ∙ h
+    rest (ops.LoadAt d q) h e = h
+    rest (ops.StoreAt q m) h e = h
+    rest (ops.Imm d m) h e = h
+    rest (ops.Xor d a b) h e = h
+    rest (ops.AddImm d a m) h e = h
+    rest (ops.OrImm d a m) h e = h
+    rest (ops.Add d a b) h e = h
+    rest (ops.Load d b i) h e = h
+    rest (ops.Store r b i) h e = h
+    rest (ops.Cmp a b) h e = h
+    rest (ops.Barrier k) h e = h
+    rest (ops.BranchEq l) h e = h
+    rest (ops.BranchNz a l) h e = h
+
+-- a label that stands behind a branch, in code whose labels stand at most once, stands once in all
+stands_exactly : (label : ℕ) (front behind : List Micro) → count_by (is_label_of label) (front ++ behind) ≤ 1 → stands label behind ≡ true → stands_once label (front ++ behind) behind ≡ true
+stands_exactly label front behind few h =
+    let some = stands_some label behind h in
+    let split : count_by (is_label_of label) (front ++ behind) ≡ count_by (is_label_of label) front + count_by (is_label_of label) behind = sum_by-append (λ op. cond (is_label_of label op) 1 0) front behind in
+    both_are (count_by (is_label_of label) (front ++ behind) == 1) (count_by (is_label_of label) behind == 1)
+    (eq-eqb (count_by (is_label_of label) (front ++ behind)) 1 (omega arith)) (eq-eqb (count_by (is_label_of label) behind) 1 (omega arith))
+
+shifted : (front : List Micro) (op : Micro) (code : List Micro) → (front ++ op ∷ []) ++ code ≡ front ++ op ∷ code
+shifted front op code = append_assoc front (op ∷ []) code
+
+once : (front : List Micro) (op : Micro) (label : ℕ) (code : List Micro) → ((l : ℕ) → count_by (is_label_of l) (front ++ op ∷ code) ≤ 1) → stands label code ≡ true
+    → stands_once label (front ++ op ∷ code) code ≡ true
+once front op label code few h =
+    subst (λ all. stands_once label all code ≡ true) (shifted front op code)
+    (stands_exactly label (front ++ op ∷ []) code (subst (λ all. count_by (is_label_of label) all ≤ 1) (sym (shifted front op code)) (few label)) h)
+
+lands_front : (front code : List Micro) → ((label : ℕ) → count_by (is_label_of label) (front ++ code) ≤ 1) → lands code ≡ true → code_lands (front ++ code) code ≡ true
+lands_front front [] few h = refl
+lands_front front (ops.Label k ∷ code) few h = subst (λ all. code_lands all code ≡ true) (shifted front (ops.Label k) code) (lands_front (front ++ ops.Label k ∷ []) code (λ l. subst (λ all. count_by (is_label_of l) all ≤ 1) (sym (shifted front (ops.Label k) code)) (few l)) h)
+lands_front front (ops.LoadAt d q ∷ code) few h = subst (λ all. code_lands all code ≡ true) (shifted front (ops.LoadAt d q) code) (lands_front (front ++ ops.LoadAt d q ∷ []) code (λ l. subst (λ all. count_by (is_label_of l) all ≤ 1) (sym (shifted front (ops.LoadAt d q) code)) (few l)) h)
+lands_front front (ops.StoreAt q m ∷ code) few h = subst (λ all. code_lands all code ≡ true) (shifted front (ops.StoreAt q m) code) (lands_front (front ++ ops.StoreAt q m ∷ []) code (λ l. subst (λ all. count_by (is_label_of l) all ≤ 1) (sym (shifted front (ops.StoreAt q m) code)) (few l)) h)
+lands_front front (ops.Imm d m ∷ code) few h = subst (λ all. code_lands all code ≡ true) (shifted front (ops.Imm d m) code) (lands_front (front ++ ops.Imm d m ∷ []) code (λ l. subst (λ all. count_by (is_label_of l) all ≤ 1) (sym (shifted front (ops.Imm d m) code)) (few l)) h)
+lands_front front (ops.Xor d a b ∷ code) few h = subst (λ all. code_lands all code ≡ true) (shifted front (ops.Xor d a b) code) (lands_front (front ++ ops.Xor d a b ∷ []) code (λ l. subst (λ all. count_by (is_label_of l) all ≤ 1) (sym (shifted front (ops.Xor d a b) code)) (few l)) h)
+lands_front front (ops.AddImm d a m ∷ code) few h = subst (λ all. code_lands all code ≡ true) (shifted front (ops.AddImm d a m) code) (lands_front (front ++ ops.AddImm d a m ∷ []) code (λ l. subst (λ all. count_by (is_label_of l) all ≤ 1) (sym (shifted front (ops.AddImm d a m) code)) (few l)) h)
+lands_front front (ops.OrImm d a m ∷ code) few h = subst (λ all. code_lands all code ≡ true) (shifted front (ops.OrImm d a m) code) (lands_front (front ++ ops.OrImm d a m ∷ []) code (λ l. subst (λ all. count_by (is_label_of l) all ≤ 1) (sym (shifted front (ops.OrImm d a m) code)) (few l)) h)
+lands_front front (ops.Add d a b ∷ code) few h = subst (λ all. code_lands all code ≡ true) (shifted front (ops.Add d a b) code) (lands_front (front ++ ops.Add d a b ∷ []) code (λ l. subst (λ all. count_by (is_label_of l) all ≤ 1) (sym (shifted front (ops.Add d a b) code)) (few l)) h)
+lands_front front (ops.Load d b i ∷ code) few h = subst (λ all. code_lands all code ≡ true) (shifted front (ops.Load d b i) code) (lands_front (front ++ ops.Load d b i ∷ []) code (λ l. subst (λ all. count_by (is_label_of l) all ≤ 1) (sym (shifted front (ops.Load d b i) code)) (few l)) h)
+lands_front front (ops.Store r b i ∷ code) few h = subst (λ all. code_lands all code ≡ true) (shifted front (ops.Store r b i) code) (lands_front (front ++ ops.Store r b i ∷ []) code (λ l. subst (λ all. count_by (is_label_of l) all ≤ 1) (sym (shifted front (ops.Store r b i) code)) (few l)) h)
+lands_front front (ops.Cmp a b ∷ code) few h = subst (λ all. code_lands all code ≡ true) (shifted front (ops.Cmp a b) code) (lands_front (front ++ ops.Cmp a b ∷ []) code (λ l. subst (λ all. count_by (is_label_of l) all ≤ 1) (sym (shifted front (ops.Cmp a b) code)) (few l)) h)
+lands_front front (ops.Barrier k ∷ code) few h = subst (λ all. code_lands all code ≡ true) (shifted front (ops.Barrier k) code) (lands_front (front ++ ops.Barrier k ∷ []) code (λ l. subst (λ all. count_by (is_label_of l) all ≤ 1) (sym (shifted front (ops.Barrier k) code)) (few l)) h)
+lands_front front (ops.BranchEq label ∷ code) few h =
+    let parts = both (stands label code) (lands code) h in
+    both_are (stands_once label (front ++ ops.BranchEq label ∷ code) code) (code_lands (front ++ ops.BranchEq label ∷ code) code)
+    (once front (ops.BranchEq label) label code few parts.0) (subst (λ all. code_lands all code ≡ true) (shifted front (ops.BranchEq label) code) (lands_front (front ++ ops.BranchEq label ∷ []) code (λ l. subst (λ all. count_by (is_label_of l) all ≤ 1) (sym (shifted front (ops.BranchEq label) code)) (few l)) parts.1))
+lands_front front (ops.BranchNz a label ∷ code) few h =
+    let parts = both (stands label code) (lands code) h in
+    both_are (stands_once label (front ++ ops.BranchNz a label ∷ code) code) (code_lands (front ++ ops.BranchNz a label ∷ code) code)
+    (once front (ops.BranchNz a label) label code few parts.0) (subst (λ all. code_lands all code ≡ true) (shifted front (ops.BranchNz a label) code) (lands_front (front ++ ops.BranchNz a label ∷ []) code (λ l. subst (λ all. count_by (is_label_of l) all ≤ 1) (sym (shifted front (ops.BranchNz a label) code)) (few l)) parts.1))
+
+-- the branches of code whose labels are numbered in order land
+pub lands_once : (code : List Micro) (n : ℕ) → lands code ≡ true → labels_of code ≡ range_with_len 0 n → code_lands code code ≡ true
+lands_once code n h e =
+    lands_front [] code (λ label. subst (λ m. m ≤ 1) (sym (count_labels label code ∙ ap (λ ls. count_by (λ l. l == label) ls) e)) (range_once label 0 n)) h
+
+-- address registers in ascending order stand once each
+pub links_fit : (w : Writing) (table : List (List ℕ)) (names : ℕ → List ℕ) (ss : List Step) (thread low : ℕ) (links : List (ℕ × ℕ)) → HasPlaces table names ss → thread < 64
+    → InOrder low links (length w.registers) → list_all (λ (link : ℕ × ℕ). visits link.1 ss) links ≡ true → AllByRecursion (LinkFits w table names) (map (λ link. (thread, link)) links)
+links_fit w table names ss thread low [] places small order visited = tt
+links_fit w table names ss thread low (link ∷ links) places small order visited =
+    let v = both (visits link.1 ss) (list_all (λ (l : ℕ × ℕ). visits l.1 ss) links) visited in
+    let p = both (is_place_name (names link.1)) (is_some (number_in table (names link.1))) (places link.1 v.0) in
+    let high = order_below (link.0 + 1) links (length w.registers) order.1 in
+    (record { thread = small; register = omega arith; formed = p.0; inside = p.1 }, links_fit w table names ss thread (link.0 + 1) links places small order.1 v.1)
+  where
+    order_below : (low : ℕ) (links : List (ℕ × ℕ)) (high : ℕ) → InOrder low links high → low ≤ high
+    order_below low [] high h = h
+    order_below low (link ∷ links) high h = let rest = order_below (link.0 + 1) links high h.1 in omega (arith, h.0, rest)
+
+-- the registers of links before one: of earlier threads, or below its own
+abbrev pub are_before : ℕ → ℕ → List Link → Bool
+are_before thread low done = list_all (λ (d : Link). nat_lt d.0 thread || nat_lt d.1.0 low) done
+
+none_same : (thread low register : ℕ) (done : List Link) → low ≤ register → are_before thread low done ≡ true → list_any (λ d. (d.0 == thread) && (d.1.0 == register)) done ≡ false
+none_same thread low register [] h all = refl
+none_same thread low register (d ∷ done) h all =
+    let parts = both (nat_lt d.0 thread || nat_lt d.1.0 low) (are_before thread low done) all in
+    rw (apart d.0 d.1.0 parts.0, none_same thread low register done h parts.1) refl
+  where
+    apart : (t r : ℕ) → (nat_lt t thread || nat_lt r low) ≡ true → ((t == thread) && (r == register)) ≡ false
+    apart t r e = by_test (t == thread)
+        (λ f. by_test (r == register)
+        (λ g. let same : t ≡ thread = eqb-true t thread f in let equal : r ≡ register = eqb-true r register g in
+        let clash = or_below t r e in absurd (omega arith))
+        (λ g. rw (f, g) refl))
+        (λ f. rw f refl)
+      where
+        or_below : (t r : ℕ) → (nat_lt t thread || nat_lt r low) ≡ true → (t ≡ thread → r < low)
+        or_below t r e same = by_test (nat_lt t thread)
+            (λ f. let below = ltb-true t thread f in absurd (omega arith))
+            (λ f. ltb-true r low (sym (ap (λ b. b || nat_lt r low) f) ∙ e))
+
+before_more : (thread low register place : ℕ) (done : List Link) → low ≤ register → are_before thread low done ≡ true → are_before thread (register + 1) (done ++ (thread, (register, place)) ∷ []) ≡ true
+before_more thread low register place [] h all = both_are (nat_lt thread thread || nat_lt register (register + 1)) true (or_right (nat_lt thread thread) (lt-ltb register (register + 1) (omega arith))) refl
+  where
+    or_right : (b : Bool) {c : Bool} → c ≡ true → (b || c) ≡ true
+    or_right true e = refl
+    or_right false e = e
+before_more thread low register place (d ∷ done) h all =
+    let parts = both (nat_lt d.0 thread || nat_lt d.1.0 low) (are_before thread low done) all in
+    both_are (nat_lt d.0 thread || nat_lt d.1.0 (register + 1)) (are_before thread (register + 1) (done ++ (thread, (register, place)) ∷ [])) (wider parts.0) (before_more thread low register place done h parts.1)
+  where
+    wider : (nat_lt d.0 thread || nat_lt d.1.0 low) ≡ true → (nat_lt d.0 thread || nat_lt d.1.0 (register + 1)) ≡ true
+    wider e = by_test (nat_lt d.0 thread)
+        (λ f. rw f refl)
+        (λ f. let below = ltb-true d.1.0 low (sym (ap (λ b. b || nat_lt d.1.0 low) f) ∙ e) in rw (f, lt-ltb d.1.0 (register + 1) (omega arith)) refl)
+
+before_next : (thread low : ℕ) (done : List Link) → list_all (λ (d : Link). nat_lt d.0 (thread + 1)) done ≡ true → are_before (thread + 1) low done ≡ true
+before_next thread low [] h = refl
+before_next thread low (d ∷ done) h =
+    let parts = both (nat_lt d.0 (thread + 1)) (list_all (λ (d : Link). nat_lt d.0 (thread + 1)) done) h in
+    both_are (nat_lt d.0 (thread + 1) || nat_lt d.1.0 low) (are_before (thread + 1) low done) (rw parts.0 refl) (before_next thread low done parts.1)
+
+-- the address registers of a thread, and then others
+thread_single : (thread low high : ℕ) (links : List (ℕ × ℕ)) (done rest : List Link) → InOrder low links high → are_before thread low done ≡ true
+    → links_once (done ++ map (λ link. (thread, link)) links) rest ≡ true → links_once done (map (λ link. (thread, link)) links ++ rest) ≡ true
+thread_single thread low high [] done rest order all h = subst (λ d. links_once d rest ≡ true) (append-nil done) h
+thread_single thread low high (link ∷ links) done rest order all h =
+    both_are (not (list_any (λ d. (d.0 == thread) && (d.1.0 == link.0)) done)) (links_once (done ++ (thread, link) ∷ []) (map (λ link. (thread, link)) links ++ rest))
+    (ap not (none_same thread low link.0 done order.0 all))
+    (thread_single thread (link.0 + 1) high links (done ++ (thread, link) ∷ []) rest order.1 (before_more thread low link.0 link.1 done order.0 all)
+    (subst (λ d. links_once d rest ≡ true) (sym (append_assoc done ((thread, link) ∷ []) (map (λ link. (thread, link)) links))) h))
+
+below_append : (thread : ℕ) (links : List (ℕ × ℕ)) (done : List Link) → list_all (λ (d : Link). nat_lt d.0 thread) done ≡ true → list_all (λ (d : Link). nat_lt d.0 (thread + 1)) (done ++ map (λ link. (thread, link)) links) ≡ true
+below_append thread links [] h = own links
+  where
+    own : (links : List (ℕ × ℕ)) → list_all (λ (d : Link). nat_lt d.0 (thread + 1)) (map (λ link. (thread, link)) links) ≡ true
+    own [] = refl
+    own (link ∷ links) = both_are (nat_lt thread (thread + 1)) (list_all (λ (d : Link). nat_lt d.0 (thread + 1)) (map (λ link. (thread, link)) links)) (lt-ltb thread (thread + 1) (omega arith)) (own links)
+below_append thread links (d ∷ done) h =
+    let parts = both (nat_lt d.0 thread) (list_all (λ (d : Link). nat_lt d.0 thread) done) h in
+    let below = ltb-true d.0 thread parts.0 in
+    both_are (nat_lt d.0 (thread + 1)) (list_all (λ (d : Link). nat_lt d.0 (thread + 1)) (done ++ map (λ link. (thread, link)) links)) (lt-ltb d.0 (thread + 1) (omega arith)) (below_append thread links done parts.1)
+
+before_zero : (thread : ℕ) (done : List Link) → list_all (λ (d : Link). nat_lt d.0 thread) done ≡ true → are_before thread 0 done ≡ true
+before_zero thread [] h = refl
+before_zero thread (d ∷ done) h =
+    let parts = both (nat_lt d.0 thread) (list_all (λ (d : Link). nat_lt d.0 thread) done) h in
+    both_are (nat_lt d.0 thread || nat_lt d.1.0 0) (are_before thread 0 done) (rw parts.0 refl) (before_zero thread done parts.1)
+
+all_single : (thread high : ℕ) (threads : List ThreadCode) (done : List Link) → AllByRecursion (λ t. InOrder 0 t.links high) threads → list_all (λ (d : Link). nat_lt d.0 thread) done ≡ true
+    → links_once done (links_of thread threads) ≡ true
+all_single thread high [] done order h = refl
+all_single thread high (t ∷ threads) done order h =
+    thread_single thread 0 high t.links done (links_of (thread + 1) threads) order.0 (before_zero thread done h)
+    (all_single (thread + 1) high threads (done ++ map (λ link. (thread, link)) t.links) order.1 (below_append thread t.links done h))
+
+-- address registers in ascending order stand once each in their threads
+pub links_single : (high : ℕ) (threads : List ThreadCode) → AllByRecursion (λ t. InOrder 0 t.links high) threads → links_once [] (links_of 0 threads) ≡ true
+links_single high threads order = all_single 0 high threads [] order refl
