@@ -13,3 +13,4 @@ pub mod PlainTexts
 pub mod Renumbered
 pub mod CellTexts
 pub mod Ordered
+pub mod FormBacks

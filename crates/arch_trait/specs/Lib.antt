@@ -12,3 +12,4 @@ pub mod Cuts
 pub mod Renumbering
 pub mod Cells
 pub mod LabelOrder
+pub mod Forms
