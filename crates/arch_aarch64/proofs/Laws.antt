@@ -11,14 +11,14 @@ use Rattle.micro_ops.specs.Machine.{num, bit}
 use Rattle.micro_ops.specs.Running.{Run, At, go}
 use Rattle.micro_ops.proofs.Rules.{holding, after_branch, run_add_imm, run_load_index, run_load_index_wants, run_store_index, run_branch_nz}
 use Rattle.arch_trait.specs.Laws.{DidLink, IsArch}
-use Rattle.arch_trait.proofs.Addressed.{KeepsForms, same_run, keeps_laws}
-use Rattle.arch_aarch64.specs.Puts.{puts, forms, has, is_register}
+use Rattle.arch_trait.proofs.Addressed.{KeepsInstructions, same_run, keeps_laws}
+use Rattle.arch_aarch64.specs.Puts.{puts, instructions, has, is_register}
 
 usable : (r : ℕ) → r < 28 → is_register r ≡ true
 usable r h = lt-ltb r 28 h
 
 branch_runs : (s n v k : ℕ) (r : Run) → r.state.regs s ≡ num v (bit k) →
-    DidLink (forms.branch s n ++ ops.Label n ∷ []) r [] (bit_or r.state.control (bit k))
+    DidLink (instructions.branch s n ++ ops.Label n ∷ []) r [] (bit_or r.state.control (bit k))
 branch_runs s n v k r e = record {
   after = after_branch r (bit k);
   ran = run_branch_nz s n v (bit k) r e;
@@ -42,7 +42,7 @@ fence_has fences.DmbSt e = refl
 fence_has (fences.Fence p s) e = cc
 
 joins_runs : (d n mask : ℕ) (r : Run) → n < 256 → r.state.regs d ≡ num 0 mask →
-    go (forms.joins d n) (At r) ≡ At (holding r d (num n mask))
+    go (instructions.joins d n) (At r) ≡ At (holding r d (num n mask))
 joins_runs d n mask r small e =
     let fits : 0 + n < 2 ^ 32 = omega arith in
     let sum : 0 + n ≡ n = omega arith in
@@ -51,7 +51,7 @@ joins_runs d n mask r small e =
 small_has : (d n : ℕ) → d < 28 → n < 256 → has (ops.AddImm d d n) ≡ true
 small_has d n h small = and_from _ _ (usable d h) (and_from _ _ (usable d h) (le-leb n 2047 (omega arith)))
 
-keeps : KeepsForms forms
+keeps : KeepsInstructions instructions
 keeps = record {
   few = omega arith;
   branch_runs = branch_runs;
@@ -93,4 +93,4 @@ keeps = record {
 }
 
 pub laws : IsArch puts
-laws = keeps_laws forms keeps
+laws = keeps_laws instructions keeps

@@ -8,7 +8,7 @@ use Rattle.micro_ops.specs.declared.operation.Micro.TheVariants as ops
 use Rattle.micro_ops.specs.declared.operation.Barrier.{Barrier}
 use Rattle.micro_ops.specs.declared.operation.Barrier.TheVariants as barriers
 use Rattle.arch_trait.specs.Threads.{Puts}
-use Rattle.arch_trait.specs.Addressed.{Forms, puts_of}
+use Rattle.arch_trait.specs.Addressed.{Instructions, puts_of}
 
 -- a register that tests use
 abbrev pub is_register : ℕ → Bool
@@ -40,8 +40,8 @@ has (ops.Barrier kind) = is_barrier kind
 has _ = false
 
 -- AArch64's instructions: CBNZ, accesses with an index register, and ADD of an immediate
-abbrev pub forms : Forms
-forms = record {
+abbrev pub instructions : Instructions
+instructions = record {
   name = archs.AArch64;
   registers = 28;
   has = has;
@@ -53,4 +53,4 @@ forms = record {
 
 -- AArch64, as an architecture
 abbrev pub puts : Puts
-puts = puts_of forms
+puts = puts_of instructions

@@ -13,14 +13,14 @@ use Rattle.micro_ops.proofs.Masks.{zero_or}
 use Rattle.micro_ops.proofs.Rules.{holding, after_branch, run_or_imm, run_add_address, run_load, run_load_wants, run_store, run_branch_nz}
 use Rattle.arch_trait.specs.Laws.{DidLink, IsWanting, IsArch}
 use Rattle.arch_trait.proofs.Accesses.{written_same, written_other}
-use Rattle.arch_trait.proofs.Addressed.{IsBut, LoadsBy, StoresBy, KeepsForms, keeps_laws}
-use Rattle.arch_riscv.specs.Puts.{puts, forms, has, is_register}
+use Rattle.arch_trait.proofs.Addressed.{IsBut, LoadsBy, StoresBy, KeepsInstructions, keeps_laws}
+use Rattle.arch_riscv.specs.Puts.{puts, instructions, has, is_register}
 
 usable : (r : ℕ) → r < 27 → is_register r ≡ true
 usable r h = lt-ltb r 27 h
 
 branch_runs : (s n v k : ℕ) (r : Run) → r.state.regs s ≡ num v (bit k) →
-    DidLink (forms.branch s n ++ ops.Label n ∷ []) r [] (bit_or r.state.control (bit k))
+    DidLink (instructions.branch s n ++ ops.Label n ∷ []) r [] (bit_or r.state.control (bit k))
 branch_runs s n v k r e = record {
   after = after_branch r (bit k);
   ran = run_branch_nz s n v (bit k) r e;
@@ -54,7 +54,7 @@ added d p mask r = record {
 }
 
 load_runs : (d v a p n mask : ℕ) (vs : List ℕ) (r : Run) → r.state.regs a ≡ at_place p →
-    r.state.regs d ≡ num 0 mask → r.reads ≡ n ∷ vs → LoadsBy (forms.load d v a) r d v p n mask vs
+    r.state.regs d ≡ num 0 mask → r.reads ≡ n ∷ vs → LoadsBy (instructions.load d v a) r d v p n mask vs
 load_runs d v a p n mask vs r e g reads =
     let u = holding r d (address p mask) in
     record {
@@ -66,7 +66,7 @@ load_runs d v a p n mask vs r e g reads =
     }
 
 load_wants : (d v a p mask : ℕ) (r : Run) → r.state.regs a ≡ at_place p →
-    r.state.regs d ≡ num 0 mask → r.reads ≡ [] → IsWanting (exec (forms.load d v a) (At r))
+    r.state.regs d ≡ num 0 mask → r.reads ≡ [] → IsWanting (exec (instructions.load d v a) (At r))
 load_wants d v a p mask r e g reads =
     let u = holding r d (address p mask) in
     record {
@@ -78,7 +78,7 @@ load_wants d v a p mask r e g reads =
 
 store_runs : (d v a p n mask : ℕ) (r : Run) → r.state.regs a ≡ at_place p →
     r.state.regs d ≡ num 0 mask → r.state.regs v ≡ num n 0 → (v == d) ≡ false →
-    StoresBy (forms.store d v a) r d p n mask
+    StoresBy (instructions.store d v a) r d p n mask
 store_runs d v a p n mask r e g holds apart =
     let u = holding r d (address p mask) in
     record {
@@ -91,11 +91,11 @@ store_runs d v a p n mask r e g holds apart =
     }
 
 joins_runs : (d n mask : ℕ) (r : Run) → n < 256 → r.state.regs d ≡ num 0 mask →
-    go (forms.joins d n) (At r) ≡ At (holding r d (num n mask))
+    go (instructions.joins d n) (At r) ≡ At (holding r d (num n mask))
 joins_runs d n mask r small e =
     run_or_imm d d n 0 mask r e ∙ ap (λ m. At (holding r d (num m mask))) (zero_or n)
 
-keeps : KeepsForms forms
+keeps : KeepsInstructions instructions
 keeps = record {
   few = omega arith;
   branch_runs = branch_runs;
@@ -128,4 +128,4 @@ keeps = record {
 }
 
 pub laws : IsArch puts
-laws = keeps_laws forms keeps
+laws = keeps_laws instructions keeps

@@ -8,7 +8,7 @@ use Rattle.micro_ops.specs.declared.operation.Micro.TheVariants as ops
 use Rattle.micro_ops.specs.declared.operation.Barrier.{Barrier}
 use Rattle.micro_ops.specs.declared.operation.Barrier.TheVariants as barriers
 use Rattle.arch_trait.specs.Threads.{Puts}
-use Rattle.arch_trait.specs.Addressed.{Forms, puts_of}
+use Rattle.arch_trait.specs.Addressed.{Instructions, puts_of}
 
 -- a register that tests use
 abbrev pub is_register : ℕ → Bool
@@ -33,8 +33,8 @@ has (ops.Barrier kind) = is_barrier kind
 has _ = false
 
 -- RISC-V's instructions: bne, an address that is added before the access, and ori of an immediate
-abbrev pub forms : Forms
-forms = record {
+abbrev pub instructions : Instructions
+instructions = record {
   name = archs.RISCV;
   registers = 27;
   has = has;
@@ -46,4 +46,4 @@ forms = record {
 
 -- RISC-V, as an architecture
 abbrev pub puts : Puts
-puts = puts_of forms
+puts = puts_of instructions

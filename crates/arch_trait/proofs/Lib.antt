@@ -14,3 +14,4 @@ pub mod Renumbered
 pub mod CellTexts
 pub mod Ordered
 pub mod Addressed
+pub mod FormBacks

@@ -18,7 +18,7 @@ use Rattle.arch_trait.specs.Threads.{Put, Puts}
 -- `branch s n` branches to label n and depends on register s; `load d v a` loads register v, and
 -- `store d v a` stores it, at the address in register a, so that the address depends on register d,
 -- which holds 0; `joins d n` makes register d, which holds 0, the number n and keeps its dependency
-pub record Forms : Type 0 where
+pub record Instructions : Type 0 where
   pub name : ArchName
   pub registers : ℕ
   pub has : Micro → Bool
@@ -28,26 +28,26 @@ pub record Forms : Type 0 where
   pub joins : ℕ → ℕ → Micro
 
 -- a branch on a register to the label right behind it, and what stands behind the label
-abbrev pub branch_code : Forms → Option ℕ → ℕ → List Micro → List Micro
-branch_code f (Some s) n rest = f.branch s n ++ ops.Label n ∷ rest
-branch_code f None n rest = []
+abbrev pub branch_code : Instructions → Option ℕ → ℕ → List Micro → List Micro
+branch_code own (Some s) n rest = own.branch s n ++ ops.Label n ∷ rest
+branch_code own None n rest = []
 
 -- the code of a link: its fence, or a branch on the load before
-abbrev pub link_code : Forms → Link → Option ℕ → ℕ → List Micro
-link_code f (links.Fence kind) from n = ops.Barrier (barriers.Fence kind) ∷ []
-link_code f links.Ctrl from n = branch_code f from n []
-link_code f links.CtrlIsync from n =
-    branch_code f from n (ops.Barrier (barriers.Fence fences.ISync) ∷ [])
-link_code f links.CtrlIsb from n = branch_code f from n (ops.Barrier barriers.Isb ∷ [])
-link_code f _ from n = []
+abbrev pub link_code : Instructions → Link → Option ℕ → ℕ → List Micro
+link_code own (links.Fence kind) from n = ops.Barrier (barriers.Fence kind) ∷ []
+link_code own links.Ctrl from n = branch_code own from n []
+link_code own links.CtrlIsync from n =
+    branch_code own from n (ops.Barrier (barriers.Fence fences.ISync) ∷ [])
+link_code own links.CtrlIsb from n = branch_code own from n (ops.Barrier barriers.Isb ∷ [])
+link_code own _ from n = []
 
 -- a load: the dependency register if there is one, the register of the load, the address register
-abbrev pub load_on : Forms → Taken → Option ℕ → ℕ → Put
-load_on f g (Some s) place = record {
-  code = ops.Xor g.next s s ∷ f.load g.next (g.next + 1) (address_of (took g 2) place);
+abbrev pub load_on : Instructions → Taken → Option ℕ → ℕ → Put
+load_on own g (Some s) place = record {
+  code = ops.Xor g.next s s ∷ own.load g.next (g.next + 1) (address_of (took g 2) place);
   regs = with_address (took g 2) place;
 }
-load_on f g None place = record {
+load_on own g None place = record {
   code = ops.Load g.next (address_of (took g 1) place) None ∷ [];
   regs = with_address (took g 1) place;
 }
@@ -58,35 +58,35 @@ filled_on g None = g.next
 
 -- a store: the dependency register if there is one, the register of the value, the address register;
 -- with a data dependency the value goes into the dependency register
-abbrev pub store_on : Forms → Taken → Option ℕ → Option ℕ → ℕ → ℕ → Put
-store_on f g (Some s) _ place value = record {
+abbrev pub store_on : Instructions → Taken → Option ℕ → Option ℕ → ℕ → ℕ → Put
+store_on own g (Some s) _ place value = record {
   code =
       ops.Xor g.next s s ∷ ops.Imm (g.next + 1) value ∷
-      f.store g.next (g.next + 1) (address_of (took g 2) place);
+      own.store g.next (g.next + 1) (address_of (took g 2) place);
   regs = with_address (took g 2) place;
 }
-store_on f g None (Some s) place value = record {
+store_on own g None (Some s) place value = record {
   code =
-      ops.Xor g.next s s ∷ f.joins g.next value ∷
+      ops.Xor g.next s s ∷ own.joins g.next value ∷
       ops.Store g.next (address_of (took g 1) place) None ∷ [];
   regs = with_address (took g 1) place;
 }
-store_on f g None None place value = record {
+store_on own g None None place value = record {
   code = ops.Imm g.next value ∷ ops.Store g.next (address_of (took g 1) place) None ∷ [];
   regs = with_address (took g 1) place;
 }
 
 -- the architecture with these instructions
-abbrev pub puts_of : Forms → Puts
-puts_of f = record {
-  name = f.name;
-  registers = f.registers;
-  has = f.has;
+abbrev pub puts_of : Instructions → Puts
+puts_of own = record {
+  name = own.name;
+  registers = own.registers;
+  has = own.has;
   need = λ (shape : Shape). shape.loads + shape.stores + shape.addr + shape.places;
   has_addresses = true;
-  link = link_code f;
-  load = λ g link from place. load_on f g (source_if (is_addr link) from) place;
+  link = link_code own;
+  load = λ g link from place. load_on own g (source_if (is_addr link) from) place;
   filled = λ g link from place. filled_on g (source_if (is_addr link) from);
   store = λ g link from place value.
-      store_on f g (source_if (is_addr link) from) (source_if (is_data link) from) place value;
+      store_on own g (source_if (is_addr link) from) (source_if (is_data link) from) place value;
 }

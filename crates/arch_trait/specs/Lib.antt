@@ -13,3 +13,4 @@ pub mod Renumbering
 pub mod Cells
 pub mod LabelOrder
 pub mod Addressed
+pub mod Forms
