@@ -1,5 +1,5 @@
 -- How a test grows thread by thread.
-use Rattle.std.proofs.Common.{◌≡◌, ℕ, zero, suc, ◌+◌, ◌<◌, ◌≤◌, cond, List, [], ◌∷◌, ◌++◌, length, take, drop, map, Option, Some, None, Ok, Err, refl, sym, ◌∙◌, ap, arith, slice_get, append_assoc, length-take, append-nil}
+use Rattle.std.proofs.Common.{◌≡◌, ℕ, zero, suc, ◌+◌, ◌<◌, ◌≤◌, cond, true, false, List, [], ◌∷◌, ◌++◌, length, take, drop, map, Option, Some, None, Ok, Err, refl, sym, ◌∙◌, ap, arith, slice_get, append_assoc, length-take, append-nil}
 use Rattle.std.specs.List.{position_from}
 use Rattle.std.specs.Option.{option_map}
 use Rattle.std.proofs.lemmas.Option.{get_or_from_slice_get}
@@ -122,3 +122,21 @@ load_room a name es mode k steps threads cond0 cond1 r g got last =
     let room = terms_room a name es mode plain k steps r (got_within (cycle_steps es mode plain) k steps got) in
     let here = ap (λ s. length (thread_terms a name k s)) (get_or_from_slice_get (cycle_steps es mode plain) k steps steps got) in
     omega (arith, long, room, here, thread_terms-count a name k steps, reads-count steps)
+
+-- the next thread needs too many registers, and is the first that does
+pub crowded_here : (a : Puts) (es : List Edge) (mode : ObsMode) (k : ℕ) (steps : List Step)
+    → position_from (is_crowded a) k (drop k (cycle_steps es mode plain)) ≡ crowded a es mode
+    → slice_get (cycle_steps es mode plain) k ≡ Some steps → is_crowded a steps ≡ true → crowded_thread a es mode ≡ Some (TooManyRegisters k)
+crowded_here a es mode k steps before got h =
+    ap (option_map (λ thread. TooManyRegisters thread))
+    (sym before ∙ ap (position_from (is_crowded a) k) (drop_got (cycle_steps es mode plain) k steps got)
+    ∙ ap (λ b. cond b (Some k) (position_from (is_crowded a) (k + 1) (drop (k + 1) (cycle_steps es mode plain)))) h)
+
+-- the next thread has registers enough
+pub calm_here : (a : Puts) (es : List Edge) (mode : ObsMode) (k : ℕ) (steps : List Step)
+    → position_from (is_crowded a) k (drop k (cycle_steps es mode plain)) ≡ crowded a es mode
+    → slice_get (cycle_steps es mode plain) k ≡ Some steps → is_crowded a steps ≡ false
+    → position_from (is_crowded a) (k + 1) (drop (k + 1) (cycle_steps es mode plain)) ≡ crowded a es mode
+calm_here a es mode k steps before got h =
+    sym (ap (λ b. cond b (Some k) (position_from (is_crowded a) (k + 1) (drop (k + 1) (cycle_steps es mode plain)))) h)
+    ∙ sym (ap (position_from (is_crowded a) k) (drop_got (cycle_steps es mode plain) k steps got)) ∙ before

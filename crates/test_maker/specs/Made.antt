@@ -5,6 +5,7 @@ use Rattle.relax_edges.specs.declared.TheConstants.{MAX_EDGES}
 use Rattle.relax_edges.specs.declared.kinds.ObsMode.{ObsMode}
 use Rattle.relax_edges.specs.declared.edge.Edge.{Edge}
 use Rattle.relax_edges.specs.EdgeTable.{is_of_arch}
+use Rattle.cycle_resolve.specs.declared.resolved.ResolveError.{ResolveError}
 use Rattle.cycle_resolve.specs.Resolution.{resolution_of, turned}
 use Rattle.final_cond.specs.Conditions.{cond_view}
 use Rattle.arch_trait.specs.Threads.{Puts}
@@ -65,10 +66,20 @@ MakesTest a register_name cycle mode (Ok test) =
     (refusal_of a cycle mode ≡ None) × (test_view test ≡ test_of a register_name (turned cycle) mode)
 MakesTest a register_name cycle mode (Err refusal) = refusal_of a cycle mode ≡ Some refusal
 
--- a call says whether a cycle has a test
+-- a call says whether a cycle has a test, by the first reason why it has none
 abbrev pub Accepts : Puts → List Edge → ObsMode → Result (Unit {0}) MakeRefusal → Type 0
 Accepts a cycle mode (Ok _) = refusal_of a cycle mode ≡ None
 Accepts a cycle mode (Err refusal) = refusal_of a cycle mode ≡ Some refusal
+
+-- the same of a cycle that resolves or doesn't
+abbrev pub AcceptsResolution : Puts → Result (List Edge) ResolveError → ObsMode → Result (Unit {0}) MakeRefusal → Type 0
+AcceptsResolution a resolution mode (Ok _) = resolved_refusal a resolution mode ≡ None
+AcceptsResolution a resolution mode (Err refusal) = resolved_refusal a resolution mode ≡ Some refusal
+
+-- the same of the registers of the threads of a resolved cycle
+abbrev pub AcceptsValued : Puts → List Edge → ObsMode → Result (Unit {0}) MakeRefusal → Type 0
+AcceptsValued a es mode (Ok _) = crowded_thread a es mode ≡ None
+AcceptsValued a es mode (Err refusal) = crowded_thread a es mode ≡ Some refusal
 
 -- the code of each thread of a test can be printed on an architecture with so many registers
 abbrev pub CanPrint : Puts → ℕ → Test → Type 0

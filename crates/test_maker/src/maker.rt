@@ -45,7 +45,7 @@ pub fn make_into<A: Arch>(cycle: &Cycle, mode: ObsMode, test: &mut Test) -> Resu
 }
 
 /// The place of the first edge that isn't of the architecture.
-fn first_foreign<A: Arch>(edges: &[Edge]) -> Option<u8>
+pub(crate) fn first_foreign<A: Arch>(edges: &[Edge]) -> Option<u8>
     requires { length edges.now ≤ MAX_EDGES }
     ensures { result ≡ position_from (λ e. not (is_of_arch e A.puts.name)) 0 edges.now }
 {
