@@ -20,3 +20,4 @@ pub mod Exchanged
 pub mod Needs
 pub mod Laws
 pub mod Tries
+pub mod Executions
