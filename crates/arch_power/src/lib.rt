@@ -1,11 +1,124 @@
-//! Power: the code of its links and accesses as definitions, and that it keeps the laws of architectures.
+//! Power: accesses by address registers, dependencies by `xor`, branches by `cmpw` and `beq`.
 #![tactic(auto)]
 
-ghost use Rattle.arch_trait.specs.Laws.{IsArch};
-ghost use Rattle.arch_power.specs.Puts.{puts};
+ghost use Rattle.std.specs.Prelude.{refl};
+ghost use Rattle.relax_edges.specs.declared.kinds.ArchName.TheVariants as archs;
+ghost use Rattle.arch_power.specs.Puts.{puts as power, is_index, is_barrier};
+ghost use Rattle.arch_power.specs.Laws.{laws as power_laws};
+ghost use Rattle.arch_power.specs.ReadsBack.{reads_back as power_reads_back};
+ghost use Rattle.std.specs.Prelude.{◌≡◌};
+ghost use Rattle.arch_power.specs.Text.{writing as power_writing};
 
-/// The code of Power keeps the laws of architectures: so the code of a thread on Power makes exactly
-/// the thread's accesses, each with the barriers and dependencies of its link.
-pub fn power_keeps_the_laws()
-    ensures { IsArch puts }
-{}
+mod put;
+mod text;
+
+use arch_trait::{Arch, Instrs, Link, MAX_TEXT, Operands, Places, Raw, Regs, Shape};
+use arrayvec::ArrayString;
+use final_cond::RegName;
+use micro_ops::{Barrier, Micro};
+use relax_edges::{ArchName, FenceKind};
+
+/// The architecture Power.
+pub struct Power;
+
+impl Arch for Power {
+    ghost puts = { power };
+
+    ghost writing = { power_writing };
+
+    ghost NAME = { archs.PPC };
+
+    ghost REGISTERS = { 28 };
+
+    const NAME: ArchName = ArchName::PPC;
+
+    const REGISTERS: u8 = 28;
+
+    fn has(op: &Micro) -> bool {
+        match *op {
+            Micro::Imm { dst, n } => dst < 28 && n <= 2047,
+            Micro::Xor { dst, a, b } => dst < 28 && a < 28 && b < 28,
+            Micro::AddImm { dst, a, n } => dst < 28 && a < 28 && n <= 2047,
+            Micro::Load { dst, base, index } => dst < 28 && base < 28 && is_index(index),
+            Micro::Store { src, base, index } => src < 28 && base < 28 && is_index(index),
+            Micro::Cmp { a, b } => a < 28 && b < 28,
+            Micro::BranchEq { .. } | Micro::Label { .. } => true,
+            Micro::Barrier { kind } => is_barrier(kind),
+            _ => false,
+        }
+    }
+
+    fn need(shape: &Shape) -> u32 {
+        u32::from(shape.loads)
+            + u32::from(shape.stores)
+            + u32::from(shape.addr)
+            + u32::from(shape.places)
+    }
+
+    fn put_link(link: Link, from: Option<u8>, label: u8, out: &mut Instrs) {
+        put::link(link, from, label, out);
+    }
+
+    fn put_load(regs: &mut Regs, link: Link, from: Option<u8>, place: u8, out: &mut Instrs) -> u8 {
+        put::load(regs, link.address_source(from), place, out)
+    }
+
+    #[tactic(auto, using(crate::specs::Laws::store_room))]
+    fn put_store(
+        regs: &mut Regs,
+        link: Link,
+        from: Option<u8>,
+        place: u8,
+        value: u8,
+        out: &mut Instrs,
+    ) {
+        put::store(
+            regs,
+            link.address_source(from),
+            link.data_source(from),
+            place,
+            value,
+            out,
+        );
+    }
+
+    fn print(op: &Micro, _places: &Places, out: &mut ArrayString<MAX_TEXT>) {
+        text::print(*op, out);
+    }
+
+    fn read_raw<'a>(word: &'a [u8], operands: Operands<'a>) -> Option<Raw<'a>> {
+        text::read(word, operands)
+    }
+
+    fn register_name(r: u8, out: &mut RegName) {
+        text::register_name(r, out);
+    }
+
+    ghost same_name = { refl };
+
+    ghost same_registers = { refl };
+
+    ghost laws = { power_laws };
+
+    ghost reads_back = { power_reads_back };
+}
+
+fn is_index(index: Option<u8>) -> bool
+    ensures { result ≡ is_index index }
+{
+    match index {
+        Some(register) => register < 28,
+        None => true,
+    }
+}
+
+fn is_barrier(kind: Barrier) -> bool
+    ensures { result ≡ is_barrier kind }
+{
+    matches!(
+        kind,
+        Barrier::Fence(
+            FenceKind::Sync | FenceKind::LwSync | FenceKind::Eieio | FenceKind::ISync
+        )
+    )
+}

@@ -21,6 +21,7 @@ use Rattle.arch_trait.specs.declared.link.Link.TheVariants as links
 use Rattle.arch_trait.specs.Links.{link_is_of, depends, is_addr, is_data, mask_if, source_if, link_control, link_items}
 use Rattle.arch_trait.specs.Taking.{Taken, took, has_address, address_of, with_address}
 use Rattle.arch_trait.specs.Laws.{HoldsPlaces, HasSource, Did, DidLoad, DidLink, IsWanting, IsTaken, Takes, HasLink, IsUsable, MakesLinks, MakesAccess, MakesLoads, MakesStores, IsArch, link_room, link_labels, is_at}
+use Rattle.arch_trait.specs.Cells.{accesses_in, MakesOneAccess}
 use Rattle.arch_trait.specs.Addressed.{Instructions, puts_of, branch_code, link_code, load_on, filled_on, store_on}
 use Rattle.arch_trait.proofs.Taking.{takes_address, address_there}
 use Rattle.arch_trait.proofs.Accesses.{Writes, IsSpare, writes_none, writes_more, written_same, spare_with, address_is, address_below, did_load, did_store, did_nothing, on_source, xor_runs, written_other, addr_depends, data_depends, addr_no_data, address_next, fresh_counts}
@@ -654,4 +655,49 @@ keeps_laws own keeps = record {
     none = refl;
     grows = λ h i w. omega (arith, w.loads, w.stores, w.addr, w.places);
   };
+}
+
+-- the accesses of an architecture's own instructions
+pub record MakesOnce (own : Instructions) : Type 0 where
+  pub branch : (s n : ℕ) (rest : List Micro) →
+      accesses_in (own.branch s n ++ ops.Label n ∷ rest) ≡ accesses_in rest
+  pub load : (d v a : ℕ) → accesses_in (own.load d v a) ≡ 1
+  pub store : (d v a : ℕ) → accesses_in (own.store d v a) ≡ 1
+  pub joins : (d n a : ℕ) → accesses_in (own.joins d n ∷ ops.Store d a None ∷ []) ≡ 1
+
+branch_once : (own : Instructions) → MakesOnce own → (from : Option ℕ) (n : ℕ) (rest : List Micro) →
+    accesses_in rest ≡ 0 → accesses_in (branch_code own from n rest) ≡ 0
+branch_once own once None n rest h = refl
+branch_once own once (Some s) n rest h = once.branch s n rest ∙ h
+
+link_once : (own : Instructions) → MakesOnce own → (link : Link) (from : Option ℕ) (n : ℕ) →
+    accesses_in (link_code own link from n) ≡ 0
+link_once own once links.Plain from n = refl
+link_once own once (links.Fence kind) from n = refl
+link_once own once links.Addr from n = refl
+link_once own once links.Data from n = refl
+link_once own once links.Ctrl from n = branch_once own once from n [] refl
+link_once own once links.CtrlIsync from n =
+    branch_once own once from n (ops.Barrier (barriers.Fence fences.ISync) ∷ []) refl
+link_once own once links.CtrlIsb from n =
+    branch_once own once from n (ops.Barrier barriers.Isb ∷ []) refl
+
+load_once : (own : Instructions) → MakesOnce own → (g : Taken) (p : ℕ) (o : Option ℕ) →
+    accesses_in (load_on own g o p).code ≡ 1
+load_once own once g p None = refl
+load_once own once g p (Some s) = once.load g.next (g.next + 1) (address_of (took g 2) p)
+
+store_once : (own : Instructions) → MakesOnce own → (g : Taken) (p v : ℕ) (o d : Option ℕ) →
+    accesses_in (store_on own g o d p v).code ≡ 1
+store_once own once g p v None None = refl
+store_once own once g p v None (Some s) = once.joins g.next v (address_of (took g 1) p)
+store_once own once g p v (Some s) d = once.store g.next (g.next + 1) (address_of (took g 2) p)
+
+-- the code of an access has one access where each of these instructions has
+pub accesses_once : (own : Instructions) → MakesOnce own → MakesOneAccess (puts_of own)
+accesses_once own once = record {
+  link = link_once own once;
+  load = λ g link from p. load_once own once g p (source_if (is_addr link) from);
+  store = λ g link from p v.
+      store_once own once g p v (source_if (is_addr link) from) (source_if (is_data link) from);
 }

@@ -1,5 +1,5 @@
 -- The forms of operands with numbered registers read back from their text, and stand in cells.
-use Rattle.std.proofs.Common.{ℕ, zero, suc, ◌+◌, ◌-◌, ◌<◌, ◌≤◌, ◌≡◌, refl, true, false, cond, ◌&&◌, nat_le, List, [], ◌∷◌, ◌++◌, Some, None, map, length, get_or, take, drop, ◌∙◌, ap, length-append, arith}
+use Rattle.std.proofs.Common.{ℕ, zero, suc, ◌+◌, ◌-◌, ◌^◌, ◌<◌, ◌≤◌, ◌≡◌, refl, true, false, cond, ◌&&◌, nat_le, List, [], ◌∷◌, ◌++◌, Some, None, map, length, get_or, take, drop, ◌∙◌, ap, length-append, arith}
 use Rattle.std.specs.Prelude.{option_and_then}
 use Rattle.std.specs.Char.{is_ascii_alphabetic, is_ascii_alphanumeric, is_ascii_digit}
 use Rattle.std.specs.Fmt.{decimal}
@@ -13,13 +13,13 @@ use Rattle.std.proofs.lemmas.Slice.Eq.{bytes_eq-Decides}
 use Rattle.final_cond.specs.Names.{is_register_name}
 use Rattle.final_cond.proofs.BackLaws.{digits_of}
 use Rattle.final_cond.proofs.NameLaws.{all_weaker}
-use Rattle.arch_trait.specs.declared.operand.Numbered.{Numbered}
+use Rattle.arch_trait.specs.declared.numbered.Numbered.{Numbered}
 use Rattle.arch_trait.specs.Cells.{is_cell_byte}
 use Rattle.arch_trait.specs.Forms.{register_name, register_names, register_in, both, all_three, pointed, is_pointed, inside_pointed, two_registers, three_registers, registers_immediate, register_pointed}
-use Rattle.arch_trait.specs.Writing.{two, three, immediate, name_in, is_plain, is_label_name, label_name, label_word}
+use Rattle.arch_trait.specs.Writing.{two, three, listed, immediate, name_in, is_plain, is_label_name, label_name, label_word}
 use Rattle.arch_trait.proofs.Taking.{by_test}
 use Rattle.arch_trait.proofs.Spelling.{is_word_byte}
-use Rattle.arch_trait.proofs.PlainTexts.{immediate_back, register_back, register_plain, three_digits}
+use Rattle.arch_trait.proofs.PlainTexts.{immediate_back, register_back, register_plain, three_digits, decimal_plain}
 use Rattle.arch_trait.proofs.CellTexts.{all_both, decimal_cell}
 
 -- numbered registers: a letter, and numbers of at most three digits
@@ -200,3 +200,28 @@ names_once n h = from 0 n.count (let s = h.small in omega arith)
     from : (k count : ℕ) → n.first + (k + count) ≤ 1000 → IsDistinct bytes_eq (map (register_name n) (range_with_len k count))
     from k zero s = tt
     from k (suc count) s = (apart k (k + 1) count (omega arith) (omega arith), from (k + 1) count (omega arith))
+
+-- operands whose parts stand in cells do, and how long they are
+pub two_cell : (a b : List ℕ) → list_all is_cell_byte a ≡ true → list_all is_cell_byte b ≡ true →
+    list_all is_cell_byte (listed (two a b)) ≡ true
+two_cell a b h k = all_both is_cell_byte a (44 ∷ b) h (and_from true (list_all is_cell_byte b) refl k)
+
+pub three_cell : (a b c : List ℕ) → list_all is_cell_byte a ≡ true → list_all is_cell_byte b ≡ true →
+    list_all is_cell_byte c ≡ true → list_all is_cell_byte (listed (three a b c)) ≡ true
+three_cell a b c h k m =
+    all_both is_cell_byte a (44 ∷ (b ++ 44 ∷ c)) h (and_from true (list_all is_cell_byte (b ++ 44 ∷ c)) refl
+    (all_both is_cell_byte b (44 ∷ c) k (and_from true (list_all is_cell_byte c) refl m)))
+
+pub length-two : (a b : List ℕ) → length (listed (two a b)) ≡ length a + length b + 2
+length-two a b = omega (arith, length-append a (44 ∷ b))
+
+pub length-three : (a b c : List ℕ) → length (listed (three a b c)) ≡ length a + length b + length c + 3
+length-three a b c = omega (arith, length-append a (44 ∷ (b ++ 44 ∷ c)), length-append b (44 ∷ c))
+
+-- a number is plain
+some_plain : (t : List ℕ) → 0 < length t → list_all is_word_byte t ≡ true → is_plain t ≡ true
+some_plain [] h k = absurd (omega arith)
+some_plain (b ∷ t) h k = k
+
+pub number_plain : (n : ℕ) → n < 2 ^ 32 → is_plain (decimal n) ≡ true
+number_plain n h = some_plain (decimal n) (digits_of n h).some (decimal_plain n h)

@@ -3,7 +3,7 @@
 use Rattle.std.specs.Prelude.{ℕ, ◌-◌, ◌==◌, Bool, cond, ◌&&◌, nat_le, List, [], ◌∷◌, ◌++◌, Option, Some, None, option_and_then, get_or, take, drop, length, map}
 use Rattle.std.specs.List.{range_with_len}
 use Rattle.micro_ops.specs.declared.operation.Micro.{Micro}
-use Rattle.arch_trait.specs.declared.operand.Numbered.{Numbered}
+use Rattle.arch_trait.specs.declared.numbered.Numbered.{Numbered}
 use Rattle.arch_trait.specs.Writing.{OperandTexts, none, one, two, three, nothing, label, RawInstr, immediate, label_raw, register_text, register_read}
 
 -- the name of a numbered register, and the names of all, in order

@@ -1,10 +1,12 @@
 //! What an architecture is, and the code of a thread, made once for every architecture.
 #![tactic(auto)]
 
+mod access;
 mod arch;
 mod cells;
 mod code;
 mod link;
+mod numbered;
 mod operand;
 mod places;
 mod reading;
@@ -13,12 +15,14 @@ mod shape;
 mod step;
 mod way;
 
+pub use access::{DependentAccess, PlainAccess, address_source, data_source};
 pub use arch::{Arch, Instrs, MAX_INSTRS, MAX_STEP_INSTRS, MAX_TEXT};
 pub use cells::{read_cell, register_named};
 pub use code::{Code, TooManyRegisters, compile_into, compile_thread};
 pub use link::{Link, link_of};
+pub use numbered::Numbered;
 pub use operand::{
-    MAX_IMMEDIATE, Numbered, immediate, inside_brackets, inside_pointed, push_label, read_bare,
+    MAX_IMMEDIATE, immediate, inside_brackets, inside_pointed, push_label, read_bare,
     read_label, read_label_alone, read_to_label,
 };
 pub use places::{MAX_PLACES, Places};

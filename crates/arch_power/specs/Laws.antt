@@ -298,7 +298,7 @@ store_takes g p v None None = takes_address g (took g 1) p refl refl (omega arit
 store_takes g p v None (Some s) = takes_address g (took g 1) p refl refl (omega arith)
 store_takes g p v (Some s) d = takes_address g (took g 2) p refl refl (omega arith)
 
-store_room : (g : Taken) (p v : ℕ) (a b : Bool) (from : Option ℕ) →
+pub store_room : (g : Taken) (p v : ℕ) (a b : Bool) (from : Option ℕ) →
     length (store_on g (source_if a from) (source_if b from) p v).code ≤ cond (a || b) 4 2
 store_room g p v true true None = omega arith
 store_room g p v true false None = omega arith
