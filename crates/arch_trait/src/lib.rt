@@ -1,6 +1,7 @@
 //! What an architecture is, and the code of a thread, made once for every architecture.
 #![tactic(auto)]
 
+mod access;
 mod arch;
 mod cells;
 mod code;
@@ -14,6 +15,7 @@ mod shape;
 mod step;
 mod way;
 
+pub use access::{DependentAccess, PlainAccess, address_source, data_source};
 pub use arch::{Arch, Instrs, MAX_INSTRS, MAX_STEP_INSTRS, MAX_TEXT};
 pub use cells::{read_cell, register_named};
 pub use code::{Code, TooManyRegisters, compile_into, compile_thread};

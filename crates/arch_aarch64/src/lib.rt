@@ -1,0 +1,117 @@
+//! AArch64: accesses by address registers, dependencies by `EOR`, branches by `CBNZ`.
+#![tactic(auto)]
+
+ghost use Rattle.std.specs.Prelude.{refl, ◌≡◌};
+ghost use Rattle.relax_edges.specs.declared.kinds.ArchName.TheVariants as archs;
+ghost use Rattle.arch_aarch64.specs.Puts.{puts as a64, is_index, is_barrier};
+ghost use Rattle.arch_aarch64.specs.Text.{writing as a64_writing};
+ghost use Rattle.arch_aarch64.specs.Laws.{laws as a64_laws};
+ghost use Rattle.arch_aarch64.specs.ReadsBack.{reads_back as a64_reads_back};
+
+mod put;
+mod read;
+#[cfg(test)]
+mod tests;
+mod write;
+
+use arch_trait::{Arch, Instrs, Link, MAX_TEXT, Operands, Places, Raw, Regs, Shape};
+use arrayvec::ArrayString;
+use final_cond::RegName;
+use micro_ops::{Barrier, Micro};
+use relax_edges::{ArchName, FenceKind};
+
+/// The architecture AArch64.
+pub struct A64;
+
+impl Arch for A64 {
+    ghost puts = { a64 };
+
+    ghost writing = { a64_writing };
+
+    ghost NAME = { archs.AArch64 };
+
+    ghost REGISTERS = { 28 };
+
+    const NAME: ArchName = ArchName::AArch64;
+
+    const REGISTERS: u8 = 28;
+
+    fn has(op: &Micro) -> bool {
+        match *op {
+            Micro::Imm { dst, n } => dst < 28 && n <= 2047,
+            Micro::Xor { dst, a, b } => dst < 28 && a < 28 && b < 28,
+            Micro::AddImm { dst, a, n } => dst < 28 && a < 28 && n <= 2047,
+            Micro::Load { dst, base, index } => dst < 28 && base < 28 && is_index(index),
+            Micro::Store { src, base, index } => src < 28 && base < 28 && is_index(index),
+            Micro::BranchNz { a, .. } => a < 28,
+            Micro::Label { .. } => true,
+            Micro::Barrier { kind } => is_barrier(kind),
+            _ => false,
+        }
+    }
+
+    fn need(shape: &Shape) -> u32 {
+        u32::from(shape.loads)
+            + u32::from(shape.stores)
+            + u32::from(shape.addr)
+            + u32::from(shape.places)
+    }
+
+    fn put_link(link: Link, from: Option<u8>, label: u8, out: &mut Instrs) {
+        put::link(link, from, label, out);
+    }
+
+    fn put_load(regs: &mut Regs, link: Link, from: Option<u8>, place: u8, out: &mut Instrs) -> u8 {
+        put::load(regs, link, from, place, out)
+    }
+
+    fn put_store(
+        regs: &mut Regs,
+        link: Link,
+        from: Option<u8>,
+        place: u8,
+        value: u8,
+        out: &mut Instrs,
+    ) {
+        put::store(regs, link, from, place, value, out);
+    }
+
+    fn print(op: &Micro, _places: &Places, out: &mut ArrayString<MAX_TEXT>) {
+        write::print(*op, out);
+    }
+
+    fn read_raw<'a>(word: &'a [u8], operands: Operands<'a>) -> Option<Raw<'a>> {
+        read::read(word, operands)
+    }
+
+    fn register_name(r: u8, out: &mut RegName) {
+        out.clear();
+        write::X.push(r, out);
+    }
+
+    ghost same_name = { refl };
+
+    ghost same_registers = { refl };
+
+    ghost laws = { a64_laws };
+
+    ghost reads_back = { a64_reads_back };
+}
+
+fn is_index(index: Option<u8>) -> bool
+    ensures { result ≡ is_index index }
+{
+    match index {
+        Some(r) => r < 28,
+        None => true,
+    }
+}
+
+fn is_barrier(kind: Barrier) -> bool
+    ensures { result ≡ is_barrier kind }
+{
+    matches!(
+        kind,
+        Barrier::Fence(FenceKind::DmbSy | FenceKind::DmbLd | FenceKind::DmbSt) | Barrier::Isb
+    )
+}

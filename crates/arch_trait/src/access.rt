@@ -1,0 +1,78 @@
+ghost use Rattle.std.specs.Prelude.{◌≡◌, ◌≤◌, ◌+◌};
+ghost use Rattle.arch_trait.specs.Links.{is_addr, is_data, source_if};
+ghost use Rattle.arch_trait.specs.Taking.{took, address_of, with_address};
+
+use crate::link::Link;
+use crate::regs::Regs;
+
+/// The registers of an access without an address dependency: that of what is loaded or stored, and
+/// the one that holds the address.
+#[derive(Clone, Copy, Debug)]
+pub struct PlainAccess {
+    pub value: u8,
+    pub address: u8,
+}
+
+/// The registers of an access whose address depends on a load, with the one for the dependency.
+#[derive(Clone, Copy, Debug)]
+pub struct DependentAccess {
+    pub dependency: u8,
+    pub value: u8,
+    pub address: u8,
+}
+
+impl Regs {
+    /// Takes the registers of an access of the place without an address dependency, in their order.
+    #[tactic(auto, using(crate::proofs::Accesses::address_next))]
+    pub fn take_plain(&mut self, place: u8) -> PlainAccess
+        requires { (with_address (took self.old 1) place).next ≤ self.old.count }
+        ensures value { result.value ≡ self.old.next }
+        ensures address { result.address ≡ address_of (took self.old 1) place }
+        ensures taken { self.new ≡ with_address (took self.old 1) place }
+    {
+        let value = self.take();
+        let address = self.address(place);
+        PlainAccess { value, address }
+    }
+
+    /// Takes the registers of an access of the place whose address depends on a load, in their order.
+    #[tactic(auto, using(crate::proofs::Accesses::address_next))]
+    pub fn take_dependent(&mut self, place: u8) -> DependentAccess
+        requires { (with_address (took self.old 2) place).next ≤ self.old.count }
+        ensures dependency { result.dependency ≡ self.old.next }
+        ensures value { result.value ≡ self.old.next + 1 }
+        ensures address { result.address ≡ address_of (took self.old 2) place }
+        ensures taken { self.new ≡ with_address (took self.old 2) place }
+    {
+        let dependency = self.take();
+        let value = self.take();
+        let address = self.address(place);
+        DependentAccess {
+            dependency,
+            value,
+            address,
+        }
+    }
+}
+
+/// The register that the address of an access depends on, if it does.
+pub fn address_source(link: Link, from: Option<u8>) -> Option<u8>
+    ensures { result ≡ source_if (is_addr link) from }
+{
+    if matches!(link, Link::Addr) {
+        from
+    } else {
+        None
+    }
+}
+
+/// The register that the value of a store depends on, if it does.
+pub fn data_source(link: Link, from: Option<u8>) -> Option<u8>
+    ensures { result ≡ source_if (is_data link) from }
+{
+    if matches!(link, Link::Data) {
+        from
+    } else {
+        None
+    }
+}
