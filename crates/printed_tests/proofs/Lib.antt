@@ -1,0 +1,3 @@
+pub mod Mentioning
+pub mod Rereading
+pub mod Forcing
