@@ -1,3 +1,4 @@
 pub mod Mentioning
 pub mod Rereading
 pub mod Forcing
+pub mod Fits

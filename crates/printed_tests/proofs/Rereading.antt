@@ -52,7 +52,7 @@ abbrev pub by_table : List (List ℕ) → List (List ℕ) → ℕ → ℕ
 by_table table places place = place_in table (name_in places place)
 
 -- the name at a place of a table
-got_is : (xs : List (List ℕ)) (k : ℕ) (x : List ℕ) → slice_get xs k ≡ Some x → get_or xs k [] ≡ x
+pub got_is : (xs : List (List ℕ)) (k : ℕ) (x : List ℕ) → slice_get xs k ≡ Some x → get_or xs k [] ≡ x
 got_is [] k x g = cc
 got_is (y ∷ xs) zero x g = cc
 got_is (y ∷ xs) (suc k) x g = got_is xs k x g
