@@ -1,4 +1,5 @@
-ghost use Rattle.std.specs.Prelude.{◌≡◌, ◌<◌, ◌+◌, ◌^◌, length, Ok};
+ghost use Rattle.std.specs.Prelude.{◌≡◌, ◌<◌, ◌+◌, ◌^◌, true, length, IfOk, Ok};
+ghost use Rattle.diy_words.specs.Names.{is_name};
 ghost use Rattle.diy_words.specs.Requests.{asked_of};
 ghost use Rattle.diy_words.specs.Given.{Gives, Steps, IsPlain, IsOption, held, saying_from, shown, finished_with, all_absorbed, nothing_held};
 
@@ -11,7 +12,10 @@ use diy_io::Words;
 /// The request that the words make, or the first fault among them: words are judged from left to
 /// right, an option with its value, and then all of them.
 pub fn read_request(words: &Words) -> Result<DiyOne, Usage>
-    ensures { Gives result (asked_of words.now) }
+    ensures given { Gives result (asked_of words.now) }
+
+    // The name has the form of a test's name.
+    ensures named { IfOk result (λ request. is_name request.name.bytes ≡ true) }
 {
     if words.len() == 0 {
         return Err(Usage {

@@ -11,6 +11,7 @@ pub mod Tying
 pub mod TestCodes
 pub mod Everywhere
 pub mod PlaceNames
+pub mod RegisterNames
 pub mod Meeting
 pub mod Asking
 pub mod Headline

@@ -1,8 +1,5 @@
 -- The test that is made of a cycle forces it.
 use Rattle.std.proofs.Common.{◌≡◌, ℕ, zero, suc, ◌+◌, ◌<◌, false, cond, List, [], ◌∷◌, length, get_or, Option, Some, None, Result, Ok, Err, refl, sym, ap, ◌∙◌, arith, subst}
-use Rattle.std.specs.List.{position_from, IsDistinct, AllByRecursion}
-use Rattle.std.specs.Str.{bytes_eq}
-use Rattle.std.proofs.lemmas.Slice.Eq.{bytes_eq-Decides}
 use Rattle.relax_edges.specs.declared.kinds.ObsMode.{ObsMode}
 use Rattle.relax_edges.specs.declared.edge.Edge.{Edge}
 use Rattle.cycle_resolve.specs.Resolution.{IsResolved}
@@ -15,32 +12,14 @@ use Rattle.arch_trait.specs.Names.{number_in}
 use Rattle.arch_trait.specs.Threads.{Puts}
 use Rattle.arch_trait.specs.Writing.{Writing, WritesBack, name_in}
 use Rattle.litmus_text.specs.declared.test.Test.{Test}
-use Rattle.test_laws.specs.Headline.{FindsRegisters, Forces}
+use Rattle.test_laws.specs.Headline.{Forces}
 use Rattle.test_laws.specs.Steps.{cycle_steps}
 use Rattle.test_laws.specs.TestOf.{TestSeen, plain}
 use Rattle.test_laws.proofs.Headline.{room_left, tests_force_law}
+use Rattle.test_laws.proofs.RegisterNames.{registers_found}
 use Rattle.test_maker.specs.declared.refusal.MakeRefusal.{MakeRefusal}
 use Rattle.test_maker.specs.Made.{AreOfArch, MadeForces, MakesValued, test_view}
 use Rattle.test_maker.proofs.Printing.{uncrowded}
-
-each_at : (P : List ℕ → Type 0) (names : List (List ℕ)) (i : ℕ) → AllByRecursion P names → i < length names → P (get_or names i [])
-each_at P [] i all h = absurd (omega (arith, h))
-each_at P (x ∷ names) zero all h = all.0
-each_at P (x ∷ names) (suc i) all h = each_at P names i all.1 (omega (arith, h))
-
--- each of some distinct names is found where it stands
-name_found : (names : List (List ℕ)) (k i : ℕ) → IsDistinct bytes_eq names → i < length names → position_from (λ x. bytes_eq x (get_or names i [])) k names ≡ Some (k + i)
-unfolding IsDistinct
-name_found [] k i once h = absurd (omega (arith, h))
-name_found (x ∷ names) k zero once h = ap (λ b. cond b (Some k) (position_from (λ y. bytes_eq y x) (k + 1) names)) ((bytes_eq-Decides x x).1 refl) ∙ ap Some (omega arith)
-name_found (x ∷ names) k (suc i) once h =
-    let name = get_or names i [] in
-    ap (λ b. cond b (Some k) (position_from (λ y. bytes_eq y name) (k + 1) names)) (each_at (λ y. bytes_eq x y ≡ false) names i once.0 (omega (arith, h)))
-    ∙ (name_found names (k + 1) i once.1 (omega (arith, h)) ∙ ap Some (omega arith))
-
--- the registers of an architecture are found by their names
-registers_found : (a : Puts) (w : Writing) → WritesBack a w → FindsRegisters a (name_in w.registers) (number_in w.registers)
-registers_found a w back register h = name_found w.registers 0 register back.once (omega (arith, h, back.count)) ∙ ap Some (omega arith)
 
 -- what a call made of a resolved and valued cycle forces it
 made_forces : (a : Puts) (w : Writing) → IsArch a → WritesBack a w → (es : List Edge) (mode : ObsMode) (test : Test) (result : Result (Unit {0}) MakeRefusal) →
