@@ -1,10 +1,15 @@
 -- An architecture as the tools use it: its code, and how that is written.
 -- Source: own.
 use Rattle.relax_edges.specs.declared.kinds.ArchName.{ArchName}
+use Rattle.relax_edges.specs.declared.kinds.ArchName.TheVariants as archs
 use Rattle.arch_trait.specs.Threads.{Puts}
 use Rattle.arch_trait.specs.Writing.{Writing}
 use Rattle.arch_x86.specs.Puts as x86
 use Rattle.arch_x86.specs.Text as x86_text
+use Rattle.arch_power.specs.Puts as power
+use Rattle.arch_power.specs.Text as power_text
+use Rattle.arch_aarch64.specs.Puts as aarch64
+use Rattle.arch_aarch64.specs.Text as aarch64_text
 
 pub record Machine : Type 0 where
   pub puts : Puts
@@ -15,4 +20,7 @@ machine puts writing = record { puts = puts; writing = writing }
 
 -- the architecture with a name
 abbrev pub machine_of : ArchName → Machine
-machine_of _ = machine x86.puts x86_text.writing
+machine_of archs.X86 = machine x86.puts x86_text.writing
+machine_of archs.PPC = machine power.puts power_text.writing
+machine_of archs.AArch64 = machine aarch64.puts aarch64_text.writing
+machine_of archs.RISCV = machine x86.puts x86_text.writing

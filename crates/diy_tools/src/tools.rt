@@ -14,13 +14,15 @@ ghost use Rattle.diy_tools.specs.Answers.{Answers, AnswersEdges, Prints, TakesLi
 
 use crate::report::report;
 use crate::status::{Device, Refusal, Status};
+use arch_aarch64::A64;
+use arch_power::Power;
 use arch_trait::Arch;
 use arch_x86::X86;
 use diy_io::{Failed, Sink, Words};
 use diy_words::{DiyOne, EdgeList, read_request};
 use edge_algebra::{Cycle, cycle};
 use litmus_text::{Test, print_test};
-use relax_edges::{Edge, MAX_EDGES, ObsMode};
+use relax_edges::{ArchName, Edge, MAX_EDGES, ObsMode};
 use std::alloc::Global;
 use test_maker::make;
 
@@ -62,7 +64,12 @@ fn diyone<O: Sink>(request: &DiyOne, out: &mut O) -> Status
     ensures forces { WherePrinted (TestForcesCycle (machine_of request.now.arch) request.now.mode (edges_kept request.now.edges)) result }
     ensures location { NamesLocation result }
 {
-    diyone_on::<X86, O>(request, out)
+    match request.arch {
+        ArchName::X86 => diyone_on::<X86, O>(request, out),
+        ArchName::PPC => diyone_on::<Power, O>(request, out),
+        ArchName::AArch64 => diyone_on::<A64, O>(request, out),
+        ArchName::RISCV => diyone_on::<X86, O>(request, out),
+    }
 }
 
 /// Prints the test that is asked for, on an architecture.

@@ -1,7 +1,7 @@
 -- The words behind the tool's name: options, each with the word behind it as its value, and operands.
 use Rattle.std.specs.Prelude.{ℕ, ◌+◌, List, [], ◌∷◌, Option, Some, None, codes, if◌then◌else◌}
 use Rattle.std.specs.Str.{bytes_eq}
-use Rattle.relax_edges.specs.declared.kinds.ArchName.TheVariants.{X86}
+use Rattle.relax_edges.specs.declared.kinds.ArchName.TheVariants.{X86, PPC, AArch64}
 use Rattle.relax_edges.specs.declared.kinds.ObsMode.{ObsMode}
 use Rattle.relax_edges.specs.declared.kinds.ObsMode.TheVariants as modes
 use Rattle.diy_words.specs.declared.options.Tool.{Tool}
@@ -27,7 +27,7 @@ option_named = named ((codes "-arch", opts.Arch) ∷ (codes "-name", opts.Name) 
 
 -- the architectures by their names
 abbrev pub arch_spoken : List ℕ → Option Spoken
-arch_spoken = named ((codes "X86", Built X86) ∷ (codes "PPC", Later) ∷ (codes "AArch64", Later) ∷ (codes "RISCV", Later) ∷ [])
+arch_spoken = named ((codes "X86", Built X86) ∷ (codes "PPC", Built PPC) ∷ (codes "AArch64", Built AArch64) ∷ (codes "RISCV", Later) ∷ [])
 
 -- the observer modes by their names
 abbrev pub mode_named : List ℕ → Option ObsMode

@@ -61,8 +61,8 @@ pub fn arch_spoken(text: &str) -> Option<Spoken>
 {
     match text {
         "X86" => Some(Spoken::Built(ArchName::X86)),
-        "PPC" => Some(Spoken::Later),
-        "AArch64" => Some(Spoken::Later),
+        "PPC" => Some(Spoken::Built(ArchName::PPC)),
+        "AArch64" => Some(Spoken::Built(ArchName::AArch64)),
         "RISCV" => Some(Spoken::Later),
         _ => None,
     }
