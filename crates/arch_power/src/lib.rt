@@ -10,6 +10,8 @@ ghost use Rattle.std.specs.Prelude.{◌≡◌};
 ghost use Rattle.arch_power.specs.Text.{writing as power_writing};
 
 mod put;
+#[cfg(test)]
+mod tests;
 mod text;
 
 use arch_trait::{Arch, Instrs, Link, MAX_TEXT, Operands, Places, Raw, Regs, Shape};
@@ -117,8 +119,6 @@ fn is_barrier(kind: Barrier) -> bool
 {
     matches!(
         kind,
-        Barrier::Fence(
-            FenceKind::Sync | FenceKind::LwSync | FenceKind::Eieio | FenceKind::ISync
-        )
+        Barrier::Fence(FenceKind::Sync | FenceKind::LwSync | FenceKind::Eieio | FenceKind::ISync)
     )
 }

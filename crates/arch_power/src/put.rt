@@ -33,13 +33,13 @@ fn fenced(fence: FenceKind) -> Micro
 }
 
 /// Appends a branch on the register to the label right behind it.
-fn branch(source: u8, label: u8, out: &mut Instrs)
+fn branch(register: u8, label: u8, out: &mut Instrs)
     requires { array_vec_len out.old + 3 ≤ MAX_INSTRS }
-    ensures { out.new.items ≡ out.old.items ++ branch_code (Some source) label [] }
+    ensures { out.new.items ≡ out.old.items ++ branch_code (Some register) label [] }
 {
     out.push(Micro::Cmp {
-        a: source,
-        b: source,
+        a: register,
+        b: register,
     });
     out.push(Micro::BranchEq { label });
     out.push(Micro::Label { label });
@@ -83,16 +83,16 @@ fn load_indexed(regs: &mut Regs, source: u8, place: u8, out: &mut Instrs) -> u8
     ensures taken { regs.new ≡ (load_on regs.old (Some source) place).regs }
     ensures code { out.new.items ≡ out.old.items ++ (load_on regs.old (Some source) place).code }
 {
-    let index = regs.take();
-    let dst = regs.take();
+    let zero = regs.take();
+    let filled = regs.take();
     let base = regs.address(place);
-    out.push(zero_from(source, index));
+    out.push(zero_from(source, zero));
     out.push(Micro::Load {
-        dst,
+        dst: filled,
         base,
-        index: Some(index),
+        index: Some(zero),
     });
-    dst
+    filled
 }
 
 /// `xor` of a register with itself: 0, which depends on it.
