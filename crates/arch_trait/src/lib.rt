@@ -22,8 +22,8 @@ pub use code::{Code, TooManyRegisters, compile_into, compile_thread};
 pub use link::{Link, link_of};
 pub use numbered::Numbered;
 pub use operand::{
-    MAX_IMMEDIATE, immediate, inside_brackets, inside_pointed, push_label, read_bare,
-    read_label, read_label_alone, read_to_label,
+    MAX_IMMEDIATE, immediate, inside_brackets, inside_pointed, push_label, read_bare, read_label,
+    read_label_alone, read_to_label,
 };
 pub use places::{MAX_PLACES, Places};
 pub use reading::{InstrError, Named, Operands, Raw};
