@@ -8,7 +8,7 @@ use Rattle.micro_ops.specs.declared.operation.Micro.{Micro}
 use Rattle.micro_ops.specs.declared.operation.Micro.TheVariants as ops
 use Rattle.micro_ops.specs.declared.operation.Barrier.{Barrier}
 use Rattle.micro_ops.specs.declared.operation.Barrier.TheVariants as barriers
-use Rattle.arch_trait.specs.declared.operand.Numbered.{Numbered}
+use Rattle.arch_trait.specs.declared.numbered.Numbered.{Numbered}
 use Rattle.arch_aarch64.specs.declared.read.Access.{Access}
 use Rattle.arch_trait.specs.Forms.{register_name, register_names, register_in, three_registers, unnamed, bare, label_alone}
 use Rattle.arch_trait.specs.Writing.{OperandTexts, none, one, two, three, four, Written, label, RawInstr, Writing, bracketed, inside_brackets, immediate, label_name, label_word}

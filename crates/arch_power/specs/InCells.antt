@@ -10,16 +10,13 @@ use Rattle.micro_ops.specs.declared.operation.Micro.{Micro}
 use Rattle.micro_ops.specs.declared.operation.Micro.TheVariants as ops
 use Rattle.micro_ops.specs.declared.operation.Barrier.{Barrier}
 use Rattle.micro_ops.specs.declared.operation.Barrier.TheVariants as barriers
-use Rattle.arch_trait.specs.declared.link.Link.{Link}
-use Rattle.arch_trait.specs.declared.link.Link.TheVariants as links
-use Rattle.arch_trait.specs.Cells.{is_cell_byte, ends_rows, is_label_op, WritesCells, accesses_in, MakesOneAccess}
+use Rattle.arch_trait.specs.Cells.{is_cell_byte, ends_rows, is_label_op, WritesCells, MakesOneAccess}
 use Rattle.arch_trait.specs.Forms.{pointed}
-use Rattle.arch_trait.specs.Links.{is_addr, is_data, source_if}
-use Rattle.arch_trait.specs.Taking.{Taken}
 use Rattle.arch_trait.specs.Writing.{op_text, name_of, is_named, label_name}
+use Rattle.arch_trait.proofs.Addressed.{accesses_once}
 use Rattle.arch_trait.proofs.CellTexts.{decimal_cell}
 use Rattle.arch_trait.proofs.FormBacks.{name_cell, name_short, pointed_cell, length-pointed, label_cell, two_cell, three_cell, length-two, length-three}
-use Rattle.arch_power.specs.Puts.{puts, has, is_register, link_code, load_on, store_on}
+use Rattle.arch_power.specs.Puts.{puts, instructions, has, is_register}
 use Rattle.arch_power.specs.Text.{general, register, writing}
 use Rattle.arch_power.specs.Names.{are_numbered}
 
@@ -180,29 +177,11 @@ writes_cells = record {
   short = λ names op h named. short names op h;
 }
 
-no_access : (link : Link) (from : Option ℕ) (n : ℕ) → accesses_in (link_code link from n) ≡ 0
-no_access (links.Fence kind) from n = refl
-no_access links.Plain from n = refl
-no_access links.Addr from n = refl
-no_access links.Data from n = refl
-no_access links.Ctrl None n = refl
-no_access links.Ctrl (Some s) n = refl
-no_access links.CtrlIsync None n = refl
-no_access links.CtrlIsync (Some s) n = refl
-no_access links.CtrlIsb from n = refl
-
-one_load : (g : Taken) (o : Option ℕ) (p : ℕ) → accesses_in (load_on g o p).code ≡ 1
-one_load g None p = refl
-one_load g (Some s) p = refl
-
-one_store : (g : Taken) (o d : Option ℕ) (p v : ℕ) → accesses_in (store_on g o d p v).code ≡ 1
-one_store g None None p v = refl
-one_store g None (Some s) p v = refl
-one_store g (Some s) d p v = refl
-
+-- each of Power's loads and stores is one instruction
 pub makes_one_access : MakesOneAccess puts
-makes_one_access = record {
-  link = no_access;
-  load = λ g link from p. one_load g (source_if (is_addr link) from) p;
-  store = λ g link from p v. one_store g (source_if (is_addr link) from) (source_if (is_data link) from) p v;
-}
+makes_one_access = accesses_once instructions (record {
+  branch = λ s n rest. refl;
+  load = λ d v a. refl;
+  store = λ d v a. refl;
+  joins = λ d n a. refl;
+})

@@ -62,10 +62,9 @@ impl Arch for Power {
     }
 
     fn put_load(regs: &mut Regs, link: Link, from: Option<u8>, place: u8, out: &mut Instrs) -> u8 {
-        put::load(regs, link.address_source(from), place, out)
+        put::load(regs, link, from, place, out)
     }
 
-    #[tactic(auto, using(crate::specs::Laws::store_room))]
     fn put_store(
         regs: &mut Regs,
         link: Link,
@@ -74,14 +73,7 @@ impl Arch for Power {
         value: u8,
         out: &mut Instrs,
     ) {
-        put::store(
-            regs,
-            link.address_source(from),
-            link.data_source(from),
-            place,
-            value,
-            out,
-        );
+        put::store(regs, link, from, place, value, out);
     }
 
     fn print(op: &Micro, _places: &Places, out: &mut ArrayString<MAX_TEXT>) {

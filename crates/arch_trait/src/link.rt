@@ -1,5 +1,5 @@
 ghost use Rattle.std.specs.Prelude.{◌≡◌};
-ghost use Rattle.arch_trait.specs.Links.{edge_link, depends, branches, is_addr, is_data, source_if};
+ghost use Rattle.arch_trait.specs.Links.{edge_link, depends, branches};
 
 use relax_edges::{DepKind, Edge, FenceKind};
 
@@ -53,26 +53,5 @@ impl Link {
         ensures { result ≡ branches self }
     {
         matches!(self, Link::Ctrl | Link::CtrlIsync | Link::CtrlIsb)
-    }
-
-    /// The register that the address of the access depends on, of the register that a dependency
-    /// is on.
-    pub fn address_source(self, from: Option<u8>) -> Option<u8>
-        ensures { result ≡ source_if (is_addr self) from }
-    {
-        match self {
-            Link::Addr => from,
-            _ => None,
-        }
-    }
-
-    /// The register that the value of a store depends on.
-    pub fn data_source(self, from: Option<u8>) -> Option<u8>
-        ensures { result ≡ source_if (is_data self) from }
-    {
-        match self {
-            Link::Data => from,
-            _ => None,
-        }
     }
 }
