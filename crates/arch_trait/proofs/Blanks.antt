@@ -7,7 +7,7 @@ use Rattle.std.proofs.lemmas.List.Splits.{slice_split_first, slice_split_none}
 use Rattle.std.proofs.lemmas.List.Sums.{fails_before_first}
 use Rattle.final_cond.specs.Runs.{is_blank, unblanked, after_run}
 use Rattle.final_cond.proofs.NameLaws.{rest_is}
-use Rattle.arch_trait.specs.Writing.{none, one, two, three, more}
+use Rattle.arch_trait.specs.Writing.{none, one, two, three, four, more}
 use Rattle.arch_trait.specs.Reading.{kept_before, before_blanks, trimmed, few, operands_if, operands_in}
 use Rattle.arch_trait.proofs.Taking.{by_test}
 
@@ -132,15 +132,26 @@ operands_three t u a r b q e h s i j =
     operands_some t u e h ∙
     ap (λ l. few (map trimmed l)) (s ∙ ap (λ l. a ∷ l) (i ∙ ap (λ l. b ∷ l) j))
 
-pub operands_more : (t u a r b q d p : List ℕ) → u ≡ trimmed t → 1 ≤ length u →
+pub operands_four : (t u a r b q d p : List ℕ) → u ≡ trimmed t → 1 ≤ length u →
     slice_split is_comma u ≡ a ∷ slice_split is_comma r →
     slice_split is_comma r ≡ b ∷ slice_split is_comma q →
-    slice_split is_comma q ≡ d ∷ slice_split is_comma p → operands_in t ≡ more
-operands_more t u a r b q d p e h s i j =
+    slice_split is_comma q ≡ d ∷ slice_split is_comma p → slice_split is_comma p ≡ p ∷ [] →
+    operands_in t ≡ four (trimmed a) (trimmed b) (trimmed d) (trimmed p)
+operands_four t u a r b q d p e h s i j k =
     operands_some t u e h ∙
-    (ap (λ l. few (map trimmed l)) (s ∙ ap (λ l. a ∷ l) (i ∙ ap (λ l. b ∷ l) j)) ∙ rest p)
+    ap (λ l. few (map trimmed l)) (s ∙ ap (λ l. a ∷ l) (i ∙ ap (λ l. b ∷ l) (j ∙ ap (λ l. d ∷ l) k)))
+
+pub operands_more : (t u a r b q d p c o : List ℕ) → u ≡ trimmed t → 1 ≤ length u →
+    slice_split is_comma u ≡ a ∷ slice_split is_comma r →
+    slice_split is_comma r ≡ b ∷ slice_split is_comma q →
+    slice_split is_comma q ≡ d ∷ slice_split is_comma p →
+    slice_split is_comma p ≡ c ∷ slice_split is_comma o → operands_in t ≡ more
+operands_more t u a r b q d p c o e h s i j k =
+    operands_some t u e h ∙
+    (ap (λ l. few (map trimmed l))
+    (s ∙ ap (λ l. a ∷ l) (i ∙ ap (λ l. b ∷ l) (j ∙ ap (λ l. d ∷ l) k))) ∙ rest o)
   where
-    rest : (p : List ℕ) → few (map trimmed (a ∷ b ∷ d ∷ slice_split is_comma p)) ≡ more
+    rest : (p : List ℕ) → few (map trimmed (a ∷ b ∷ d ∷ c ∷ slice_split is_comma p)) ≡ more
     rest p = some_piece (slice_split is_comma p) (pieces p)
       where
         IsSome : List (List ℕ) → Type 0
@@ -157,7 +168,7 @@ operands_more t u a r b q d p e h s i j =
             of_test false [] = tt
             of_test false (y ∷ l) = tt
 
-        some_piece : (l : List (List ℕ)) → IsSome l → few (map trimmed (a ∷ b ∷ d ∷ l)) ≡ more
+        some_piece : (l : List (List ℕ)) → IsSome l → few (map trimmed (a ∷ b ∷ d ∷ c ∷ l)) ≡ more
         some_piece [] h = absurd h
         some_piece (x ∷ l) h = refl
 
@@ -188,3 +199,15 @@ gave_three t u a r b q x y z e h s i j f g k =
     ap (λ l. three l y z) f ∙
     (ap (λ l. three (trimmed a) l z) g ∙
     (ap (λ l. three (trimmed a) (trimmed b) l) k ∙ sym (operands_three t u a r b q e h s i j)))
+
+pub gave_four : (t u a r b q d p x y z w : List ℕ) → u ≡ trimmed t → 1 ≤ length u →
+    slice_split is_comma u ≡ a ∷ slice_split is_comma r →
+    slice_split is_comma r ≡ b ∷ slice_split is_comma q →
+    slice_split is_comma q ≡ d ∷ slice_split is_comma p → slice_split is_comma p ≡ p ∷ [] →
+    x ≡ trimmed a → y ≡ trimmed b → z ≡ trimmed d → w ≡ trimmed p → four x y z w ≡ operands_in t
+gave_four t u a r b q d p x y z w e h s i j m f g k n =
+    ap (λ l. four l y z w) f ∙
+    (ap (λ l. four (trimmed a) l z w) g ∙
+    (ap (λ l. four (trimmed a) (trimmed b) l w) k ∙
+    (ap (λ l. four (trimmed a) (trimmed b) (trimmed d) l) n ∙
+    sym (operands_four t u a r b q d p e h s i j m))))

@@ -13,3 +13,5 @@ pub mod PlainTexts
 pub mod Renumbered
 pub mod CellTexts
 pub mod Ordered
+pub mod Addressed
+pub mod FormBacks

@@ -6,7 +6,7 @@ use Rattle.std.specs.List.{list_all}
 use Rattle.std.specs.Str.Parse.{digits_value}
 use Rattle.std.proofs.lemmas.Bool.{and_parts, and_from, le-leb, lt-ltb, eq-eqb, eqb-true, eqb-false}
 use Rattle.std.proofs.lemmas.Bool.Decides.{nat_tests}
-use Rattle.std.proofs.lemmas.Fmt.{digits_decimal}
+use Rattle.std.proofs.lemmas.Fmt.{digits_decimal, length-decimal-le}
 use Rattle.std.proofs.lemmas.List.Folds.{list_all-append}
 use Rattle.std.proofs.lemmas.Str.Parse.{IsNumeralModel, numerals_by_value}
 use Rattle.final_cond.specs.Names.{is_place_name, is_register_name, is_place_byte, begins_place}
@@ -23,6 +23,9 @@ pub immediate_back : (n : ℕ) → n ≤ 2047 → immediate (decimal n) ≡ Some
 unfolding immediate
 immediate_back n h =
     ap (at_most 2047) (number_of-decimal n (omega arith)) ∙ rw (le-leb n 2047 h) refl
+
+pub three_digits : (n : ℕ) → n < 1000 → length (decimal n) ≤ 3
+three_digits n h = length-decimal-le 3 n (omega arith) (omega arith) (omega arith)
 
 -- what stands in brackets is read from them
 last_is : (t : List ℕ) (x : ℕ) → get_or (t ++ x ∷ []) (length t) 0 ≡ x

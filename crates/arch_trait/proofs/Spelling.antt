@@ -5,7 +5,7 @@ use Rattle.std.specs.List.{list_all, slice_split, onto_first}
 use Rattle.final_cond.specs.Runs.{is_blank, run_of, after_run, unblanked}
 use Rattle.micro_ops.specs.declared.operation.Micro.{Micro}
 use Rattle.arch_trait.specs.Threads.{Puts}
-use Rattle.arch_trait.specs.Writing.{OperandTexts, none, one, two, three, more, Written, Writing, WritesBack, listed, text_of, op_text, is_plain, all_plain, raw_of, name_of, is_named, with_number}
+use Rattle.arch_trait.specs.Writing.{OperandTexts, none, one, two, three, four, more, Written, Writing, WritesBack, listed, text_of, op_text, is_plain, all_plain, raw_of, name_of, is_named, with_number}
 use Rattle.arch_trait.specs.Reading.{kept_before, before_blanks, trimmed, is_inked, few, operands_if, operands_in, written_in, numbered, number_raw, instr_read}
 
 -- a byte of a word: no blank and no comma
@@ -179,6 +179,17 @@ three_pieces a b c u v w =
     (ap (λ x. three x (trimmed b) (trimmed c)) (trimmed_word a u) ∙
     (ap (λ x. three a x (trimmed c)) (trimmed_word b v) ∙ ap (λ x. three a b x) (trimmed_word c w)))
 
+four_pieces : (a b c d : List ℕ) → IsWord a → IsWord b → IsWord c → IsWord d →
+    few (map trimmed (slice_split (λ x. x == 44) (a ++ 44 ∷ (b ++ 44 ∷ (c ++ 44 ∷ d))))) ≡ four a b c d
+four_pieces a b c d u v w x =
+    ap (λ l. few (map trimmed l))
+    (split_word a (b ++ 44 ∷ (c ++ 44 ∷ d)) u.bytes ∙
+    ap (λ l. a ∷ l) (split_word b (c ++ 44 ∷ d) v.bytes ∙
+    ap (λ l. b ∷ l) (split_word c d w.bytes ∙ ap (λ l. c ∷ l) (split_last d x.bytes)))) ∙
+    (ap (λ t. four t (trimmed b) (trimmed c) (trimmed d)) (trimmed_word a u) ∙
+    (ap (λ t. four a t (trimmed c) (trimmed d)) (trimmed_word b v) ∙
+    (ap (λ t. four a b t (trimmed d)) (trimmed_word c w) ∙ ap (λ t. four a b c t) (trimmed_word d x))))
+
 operands_back : (o : OperandTexts) → all_plain o ≡ true → operands_in (listed o) ≡ o
 unfolding operands_in
 operands_back none h = ap operands_if trimmed_nil
@@ -206,6 +217,21 @@ operands_back (three a b c) h =
     (ap operands_if (trimmed_words a (44 ∷ (b ++ 44 ∷ [])) c u w) ∙
     (ap (λ l. operands_if (a ++ l)) e ∙
     (some_operands a (44 ∷ (b ++ 44 ∷ c)) u ∙ three_pieces a b c u v w)))
+operands_back (four a b c d) h =
+    let p = and_parts (is_plain a) (is_plain b && (is_plain c && is_plain d)) h in
+    let q = and_parts (is_plain b) (is_plain c && is_plain d) p.1 in
+    let r = and_parts (is_plain c) (is_plain d) q.1 in
+    let u = word_is a p.0 in
+    let v = word_is b q.0 in
+    let w = word_is c r.0 in
+    let x = word_is d r.1 in
+    let e : (44 ∷ (b ++ 44 ∷ (c ++ 44 ∷ []))) ++ d ≡ 44 ∷ (b ++ 44 ∷ (c ++ 44 ∷ d)) =
+    ap (λ l. 44 ∷ l) (append_assoc b (44 ∷ (c ++ 44 ∷ [])) d ∙
+    ap (λ l. b ++ 44 ∷ l) (append_assoc c (44 ∷ []) d)) in
+    ap (λ l. operands_if (trimmed (32 ∷ (a ++ l)))) (sym e) ∙
+    (ap operands_if (trimmed_words a (44 ∷ (b ++ 44 ∷ (c ++ 44 ∷ []))) d u x) ∙
+    (ap (λ l. operands_if (a ++ l)) e ∙
+    (some_operands a (44 ∷ (b ++ 44 ∷ (c ++ 44 ∷ d))) u ∙ four_pieces a b c d u v w x)))
 operands_back more h = cc
 
 -- the operands stand behind a blank, or there are none
@@ -220,6 +246,10 @@ word_back word (two a b) w h =
     (run_word word (a ++ 44 ∷ b) w.bytes, after_word word (a ++ 44 ∷ b) w.bytes)
 word_back word (three a b c) w h =
     (run_word word (a ++ 44 ∷ (b ++ 44 ∷ c)) w.bytes, after_word word (a ++ 44 ∷ (b ++ 44 ∷ c)) w.bytes)
+word_back word (four a b c d) w h = (
+  run_word word (a ++ 44 ∷ (b ++ 44 ∷ (c ++ 44 ∷ d))) w.bytes,
+  after_word word (a ++ 44 ∷ (b ++ 44 ∷ (c ++ 44 ∷ d))) w.bytes,
+)
 word_back word more w h = cc
 
 -- an instruction of plain words reads back from its text

@@ -12,3 +12,5 @@ pub mod Cuts
 pub mod Renumbering
 pub mod Cells
 pub mod LabelOrder
+pub mod Addressed
+pub mod Forms

@@ -8,7 +8,7 @@ use Rattle.arch_trait.specs.declared.reading.Named.{Named}
 use Rattle.arch_trait.specs.declared.reading.Named.TheVariants as names
 use Rattle.arch_trait.specs.declared.reading.Raw.{Raw}
 use Rattle.arch_trait.specs.declared.reading.InstrError.{InstrError}
-use Rattle.arch_trait.specs.Writing.{OperandTexts, none, one, two, three, more, Name, nothing, place, label, RawInstr}
+use Rattle.arch_trait.specs.Writing.{OperandTexts, none, one, two, three, four, more, Name, nothing, place, label, RawInstr}
 use Rattle.arch_trait.specs.Reading.{ReadInstr}
 
 -- the texts of operands
@@ -17,6 +17,7 @@ texts_of operands.None = none
 texts_of (operands.One a) = one a.now
 texts_of (operands.Two a b) = two a.now b.now
 texts_of (operands.Three a b c) = three a.now b.now c.now
+texts_of (operands.Four a b c d) = four a.now b.now c.now d.now
 texts_of operands.More = more
 
 -- the name that an instruction has

@@ -8,7 +8,7 @@ use Rattle.micro_ops.specs.declared.operation.Micro.{Micro}
 use Rattle.arch_trait.specs.declared.reading.InstrError.{InstrError}
 use Rattle.arch_trait.specs.declared.reading.InstrError.TheVariants as errors
 use Rattle.arch_trait.specs.Names.{number_added, names_added}
-use Rattle.arch_trait.specs.Writing.{OperandTexts, none, one, two, three, more, Written, Name, nothing, place, label, RawInstr, Writing, is_label_name, with_number}
+use Rattle.arch_trait.specs.Writing.{OperandTexts, none, one, two, three, four, more, Written, Name, nothing, place, label, RawInstr, Writing, is_label_name, with_number}
 
 -- a byte before what stands behind it without blanks at its end
 abbrev pub kept_before : ℕ → List ℕ → List ℕ
@@ -34,7 +34,8 @@ few [] = none
 few (a ∷ []) = one a
 few (a ∷ b ∷ []) = two a b
 few (a ∷ b ∷ c ∷ []) = three a b c
-few (a ∷ b ∷ c ∷ d ∷ rest) = more
+few (a ∷ b ∷ c ∷ d ∷ []) = four a b c d
+few (a ∷ b ∷ c ∷ d ∷ e ∷ rest) = more
 
 -- the operands in the text behind the first word: none where it is blank, else those between its
 -- commas, without the blanks around them

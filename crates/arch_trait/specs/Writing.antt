@@ -11,12 +11,13 @@ use Rattle.micro_ops.specs.declared.operation.Micro.{Micro}
 use Rattle.micro_ops.specs.declared.operation.Micro.TheVariants as ops
 use Rattle.arch_trait.specs.Threads.{Puts}
 
--- the operands of an instruction: none, up to three, or more
+-- the operands of an instruction: none, up to four, or more
 pub data OperandTexts : Type 0 where
   none : OperandTexts
   one : List ℕ → OperandTexts
   two : List ℕ → List ℕ → OperandTexts
   three : List ℕ → List ℕ → List ℕ → OperandTexts
+  four : List ℕ → List ℕ → List ℕ → List ℕ → OperandTexts
   more : OperandTexts
 
 -- an instruction as it is written: its first word and its operands
@@ -49,6 +50,7 @@ listed none = []
 listed (one a) = 32 ∷ a
 listed (two a b) = 32 ∷ (a ++ 44 ∷ b)
 listed (three a b c) = 32 ∷ (a ++ 44 ∷ (b ++ 44 ∷ c))
+listed (four a b c d) = 32 ∷ (a ++ 44 ∷ (b ++ 44 ∷ (c ++ 44 ∷ d)))
 listed more = []
 
 -- the text of an instruction
@@ -126,6 +128,7 @@ all_plain none = true
 all_plain (one a) = is_plain a
 all_plain (two a b) = is_plain a && is_plain b
 all_plain (three a b c) = is_plain a && (is_plain b && is_plain c)
+all_plain (four a b c d) = is_plain a && (is_plain b && (is_plain c && is_plain d))
 all_plain more = false
 
 -- an immediate: a number of at most 2,047 in decimal

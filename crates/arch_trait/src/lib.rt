@@ -17,7 +17,10 @@ pub use arch::{Arch, Instrs, MAX_INSTRS, MAX_STEP_INSTRS, MAX_TEXT};
 pub use cells::{read_cell, register_named};
 pub use code::{Code, TooManyRegisters, compile_into, compile_thread};
 pub use link::{Link, link_of};
-pub use operand::{MAX_IMMEDIATE, Numbered, immediate, inside_brackets, push_label, read_label};
+pub use operand::{
+    MAX_IMMEDIATE, Numbered, immediate, inside_brackets, inside_pointed, push_label, read_bare,
+    read_label, read_label_alone, read_to_label,
+};
 pub use places::{MAX_PLACES, Places};
 pub use reading::{InstrError, Named, Operands, Raw};
 pub use regs::{Links, MAX_REGISTERS, Regs};

@@ -2,7 +2,8 @@ ghost use Rattle.std.specs.Prelude.{◌≡◌, ◌==◌};
 ghost use Rattle.std.specs.List.{position, slice_split};
 ghost use Rattle.final_cond.specs.Runs.{is_blank, run_of, after_run, unblanked};
 ghost use Rattle.arch_trait.specs.Reading.{before_blanks, trimmed, is_inked, operands_in};
-ghost use Rattle.arch_trait.specs.Pieces.{texts_of};
+ghost use Rattle.arch_trait.specs.Pieces.{texts_of, name_seen};
+ghost use Rattle.arch_trait.specs.Writing.{nothing};
 ghost use Rattle.arch_trait.specs.Cuts.{Cut};
 
 use micro_ops::Micro;
@@ -28,7 +29,8 @@ pub enum Operands<'a> {
     One(&'a [u8]),
     Two(&'a [u8], &'a [u8]),
     Three(&'a [u8], &'a [u8], &'a [u8]),
-    /// More than three.
+    Four(&'a [u8], &'a [u8], &'a [u8], &'a [u8]),
+    /// More than four.
     More,
 }
 
@@ -46,6 +48,19 @@ pub enum Named<'a> {
 pub struct Raw<'a> {
     pub op: Micro,
     pub name: Named<'a>,
+}
+
+impl Raw<'_> {
+    /// The instruction of an operation that names neither a place nor a label.
+    pub fn unnamed(op: Micro) -> Raw<'static>
+        ensures op { result.op ≡ op }
+        ensures name { name_seen result.name ≡ nothing }
+    {
+        Raw {
+            op,
+            name: Named::Nothing,
+        }
+    }
 }
 
 fn is_blank(byte: u8) -> bool
@@ -135,8 +150,16 @@ pub(crate) fn operands_of(text: &[u8]) -> Operands<'_>
     let Some((second, rest)) = cut_comma(rest) else {
         return Operands::Two(trimmed(first), trimmed(rest));
     };
+    let Some((third, rest)) = cut_comma(rest) else {
+        return Operands::Three(trimmed(first), trimmed(second), trimmed(rest));
+    };
     match cut_comma(rest) {
-        None => Operands::Three(trimmed(first), trimmed(second), trimmed(rest)),
+        None => Operands::Four(
+            trimmed(first),
+            trimmed(second),
+            trimmed(third),
+            trimmed(rest),
+        ),
         Some(_) => Operands::More,
     }
 }

@@ -1,10 +1,8 @@
 -- What a call of `run` answers, and what it leaves on `out`.
 -- Source: own.
-use Rattle.std.specs.Prelude.{ℕ, ◌≡◌, ◌⊎◌, List, [], length, Option, Some, None, Result, Ok, Err}
-use Rattle.std.specs.List.{All}
+use Rattle.std.specs.Prelude.{ℕ, ◌≡◌, ◌⊎◌, List, [], Option, Some, None, Result, Ok, Err}
 use Rattle.relax_edges.specs.declared.edge.Edge.{Edge}
-use Rattle.relax_edges.specs.declared.kinds.ArchName.TheVariants.{X86}
-use Rattle.relax_edges.specs.declared.kinds.ObsMode.TheVariants.{Accept}
+use Rattle.relax_edges.specs.declared.kinds.ObsMode.{ObsMode}
 use Rattle.cycle_resolve.specs.Resolution.{turned}
 use Rattle.diy_words.specs.declared.request.EdgeList.{EdgeList}
 use Rattle.diy_words.specs.declared.request.EdgeList.TheVariants.{Whole, TooLong}
@@ -12,10 +10,8 @@ use Rattle.diy_words.specs.declared.usage.Usage.{Usage}
 use Rattle.diy_words.specs.Requests.{Asked, asked_of}
 use Rattle.arch_trait.specs.Names.{number_in}
 use Rattle.arch_trait.specs.Writing.{name_in}
-use Rattle.arch_x86.specs.Puts.{puts}
-use Rattle.arch_x86.specs.Text.{writing}
 use Rattle.litmus_text.specs.declared.test.Test.{Test}
-use Rattle.litmus_text.specs.Tests.{IsPrintable, test_seen}
+use Rattle.litmus_text.specs.Tests.{test_seen}
 use Rattle.litmus_text.specs.TestText.{test_text}
 use Rattle.litmus_text.specs.Wrote.{SinkSeen, WroteAll, WrotePart}
 use Rattle.test_laws.specs.Headline.{Forces}
@@ -26,16 +22,17 @@ use Rattle.diy_tools.specs.declared.status.Status.TheVariants as statuses
 use Rattle.diy_tools.specs.declared.status.Refusal.{Refusal}
 use Rattle.diy_tools.specs.declared.status.Refusal.TheVariants as refusals
 use Rattle.diy_tools.specs.declared.status.Device.TheVariants as devices
+use Rattle.diy_tools.specs.Machines.{Machine, machine_of}
 use Rattle.diy_tools.specs.Refused.{refused_of}
 
--- the test of a cycle, for X86, with observers where they are needed
-abbrev pub cycle_test : List Edge → TestSeen
-cycle_test cycle = test_of puts (name_in writing.registers) (turned cycle) Accept
+-- the test of a cycle on an architecture in a mode
+abbrev pub cycle_test : Machine → ObsMode → List Edge → TestSeen
+cycle_test m mode cycle = test_of m.puts (name_in m.writing.registers) (turned cycle) mode
 
 -- the test of a cycle forces it: all its edges stand in every candidate execution of the test that is coherent per location
 -- and meets the condition, there is no such execution but the intended one, and that is one
-unfoldable pub TestForcesCycle : List Edge → Type 0
-TestForcesCycle cycle = Forces (cycle_test cycle) (number_in writing.registers) (turned cycle) Accept plain
+unfoldable pub TestForcesCycle : Machine → ObsMode → List Edge → Type 0
+TestForcesCycle m mode cycle = Forces (cycle_test m mode cycle) (number_in m.writing.registers) (turned cycle) mode plain
 
 -- what is said of a test is so where its text is printed, or a front of it
 abbrev pub WherePrinted : Type 0 → Status → Type 0
@@ -44,9 +41,9 @@ WherePrinted said (statuses.WriteFault _) = said
 WherePrinted said (statuses.Refused _) = Unit {0}
 WherePrinted said (statuses.Usage _ _) = Unit {0}
 
--- the text of the test of a cycle under a name, for X86, with observers where they are needed
-unfoldable pub cycle_text : List ℕ → List Edge → List ℕ
-cycle_text name cycle = test_text X86 writing name (shown (cycle_test cycle))
+-- the text of the test of a cycle under a name
+unfoldable pub cycle_text : Machine → ObsMode → List ℕ → List Edge → List ℕ
+cycle_text m mode name cycle = test_text m.puts.name m.writing name (shown (cycle_test m mode cycle))
 
 -- all of a text is printed, with no fault; or the device takes a front of it, and its count of faults rises
 abbrev pub Prints : List ℕ → Status → SinkSeen → SinkSeen → Type 0
@@ -65,7 +62,8 @@ AnswersEdges seen None text status old new = Prints text status (seen old) (seen
 abbrev pub AnswersAsked : {Sink : Type 0} → (Sink → SinkSeen) → Result Asked Usage → Status → Sink → Sink → Type 0
 AnswersAsked seen (Err usage) status old new = (status ≡ statuses.Usage usage.word usage.kind) × (new ≡ old)
 AnswersAsked seen (Ok asked) status old new =
-    AnswersEdges seen (refused_of puts Accept asked.edges) (cycle_text asked.name asked.edges) status old new
+    AnswersEdges seen (refused_of (machine_of asked.arch).puts asked.mode asked.edges)
+    (cycle_text (machine_of asked.arch) asked.mode asked.name asked.edges) status old new
 
 -- a call with these words ends with this status, and takes standard output from old to new
 abbrev pub Answers : {Sink : Type 0} → (Sink → SinkSeen) → List (List ℕ) → Status → Sink → Sink → Type 0
@@ -76,9 +74,9 @@ abbrev pub TakesLine : List ℕ → SinkSeen → SinkSeen → Type 0
 TakesLine line old new = (WroteAll old new line) ⊎ (WrotePart old new line)
 
 -- what is refused of edges as they are kept
-abbrev pub refused_kept : EdgeList → Option Refusal
-refused_kept (Whole list) = refused_of puts Accept list.items
-refused_kept TooLong = Some refusals.TooLong
+abbrev pub refused_kept : Machine → ObsMode → EdgeList → Option Refusal
+refused_kept m mode (Whole list) = refused_of m.puts mode list.items
+refused_kept m mode TooLong = Some refusals.TooLong
 
 -- the edges that are kept
 abbrev pub edges_kept : EdgeList → List Edge
@@ -86,19 +84,14 @@ edges_kept (Whole list) = list.items
 edges_kept TooLong = []
 
 -- a call gives the test of a cycle, where nothing is refused, or the reason that is given
-abbrev pub MakesTestOf : List Edge → Option Refusal → Result Test Refusal → Type 0
-MakesTestOf cycle refused (Ok test) =
-    (refused ≡ None) × (test_seen test ≡ shown (test_of puts (name_in writing.registers) (turned cycle) Accept))
-MakesTestOf cycle refused (Err refusal) = refused ≡ Some refusal
-
--- what is made can be printed
-abbrev pub IsPrintableTest : Test → Type 0
-IsPrintableTest test = All (λ code. IsPrintable puts.has 6 (length test.places) code) test.threads.items
+abbrev pub MakesTestOf : Machine → ObsMode → List Edge → Option Refusal → Result Test Refusal → Type 0
+MakesTestOf m mode cycle refused (Ok test) = (refused ≡ None) × (test_seen test ≡ shown (cycle_test m mode cycle))
+MakesTestOf m mode cycle refused (Err refusal) = refused ≡ Some refusal
 
 -- where the test that words ask for is printed, it forces its cycle
 abbrev pub ForcesAsked : Result Asked Usage → Status → Type 0
 ForcesAsked (Err usage) status = Unit {0}
-ForcesAsked (Ok asked) status = WherePrinted (TestForcesCycle asked.edges) status
+ForcesAsked (Ok asked) status = WherePrinted (TestForcesCycle (machine_of asked.arch) asked.mode asked.edges) status
 
 abbrev pub PrintedForces : List (List ℕ) → Status → Type 0
 PrintedForces words status = ForcesAsked (asked_of words) status

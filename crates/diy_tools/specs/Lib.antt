@@ -1,3 +1,4 @@
+pub mod Machines
 pub mod Refused
 pub mod Report
 pub mod Answers

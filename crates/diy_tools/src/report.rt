@@ -65,6 +65,7 @@ fn usage_name(kind: UsageKind) -> &'static [u8]
         UsageKind::UnknownOption => b"UnknownOption",
         UsageKind::MissingValue => b"MissingValue",
         UsageKind::UnknownArch => b"UnknownArch",
+        UsageKind::BadMode => b"BadMode",
         UsageKind::BadName => b"BadName",
         UsageKind::UnknownEdge => b"UnknownEdge",
         UsageKind::MissingArch => b"MissingArch",

@@ -5,6 +5,8 @@ use Rattle.std.proofs.lemmas.Bool.Decides.{nat_tests}
 use Rattle.relax_edges.specs.declared.TheConstants.{MAX_EDGES}
 use Rattle.relax_edges.specs.declared.edge.Edge.{Edge}
 use Rattle.relax_edges.specs.declared.kinds.ArchName.{ArchName}
+use Rattle.relax_edges.specs.declared.kinds.ObsMode.{ObsMode}
+use Rattle.relax_edges.specs.declared.kinds.ObsMode.TheVariants.{Accept}
 use Rattle.diy_words.specs.declared.request.EdgeList.{EdgeList}
 use Rattle.diy_words.specs.declared.request.EdgeList.TheVariants.{Whole, TooLong}
 use Rattle.diy_words.specs.declared.request.DiyOne.{DiyOne}
@@ -12,18 +14,15 @@ use Rattle.diy_words.specs.declared.usage.Usage.{Usage}
 use Rattle.diy_words.specs.declared.options.OptionName.{OptionName}
 use Rattle.diy_words.specs.Edges.{kept}
 use Rattle.diy_words.specs.Kept.{added, pushed}
-use Rattle.diy_words.specs.Parts.{Part, Operand, Valued, Unvalued, Waits, parts_from, parts_of, option_named, tool_named}
+use Rattle.diy_words.specs.Parts.{Operand, Valued, Unvalued, Waits, parts_from, parts_of, option_named, tool_named}
 use Rattle.diy_words.specs.declared.options.Tool.TheVariants as tools
-use Rattle.diy_words.specs.Requests.{Said, SaysArch, SaysName, SaysEdges, said_by, first_fault, or_later, arch_given, name_given, edges_given, asked_by, asked_with, asked_of, diyone_asked}
+use Rattle.diy_words.specs.Requests.{Said, SaysArch, SaysName, SaysMode, SaysEdges, said_by, said_first, said_all, or_later, last_given, arch_in, name_in, mode_in, edges_in, mode_or_accept, edges_given, asked_with, asked_of, diyone_asked}
 use Rattle.diy_words.specs.Given.{Held, absorbed, all_absorbed, saying_from, finished, finished_with, shown, nothing_held, AskedHeld, Gives, IsKept}
 
 drop_get : {X : Type 0} (xs : List X) (i : ℕ) (x : X) → slice_get xs i ≡ Some x → drop i xs ≡ x ∷ drop (i + 1) xs
 drop_get [] i x h = cc h
 drop_get (y ∷ ys) zero x h = ap (λ z. z ∷ ys) (cc h)
 drop_get (y ∷ ys) (suc i) x h = drop_get ys i x h ∙ (let e : suc i + 1 ≡ suc (i + 1) = omega arith in rw e)
-
-said_all : List Part → List (Result Said Usage)
-said_all parts = map said_by parts
 
 operand_parts : (word : List ℕ) (at : ℕ) (rest : List (List ℕ)) (found : Option OptionName) → option_named word ≡ found → found ≡ None →
     parts_of at (word ∷ rest) ≡ Operand at word ∷ parts_of (at + 1) rest
@@ -73,34 +72,71 @@ pub faulty : (old : Held) (usage : Usage) (said : Result Said Usage) (here rest 
     here ≡ said ∷ rest → Err usage ≡ absorbed old said → Err usage ≡ all_absorbed (Ok old) here
 faulty old usage said here rest e h = sym (fault_stays usage rest) ∙ ap (λ r. all_absorbed r rest) h ∙ ap (all_absorbed (Ok old)) (sym e)
 
-later_once : {X : Type 0} (a : Option X) (x : X) (b : Option X) → or_later (Some x) b ≡ or_later a (or_later (Some x) b)
-later_once a x None = refl
-later_once a x (Some y) = refl
+-- a mode, or the later one that is given
+abbrev mode_behind : ObsMode → Option ObsMode → ObsMode
+mode_behind mode (Some later) = later
+mode_behind mode None = mode
 
 added_more : (list : EdgeList) (es fs : List Edge) → added (added list es) fs ≡ added list (es ++ fs)
 added_more list [] fs = refl
 added_more list (e ∷ es) fs = added_more (pushed list e) es fs
 
 -- what the definition takes from all words is what is held behind them
-no_fault_held : (h : Held) (said : List (Result Said Usage)) → first_fault said ≡ None →
-    all_absorbed (Ok h) said ≡ Ok (record {
-      arch = or_later h.arch (arch_given said);
-      name = or_later h.name (name_given said);
-      edges = added h.edges (edges_given said);
-    })
-no_fault_held h [] e = refl
-no_fault_held h (Ok (SaysArch arch) ∷ rest) e = no_fault_held (record h { arch = Some arch }) rest e ∙ ap (λ a. Ok (record { arch = a; name = or_later h.name (name_given rest); edges = added h.edges (edges_given rest) })) (later_once h.arch arch (arch_given rest))
-no_fault_held h (Ok (SaysName name) ∷ rest) e = no_fault_held (record h { name = Some name }) rest e ∙ ap (λ n. Ok (record { arch = or_later h.arch (arch_given rest); name = n; edges = added h.edges (edges_given rest) })) (later_once h.name name (name_given rest))
-no_fault_held h (Ok (SaysEdges edges) ∷ rest) e = no_fault_held (record h { edges = added h.edges edges }) rest e ∙ ap (λ l. Ok (record { arch = or_later h.arch (arch_given rest); name = or_later h.name (name_given rest); edges = l })) (added_more h.edges edges (edges_given rest))
-no_fault_held h (Err usage ∷ rest) e = cc e
+abbrev held_behind : Held → List Said → Held
+held_behind h said = record {
+  arch = or_later h.arch (last_given arch_in said);
+  name = or_later h.name (last_given name_in said);
+  mode = mode_behind h.mode (last_given mode_in said);
+  edges = added h.edges (edges_given said);
+}
 
-fault_held : (h : Held) (said : List (Result Said Usage)) (usage : Usage) → first_fault said ≡ Some usage →
-    all_absorbed (Ok h) said ≡ Err usage
-fault_held h [] usage e = cc e
-fault_held h (Ok (SaysArch arch) ∷ rest) usage e = fault_held (record h { arch = Some arch }) rest usage e
-fault_held h (Ok (SaysName name) ∷ rest) usage e = fault_held (record h { name = Some name }) rest usage e
-fault_held h (Ok (SaysEdges edges) ∷ rest) usage e = fault_held (record h { edges = added h.edges edges }) rest usage e
-fault_held h (Err fault ∷ rest) usage e = fault_stays fault rest ∙ ap Err (cc e)
+later_twice : {X : Type 0} (a b c : Option X) → or_later (or_later a b) c ≡ or_later a (or_later b c)
+later_twice a b None = refl
+later_twice a b (Some x) = refl
+
+mode_twice : (mode : ObsMode) (b c : Option ObsMode) → mode_behind (mode_behind mode b) c ≡ mode_behind mode (or_later b c)
+mode_twice mode b None = refl
+mode_twice mode b (Some x) = refl
+
+-- what is held behind one thing more
+abbrev held_with : Held → Said → Held
+held_with h said = record {
+  arch = or_later h.arch (arch_in said);
+  name = or_later h.name (name_in said);
+  mode = mode_behind h.mode (mode_in said);
+  edges = added h.edges (edges_in said);
+}
+
+absorbed_one : (h : Held) (said : Said) → absorbed h (Ok said) ≡ Ok (held_with h said)
+absorbed_one h (SaysArch arch) = refl
+absorbed_one h (SaysName name) = refl
+absorbed_one h (SaysMode mode) = refl
+absorbed_one h (SaysEdges edges) = refl
+
+held_one : (h : Held) (said : Said) (rest : List Said) → held_behind (held_with h said) rest ≡ held_behind h (said ∷ rest)
+held_one h said rest =
+    rw (
+      later_twice h.arch (arch_in said) (last_given arch_in rest),
+      later_twice h.name (name_in said) (last_given name_in rest),
+      mode_twice h.mode (mode_in said) (last_given mode_in rest),
+      added_more h.edges (edges_in said) (edges_given rest),
+    ) refl
+
+abbrev held_after : Held → Result (List Said) Usage → Result Held Usage
+held_after h (Ok said) = Ok (held_behind h said)
+held_after h (Err usage) = Err usage
+
+after_first : (h one : Held) (said : Said) (rest : Result (List Said) Usage) →
+    ((list : List Said) → held_behind one list ≡ held_behind h (said ∷ list)) →
+    held_after one rest ≡ held_after h (said_first said rest)
+after_first h one said (Ok list) same = ap Ok (same list)
+after_first h one said (Err usage) same = refl
+
+all_held : (h : Held) (said : List (Result Said Usage)) → all_absorbed (Ok h) said ≡ held_after h (said_all said)
+all_held h [] = refl
+all_held h (Err usage ∷ rest) = fault_stays usage rest
+all_held h (Ok said ∷ rest) =
+    ap (λ r. all_absorbed r rest) (absorbed_one h said) ∙ all_held (held_with h said) rest ∙ after_first h (held_with h said) said (said_all rest) (held_one h said)
 
 by_test : {G : Type 0} (b : Bool) → (b ≡ true → G) → (b ≡ false → G) → G
 by_test true f g = f refl
@@ -130,35 +166,45 @@ added_whole list (edge ∷ edges) h =
     (λ e. rw e (added_whole (list ++ edge ∷ []) edges (room_left list edge e) ∙ ap kept (append_assoc list (edge ∷ []) edges)))
     (λ e. rw e (added_too_long edges ∙ sym (kept_many (list ++ edge ∷ edges) (room_passed list edge edges e))))
 
-kept_fields : (request : DiyOne) (arch : ArchName) (name : List ℕ) (edges : List Edge) →
-    record { arch = request.arch; name = request.name.bytes; edges = request.edges } ≡ (let asked : AskedHeld = record { arch = arch; name = name; edges = added (Whole (record { items = [] })) edges } in asked) →
-    IsKept request (record { arch = arch; name = name; edges = edges })
-kept_fields request arch name edges h =
-    (ap (λ (a : AskedHeld). a.arch) h, ap (λ (a : AskedHeld). a.name) h, ap (λ (a : AskedHeld). a.edges) h ∙ added_whole [] edges (lit≤ tt))
+kept_fields : (request : DiyOne) (arch : ArchName) (name : List ℕ) (mode : ObsMode) (edges : List Edge) →
+    record { arch = request.arch; name = request.name.bytes; mode = request.mode; edges = request.edges } ≡ (let asked : AskedHeld = record { arch = arch; name = name; mode = mode; edges = added (Whole (record { items = [] })) edges } in asked) →
+    IsKept request (record { arch = arch; name = name; mode = mode; edges = edges })
+kept_fields request arch name mode edges h =
+    (ap (λ (a : AskedHeld). a.arch) h, ap (λ (a : AskedHeld). a.name) h, ap (λ (a : AskedHeld). a.mode) h, ap (λ (a : AskedHeld). a.edges) h ∙ added_whole [] edges (lit≤ tt))
 
-gives_cases : (count : ℕ) (request : Result DiyOne Usage) (arch : Option ArchName) (name : Option (List ℕ)) (edges : List Edge) →
-    shown request ≡ finished count (or_later None arch) (or_later None name) (added (Whole (record { items = [] })) edges) → Gives request (asked_with count arch name edges)
-gives_cases count (Ok request) None name edges h = cc h
-gives_cases count (Err usage) None name edges h = cc h
-gives_cases count (Ok request) (Some arch) None edges h = cc h
-gives_cases count (Err usage) (Some arch) None edges h = cc h
-gives_cases count (Ok request) (Some arch) (Some name) edges h = kept_fields request arch name edges (cc h)
-gives_cases count (Err usage) (Some arch) (Some name) edges h = cc h
+gives_cases : (count : ℕ) (request : Result DiyOne Usage) (arch : Option ArchName) (name : Option (List ℕ)) (mode : ObsMode) (edges : List Edge) →
+    shown request ≡ finished count arch name mode (added (Whole (record { items = [] })) edges) → Gives request (asked_with count arch name mode edges)
+gives_cases count (Ok request) None name mode edges h = cc h
+gives_cases count (Err usage) None name mode edges h = cc h
+gives_cases count (Ok request) (Some arch) None mode edges h = cc h
+gives_cases count (Err usage) (Some arch) None mode edges h = cc h
+gives_cases count (Ok request) (Some arch) (Some name) mode edges h = kept_fields request arch name mode edges (cc h)
+gives_cases count (Err usage) (Some arch) (Some name) mode edges h = cc h
 
 gives_fault : (request : Result DiyOne Usage) (usage : Usage) → shown request ≡ Err usage → Gives request (Err usage)
 gives_fault (Ok request) usage h = cc h
 gives_fault (Err other) usage h = cc h
 
-gives_found : (count : ℕ) (request : Result DiyOne Usage) (said : List (Result Said Usage)) (found : Option Usage) → first_fault said ≡ found →
-    shown request ≡ finished_with count (all_absorbed (Ok nothing_held) said) → Gives request (asked_by count found said)
-gives_found count request said (Some usage) e h = gives_fault request usage (h ∙ ap (finished_with count) (fault_held nothing_held said usage e))
-gives_found count request said None e h =
-    gives_cases count request (arch_given said) (name_given said) (edges_given said) (h ∙ ap (finished_with count) (no_fault_held nothing_held said e))
+later_none : {X : Type 0} (a : Option X) → or_later None a ≡ a
+later_none None = refl
+later_none (Some x) = refl
+
+mode_accept : (mode : Option ObsMode) → mode_behind Accept mode ≡ mode_or_accept mode
+mode_accept None = refl
+mode_accept (Some mode) = refl
+
+gives_found : (count : ℕ) (request : Result DiyOne Usage) (said : Result (List Said) Usage) →
+    shown request ≡ finished_with count (held_after nothing_held said) → Gives request (diyone_asked count said)
+gives_found count request (Err usage) h = gives_fault request usage h
+gives_found count request (Ok said) h =
+    let e : shown request ≡ finished count (last_given arch_in said) (last_given name_in said) (mode_or_accept (last_given mode_in said)) (added (Whole (record { items = [] })) (edges_given said)) =
+    rw (sym (later_none (last_given arch_in said)), sym (later_none (last_given name_in said)), sym (mode_accept (last_given mode_in said))) h in
+    gives_cases count request _ _ _ (edges_given said) e
 
 -- a request from what is held is the request of the definition, as it is kept
 pub gives_asked : (count : ℕ) (request : Result DiyOne Usage) (said : List (Result Said Usage)) →
-    shown request ≡ finished_with count (all_absorbed (Ok nothing_held) said) → Gives request (diyone_asked count said)
-gives_asked count request said h = gives_found count request said (first_fault said) refl h
+    shown request ≡ finished_with count (all_absorbed (Ok nothing_held) said) → Gives request (diyone_asked count (said_all said))
+gives_asked count request said h = gives_found count request (said_all said) (h ∙ ap (finished_with count) (all_held nothing_held said))
 
 -- the request of diyone7, where the first word names it
 pub gives_diyone : (words : List (List ℕ)) (tool : List ℕ) (request : Result DiyOne Usage) →

@@ -2,6 +2,8 @@
 use Rattle.std.specs.Prelude.{ℕ, ◌≡◌, ◌<◌, List, [], ◌∷◌, map, drop, slice_get, Option, Some, None, Result, Ok, Err}
 use Rattle.std.specs.Option.{option_map}
 use Rattle.relax_edges.specs.declared.kinds.ArchName.{ArchName}
+use Rattle.relax_edges.specs.declared.kinds.ObsMode.{ObsMode}
+use Rattle.relax_edges.specs.declared.kinds.ObsMode.TheVariants.{Accept}
 use Rattle.diy_words.specs.declared.request.EdgeList.{EdgeList}
 use Rattle.diy_words.specs.declared.options.OptionName.{OptionName}
 use Rattle.diy_words.specs.declared.request.EdgeList.TheVariants.{Whole}
@@ -12,27 +14,29 @@ use Rattle.diy_words.specs.declared.usage.UsageKind.TheVariants.{MissingArch, No
 use Rattle.diy_words.specs.Edges.{kept}
 use Rattle.diy_words.specs.Kept.{added}
 use Rattle.diy_words.specs.Parts.{parts_of, option_named}
-use Rattle.diy_words.specs.Requests.{Asked, SaysArch, SaysName, SaysEdges, said_by}
+use Rattle.diy_words.specs.Requests.{Asked, SaysArch, SaysName, SaysMode, SaysEdges, said_by}
 use Rattle.diy_words.specs.Requests as req
 
 -- what is held: the last architecture and name that were given, and the edges
 pub record Held : Type 0 where
   pub arch : Option ArchName
   pub name : Option (List ℕ)
+  pub mode : ObsMode
   pub edges : EdgeList
 
 -- what the code holds
 abbrev pub held : Said → Held
-held said = record { arch = said.arch; name = option_map (λ name. name.bytes) said.name; edges = said.edges }
+held said = record { arch = said.arch; name = option_map (λ name. name.bytes) said.name; mode = said.mode; edges = said.edges }
 
 -- nothing yet
 abbrev pub nothing_held : Held
-nothing_held = record { arch = None; name = None; edges = Whole (record { items = [] }) }
+nothing_held = record { arch = None; name = None; mode = Accept; edges = Whole (record { items = [] }) }
 
 -- what is held after a part of the words
 abbrev pub absorbed : Held → Result req.Said Usage → Result Held Usage
 absorbed h (Ok (SaysArch arch)) = Ok (record h { arch = Some arch })
 absorbed h (Ok (SaysName name)) = Ok (record h { name = Some name })
+absorbed h (Ok (SaysMode mode)) = Ok (record h { mode = mode })
 absorbed h (Ok (SaysEdges edges)) = Ok (record h { edges = added h.edges edges })
 absorbed h (Err usage) = Err usage
 
@@ -53,7 +57,7 @@ saying_from words at = map said_by (parts_of at (drop at words))
 
 -- the request as it is kept
 abbrev pub IsKept : DiyOne → Asked → Type 0
-IsKept request asked = (request.arch ≡ asked.arch) × (request.name.bytes ≡ asked.name) × (request.edges ≡ kept asked.edges)
+IsKept request asked = (request.arch ≡ asked.arch) × (request.name.bytes ≡ asked.name) × (request.mode ≡ asked.mode) × (request.edges ≡ kept asked.edges)
 
 -- a call gives the request that words make, or their first fault
 abbrev pub Gives : Result DiyOne Usage → Result Asked Usage → Type 0
@@ -72,21 +76,22 @@ Steps words at old new (Err usage) = Err usage ≡ all_absorbed (Ok old) (saying
 pub record AskedHeld : Type 0 where
   pub arch : ArchName
   pub name : List ℕ
+  pub mode : ObsMode
   pub edges : EdgeList
 
-abbrev pub finished : ℕ → Option ArchName → Option (List ℕ) → EdgeList → Result AskedHeld Usage
-finished count None _ _ = Err (record { word = count; kind = MissingArch })
-finished count (Some _) None _ = Err (record { word = count; kind = NotBuilt })
-finished count (Some arch) (Some name) edges = Ok (record { arch = arch; name = name; edges = edges })
+abbrev pub finished : ℕ → Option ArchName → Option (List ℕ) → ObsMode → EdgeList → Result AskedHeld Usage
+finished count None _ _ _ = Err (record { word = count; kind = MissingArch })
+finished count (Some _) None _ _ = Err (record { word = count; kind = NotBuilt })
+finished count (Some arch) (Some name) mode edges = Ok (record { arch = arch; name = name; mode = mode; edges = edges })
 
 -- the request from what is held after all words
 abbrev pub finished_with : ℕ → Result Held Usage → Result AskedHeld Usage
-finished_with count (Ok h) = finished count h.arch h.name h.edges
+finished_with count (Ok h) = finished count h.arch h.name h.mode h.edges
 finished_with count (Err usage) = Err usage
 
 -- what a call gives
 abbrev pub shown : Result DiyOne Usage → Result AskedHeld Usage
-shown (Ok request) = Ok (record { arch = request.arch; name = request.name.bytes; edges = request.edges })
+shown (Ok request) = Ok (record { arch = request.arch; name = request.name.bytes; mode = request.mode; edges = request.edges })
 shown (Err usage) = Err usage
 
 -- the word at a place is no option

@@ -2,6 +2,8 @@
 use Rattle.std.specs.Prelude.{ℕ, ◌+◌, List, [], ◌∷◌, Option, Some, None, codes, if◌then◌else◌}
 use Rattle.std.specs.Str.{bytes_eq}
 use Rattle.relax_edges.specs.declared.kinds.ArchName.TheVariants.{X86}
+use Rattle.relax_edges.specs.declared.kinds.ObsMode.{ObsMode}
+use Rattle.relax_edges.specs.declared.kinds.ObsMode.TheVariants as modes
 use Rattle.diy_words.specs.declared.options.Tool.{Tool}
 use Rattle.diy_words.specs.declared.options.Tool.TheVariants as tools
 use Rattle.diy_words.specs.declared.options.OptionName.{OptionName}
@@ -26,6 +28,10 @@ option_named = named ((codes "-arch", opts.Arch) ∷ (codes "-name", opts.Name) 
 -- the architectures by their names
 abbrev pub arch_spoken : List ℕ → Option Spoken
 arch_spoken = named ((codes "X86", Built X86) ∷ (codes "PPC", Later) ∷ (codes "AArch64", Later) ∷ (codes "RISCV", Later) ∷ [])
+
+-- the observer modes by their names
+abbrev pub mode_named : List ℕ → Option ObsMode
+mode_named = named ((codes "accept", modes.Accept) ∷ (codes "avoid", modes.Avoid) ∷ (codes "force", modes.Force) ∷ [])
 
 -- a part of the words: an operand at its place, or an option at its place with its value, if there is one
 pub data Part : Type 0 where

@@ -2,10 +2,12 @@
 -- value; then all of them. Source: own, after the command lines of the diy tools.
 use Rattle.std.specs.Prelude.{ℕ, ◌+◌, ◌==◌, Bool, false, if◌then◌else◌, List, [], ◌∷◌, ◌++◌, length, map, Option, Some, None, Result, Ok, Err}
 use Rattle.relax_edges.specs.declared.kinds.ArchName.{ArchName}
+use Rattle.relax_edges.specs.declared.kinds.ObsMode.{ObsMode}
+use Rattle.relax_edges.specs.declared.kinds.ObsMode.TheVariants.{Accept}
 use Rattle.relax_edges.specs.declared.edge.Edge.{Edge}
 use Rattle.diy_words.specs.declared.usage.Usage.{Usage}
 use Rattle.diy_words.specs.declared.usage.UsageKind.{UsageKind}
-use Rattle.diy_words.specs.declared.usage.UsageKind.TheVariants.{UnknownTool, UnknownOption, MissingValue, UnknownArch, BadName, UnknownEdge, MissingArch, NotBuilt}
+use Rattle.diy_words.specs.declared.usage.UsageKind.TheVariants.{UnknownTool, UnknownOption, MissingValue, UnknownArch, BadMode, BadName, UnknownEdge, MissingArch, NotBuilt}
 use Rattle.diy_words.specs.declared.options.Tool.{Tool}
 use Rattle.diy_words.specs.declared.options.Tool.TheVariants as tools
 use Rattle.diy_words.specs.declared.options.OptionName.TheVariants as opts
@@ -13,18 +15,20 @@ use Rattle.diy_words.specs.declared.options.Spoken.{Spoken}
 use Rattle.diy_words.specs.declared.options.Spoken.TheVariants.{Built, Later}
 use Rattle.diy_words.specs.Names.{is_name}
 use Rattle.diy_words.specs.Edges.{operand_edges}
-use Rattle.diy_words.specs.Parts.{Part, Operand, Valued, Unvalued, parts_of, tool_named, arch_spoken}
+use Rattle.diy_words.specs.Parts.{Part, Operand, Valued, Unvalued, parts_of, tool_named, arch_spoken, mode_named}
 
 -- what a word of diyone7 says, an option with its value
 pub data Said : Type 0 where
   SaysArch : ArchName → Said
   SaysName : List ℕ → Said
+  SaysMode : ObsMode → Said
   SaysEdges : List Edge → Said
 
 -- what diyone7 is asked for
 pub record Asked : Type 0 where
   pub arch : ArchName
   pub name : List ℕ
+  pub mode : ObsMode
   pub edges : List Edge
 
 -- a fault at a word
@@ -41,6 +45,11 @@ arch_said at None = fault at UnknownArch
 abbrev pub name_said : ℕ → List ℕ → Result Said Usage
 name_said at text = if is_name text then Ok (SaysName text) else fault at BadName
 
+-- the value of `-obs`, at its place
+abbrev pub mode_said : ℕ → Option ObsMode → Result Said Usage
+mode_said at (Some mode) = Ok (SaysMode mode)
+mode_said at None = fault at BadMode
+
 -- the edges of an operand, at its place
 abbrev pub edges_said : ℕ → Option (List Edge) → Result Said Usage
 edges_said at (Some es) = Ok (SaysEdges es)
@@ -56,62 +65,73 @@ abbrev pub said_by : Part → Result Said Usage
 said_by (Operand at text) = if begins_option text then fault at UnknownOption else edges_said at (operand_edges text)
 said_by (Valued opts.Arch at value) = arch_said (at + 1) (arch_spoken value)
 said_by (Valued opts.Name at value) = name_said (at + 1) value
-said_by (Valued opts.Obs at _) = fault at NotBuilt
-said_by (Unvalued opts.Obs at) = fault at NotBuilt
+said_by (Valued opts.Obs at value) = mode_said (at + 1) (mode_named value)
 said_by (Unvalued _ at) = fault at MissingValue
 
--- the first fault
-abbrev pub first_fault : List (Result Said Usage) → Option Usage
-first_fault [] = None
-first_fault (Ok _ ∷ rest) = first_fault rest
-first_fault (Err usage ∷ _) = Some usage
+-- something said before the rest, where the rest has no fault
+abbrev pub said_first : Said → Result (List Said) Usage → Result (List Said) Usage
+said_first said (Ok rest) = Ok (said ∷ rest)
+said_first said (Err usage) = Err usage
+
+-- all that words say, or the first fault among them
+abbrev pub said_all : List (Result Said Usage) → Result (List Said) Usage
+said_all [] = Ok []
+said_all (Ok said ∷ rest) = said_first said (said_all rest)
+said_all (Err usage ∷ _) = Err usage
+
+-- what a word gives: an architecture, a name, a mode, edges
+abbrev pub arch_in : Said → Option ArchName
+arch_in (SaysArch arch) = Some arch
+arch_in _ = None
+
+abbrev pub name_in : Said → Option (List ℕ)
+name_in (SaysName name) = Some name
+name_in _ = None
+
+abbrev pub mode_in : Said → Option ObsMode
+mode_in (SaysMode mode) = Some mode
+mode_in _ = None
+
+abbrev pub edges_in : Said → List Edge
+edges_in (SaysEdges edges) = edges
+edges_in _ = []
 
 -- the later of two, where it is there
 abbrev pub or_later : {X : Type 0} → Option X → Option X → Option X
 or_later earlier (Some later) = Some later
 or_later earlier None = earlier
 
--- the last architecture and the last name that were given, and all edges
-abbrev pub arch_given : List (Result Said Usage) → Option ArchName
-arch_given [] = None
-arch_given (Ok (SaysArch arch) ∷ rest) = or_later (Some arch) (arch_given rest)
-arch_given (Ok (SaysName _) ∷ rest) = arch_given rest
-arch_given (Ok (SaysEdges _) ∷ rest) = arch_given rest
-arch_given (Err _ ∷ rest) = arch_given rest
+-- the last of the things of a kind that words give
+abbrev pub last_given : {X : Type 0} → (Said → Option X) → List Said → Option X
+last_given given [] = None
+last_given given (said ∷ rest) = or_later (given said) (last_given given rest)
 
-abbrev pub name_given : List (Result Said Usage) → Option (List ℕ)
-name_given [] = None
-name_given (Ok (SaysArch _) ∷ rest) = name_given rest
-name_given (Ok (SaysName name) ∷ rest) = or_later (Some name) (name_given rest)
-name_given (Ok (SaysEdges _) ∷ rest) = name_given rest
-name_given (Err _ ∷ rest) = name_given rest
-
-abbrev pub edges_given : List (Result Said Usage) → List Edge
+-- the edges of all operands
+abbrev pub edges_given : List Said → List Edge
 edges_given [] = []
-edges_given (Ok (SaysArch _) ∷ rest) = edges_given rest
-edges_given (Ok (SaysName _) ∷ rest) = edges_given rest
-edges_given (Ok (SaysEdges es) ∷ rest) = es ++ edges_given rest
-edges_given (Err _ ∷ rest) = edges_given rest
+edges_given (said ∷ rest) = edges_in said ++ edges_given rest
 
--- the request of diyone7 from what was given, where no word is faulty; `count` is the number of words
-abbrev pub asked_with : ℕ → Option ArchName → Option (List ℕ) → List Edge → Result Asked Usage
-asked_with count None _ _ = Err (record { word = count; kind = MissingArch })
-asked_with count (Some _) None _ = Err (record { word = count; kind = NotBuilt })
-asked_with count (Some arch) (Some name) edges = Ok (record { arch = arch; name = name; edges = edges })
+-- the mode that was given, or else `accept`
+abbrev pub mode_or_accept : Option ObsMode → ObsMode
+mode_or_accept (Some mode) = mode
+mode_or_accept None = Accept
 
--- the request of diyone7 from what its words say
-abbrev pub asked_by : ℕ → Option Usage → List (Result Said Usage) → Result Asked Usage
-asked_by count (Some usage) said = Err usage
-asked_by count None said = asked_with count (arch_given said) (name_given said) (edges_given said)
+-- the request of diyone7 from what was given; `count` is the number of words
+abbrev pub asked_with : ℕ → Option ArchName → Option (List ℕ) → ObsMode → List Edge → Result Asked Usage
+asked_with count None _ mode edges = Err (record { word = count; kind = MissingArch })
+asked_with count (Some _) None mode edges = Err (record { word = count; kind = NotBuilt })
+asked_with count (Some arch) (Some name) mode edges = Ok (record { arch = arch; name = name; mode = mode; edges = edges })
 
--- the request of diyone7 from its words but the first, where `count` is the number of all words
-abbrev pub diyone_asked : ℕ → List (Result Said Usage) → Result Asked Usage
-diyone_asked count said = asked_by count (first_fault said) said
+-- the request of diyone7 from what its words say, where no word is faulty
+abbrev pub diyone_asked : ℕ → Result (List Said) Usage → Result Asked Usage
+diyone_asked count (Err usage) = Err usage
+diyone_asked count (Ok said) =
+    asked_with count (last_given arch_in said) (last_given name_in said) (mode_or_accept (last_given mode_in said)) (edges_given said)
 
 -- the request of a tool from its words but the first
 abbrev pub asked_for : Option Tool → ℕ → List (List ℕ) → Result Asked Usage
 asked_for None count words = Err (record { word = 0; kind = UnknownTool })
-asked_for (Some tools.DiyOne) count words = diyone_asked count (map said_by (parts_of 1 words))
+asked_for (Some tools.DiyOne) count words = diyone_asked count (said_all (map said_by (parts_of 1 words)))
 asked_for (Some tools.Later) count words = Err (record { word = 0; kind = NotBuilt })
 
 -- the request that words make: the first names the tool

@@ -1,7 +1,7 @@
 ghost use Rattle.std.specs.Prelude.{◌≡◌};
-ghost use Rattle.diy_words.specs.Parts.{tool_named, option_named, arch_spoken};
+ghost use Rattle.diy_words.specs.Parts.{tool_named, option_named, arch_spoken, mode_named};
 
-use relax_edges::ArchName;
+use relax_edges::{ArchName, ObsMode};
 
 /// The tools that a first word can name.
 #[derive(Clone, Copy)]
@@ -64,6 +64,18 @@ pub fn arch_spoken(text: &str) -> Option<Spoken>
         "PPC" => Some(Spoken::Later),
         "AArch64" => Some(Spoken::Later),
         "RISCV" => Some(Spoken::Later),
+        _ => None,
+    }
+}
+
+/// The observer mode with this name.
+pub fn mode_named(text: &str) -> Option<ObsMode>
+    ensures { result ≡ mode_named text.now }
+{
+    match text {
+        "accept" => Some(ObsMode::Accept),
+        "avoid" => Some(ObsMode::Avoid),
+        "force" => Some(ObsMode::Force),
         _ => None,
     }
 }

@@ -110,6 +110,7 @@ fn finish(count: usize, said: Said) -> Result<DiyOne, Usage>
     Ok(DiyOne {
         arch,
         name,
+        mode: said.mode,
         edges: said.edges,
     })
 }

@@ -1,7 +1,7 @@
 ghost use Rattle.std.specs.Prelude.{◌≡◌};
 
 use arrayvec::{ArrayString, ArrayVec};
-use relax_edges::{ArchName, Edge, MAX_EDGES};
+use relax_edges::{ArchName, Edge, MAX_EDGES, ObsMode};
 
 /// The most bytes that the name of a test has.
 pub const MAX_NAME: usize = 800;
@@ -42,6 +42,8 @@ pub struct DiyOne {
     pub arch: ArchName,
     /// Its name.
     pub name: TestName,
+    /// When locations have observers.
+    pub mode: ObsMode,
     /// The edges of its cycle, as given.
     pub edges: EdgeList,
 }

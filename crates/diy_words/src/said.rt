@@ -2,22 +2,23 @@ ghost use Rattle.std.specs.Prelude.{◌≡◌};
 ghost use Rattle.diy_words.specs.Parts.{Part, Operand, Valued, Unvalued};
 ghost use Rattle.std.specs.Prelude.{◌<◌, ◌+◌, ◌^◌, Err};
 ghost use Rattle.diy_words.specs.declared.usage.UsageKind.TheVariants.{NotBuilt};
-ghost use Rattle.diy_words.specs.Parts.{arch_spoken};
-ghost use Rattle.diy_words.specs.Requests.{said_by, arch_said, name_said, begins_option};
+ghost use Rattle.diy_words.specs.Parts.{arch_spoken, mode_named};
+ghost use Rattle.diy_words.specs.Requests.{said_by, arch_said, name_said, mode_said, begins_option};
 
 use crate::name::name_of;
 use crate::operand::read_operand;
-use crate::options::{OptionName, Spoken, arch_spoken};
+use crate::options::{OptionName, Spoken, arch_spoken, mode_named};
 use crate::request::{EdgeList, TestName};
 use crate::usage::{Usage, UsageKind};
 use arrayvec::ArrayVec;
-use relax_edges::ArchName;
+use relax_edges::{ArchName, ObsMode};
 
 /// What the words of diyone7 have said so far.
 #[derive(Drop)]
 pub struct Said {
     pub arch: Option<ArchName>,
     pub name: Option<TestName>,
+    pub mode: ObsMode,
     pub edges: EdgeList,
 }
 
@@ -30,6 +31,7 @@ impl Said {
         Said {
             arch: None,
             name: None,
+            mode: ObsMode::Accept,
             edges: EdgeList::Whole(ArrayVec::new()),
         }
     }
@@ -42,7 +44,7 @@ impl Said {
         match option {
             OptionName::Arch => self.take_arch(at + 1, value),
             OptionName::Name => self.take_name(at + 1, value),
-            OptionName::Obs => Err(not_built(at)),
+            OptionName::Obs => self.take_mode(at + 1, value),
         }
     }
 
@@ -77,6 +79,21 @@ impl Said {
         }
     }
 
+    fn take_mode(&mut self, at: usize, value: &str) -> Result<(), Usage>
+        ensures { left_by result (held self.new) ≡ absorbed (held self.old) (mode_said at (mode_named value.now)) }
+    {
+        match mode_named(value) {
+            Some(mode) => {
+                self.mode = mode;
+                Ok(())
+            }
+            None => Err(Usage {
+                word: at,
+                kind: UsageKind::BadMode,
+            }),
+        }
+    }
+
     /// Takes in an operand at place `at`.
     pub fn take_operand(&mut self, at: usize, text: &str) -> Result<(), Usage>
         ensures { left_by result (held self.new) ≡ absorbed (held self.old) (said_by (Operand at text.now)) }
@@ -101,16 +118,10 @@ impl Said {
 pub fn unvalued(option: OptionName, at: usize) -> Usage
     ensures { said_by (Unvalued option at) ≡ Err result }
 {
-    match option {
-        OptionName::Obs => not_built(at),
-        OptionName::Arch => Usage {
-            word: at,
-            kind: UsageKind::MissingValue,
-        },
-        OptionName::Name => Usage {
-            word: at,
-            kind: UsageKind::MissingValue,
-        },
+    let _ = option;
+    Usage {
+        word: at,
+        kind: UsageKind::MissingValue,
     }
 }
 

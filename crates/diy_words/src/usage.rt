@@ -17,6 +17,8 @@ pub enum UsageKind {
     MissingValue,
     /// The value of `-arch` is no architecture.
     UnknownArch,
+    /// The value of `-obs` is no observer mode.
+    BadMode,
     /// The value of `-name` isn't 1 to 800 letters, digits, `+`, `-`, `.` and `_`.
     BadName,
     /// A word among the operands is no edge.

@@ -4,3 +4,4 @@ pub mod Growing
 pub mod Naming
 pub mod OfArch
 pub mod Printing
+pub mod Located

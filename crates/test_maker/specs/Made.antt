@@ -1,6 +1,7 @@
 -- What the calls of the test maker give.
-use Rattle.std.specs.Prelude.{Option, ℕ, ◌≡◌, true, List, map, length, Some, None, Result, Ok, Err}
+use Rattle.std.specs.Prelude.{Option, ℕ, ◌≡◌, ◌<◌, true, List, map, length, Some, None, Result, Ok, Err}
 use Rattle.std.specs.List.{All, list_all}
+use Rattle.relax_edges.specs.declared.TheConstants.{MAX_EDGES}
 use Rattle.relax_edges.specs.declared.kinds.ObsMode.{ObsMode}
 use Rattle.relax_edges.specs.declared.edge.Edge.{Edge}
 use Rattle.relax_edges.specs.EdgeTable.{is_of_arch}
@@ -14,6 +15,7 @@ use Rattle.litmus_text.specs.Tests.{IsPrintable}
 use Rattle.test_laws.specs.Headline.{Forces}
 use Rattle.test_laws.specs.TestOf.{TestSeen, plain, test_of}
 use Rattle.test_maker.specs.declared.refusal.MakeRefusal.{MakeRefusal}
+use Rattle.test_maker.specs.declared.refusal.MakeRefusal.TheVariants.{NeedsObserver}
 use Rattle.test_maker.specs.Refusals.{crowded_thread, resolved_refusal, refusal_of}
 
 -- a test as its text shows it
@@ -91,3 +93,8 @@ MadeForces register_number es mode test (Err refusal) = Unit {0}
 abbrev pub TestForces : (List ℕ → Option ℕ) → List Edge → ObsMode → Result Test MakeRefusal → Type 0
 TestForces register_number es mode (Ok test) = Forces (test_view test) register_number es mode plain
 TestForces register_number es mode (Err refusal) = Unit {0}
+
+-- a refusal that names a location names one that a cycle can have
+abbrev pub NamesLocation : MakeRefusal → Type 0
+NamesLocation (NeedsObserver location _) = location < MAX_EDGES
+NamesLocation _ = Unit {0}

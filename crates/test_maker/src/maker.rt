@@ -1,10 +1,10 @@
-ghost use Rattle.std.specs.Prelude.{◌≡◌, ◌≤◌, not, length};
+ghost use Rattle.std.specs.Prelude.{◌≡◌, ◌≤◌, not, length, IfErr};
 ghost use Rattle.std.specs.List.{position_from};
 ghost use Rattle.relax_edges.specs.EdgeTable.{is_of_arch};
 ghost use Rattle.cycle_resolve.specs.Resolution.{turned};
 ghost use Rattle.arch_trait.specs.Names.{number_in};
 ghost use Rattle.arch_trait.specs.Writing.{name_in};
-ghost use Rattle.test_maker.specs.Made.{Makes, MakesOfArch, MakesResolved, MakesTest, MakesValued, AreOfArch, MadeCanPrint, MadeForces, TestCanPrint, TestForces, test_view};
+ghost use Rattle.test_maker.specs.Made.{Makes, MakesOfArch, MakesResolved, MakesTest, MakesValued, AreOfArch, MadeCanPrint, MadeForces, TestCanPrint, TestForces, NamesLocation, test_view};
 
 use crate::condition::put_last_terms;
 use crate::refusal::MakeRefusal;
@@ -22,6 +22,7 @@ pub fn make<A: Arch>(cycle: &Cycle, mode: ObsMode) -> Result<Test, MakeRefusal>
     ensures made { MakesTest A.puts (name_in A.writing.registers) cycle.now mode result }
     ensures printable { TestCanPrint A.puts A.REGISTERS result }
     ensures forces { TestForces (number_in A.writing.registers) (turned cycle.now) mode result }
+    ensures located { IfErr result NamesLocation }
 {
     let mut test = Test::new();
     match make_into::<A>(cycle, mode, &mut test) {
@@ -35,6 +36,7 @@ pub fn make_into<A: Arch>(cycle: &Cycle, mode: ObsMode, test: &mut Test) -> Resu
     ensures made { Makes A.puts (name_in A.writing.registers) cycle.now mode (test_view test.new) result }
     ensures printable { MadeCanPrint A.puts A.REGISTERS test.new result }
     ensures forces { MadeForces (number_in A.writing.registers) (turned cycle.now) mode test.new result }
+    ensures located { IfErr result NamesLocation }
 {
     match first_foreign::<A>(cycle.edges()) {
         Some(at) => Err(MakeRefusal::NotOfArch { at }),
@@ -60,6 +62,7 @@ fn make_of_arch<A: Arch>(cycle: &Cycle, mode: ObsMode, test: &mut Test) -> Resul
     ensures made { MakesOfArch A.puts (name_in A.writing.registers) cycle.now mode (test_view test.new) result }
     ensures printable { MadeCanPrint A.puts A.REGISTERS test.new result }
     ensures forces { MadeForces (number_in A.writing.registers) (turned cycle.now) mode test.new result }
+    ensures located { IfErr result NamesLocation }
 {
     let _edges = cycle.edges();
     match resolve(cycle) {
@@ -78,6 +81,7 @@ fn make_resolved<A: Arch>(
     ensures made { MakesResolved A.puts (name_in A.writing.registers) resolved.now mode (test_view test.new) result }
     ensures printable { MadeCanPrint A.puts A.REGISTERS test.new result }
     ensures forces { MadeForces (number_in A.writing.registers) resolved.now mode test.new result }
+    ensures located { IfErr result NamesLocation }
 {
     let _edges = resolved.cycle();
     match value(resolved, mode) {
@@ -92,6 +96,7 @@ fn make_valued<A: Arch>(valued: &Valued, test: &mut Test) -> Result<(), MakeRefu
     requires { AreOfArch A.puts valued.now.edges }
     ensures made { MakesValued A.puts (name_in A.writing.registers) valued.now.edges valued.now.mode (test_view test.new) result }
     ensures printable { MadeCanPrint A.puts A.REGISTERS test.new result }
+    ensures located { IfErr result NamesLocation }
 {
     put_edges(valued.resolved().cycle().edges(), &mut test.edges);
     test.places.set_letters(valued.resolved().locations());

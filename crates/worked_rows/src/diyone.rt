@@ -3,7 +3,7 @@ use diy_io::Words;
 use std::test::Fail;
 
 /// Words of diyone7, and the test that they print.
-const TESTS: [(&str, &str); 9] = [
+const TESTS: [(&str, &str); 13] = [
     (
         "diyone7 -arch X86 -name SB PodWR Fre PodWR Fre",
         "X86 SB\n\"PodWR Fre PodWR Fre\"\n{\n}\n P0          | P1          ;\n MOV [x],$1  | MOV [y],$1  ;\n MOV EAX,[y] | MOV EAX,[x] ;\nexists (0:EAX=0 /\\ 1:EAX=0)\n",
@@ -40,10 +40,36 @@ const TESTS: [(&str, &str); 9] = [
         "diyone7 -arch X86 -name W3O PodWW Wse Wse PodWR Fre",
         "X86 W3O\n\"PodWW Wse Wse PodWR Fre\"\n{\n}\n P0         | P1         | P2          | P3          ;\n MOV [x],$1 | MOV [y],$2 | MOV [y],$3  | MOV EAX,[y] ;\n MOV [y],$1 |            | MOV EAX,[x] | MOV EBX,[y] ;\n            |            |             | MOV ECX,[y] ;\nexists (2:EAX=0 /\\ 3:EAX=1 /\\ 3:EBX=2 /\\ 3:ECX=3)\n",
     ),
+    (
+        "diyone7 -obs avoid -arch X86 -name W3 PodWW Wsi Wse PodWR Fre",
+        "X86 W3\n\"PodWW Wsi Wse PodWR Fre\"\n{\n}\n P0         | P1          ;\n MOV [x],$1 | MOV [y],$3  ;\n MOV [y],$1 | MOV EAX,[x] ;\n MOV [y],$2 |             ;\nexists ([y]=3 /\\ 1:EAX=0)\n",
+    ),
+    (
+        "diyone7 -arch X86 -name 2+2WO -obs force PodWW Wse PodWW Wse",
+        "X86 2+2WO\n\"PodWW Wse PodWW Wse\"\n{\n}\n P0         | P1         | P2          | P3          ;\n MOV [x],$2 | MOV [y],$2 | MOV EAX,[x] | MOV EAX,[y] ;\n MOV [y],$1 | MOV [x],$1 | MOV EBX,[x] | MOV EBX,[y] ;\nexists (2:EAX=1 /\\ 2:EBX=2 /\\ 3:EAX=1 /\\ 3:EBX=2)\n",
+    ),
+    (
+        "diyone7 -arch X86 -name Q PodWW Wse Wse Wse Wse Wse PodWR Fre",
+        "X86 Q\n\"PodWW Wse Wse Wse Wse Wse PodWR Fre\"\n{\n}\n P0         | P1         | P2         | P3         | P4         | P5          | P6          ;\n MOV [x],$1 | MOV [y],$2 | MOV [y],$3 | MOV [y],$4 | MOV [y],$5 | MOV [y],$6  | MOV EAX,[y] ;\n MOV [y],$1 |            |            |            |            | MOV EAX,[x] | MOV EBX,[y] ;\n            |            |            |            |            |             | MOV ECX,[y] ;\n            |            |            |            |            |             | MOV EDX,[y] ;\n            |            |            |            |            |             | MOV ESI,[y] ;\n            |            |            |            |            |             | MOV EDI,[y] ;\nexists (5:EAX=0 /\\ 6:EAX=1 /\\ 6:EBX=2 /\\ 6:ECX=3 /\\ 6:EDX=4 /\\ 6:ESI=5 /\\ 6:EDI=6)\n",
+    ),
+    (
+        "diyone7 -obs force -arch X86 -obs accept -name R PodWW Wse PodWR Fre",
+        "X86 R\n\"PodWW Wse PodWR Fre\"\n{\n}\n P0         | P1          ;\n MOV [x],$1 | MOV [y],$2  ;\n MOV [y],$1 | MOV EAX,[x] ;\nexists ([y]=2 /\\ 1:EAX=0)\n",
+    ),
 ];
 
 /// Words that are refused or make no request, with the exit status and the line on `err`.
-const REFUSED: [(&str, u8, &str); 20] = [
+const REFUSED: [(&str, u8, &str); 22] = [
+    (
+        "diyone7 -arch X86 -name W3O -obs avoid PodWW Wse Wse PodWR Fre",
+        1,
+        "diy: refused NeedsObserver y 2\n",
+    ),
+    (
+        "diyone7 -arch X86 -name Q PodWW Wse Wse Wse Wse Wse Wse PodWR Fre",
+        1,
+        "diy: refused TooManyRegisters 7\n",
+    ),
     (
         "diyone7 -arch X86 -name A Rfe PosRR Fre",
         1,
@@ -114,11 +140,7 @@ const REFUSED: [(&str, u8, &str); 20] = [
         2,
         "diy: usage NotBuilt: RISCV\n",
     ),
-    (
-        "diyone7 -obs force -arch X86",
-        2,
-        "diy: usage NotBuilt: -obs\n",
-    ),
+    ("diyone7 -obs all -arch X86", 2, "diy: usage BadMode: all\n"),
     ("norm7 -arch X86", 2, "diy: usage NotBuilt: norm7\n"),
 ];
 

@@ -1,0 +1,11 @@
+//! AArch64: the code of its links and accesses as definitions, and that it keeps the laws of architectures.
+#![tactic(auto)]
+
+ghost use Rattle.arch_trait.specs.Laws.{IsArch};
+ghost use Rattle.arch_aarch64.specs.Puts.{puts};
+
+/// The code of AArch64 keeps the laws of architectures: so the code of a thread on AArch64 makes
+/// exactly the thread's accesses, each with the barriers and dependencies of its link.
+pub fn aarch64_keeps_the_laws()
+    ensures { IsArch puts }
+{}

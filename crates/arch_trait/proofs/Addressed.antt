@@ -1,0 +1,657 @@
+-- What is alike in the architectures whose accesses name a register with the address: the laws of
+-- architectures follow from those of their instructions.
+use Rattle.std.proofs.Common.{ℕ, ◌+◌, ◌<◌, ◌≤◌, ◌≡◌, ◌==◌, ◌||◌, refl, Bool, true, false, cond, not, bit_or, List, [], ◌∷◌, ◌++◌, Option, Some, None, is_some, length, length-append, ◌∙◌, ap, append-nil, append_assoc, subst, arith}
+use Rattle.std.specs.List.{list_all}
+use Rattle.std.proofs.lemmas.Bool.{and_from, ne_eqb}
+use Rattle.relax_edges.specs.EdgeTable.{fence_is_of}
+use Rattle.relax_edges.specs.declared.kinds.FenceKind.{FenceKind}
+use Rattle.relax_edges.specs.declared.kinds.Dir.TheVariants as dirs
+use Rattle.relax_edges.specs.declared.kinds.FenceKind.TheVariants as fences
+use Rattle.micro_ops.specs.declared.operation.Micro.{Micro}
+use Rattle.micro_ops.specs.declared.operation.Micro.TheVariants as ops
+use Rattle.micro_ops.specs.declared.operation.Item.TheVariants as items
+use Rattle.micro_ops.specs.declared.operation.Barrier.{Barrier}
+use Rattle.micro_ops.specs.declared.operation.Barrier.TheVariants as barriers
+use Rattle.micro_ops.specs.Machine.{num, at_place, bit}
+use Rattle.micro_ops.specs.Running.{Run, At, go, exec, labels_of, lands}
+use Rattle.micro_ops.proofs.Rules.{holding, after_load, after_store, after_barrier, run_load, run_load_wants, run_store, run_barrier}
+use Rattle.micro_ops.proofs.Laws.{exec_append}
+use Rattle.arch_trait.specs.declared.link.Link.{Link}
+use Rattle.arch_trait.specs.declared.link.Link.TheVariants as links
+use Rattle.arch_trait.specs.Links.{link_is_of, depends, is_addr, is_data, mask_if, source_if, link_control, link_items}
+use Rattle.arch_trait.specs.Taking.{Taken, took, has_address, address_of, with_address}
+use Rattle.arch_trait.specs.Laws.{HoldsPlaces, HasSource, Did, DidLoad, DidLink, IsWanting, IsTaken, Takes, HasLink, IsUsable, MakesLinks, MakesAccess, MakesLoads, MakesStores, IsArch, link_room, link_labels, is_at}
+use Rattle.arch_trait.specs.Addressed.{Instructions, puts_of, branch_code, link_code, load_on, filled_on, store_on}
+use Rattle.arch_trait.proofs.Taking.{takes_address, address_there}
+use Rattle.arch_trait.proofs.Accesses.{Writes, IsSpare, writes_none, writes_more, written_same, spare_with, address_is, address_below, did_load, did_store, did_nothing, on_source, xor_runs, written_other, addr_depends, data_depends, addr_no_data, address_next, fresh_counts}
+
+-- two runs differ in one register alone
+pub record IsBut (d : ℕ) (r u : Run) : Type 0 where
+  pub regs : (s : ℕ) → (s == d) ≡ false → u.state.regs s ≡ r.state.regs s
+  pub made : u.made ≡ r.made
+  pub control : u.state.control ≡ r.state.control
+  pub loads : u.state.loads ≡ r.state.loads
+  pub reads : u.reads ≡ r.reads
+
+pub same_run : (d : ℕ) (r : Run) → IsBut d r r
+same_run d r = record {
+  regs = λ s e. refl;
+  made = refl;
+  control = refl;
+  loads = refl;
+  reads = refl;
+}
+
+-- a run of code ends with a load, and changes one register before it
+pub record LoadsBy (code : List Micro) (r : Run) (d v p n mask : ℕ) (vs : List ℕ) : Type 0 where
+  pub before : Run
+  pub ran : exec code (At r) ≡ At (after_load before v p n mask vs)
+  pub same : IsBut d r before
+
+-- a run of code ends with a store, and changes one register before it
+pub record StoresBy (code : List Micro) (r : Run) (d p n mask : ℕ) : Type 0 where
+  pub before : Run
+  pub ran : exec code (At r) ≡ At (after_store before p n mask 0)
+  pub same : IsBut d r before
+
+-- code of at most two operations without a label, a branch or a place
+pub record IsShort (code : List Micro) : Type 0 where
+  pub room : length code ≤ 2
+  pub labels : labels_of code ≡ []
+  pub lands : lands code ≡ true
+  pub no_place : (p : ℕ) → list_all (is_at p) code ≡ true
+
+-- what the instructions of an architecture keep
+pub record KeepsInstructions (own : Instructions) : Type 0 where
+  pub few : own.registers ≤ 32
+  pub branch_runs : (s n v k : ℕ) (r : Run) → r.state.regs s ≡ num v (bit k) →
+      DidLink (own.branch s n ++ ops.Label n ∷ []) r [] (bit_or r.state.control (bit k))
+  pub branch_room : (s n : ℕ) → length (own.branch s n) ≤ 2
+  pub branch_labels : (s n : ℕ) (rest : List Micro) →
+      labels_of (own.branch s n ++ ops.Label n ∷ rest) ≡ n ∷ labels_of rest
+  pub branch_lands : (s n : ℕ) (rest : List Micro) → lands rest ≡ true →
+      lands (own.branch s n ++ ops.Label n ∷ rest) ≡ true
+  pub branch_no_place : (s n p : ℕ) (rest : List Micro) → list_all (is_at p) rest ≡ true →
+      list_all (is_at p) (own.branch s n ++ ops.Label n ∷ rest) ≡ true
+  pub branch_has : (s n : ℕ) (rest : List Micro) → s < own.registers → list_all own.has rest ≡ true →
+      list_all own.has (own.branch s n ++ ops.Label n ∷ rest) ≡ true
+  pub fence_has : (kind : FenceKind) → fence_is_of kind own.name ≡ true →
+      own.has (ops.Barrier (barriers.Fence kind)) ≡ true
+  pub isync_has : link_is_of links.CtrlIsync own.name ≡ true →
+      own.has (ops.Barrier (barriers.Fence fences.ISync)) ≡ true
+  pub isb_has : link_is_of links.CtrlIsb own.name ≡ true → own.has (ops.Barrier barriers.Isb) ≡ true
+  pub load_runs : (d v a p n mask : ℕ) (vs : List ℕ) (r : Run) → r.state.regs a ≡ at_place p →
+      r.state.regs d ≡ num 0 mask → r.reads ≡ n ∷ vs → LoadsBy (own.load d v a) r d v p n mask vs
+  pub load_wants : (d v a p mask : ℕ) (r : Run) → r.state.regs a ≡ at_place p →
+      r.state.regs d ≡ num 0 mask → r.reads ≡ [] → IsWanting (exec (own.load d v a) (At r))
+  pub load_short : (d v a : ℕ) → IsShort (own.load d v a)
+  pub load_has : (d v a : ℕ) → d < own.registers → v < own.registers → a < own.registers →
+      list_all own.has (own.load d v a) ≡ true
+  pub store_runs : (d v a p n mask : ℕ) (r : Run) → r.state.regs a ≡ at_place p →
+      r.state.regs d ≡ num 0 mask → r.state.regs v ≡ num n 0 → (v == d) ≡ false →
+      StoresBy (own.store d v a) r d p n mask
+  pub store_short : (d v a : ℕ) → IsShort (own.store d v a)
+  pub store_has : (d v a : ℕ) → d < own.registers → v < own.registers → a < own.registers →
+      list_all own.has (own.store d v a) ≡ true
+  pub joins_runs : (d n mask : ℕ) (r : Run) → n < 256 → r.state.regs d ≡ num 0 mask →
+      go (own.joins d n) (At r) ≡ At (holding r d (num n mask))
+  pub joins_short : (d n a : ℕ) → IsShort (own.joins d n ∷ ops.Store d a None ∷ [])
+  pub joins_has : (d n : ℕ) → d < own.registers → n < 256 → own.has (own.joins d n) ≡ true
+  pub xor_has : (d s : ℕ) → d < own.registers → s < own.registers → own.has (ops.Xor d s s) ≡ true
+  pub imm_has : (d n : ℕ) → d < own.registers → n < 256 → own.has (ops.Imm d n) ≡ true
+  pub plain_load_has : (v a : ℕ) → v < own.registers → a < own.registers →
+      own.has (ops.Load v a None) ≡ true
+  pub plain_store_has : (v a : ℕ) → v < own.registers → a < own.registers →
+      own.has (ops.Store v a None) ≡ true
+
+-- registers of which one more was changed
+writes_but : (r u : Run) (w : Run) (g h : Taken) (d : ℕ) → Writes r.state.regs u.state.regs g h →
+    IsSpare g h d → IsBut d u w → Writes r.state.regs w.state.regs g h
+writes_but r u w g h d x spare but = record {
+  below = λ s k. let l : g.next ≤ d = spare.above in
+      but.regs s (ne_eqb s d (λ e. omega arith)) ∙ x.below s k;
+  above = λ s k. let l : d < h.next = spare.below in
+      but.regs s (ne_eqb s d (λ e. omega arith)) ∙ x.above s k;
+  places = λ p a e. but.regs a (spare.free p a e) ∙ x.places p a e;
+}
+
+-- a barrier behind the branch of a link
+did_barrier : (code : List Micro) (kind : Barrier) (r : Run) (c : ℕ) → DidLink code r [] c →
+    DidLink (code ++ ops.Barrier kind ∷ []) r (items.Barrier kind c ∷ []) c
+did_barrier code kind r c d = record {
+  after = after_barrier d.after kind;
+  ran = exec_append code (ops.Barrier kind ∷ []) (At r) ∙ ap (λ p. go (ops.Barrier kind) p) d.ran;
+  made_is =
+      ap (λ m. m ++ items.Barrier kind d.after.state.control ∷ []) (d.made_is ∙ append-nil r.made) ∙
+      ap (λ x. r.made ++ items.Barrier kind x ∷ []) d.control_is;
+  control_is = d.control_is;
+  loads_is = d.loads_is;
+  reads_is = d.reads_is;
+  regs_is = d.regs_is;
+}
+
+did_behind : (own : Instructions) (kind : Barrier) (s n : ℕ) (r : Run) (c : ℕ) →
+    DidLink (own.branch s n ++ ops.Label n ∷ []) r [] c →
+    DidLink (own.branch s n ++ ops.Label n ∷ ops.Barrier kind ∷ []) r (items.Barrier kind c ∷ []) c
+did_behind own kind s n r c d =
+    subst (λ code. DidLink code r (items.Barrier kind c ∷ []) c)
+    (append_assoc (own.branch s n) (ops.Label n ∷ []) (ops.Barrier kind ∷ []))
+    (did_barrier (own.branch s n ++ ops.Label n ∷ []) kind r c d)
+
+link_runs : (own : Instructions) → KeepsInstructions own → (link : Link) (from : Option ℕ) (n : ℕ) (r : Run) (k : ℕ) →
+    (depends link ≡ true → HasSource r from k) →
+    DidLink (link_code own link from n) r (link_items link k r.state.control)
+    (link_control link k r.state.control)
+link_runs own keeps links.Plain from n r k source = did_nothing r
+link_runs own keeps (links.Fence kind) from n r k source = record {
+  after = after_barrier r (barriers.Fence kind);
+  ran = run_barrier (barriers.Fence kind) r;
+  made_is = refl;
+  control_is = refl;
+  loads_is = refl;
+  reads_is = refl;
+  regs_is = refl;
+}
+link_runs own keeps links.Addr from n r k source = did_nothing r
+link_runs own keeps links.Data from n r k source = did_nothing r
+link_runs own keeps links.Ctrl from n r k source =
+    on_source r from k
+    (λ o. DidLink (link_code own links.Ctrl o n) r [] (link_control links.Ctrl k r.state.control))
+    (source refl) (λ s v h. keeps.branch_runs s n v k r h)
+link_runs own keeps links.CtrlIsync from n r k source =
+    on_source r from k
+    (λ o. DidLink (link_code own links.CtrlIsync o n) r (link_items links.CtrlIsync k r.state.control)
+    (link_control links.CtrlIsync k r.state.control))
+    (source refl)
+    (λ s v h. did_behind own (barriers.Fence fences.ISync) s n r _ (keeps.branch_runs s n v k r h))
+link_runs own keeps links.CtrlIsb from n r k source =
+    on_source r from k
+    (λ o. DidLink (link_code own links.CtrlIsb o n) r (link_items links.CtrlIsb k r.state.control)
+    (link_control links.CtrlIsb k r.state.control))
+    (source refl) (λ s v h. did_behind own barriers.Isb s n r _ (keeps.branch_runs s n v k r h))
+
+-- what is to be shown of a load
+abbrev pub LoadRuns : Instructions → Taken → Run → ℕ → ℕ → ℕ → List ℕ → Bool → Option ℕ → Type 0
+LoadRuns own g r p k v vs on o =
+    HoldsPlaces r (load_on own g o p).regs →
+    DidLoad (load_on own g o p).code r g (load_on own g o p).regs
+    (items.Access dirs.R p v (mask_if on k) 0 r.state.control ∷ [])
+    r.state.control (r.state.loads + 1) vs (filled_on g o) v
+
+load_plain : (own : Instructions) (g : Taken) (r : Run) (p k v : ℕ) (vs : List ℕ) → IsTaken g →
+    r.reads ≡ v ∷ vs → LoadRuns own g r p k v vs false None
+load_plain own g r p k v vs taken reads places =
+    let i = took g 1 in
+    did_load (load_on own g None p).code r r g (with_address i p) g.next p v 0 vs
+    (run_load g.next (address_of i p) p v 0 vs r (places p (address_of i p) (address_is i p)) reads)
+    (writes_none r g (with_address i p) places) refl refl refl
+    (spare_with g i p g.next taken refl refl (omega arith) (omega arith))
+
+load_dependent : (own : Instructions) → KeepsInstructions own → (g : Taken) (r : Run) (p k v : ℕ) (vs : List ℕ) →
+    IsTaken g → r.reads ≡ v ∷ vs → (s n : ℕ) → r.state.regs s ≡ num n (bit k) →
+    LoadRuns own g r p k v vs true (Some s)
+load_dependent own keeps g r p k v vs taken reads s n e places =
+    let i = took g 2 in
+    let h = with_address i p in
+    let u = holding r g.next (num 0 (bit k)) in
+    let spare = spare_with g i p g.next taken refl refl (omega arith) (omega arith) in
+    let w = writes_more r.state.regs r.state.regs g h g.next (num 0 (bit k)) (writes_none r g h places) spare in
+    let l = keeps.load_runs g.next (g.next + 1) (address_of i p) p v (bit k) vs u
+    (w.places p (address_of i p) (address_is i p))
+    (written_same r.state.regs g.next (num 0 (bit k))) reads in
+    did_load (load_on own g (Some s) p).code r l.before g h (g.next + 1) p v (bit k) vs
+    (ap (λ x. exec (own.load g.next (g.next + 1) (address_of i p)) x) (xor_runs g.next s n k r e) ∙ l.ran)
+    (writes_but r u l.before g h g.next w spare l.same) l.same.made l.same.control l.same.loads
+    (spare_with g i p (g.next + 1) taken refl refl (omega arith) (omega arith))
+
+load_runs : (own : Instructions) → KeepsInstructions own → (g : Taken) (r : Run) (p k v : ℕ) (vs : List ℕ) (on : Bool)
+    (from : Option ℕ) → IsTaken g → r.reads ≡ v ∷ vs → (on ≡ true → HasSource r from k) →
+    LoadRuns own g r p k v vs on (source_if on from)
+load_runs own keeps g r p k v vs true from taken reads source =
+    on_source r from k (λ o. LoadRuns own g r p k v vs true o) (source refl)
+    (λ s n e. load_dependent own keeps g r p k v vs taken reads s n e)
+load_runs own keeps g r p k v vs false from taken reads source =
+    load_plain own g r p k v vs taken reads
+
+-- with nothing to read a load wants a number
+abbrev pub LoadWants : Instructions → Taken → Run → ℕ → Option ℕ → Type 0
+LoadWants own g r p o =
+    HoldsPlaces r (load_on own g o p).regs → IsWanting (exec (load_on own g o p).code (At r))
+
+wants_plain : (own : Instructions) (g : Taken) (r : Run) (p : ℕ) → r.reads ≡ [] → LoadWants own g r p None
+wants_plain own g r p reads places =
+    let i = took g 1 in
+    record {
+      run = r;
+      is = run_load_wants g.next (address_of i p) p 0 r (places p (address_of i p) (address_is i p)) reads;
+    }
+
+wants_dependent : (own : Instructions) → KeepsInstructions own → (g : Taken) (r : Run) (p k : ℕ) → IsTaken g →
+    r.reads ≡ [] → (s n : ℕ) → r.state.regs s ≡ num n (bit k) → LoadWants own g r p (Some s)
+wants_dependent own keeps g r p k taken reads s n e places =
+    let i = took g 2 in
+    let h = with_address i p in
+    let u = holding r g.next (num 0 (bit k)) in
+    let w = writes_more r.state.regs r.state.regs g h g.next (num 0 (bit k)) (writes_none r g h places)
+    (spare_with g i p g.next taken refl refl (omega arith) (omega arith)) in
+    let l = keeps.load_wants g.next (g.next + 1) (address_of i p) p (bit k) u
+    (w.places p (address_of i p) (address_is i p))
+    (written_same r.state.regs g.next (num 0 (bit k))) reads in
+    record {
+      run = l.run;
+      is = ap (λ x. exec (own.load g.next (g.next + 1) (address_of i p)) x) (xor_runs g.next s n k r e) ∙ l.is;
+    }
+
+load_wants : (own : Instructions) → KeepsInstructions own → (g : Taken) (r : Run) (p k : ℕ) (on : Bool)
+    (from : Option ℕ) → IsTaken g → r.reads ≡ [] → (on ≡ true → HasSource r from k) →
+    LoadWants own g r p (source_if on from)
+load_wants own keeps g r p k true from taken reads source =
+    on_source r from k (λ o. LoadWants own g r p o) (source refl)
+    (λ s n e. wants_dependent own keeps g r p k taken reads s n e)
+load_wants own keeps g r p k false from taken reads source = wants_plain own g r p reads
+
+-- what is to be shown of a store
+abbrev pub StoreRuns : Instructions → Taken → Run → ℕ → ℕ → ℕ → Bool → Bool → Option ℕ → Option ℕ → Type 0
+StoreRuns own g r p v k addr data_on o d =
+    HoldsPlaces r (store_on own g o d p v).regs →
+    Did (store_on own g o d p v).code r g (store_on own g o d p v).regs
+    (items.Access dirs.W p v (mask_if addr k) (mask_if data_on k) r.state.control ∷ [])
+    r.state.control r.state.loads r.reads
+
+store_plain : (own : Instructions) (g : Taken) (r : Run) (p v k : ℕ) → IsTaken g →
+    StoreRuns own g r p v k false false None None
+store_plain own g r p v k taken places =
+    let i = took g 1 in
+    let h = with_address i p in
+    let u = holding r g.next (num v 0) in
+    let w = writes_more r.state.regs r.state.regs g h g.next (num v 0) (writes_none r g h places)
+    (spare_with g i p g.next taken refl refl (omega arith) (omega arith)) in
+    did_store (store_on own g None None p v).code r u g h p v 0 0
+    (run_store g.next (address_of i p) p v 0 0 u (w.places p (address_of i p) (address_is i p))
+    (written_same r.state.regs g.next (num v 0)))
+    w refl refl refl refl
+
+store_dependent : (own : Instructions) → KeepsInstructions own → (g : Taken) (r : Run) (p v k : ℕ) → IsTaken g →
+    (d : Option ℕ) (s n : ℕ) → r.state.regs s ≡ num n (bit k) →
+    StoreRuns own g r p v k true false (Some s) d
+store_dependent own keeps g r p v k taken d s n e places =
+    let i = took g 2 in
+    let h = with_address i p in
+    let u = holding r g.next (num 0 (bit k)) in
+    let t = holding u (g.next + 1) (num v 0) in
+    let spare = spare_with g i p g.next taken refl refl (omega arith) (omega arith) in
+    let w = writes_more r.state.regs r.state.regs g h g.next (num 0 (bit k)) (writes_none r g h places) spare in
+    let x = writes_more r.state.regs u.state.regs g h (g.next + 1) (num v 0) w
+    (spare_with g i p (g.next + 1) taken refl refl (omega arith) (omega arith)) in
+    let other : (g.next == g.next + 1) ≡ false = ne_eqb g.next (g.next + 1) (λ q. omega arith) in
+    let apart : (g.next + 1 == g.next) ≡ false = ne_eqb (g.next + 1) g.next (λ q. omega arith) in
+    let l = keeps.store_runs g.next (g.next + 1) (address_of i p) p v (bit k) t
+    (x.places p (address_of i p) (address_is i p))
+    (written_other u.state.regs (g.next + 1) g.next (num v 0) other ∙
+    written_same r.state.regs g.next (num 0 (bit k)))
+    (written_same u.state.regs (g.next + 1) (num v 0)) apart in
+    did_store (store_on own g (Some s) d p v).code r l.before g h p v (bit k) 0
+    (ap (λ q. exec (own.store g.next (g.next + 1) (address_of i p)) (go (ops.Imm (g.next + 1) v) q))
+    (xor_runs g.next s n k r e) ∙ l.ran)
+    (writes_but r t l.before g h g.next x spare l.same) l.same.made l.same.control l.same.loads l.same.reads
+
+store_of_sum : (own : Instructions) → KeepsInstructions own → (g : Taken) (r : Run) (p v k : ℕ) → IsTaken g → v < 256 →
+    (s n : ℕ) → r.state.regs s ≡ num n (bit k) → StoreRuns own g r p v k false true None (Some s)
+store_of_sum own keeps g r p v k taken small s n e places =
+    let i = took g 1 in
+    let h = with_address i p in
+    let u = holding r g.next (num 0 (bit k)) in
+    let t = holding u g.next (num v (bit k)) in
+    let spare = spare_with g i p g.next taken refl refl (omega arith) (omega arith) in
+    let w = writes_more r.state.regs r.state.regs g h g.next (num 0 (bit k)) (writes_none r g h places) spare in
+    let x = writes_more r.state.regs u.state.regs g h g.next (num v (bit k)) w spare in
+    did_store (store_on own g None (Some s) p v).code r t g h p v 0 (bit k)
+    (ap (λ q. go (ops.Store g.next (address_of i p) None) (go (own.joins g.next v) q))
+    (xor_runs g.next s n k r e) ∙
+    (ap (λ q. go (ops.Store g.next (address_of i p) None) q)
+    (keeps.joins_runs g.next v (bit k) u small (written_same r.state.regs g.next (num 0 (bit k)))) ∙
+    run_store g.next (address_of i p) p v 0 (bit k) t (x.places p (address_of i p) (address_is i p))
+    (written_same u.state.regs g.next (num v (bit k)))))
+    x refl refl refl refl
+
+store_runs : (own : Instructions) → KeepsInstructions own → (g : Taken) (r : Run) (p v k : ℕ) (addr data_on : Bool)
+    (from : Option ℕ) → IsTaken g → v < 256 → (addr ≡ true → HasSource r from k) →
+    (data_on ≡ true → HasSource r from k) → (addr ≡ true → data_on ≡ false) →
+    StoreRuns own g r p v k addr data_on (source_if addr from) (source_if data_on from)
+store_runs own keeps g r p v k true false from taken small source other apart =
+    on_source r from k (λ o. StoreRuns own g r p v k true false o None) (source refl)
+    (λ s n e. store_dependent own keeps g r p v k taken None s n e)
+store_runs own keeps g r p v k true true from taken small source other apart =
+    let q : true ≡ false = apart refl in cc
+store_runs own keeps g r p v k false true from taken small source other apart =
+    on_source r from k (λ o. StoreRuns own g r p v k false true None o) (other refl)
+    (λ s n e. store_of_sum own keeps g r p v k taken small s n e)
+store_runs own keeps g r p v k false false from taken small source other apart =
+    store_plain own g r p v k taken
+
+load_takes : (own : Instructions) (g : Taken) (p : ℕ) (o : Option ℕ) → Takes g (load_on own g o p).regs p
+load_takes own g p None = takes_address g (took g 1) p refl refl (omega arith)
+load_takes own g p (Some s) = takes_address g (took g 2) p refl refl (omega arith)
+
+load_room : (own : Instructions) → KeepsInstructions own → (g : Taken) (p : ℕ) (a : Bool) (from : Option ℕ) (b : Bool) →
+    length (load_on own g (source_if a from) p).code ≤ cond (a || b) 4 2
+load_room own keeps g p true None b = omega arith
+load_room own keeps g p true (Some s) b =
+    omega (arith, (keeps.load_short g.next (g.next + 1) (address_of (took g 2) p)).room)
+load_room own keeps g p false from true = omega arith
+load_room own keeps g p false from false = omega arith
+
+load_addressed : (own : Instructions) (g : Taken) (p : ℕ) (o : Option ℕ) →
+    has_address (load_on own g o p).regs p ≡ true
+load_addressed own g p None = address_there (took g 1) p
+load_addressed own g p (Some s) = address_there (took g 2) p
+
+load_need : (own : Instructions) (g : Taken) (p : ℕ) (a : Bool) (from : Option ℕ) (is_new : Bool) (h : ℕ) →
+    (a ≡ true → is_some from ≡ true) → is_new ≡ not (has_address g p) →
+    (load_on own g (source_if a from) p).regs.next + h ≡ g.next + (h + 1 + cond a 1 0 + cond is_new 1 0)
+load_need own g p true None is_new h given fresh = let e : false ≡ true = given refl in cc
+load_need own g p true (Some s) is_new h given fresh =
+    omega (arith, address_next (took g 2) p, fresh_counts g p is_new fresh)
+load_need own g p false from is_new h given fresh =
+    omega (arith, address_next (took g 1) p, fresh_counts g p is_new fresh)
+
+load_labels : (own : Instructions) → KeepsInstructions own → (g : Taken) (p : ℕ) (o : Option ℕ) →
+    labels_of (load_on own g o p).code ≡ []
+load_labels own keeps g p None = refl
+load_labels own keeps g p (Some s) =
+    (keeps.load_short g.next (g.next + 1) (address_of (took g 2) p)).labels
+
+load_lands : (own : Instructions) → KeepsInstructions own → (g : Taken) (p : ℕ) (o : Option ℕ) →
+    lands (load_on own g o p).code ≡ true
+load_lands own keeps g p None = refl
+load_lands own keeps g p (Some s) =
+    (keeps.load_short g.next (g.next + 1) (address_of (took g 2) p)).lands
+
+load_at : (own : Instructions) → KeepsInstructions own → (g : Taken) (p : ℕ) (o : Option ℕ) →
+    list_all (is_at p) (load_on own g o p).code ≡ true
+load_at own keeps g p None = refl
+load_at own keeps g p (Some s) =
+    (keeps.load_short g.next (g.next + 1) (address_of (took g 2) p)).no_place p
+
+load_has : (own : Instructions) → KeepsInstructions own → (g : Taken) (p : ℕ) (o : Option ℕ) →
+    IsUsable own.registers o → IsTaken g → (load_on own g o p).regs.next ≤ own.registers →
+    list_all own.has (load_on own g o p).code ≡ true
+load_has own keeps g p None u taken left =
+    let i = took g 1 in
+    let a = address_below g i p taken refl (omega arith) in
+    let n = address_next i p in
+    and_from _ true (keeps.plain_load_has g.next (address_of i p) (omega (arith, n)) (omega (arith, a))) refl
+load_has own keeps g p (Some s) u taken left =
+    let i = took g 2 in
+    let a = address_below g i p taken refl (omega arith) in
+    let n = address_next i p in
+    and_from _ _ (keeps.xor_has g.next s (omega (arith, n)) u)
+    (keeps.load_has g.next (g.next + 1) (address_of i p) (omega (arith, n)) (omega (arith, n)) (omega (arith, a)))
+
+store_takes : (own : Instructions) (g : Taken) (p v : ℕ) (o d : Option ℕ) →
+    Takes g (store_on own g o d p v).regs p
+store_takes own g p v None None = takes_address g (took g 1) p refl refl (omega arith)
+store_takes own g p v None (Some s) = takes_address g (took g 1) p refl refl (omega arith)
+store_takes own g p v (Some s) d = takes_address g (took g 2) p refl refl (omega arith)
+
+store_room : (own : Instructions) → KeepsInstructions own → (g : Taken) (p v : ℕ) (a b : Bool) (from : Option ℕ) →
+    length (store_on own g (source_if a from) (source_if b from) p v).code ≤ cond (a || b) 4 2
+store_room own keeps g p v true true None = omega arith
+store_room own keeps g p v true false None = omega arith
+store_room own keeps g p v true b (Some s) =
+    omega (arith, (keeps.store_short g.next (g.next + 1) (address_of (took g 2) p)).room)
+store_room own keeps g p v false true None = omega arith
+store_room own keeps g p v false true (Some s) = omega arith
+store_room own keeps g p v false false from = omega arith
+
+store_addressed : (own : Instructions) (g : Taken) (p v : ℕ) (o d : Option ℕ) →
+    has_address (store_on own g o d p v).regs p ≡ true
+store_addressed own g p v None None = address_there (took g 1) p
+store_addressed own g p v None (Some s) = address_there (took g 1) p
+store_addressed own g p v (Some s) d = address_there (took g 2) p
+
+store_need : (own : Instructions) (g : Taken) (p v : ℕ) (a b : Bool) (from : Option ℕ) (is_new : Bool)
+    (h : ℕ) → (a ≡ true → is_some from ≡ true) → is_new ≡ not (has_address g p) →
+    (store_on own g (source_if a from) (source_if b from) p v).regs.next + h ≡
+    g.next + (h + 1 + cond a 1 0 + cond is_new 1 0)
+store_need own g p v true b None is_new h given fresh = let e : false ≡ true = given refl in cc
+store_need own g p v true b (Some s) is_new h given fresh =
+    omega (arith, address_next (took g 2) p, fresh_counts g p is_new fresh)
+store_need own g p v false true None is_new h given fresh =
+    omega (arith, address_next (took g 1) p, fresh_counts g p is_new fresh)
+store_need own g p v false true (Some s) is_new h given fresh =
+    omega (arith, address_next (took g 1) p, fresh_counts g p is_new fresh)
+store_need own g p v false false from is_new h given fresh =
+    omega (arith, address_next (took g 1) p, fresh_counts g p is_new fresh)
+
+store_labels : (own : Instructions) → KeepsInstructions own → (g : Taken) (p v : ℕ) (o d : Option ℕ) →
+    labels_of (store_on own g o d p v).code ≡ []
+store_labels own keeps g p v None None = refl
+store_labels own keeps g p v None (Some s) =
+    (keeps.joins_short g.next v (address_of (took g 1) p)).labels
+store_labels own keeps g p v (Some s) d =
+    (keeps.store_short g.next (g.next + 1) (address_of (took g 2) p)).labels
+
+store_lands : (own : Instructions) → KeepsInstructions own → (g : Taken) (p v : ℕ) (o d : Option ℕ) →
+    lands (store_on own g o d p v).code ≡ true
+store_lands own keeps g p v None None = refl
+store_lands own keeps g p v None (Some s) =
+    (keeps.joins_short g.next v (address_of (took g 1) p)).lands
+store_lands own keeps g p v (Some s) d =
+    (keeps.store_short g.next (g.next + 1) (address_of (took g 2) p)).lands
+
+store_at : (own : Instructions) → KeepsInstructions own → (g : Taken) (p v : ℕ) (o d : Option ℕ) →
+    list_all (is_at p) (store_on own g o d p v).code ≡ true
+store_at own keeps g p v None None = refl
+store_at own keeps g p v None (Some s) =
+    (keeps.joins_short g.next v (address_of (took g 1) p)).no_place p
+store_at own keeps g p v (Some s) d =
+    (keeps.store_short g.next (g.next + 1) (address_of (took g 2) p)).no_place p
+
+store_has : (own : Instructions) → KeepsInstructions own → (g : Taken) (p v : ℕ) (o d : Option ℕ) → v < 256 →
+    IsUsable own.registers o → IsUsable own.registers d → IsTaken g →
+    (store_on own g o d p v).regs.next ≤ own.registers →
+    list_all own.has (store_on own g o d p v).code ≡ true
+store_has own keeps g p v None None small uo ud taken left =
+    let i = took g 1 in
+    let a = address_below g i p taken refl (omega arith) in
+    let n = address_next i p in
+    and_from _ _ (keeps.imm_has g.next v (omega (arith, n)) small)
+    (and_from _ true
+    (keeps.plain_store_has g.next (address_of i p) (omega (arith, n)) (omega (arith, a))) refl)
+store_has own keeps g p v None (Some s) small uo ud taken left =
+    let i = took g 1 in
+    let a = address_below g i p taken refl (omega arith) in
+    let n = address_next i p in
+    and_from _ _ (keeps.xor_has g.next s (omega (arith, n)) ud)
+    (and_from _ _ (keeps.joins_has g.next v (omega (arith, n)) small)
+    (and_from _ true
+    (keeps.plain_store_has g.next (address_of i p) (omega (arith, n)) (omega (arith, a))) refl))
+store_has own keeps g p v (Some s) d small uo ud taken left =
+    let i = took g 2 in
+    let a = address_below g i p taken refl (omega arith) in
+    let n = address_next i p in
+    and_from _ _ (keeps.xor_has g.next s (omega (arith, n)) uo)
+    (and_from _ _ (keeps.imm_has (g.next + 1) v (omega (arith, n)) small)
+    (keeps.store_has g.next (g.next + 1) (address_of i p) (omega (arith, n)) (omega (arith, n)) (omega (arith, a))))
+
+source_usable : (n : ℕ) (a : Bool) (from : Option ℕ) → IsUsable n from → IsUsable n (source_if a from)
+source_usable n true from h = h
+source_usable n false from h = tt
+
+load_access : (own : Instructions) → KeepsInstructions own → MakesAccess (puts_of own) dirs.R (puts_of own).load
+load_access own keeps = record {
+  room = λ g link from p. load_room own keeps g p (is_addr link) from (is_data link);
+  takes = λ g link from p. load_takes own g p (source_if (is_addr link) from);
+  addressed = λ g link from p e. load_addressed own g p (source_if (is_addr link) from);
+  need = λ g link from p is_new h given fresh.
+      let e = load_need own g p (is_addr link) from is_new (h.loads + h.stores + h.addr + h.places)
+      (λ t. given.given (addr_depends link t)) (fresh refl) in
+      omega (arith, e);
+  no_label = λ g link from p. load_labels own keeps g p (source_if (is_addr link) from);
+  no_jump = λ g link from p. load_lands own keeps g p (source_if (is_addr link) from);
+  at_place = λ g link from p. load_at own keeps g p (source_if (is_addr link) from);
+  has = λ g link from p given usable taken left.
+      load_has own keeps g p (source_if (is_addr link) from)
+      (source_usable own.registers (is_addr link) from usable) taken left;
+}
+
+store_access : (own : Instructions) → KeepsInstructions own → (v : ℕ) → v < 256 →
+    MakesAccess (puts_of own) dirs.W (λ g link from p. (puts_of own).store g link from p v)
+store_access own keeps v small = record {
+  room = λ g link from p. store_room own keeps g p v (is_addr link) (is_data link) from;
+  takes = λ g link from p.
+      store_takes own g p v (source_if (is_addr link) from) (source_if (is_data link) from);
+  addressed = λ g link from p e.
+      store_addressed own g p v (source_if (is_addr link) from) (source_if (is_data link) from);
+  need = λ g link from p is_new h given fresh.
+      let e = store_need own g p v (is_addr link) (is_data link) from is_new
+      (h.loads + h.stores + h.addr + h.places) (λ t. given.given (addr_depends link t)) (fresh refl) in
+      omega (arith, e);
+  no_label = λ g link from p.
+      store_labels own keeps g p v (source_if (is_addr link) from) (source_if (is_data link) from);
+  no_jump = λ g link from p.
+      store_lands own keeps g p v (source_if (is_addr link) from) (source_if (is_data link) from);
+  at_place = λ g link from p.
+      store_at own keeps g p v (source_if (is_addr link) from) (source_if (is_data link) from);
+  has = λ g link from p given usable taken left.
+      store_has own keeps g p v (source_if (is_addr link) from) (source_if (is_data link) from) small
+      (source_usable own.registers (is_addr link) from usable)
+      (source_usable own.registers (is_data link) from usable) taken left;
+}
+
+makes_loads : (own : Instructions) → KeepsInstructions own → MakesLoads (puts_of own)
+makes_loads own keeps = record {
+  access = load_access own keeps;
+  runs = λ g link from p r k v vs e d ready reads.
+      load_runs own keeps g r p k v vs (is_addr link) from ready.taken reads
+      (λ t. ready.source (addr_depends link t)) ready.places;
+  wants = λ g link from p r k e d ready reads.
+      load_wants own keeps g r p k (is_addr link) from ready.taken reads
+      (λ t. ready.source (addr_depends link t)) ready.places;
+  fills = λ g link from p. load_fills g p (source_if (is_addr link) from);
+}
+  where
+    load_fills : (g : Taken) (p : ℕ) (o : Option ℕ) →
+        (g.next ≤ filled_on g o) × (filled_on g o < (load_on own g o p).regs.next)
+    load_fills g p None = let n = address_next (took g 1) p in (omega arith, omega (arith, n))
+    load_fills g p (Some s) = let n = address_next (took g 2) p in (omega arith, omega (arith, n))
+
+makes_stores : (own : Instructions) → KeepsInstructions own → MakesStores (puts_of own)
+makes_stores own keeps = record {
+  access = store_access own keeps;
+  runs = λ g link from p v r k small e ready.
+      store_runs own keeps g r p v k (is_addr link) (is_data link) from ready.taken small
+      (λ t. ready.source (addr_depends link t)) (λ t. ready.source (data_depends link t))
+      (addr_no_data link) ready.places;
+}
+
+branch_room : (own : Instructions) → KeepsInstructions own → (from : Option ℕ) (n : ℕ) (rest : List Micro) →
+    length (branch_code own from n rest) ≤ 3 + length rest
+branch_room own keeps None n rest = omega arith
+branch_room own keeps (Some s) n rest =
+    omega (arith, length-append (own.branch s n) (ops.Label n ∷ rest), keeps.branch_room s n)
+
+link_short : (own : Instructions) → KeepsInstructions own → (link : Link) (from : Option ℕ) (n : ℕ) →
+    length (link_code own link from n) ≤ link_room link
+link_short own keeps links.Plain from n = omega arith
+link_short own keeps (links.Fence kind) from n = omega arith
+link_short own keeps links.Addr from n = omega arith
+link_short own keeps links.Data from n = omega arith
+link_short own keeps links.Ctrl from n = omega (arith, branch_room own keeps from n [])
+link_short own keeps links.CtrlIsync from n =
+    omega (arith, branch_room own keeps from n (ops.Barrier (barriers.Fence fences.ISync) ∷ []))
+link_short own keeps links.CtrlIsb from n =
+    omega (arith, branch_room own keeps from n (ops.Barrier barriers.Isb ∷ []))
+
+link_labels_are : (own : Instructions) → KeepsInstructions own → (link : Link) (from : Option ℕ) (n : ℕ) →
+    HasLink (puts_of own) link from → labels_of (link_code own link from n) ≡ link_labels link n
+link_labels_are own keeps links.Plain from n h = refl
+link_labels_are own keeps (links.Fence kind) from n h = refl
+link_labels_are own keeps links.Addr from n h = refl
+link_labels_are own keeps links.Data from n h = refl
+link_labels_are own keeps links.Ctrl (Some s) n h = keeps.branch_labels s n []
+link_labels_are own keeps links.Ctrl None n h = let e : false ≡ true = h.given refl in cc
+link_labels_are own keeps links.CtrlIsync (Some s) n h =
+    keeps.branch_labels s n (ops.Barrier (barriers.Fence fences.ISync) ∷ [])
+link_labels_are own keeps links.CtrlIsync None n h = let e : false ≡ true = h.given refl in cc
+link_labels_are own keeps links.CtrlIsb (Some s) n h =
+    keeps.branch_labels s n (ops.Barrier barriers.Isb ∷ [])
+link_labels_are own keeps links.CtrlIsb None n h = let e : false ≡ true = h.given refl in cc
+
+branch_lands : (own : Instructions) → KeepsInstructions own → (from : Option ℕ) (n : ℕ) (rest : List Micro) →
+    lands rest ≡ true → lands (branch_code own from n rest) ≡ true
+branch_lands own keeps None n rest h = refl
+branch_lands own keeps (Some s) n rest h = keeps.branch_lands s n rest h
+
+link_lands : (own : Instructions) → KeepsInstructions own → (link : Link) (from : Option ℕ) (n : ℕ) →
+    lands (link_code own link from n) ≡ true
+link_lands own keeps links.Plain from n = refl
+link_lands own keeps (links.Fence kind) from n = refl
+link_lands own keeps links.Addr from n = refl
+link_lands own keeps links.Data from n = refl
+link_lands own keeps links.Ctrl from n = branch_lands own keeps from n [] refl
+link_lands own keeps links.CtrlIsync from n =
+    branch_lands own keeps from n (ops.Barrier (barriers.Fence fences.ISync) ∷ []) refl
+link_lands own keeps links.CtrlIsb from n =
+    branch_lands own keeps from n (ops.Barrier barriers.Isb ∷ []) refl
+
+branch_no_place : (own : Instructions) → KeepsInstructions own → (from : Option ℕ) (n p : ℕ) (rest : List Micro) →
+    list_all (is_at p) rest ≡ true → list_all (is_at p) (branch_code own from n rest) ≡ true
+branch_no_place own keeps None n p rest h = refl
+branch_no_place own keeps (Some s) n p rest h = keeps.branch_no_place s n p rest h
+
+link_no_place : (own : Instructions) → KeepsInstructions own → (link : Link) (from : Option ℕ) (n p : ℕ) →
+    list_all (is_at p) (link_code own link from n) ≡ true
+link_no_place own keeps links.Plain from n p = refl
+link_no_place own keeps (links.Fence kind) from n p = refl
+link_no_place own keeps links.Addr from n p = refl
+link_no_place own keeps links.Data from n p = refl
+link_no_place own keeps links.Ctrl from n p = branch_no_place own keeps from n p [] refl
+link_no_place own keeps links.CtrlIsync from n p =
+    branch_no_place own keeps from n p (ops.Barrier (barriers.Fence fences.ISync) ∷ []) refl
+link_no_place own keeps links.CtrlIsb from n p =
+    branch_no_place own keeps from n p (ops.Barrier barriers.Isb ∷ []) refl
+
+branch_has : (own : Instructions) → KeepsInstructions own → (from : Option ℕ) (n : ℕ) (rest : List Micro) →
+    IsUsable own.registers from → list_all own.has rest ≡ true →
+    list_all own.has (branch_code own from n rest) ≡ true
+branch_has own keeps None n rest u h = refl
+branch_has own keeps (Some s) n rest u h = keeps.branch_has s n rest u h
+
+link_has : (own : Instructions) → KeepsInstructions own → (link : Link) (from : Option ℕ) (n : ℕ) →
+    link_is_of link own.name ≡ true → IsUsable own.registers from →
+    list_all own.has (link_code own link from n) ≡ true
+link_has own keeps links.Plain from n e u = refl
+link_has own keeps (links.Fence kind) from n e u = and_from _ true (keeps.fence_has kind e) refl
+link_has own keeps links.Addr from n e u = refl
+link_has own keeps links.Data from n e u = refl
+link_has own keeps links.Ctrl from n e u = branch_has own keeps from n [] u refl
+link_has own keeps links.CtrlIsync from n e u =
+    branch_has own keeps from n (ops.Barrier (barriers.Fence fences.ISync) ∷ []) u
+    (and_from _ true (keeps.isync_has e) refl)
+link_has own keeps links.CtrlIsb from n e u =
+    branch_has own keeps from n (ops.Barrier barriers.Isb ∷ []) u (and_from _ true (keeps.isb_has e) refl)
+
+makes_links : (own : Instructions) → KeepsInstructions own → MakesLinks (puts_of own)
+makes_links own keeps = record {
+  runs = λ link from n r k e source. link_runs own keeps link from n r k source;
+  room = link_short own keeps;
+  labels = link_labels_are own keeps;
+  jumps = link_lands own keeps;
+  no_place = link_no_place own keeps;
+  has = λ link from n h usable. link_has own keeps link from n h.of_arch usable;
+}
+
+-- an architecture whose instructions keep their laws keeps the laws of architectures
+pub keeps_laws : (own : Instructions) → KeepsInstructions own → IsArch (puts_of own)
+keeps_laws own keeps = record {
+  few = keeps.few;
+  links = makes_links own keeps;
+  loads = makes_loads own keeps;
+  stores = makes_stores own keeps;
+  shapes = record {
+    none = refl;
+    grows = λ h i w. omega (arith, w.loads, w.stores, w.addr, w.places);
+  };
+}
