@@ -16,21 +16,8 @@ use Rattle.diy_words.specs.declared.options.Spoken.TheVariants.{Built, Later}
 use Rattle.diy_words.specs.Names.{is_name}
 use Rattle.diy_words.specs.Edges.{operand_edges}
 use Rattle.diy_words.specs.Parts.{Part, Operand, Valued, Unvalued, parts_of, tool_named, arch_spoken, mode_named}
-use Rattle.diy_words.specs.Requests.{Said, SaysArch, SaysName, SaysMode, SaysEdges, Asked, fault, said_by, said_first, said_all, arch_said, mode_said, name_said, edges_said, begins_option, or_later, last_given, arch_in, name_in, mode_in, mode_or_accept, edges_given, asked_with, asked_for, asked_of, diyone_asked}
+use Rattle.diy_words.specs.Requests.{Said, SaysArch, SaysName, SaysMode, SaysEdges, Asked, fault, said_by, arch_said, edges_said, mode_said, mode_or_accept, begins_option, said_first, said_all, or_later, last_given, arch_in, name_in, mode_in, edges_given, asked_with, asked_for, diyone_asked, asked_of}
 use Rattle.diy_words.specs.Given.{Gives}
-
-ok_is : {X : Type 0} (x y : X) → (let left : Result X Usage = Ok x in left) ≡ Ok y → x ≡ y
-ok_is x y e = cc e
-
-asked_is : (x y : Asked) → (let left : Result Asked Usage = Ok x in left) ≡ Ok y → x ≡ y
-asked_is x y e = cc e
-
-some_is : {X : Type 0} (x y : X) → Some x ≡ Some y → x ≡ y
-some_is x y e = cc e
-
-none_later : {X : Type 0} (later : Option X) → or_later None later ≡ later
-none_later None = refl
-none_later (Some x) = refl
 
 -- a name that is said has its form
 abbrev HasForm : Said → Type 0
@@ -39,86 +26,92 @@ HasForm (SaysName name) = is_name name ≡ true
 HasForm (SaysMode _) = Unit {0}
 HasForm (SaysEdges _) = Unit {0}
 
-abbrev IsFormed : Result Said Usage → Type 0
-IsFormed (Ok said) = HasForm said
-IsFormed (Err _) = Unit {0}
+abbrev SaysForm : Result Said Usage → Type 0
+SaysForm (Ok said) = HasForm said
+SaysForm (Err _) = Unit {0}
 
-arch_form : (at : ℕ) (spoken : Option Spoken) → IsFormed (arch_said at spoken)
+arch_form : (at : ℕ) (spoken : Option Spoken) → SaysForm (arch_said at spoken)
 arch_form at (Some (Built arch)) = tt
 arch_form at (Some Later) = tt
 arch_form at None = tt
 
-edges_form : (at : ℕ) (es : Option (List Edge)) → IsFormed (edges_said at es)
-edges_form at (Some es) = tt
-edges_form at None = tt
-
-mode_form : (at : ℕ) (mode : Option ObsMode) → IsFormed (mode_said at mode)
+mode_form : (at : ℕ) (mode : Option ObsMode) → SaysForm (mode_said at mode)
 mode_form at (Some mode) = tt
 mode_form at None = tt
 
-operand_form : (at : ℕ) (text : List ℕ) (b : Bool) → IsFormed (if b then fault at UnknownOption else edges_said at (operand_edges text))
+edges_form : (at : ℕ) (es : Option (List Edge)) → SaysForm (edges_said at es)
+edges_form at (Some es) = tt
+edges_form at None = tt
+
+operand_form : (at : ℕ) (text : List ℕ) (b : Bool) → SaysForm (if b then fault at UnknownOption else edges_said at (operand_edges text))
 operand_form at text true = tt
 operand_form at text false = edges_form at (operand_edges text)
 
-name_form : (at : ℕ) (text : List ℕ) (b : Bool) → is_name text ≡ b → IsFormed (if b then Ok (SaysName text) else fault at BadName)
+name_form : (at : ℕ) (text : List ℕ) (b : Bool) → is_name text ≡ b → SaysForm (if b then Ok (SaysName text) else fault at BadName)
 name_form at text true e = e
 name_form at text false e = tt
 
-said_form : (part : Part) → IsFormed (said_by part)
+said_form : (part : Part) → SaysForm (said_by part)
 said_form (Operand at text) = operand_form at text (begins_option text)
 said_form (Valued opts.Arch at value) = arch_form _ (arch_spoken value)
 said_form (Valued opts.Name at value) = name_form _ value (is_name value) refl
 said_form (Valued opts.Obs at value) = mode_form _ (mode_named value)
-said_form (Unvalued opts.Obs at) = tt
-said_form (Unvalued opts.Arch at) = tt
-said_form (Unvalued opts.Name at) = tt
+said_form (Unvalued option at) = tt
 
-all_form : (parts : List Part) → AllByRecursion IsFormed (map said_by parts)
-all_form [] = tt
-all_form (part ∷ parts) = (said_form part, all_form parts)
+-- so have all that words say, where none is faulty
+abbrev AllForm : Result (List Said) Usage → Type 0
+AllForm (Ok said) = AllByRecursion HasForm said
+AllForm (Err _) = Unit {0}
 
-all_said_form : (parts : List (Result Said Usage)) (said : List Said) → AllByRecursion IsFormed parts → said_all parts ≡ Ok said → AllByRecursion HasForm said
-all_said_form [] said h e = subst (λ (s : List Said). AllByRecursion HasForm s) (ok_is [] said e) tt
-all_said_form (Err usage ∷ parts) said h e = cc e
-all_said_form (Ok first ∷ parts) said h e = behind (said_all parts) (λ rest f. all_said_form parts rest h.1 f) e
-  where
-    behind : (rest : Result (List Said) Usage) → ((list : List Said) → rest ≡ Ok list → AllByRecursion HasForm list) → said_first first rest ≡ Ok said → AllByRecursion HasForm said
-    behind (Ok rest) form e = subst (λ (s : List Said). AllByRecursion HasForm s) (ok_is (first ∷ rest) said e) (h.0, form rest refl)
-    behind (Err usage) form e = cc e
+first_form : (said : Said) (rest : Result (List Said) Usage) → HasForm said → AllForm rest → AllForm (said_first said rest)
+first_form said (Ok rest) h k = (h, k)
+first_form said (Err usage) h k = tt
 
--- so has the last name that is given
+said_all_form : (said : List (Result Said Usage)) → AllByRecursion SaysForm said → AllForm (said_all said)
+said_all_form [] h = tt
+said_all_form (Ok said ∷ rest) h = first_form said (said_all rest) h.0 (said_all_form rest h.1)
+said_all_form (Err usage ∷ rest) h = tt
+
+parts_form : (parts : List Part) → AllByRecursion SaysForm (map said_by parts)
+parts_form [] = tt
+parts_form (part ∷ parts) = (said_form part, parts_form parts)
+
+-- and the last name among them
 given_form : (said : List Said) (name : List ℕ) → AllByRecursion HasForm said → last_given name_in said ≡ Some name → is_name name ≡ true
-given_form [] name h e = cc e
-given_form (SaysArch _ ∷ said) name h e = given_form said name h.1 (sym (none_later (last_given name_in said)) ∙ e)
-given_form (SaysMode _ ∷ said) name h e = given_form said name h.1 (sym (none_later (last_given name_in said)) ∙ e)
-given_form (SaysEdges _ ∷ said) name h e = given_form said name h.1 (sym (none_later (last_given name_in said)) ∙ e)
-given_form (SaysName own ∷ said) name h e = of_later (last_given name_in said) (given_form said name h.1) e
+given_form [] name h e = cc
+given_form (said ∷ rest) name h e = of_later said h.0 (last_given name_in rest) (given_form rest name h.1) e
   where
-    of_later : (later : Option (List ℕ)) → (later ≡ Some name → is_name name ≡ true) → or_later (Some own) later ≡ Some name → is_name name ≡ true
-    of_later (Some last) further e = further e
-    of_later None further e = subst (λ x. is_name x ≡ true) (some_is own name e) h.0
+    own_form : (said : Said) → HasForm said → name_in said ≡ Some name → is_name name ≡ true
+    own_form (SaysArch _) h e = cc
+    own_form (SaysMode _) h e = cc
+    own_form (SaysEdges _) h e = cc
+    own_form (SaysName own) h e = let same : own ≡ name = cc in subst (λ x. is_name x ≡ true) same h
+
+    of_later : (said : Said) → HasForm said → (later : Option (List ℕ)) → (later ≡ Some name → is_name name ≡ true) → or_later (name_in said) later ≡ Some name → is_name name ≡ true
+    of_later said h (Some last) further e = further e
+    of_later said h None further e = own_form said h e
 
 -- the name of what words ask for has its form
 pub asked_form : (words : List (List ℕ)) (asked : Asked) → asked_of words ≡ Ok asked → is_name asked.name ≡ true
-asked_form [] asked e = cc e
+asked_form [] asked e = cc
 asked_form (tool ∷ words) asked e = of_tool (tool_named tool) e
   where
-    given : (said : List Said) (arch : Option ArchName) (name : Option (List ℕ)) → AllByRecursion HasForm said → last_given name_in said ≡ name
-        → asked_with (length (tool ∷ words)) arch name (mode_or_accept (last_given mode_in said)) (edges_given said) ≡ Ok asked → is_name asked.name ≡ true
-    given said None name h n e = cc e
-    given said (Some arch) None h n e = cc e
-    given said (Some arch) (Some name) h n e =
-        subst (λ (a : Asked). is_name a.name ≡ true) (asked_is _ asked e) (given_form said name h n)
+    given : (said : List Said) (arch : Option ArchName) (name : Option (List ℕ)) (mode : ObsMode) → AllByRecursion HasForm said → last_given name_in said ≡ name
+        → asked_with (length (tool ∷ words)) arch name mode (edges_given said) ≡ Ok asked → is_name asked.name ≡ true
+    given said None name mode h n e = cc
+    given said (Some arch) None mode h n e = cc
+    given said (Some arch) (Some name) mode h n e =
+        let same : record { arch = arch; name = name; mode = mode; edges = edges_given said } ≡ asked = cc in
+        subst (λ (a : Asked). is_name a.name ≡ true) same (given_form said name h n)
 
-    of_all : (parts : List (Result Said Usage)) (all : Result (List Said) Usage) → said_all parts ≡ all → AllByRecursion IsFormed parts
-        → diyone_asked (length (tool ∷ words)) all ≡ Ok asked → is_name asked.name ≡ true
-    of_all parts (Err usage) f h e = cc e
-    of_all parts (Ok said) f h e = given said (last_given arch_in said) (last_given name_in said) (all_said_form parts said h f) refl e
+    of_said : (said : Result (List Said) Usage) → AllForm said → diyone_asked (length (tool ∷ words)) said ≡ Ok asked → is_name asked.name ≡ true
+    of_said (Err usage) h e = cc
+    of_said (Ok said) h e = given said (last_given arch_in said) (last_given name_in said) (mode_or_accept (last_given mode_in said)) h refl e
 
     of_tool : (found : Option Tool) → asked_for found (length (tool ∷ words)) words ≡ Ok asked → is_name asked.name ≡ true
-    of_tool None e = cc e
-    of_tool (Some tools.DiyOne) e = of_all (map said_by (parts_of 1 words)) _ refl (all_form (parts_of 1 words)) e
-    of_tool (Some tools.Later) e = cc e
+    of_tool None e = cc
+    of_tool (Some tools.DiyOne) e = of_said (said_all (map said_by (parts_of 1 words))) (said_all_form (map said_by (parts_of 1 words)) (parts_form (parts_of 1 words))) e
+    of_tool (Some tools.Later) e = cc
 
 -- so has that of the request that is given
 pub request_form : (words : List (List ℕ)) (result : Result DiyOne Usage) → Gives result (asked_of words) → IfOk result (λ (request : DiyOne). is_name request.name.bytes ≡ true)

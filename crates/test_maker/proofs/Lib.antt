@@ -1,3 +1,4 @@
+pub mod Accepted
 pub mod Filling
 pub mod Forcing
 pub mod Growing

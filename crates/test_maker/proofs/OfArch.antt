@@ -35,7 +35,7 @@ none_foreign p (x ∷ xs) k h =
     some_none : {G : Type 0} (k : ℕ) → Some k ≡ None → G
     some_none k e = cc e
 
-resolved_turned : (cycle es : List Edge) → resolution_of cycle ≡ Ok es → (0 < external_count cycle) × (turned cycle ≡ es)
+pub resolved_turned : (cycle es : List Edge) → resolution_of cycle ≡ Ok es → (0 < external_count cycle) × (turned cycle ≡ es)
 resolved_turned cycle es r =
     by_test (nat_lt (external_count cycle) 2)
     (λ e. err_ok (sym (ap (λ b. if b then Err TooFewThreads else (if is_coherence_only (turned cycle) then Err CoherenceOnly else Ok (turned cycle))) e) ∙ r))

@@ -1,0 +1,65 @@
+-- A cycle that isn't refused has a test.
+use Rattle.std.proofs.Common.{◌≡◌, ℕ, not, List, Option, Some, None, Result, Ok, Err, refl, sym, ap, ◌∙◌, subst}
+use Rattle.std.specs.List.{list_all, position_from}
+use Rattle.std.specs.Option.{option_map}
+use Rattle.walk_laws.specs.Composable.{IsCycle}
+use Rattle.relax_edges.specs.declared.kinds.ObsMode.{ObsMode}
+use Rattle.relax_edges.specs.declared.kinds.ObsMode.TheVariants as modes
+use Rattle.relax_edges.specs.declared.edge.Edge.{Edge}
+use Rattle.relax_edges.specs.EdgeTable.{is_of_arch}
+use Rattle.cycle_resolve.specs.declared.resolved.ResolveError.{ResolveError}
+use Rattle.cycle_resolve.specs.declared.resolved.ResolveError.TheVariants as resolving
+use Rattle.cycle_resolve.specs.Resolution.{resolution_of, turned}
+use Rattle.cycle_resolve.proofs.Turning.{resolution_resolved}
+use Rattle.coherence_values.specs.declared.valued.NeedsObserver.{NeedsObserver}
+use Rattle.coherence_values.specs.Values.{observer_need, valuation_of}
+use Rattle.coherence_values.proofs.Entries.{avoid_allowed}
+use Rattle.arch_trait.specs.Threads.{Puts}
+use Rattle.test_laws.specs.Headline.{HasTest}
+use Rattle.test_laws.specs.Steps.{cycle_steps}
+use Rattle.test_laws.specs.TestOf.{plain}
+use Rattle.test_laws.proofs.Headline.{room_left}
+use Rattle.test_maker.specs.declared.refusal.MakeRefusal.{MakeRefusal}
+use Rattle.test_maker.specs.declared.refusal.MakeRefusal.TheVariants as refusals
+use Rattle.test_maker.specs.Made.{AreOfArch}
+use Rattle.test_maker.specs.Refusals.{or_else, foreign_edge, unobserved_need, crowded_thread, resolved_refusal, refusal_of}
+use Rattle.test_maker.proofs.OfArch.{none_foreign, resolved_turned, turned_of_arch}
+use Rattle.test_maker.proofs.Printing.{uncrowded}
+
+-- where neither of two reasons holds
+neither : (a b : Option MakeRefusal) → or_else a b ≡ None → (a ≡ None) × (b ≡ None)
+neither None b h = (refl, h)
+neither (Some reason) b h = cc
+
+not_foreign : (a : Puts) (cycle : List Edge) → foreign_edge a.name cycle ≡ None → AreOfArch a cycle
+not_foreign a cycle h = none_foreign (λ e. is_of_arch e a.name) cycle 0 (none_found (position_from (λ e. not (is_of_arch e a.name)) 0 cycle) h)
+  where
+    none_found : (found : Option ℕ) → option_map (λ at. refusals.NotOfArch at) found ≡ None → found ≡ None
+    none_found None e = refl
+    none_found (Some at) e = cc
+
+served : (es : List Edge) (mode : ObsMode) → unobserved_need mode es ≡ None → valuation_of es mode ≡ Ok (record { edges = es; mode = mode })
+served es modes.Accept h = refl
+served es modes.Force h = refl
+served es modes.Avoid h = avoid_allowed es (none_needed (observer_need es) h)
+  where
+    none_needed : (need : Option NeedsObserver) → option_map (λ need. refusals.NeedsObserver need.location need.event) need ≡ None → need ≡ None
+    none_needed None e = refl
+    none_needed (Some need) e = cc
+
+pub accepted_has_test : (a : Puts) (cycle : List Edge) (mode : ObsMode) → IsCycle cycle → refusal_of a cycle mode ≡ None → HasTest a (turned cycle) mode
+accepted_has_test a cycle mode is_cycle h =
+    let parts = neither (foreign_edge a.name cycle) (resolved_refusal a (resolution_of cycle) mode) h in
+    of_resolution (resolution_of cycle) refl parts.1 (not_foreign a cycle parts.0)
+  where
+    of_resolution : (r : Result (List Edge) ResolveError) → resolution_of cycle ≡ r → resolved_refusal a r mode ≡ None → AreOfArch a cycle → HasTest a (turned cycle) mode
+    of_resolution (Err resolving.TooFewThreads) e h of_arch = cc
+    of_resolution (Err resolving.CoherenceOnly) e h of_arch = cc
+    of_resolution (Ok es) e h of_arch =
+        let parts = neither (unobserved_need mode es) (crowded_thread a es mode) h in
+        subst (λ us. HasTest a us mode) (sym (resolved_turned cycle es e).1) (record {
+          resolved = resolution_resolved cycle es is_cycle e;
+          of_arch = turned_of_arch a cycle es of_arch e;
+          valued = served es mode parts.0;
+          room = λ thread steps got. room_left a (cycle_steps es mode plain) thread steps (uncrowded a es mode parts.1) got;
+        })
