@@ -9,7 +9,7 @@ ghost use Rattle.arch_trait.specs.Addressed.{store_on};
 ghost use Rattle.std.specs.Prelude.{cond, Some, None};
 ghost use Rattle.arch_aarch64.specs.Puts.{puts, instructions};
 
-use arch_trait::{Instrs, Link, MAX_INSTRS, Regs};
+use arch_trait::{Instrs, Link, MAX_INSTRS, Regs, address_source, data_source};
 use micro_ops::{Barrier, Micro};
 
 /// Appends the code of a link.
@@ -68,7 +68,7 @@ pub fn load(regs: &mut Regs, link: Link, from: Option<u8>, place: u8, out: &mut 
     ensures taken { regs.new ≡ (puts.load regs.old link from place).regs }
     ensures code { out.new.items ≡ out.old.items ++ (puts.load regs.old link from place).code }
 {
-    match link.address_source(from) {
+    match address_source(link, from) {
         Some(source) => {
             let taken = regs.take_dependent(place);
             zero_from(source, taken.dependency, out);
@@ -98,9 +98,9 @@ pub fn store(regs: &mut Regs, link: Link, from: Option<u8>, place: u8, value: u8
     ensures taken { regs.new ≡ (puts.store regs.old link from place value).regs }
     ensures code { out.new.items ≡ out.old.items ++ (puts.store regs.old link from place value).code }
 {
-    match link.address_source(from) {
+    match address_source(link, from) {
         Some(source) => store_dependent(regs, source, place, value, out),
-        None => store_plain(regs, link.data_source(from), place, value, out),
+        None => store_plain(regs, data_source(link, from), place, value, out),
     }
 }
 

@@ -1,11 +1,103 @@
-//! RISC-V: the code of its links and accesses as definitions, and that it keeps the laws of architectures.
+//! RISC-V: accesses by address registers, dependencies by `xor`, branches by `bne`.
 #![tactic(auto)]
 
-ghost use Rattle.arch_trait.specs.Laws.{IsArch};
-ghost use Rattle.arch_riscv.specs.Puts.{puts};
+ghost use Rattle.std.specs.Prelude.{refl, ◌≡◌};
+ghost use Rattle.relax_edges.specs.declared.kinds.ArchName.TheVariants as archs;
+ghost use Rattle.arch_riscv.specs.Puts.{puts as riscv, is_barrier};
+ghost use Rattle.arch_riscv.specs.Text.{writing as riscv_writing};
+ghost use Rattle.arch_riscv.specs.Laws.{laws as riscv_laws};
+ghost use Rattle.arch_riscv.specs.ReadsBack.{reads_back as riscv_reads_back};
 
-/// The code of RISC-V keeps the laws of architectures: so the code of a thread on RISC-V makes
-/// exactly the thread's accesses, each with the barriers and dependencies of its link.
-pub fn riscv_keeps_the_laws()
-    ensures { IsArch puts }
-{}
+mod put;
+mod read;
+mod write;
+
+use arch_trait::{Arch, Instrs, Link, MAX_TEXT, Operands, Places, Raw, Regs, Shape};
+use arrayvec::ArrayString;
+use final_cond::RegName;
+use micro_ops::{Barrier, Micro};
+use relax_edges::{ArchName, FenceKind};
+
+/// The architecture RISC-V.
+pub struct Riscv;
+
+impl Arch for Riscv {
+    ghost puts = { riscv };
+
+    ghost writing = { riscv_writing };
+
+    ghost NAME = { archs.RISCV };
+
+    ghost REGISTERS = { 27 };
+
+    const NAME: ArchName = ArchName::RISCV;
+
+    const REGISTERS: u8 = 27;
+
+    fn has(op: &Micro) -> bool {
+        match *op {
+            Micro::Imm { dst, n } => dst < 27 && n <= 2047,
+            Micro::Xor { dst, a, b } | Micro::Add { dst, a, b } => dst < 27 && a < 27 && b < 27,
+            Micro::OrImm { dst, a, n } => dst < 27 && a < 27 && n <= 2047,
+            Micro::Load { dst, base, index } => dst < 27 && base < 27 && index.is_none(),
+            Micro::Store { src, base, index } => src < 27 && base < 27 && index.is_none(),
+            Micro::BranchNz { a, .. } => a < 27,
+            Micro::Label { .. } => true,
+            Micro::Barrier { kind } => is_barrier(kind),
+            _ => false,
+        }
+    }
+
+    fn need(shape: &Shape) -> u32 {
+        u32::from(shape.loads)
+            + u32::from(shape.stores)
+            + u32::from(shape.addr)
+            + u32::from(shape.places)
+    }
+
+    fn put_link(link: Link, from: Option<u8>, label: u8, out: &mut Instrs) {
+        put::link(link, from, label, out);
+    }
+
+    fn put_load(regs: &mut Regs, link: Link, from: Option<u8>, place: u8, out: &mut Instrs) -> u8 {
+        put::load(regs, link, from, place, out)
+    }
+
+    fn put_store(
+        regs: &mut Regs,
+        link: Link,
+        from: Option<u8>,
+        place: u8,
+        value: u8,
+        out: &mut Instrs,
+    ) {
+        put::store(regs, link, from, place, value, out);
+    }
+
+    fn print(op: &Micro, _places: &Places, out: &mut ArrayString<MAX_TEXT>) {
+        write::print(*op, out);
+    }
+
+    fn read_raw<'a>(word: &'a [u8], operands: Operands<'a>) -> Option<Raw<'a>> {
+        read::read(word, operands)
+    }
+
+    fn register_name(r: u8, out: &mut RegName) {
+        out.clear();
+        write::GENERAL.push(r, out);
+    }
+
+    ghost same_name = { refl };
+
+    ghost same_registers = { refl };
+
+    ghost laws = { riscv_laws };
+
+    ghost reads_back = { riscv_reads_back };
+}
+
+fn is_barrier(kind: Barrier) -> bool
+    ensures { result ≡ is_barrier kind }
+{
+    matches!(kind, Barrier::Fence(FenceKind::Fence { .. }))
+}

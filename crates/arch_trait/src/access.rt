@@ -1,6 +1,8 @@
 ghost use Rattle.std.specs.Prelude.{◌≡◌, ◌≤◌, ◌+◌};
+ghost use Rattle.arch_trait.specs.Links.{is_addr, is_data, source_if};
 ghost use Rattle.arch_trait.specs.Taking.{took, address_of, with_address};
 
+use crate::link::Link;
 use crate::regs::Regs;
 
 /// The registers of an access without an address dependency: that of what is loaded or stored, and
@@ -50,5 +52,27 @@ impl Regs {
             value,
             address,
         }
+    }
+}
+
+/// The register that the address of an access depends on, if it does.
+pub fn address_source(link: Link, from: Option<u8>) -> Option<u8>
+    ensures { result ≡ source_if (is_addr link) from }
+{
+    if matches!(link, Link::Addr) {
+        from
+    } else {
+        None
+    }
+}
+
+/// The register that the value of a store depends on, if it does.
+pub fn data_source(link: Link, from: Option<u8>) -> Option<u8>
+    ensures { result ≡ source_if (is_data link) from }
+{
+    if matches!(link, Link::Data) {
+        from
+    } else {
+        None
     }
 }
