@@ -10,6 +10,8 @@ use Rattle.arch_power.specs.Puts as power
 use Rattle.arch_power.specs.Text as power_text
 use Rattle.arch_aarch64.specs.Puts as aarch64
 use Rattle.arch_aarch64.specs.Text as aarch64_text
+use Rattle.arch_riscv.specs.Puts as riscv
+use Rattle.arch_riscv.specs.Text as riscv_text
 
 pub record Machine : Type 0 where
   pub puts : Puts
@@ -23,4 +25,4 @@ abbrev pub machine_of : ArchName → Machine
 machine_of archs.X86 = machine x86.puts x86_text.writing
 machine_of archs.PPC = machine power.puts power_text.writing
 machine_of archs.AArch64 = machine aarch64.puts aarch64_text.writing
-machine_of archs.RISCV = machine x86.puts x86_text.writing
+machine_of archs.RISCV = machine riscv.puts riscv_text.writing

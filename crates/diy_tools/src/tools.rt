@@ -16,6 +16,7 @@ use crate::report::report;
 use crate::status::{Device, Refusal, Status};
 use arch_aarch64::A64;
 use arch_power::Power;
+use arch_riscv::Riscv;
 use arch_trait::Arch;
 use arch_x86::X86;
 use diy_io::{Failed, Sink, Words};
@@ -68,7 +69,7 @@ fn diyone<O: Sink>(request: &DiyOne, out: &mut O) -> Status
         ArchName::X86 => diyone_on::<X86, O>(request, out),
         ArchName::PPC => diyone_on::<Power, O>(request, out),
         ArchName::AArch64 => diyone_on::<A64, O>(request, out),
-        ArchName::RISCV => diyone_on::<X86, O>(request, out),
+        ArchName::RISCV => diyone_on::<Riscv, O>(request, out),
     }
 }
 

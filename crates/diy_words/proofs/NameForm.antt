@@ -11,11 +11,9 @@ use Rattle.diy_words.specs.declared.usage.UsageKind.TheVariants.{UnknownOption, 
 use Rattle.diy_words.specs.declared.options.Tool.{Tool}
 use Rattle.diy_words.specs.declared.options.Tool.TheVariants as tools
 use Rattle.diy_words.specs.declared.options.OptionName.TheVariants as opts
-use Rattle.diy_words.specs.declared.options.Spoken.{Spoken}
-use Rattle.diy_words.specs.declared.options.Spoken.TheVariants.{Built, Later}
 use Rattle.diy_words.specs.Names.{is_name}
 use Rattle.diy_words.specs.Edges.{operand_edges}
-use Rattle.diy_words.specs.Parts.{Part, Operand, Valued, Unvalued, parts_of, tool_named, arch_spoken, mode_named}
+use Rattle.diy_words.specs.Parts.{Part, Operand, Valued, Unvalued, parts_of, tool_named, arch_named, mode_named}
 use Rattle.diy_words.specs.Requests.{Said, SaysArch, SaysName, SaysMode, SaysEdges, Asked, fault, said_by, arch_said, edges_said, mode_said, mode_or_accept, begins_option, said_first, said_all, or_later, last_given, arch_in, name_in, mode_in, edges_given, asked_with, asked_for, diyone_asked, asked_of}
 use Rattle.diy_words.specs.Given.{Gives}
 
@@ -30,9 +28,8 @@ abbrev SaysForm : Result Said Usage → Type 0
 SaysForm (Ok said) = HasForm said
 SaysForm (Err _) = Unit {0}
 
-arch_form : (at : ℕ) (spoken : Option Spoken) → SaysForm (arch_said at spoken)
-arch_form at (Some (Built arch)) = tt
-arch_form at (Some Later) = tt
+arch_form : (at : ℕ) (named : Option ArchName) → SaysForm (arch_said at named)
+arch_form at (Some arch) = tt
 arch_form at None = tt
 
 mode_form : (at : ℕ) (mode : Option ObsMode) → SaysForm (mode_said at mode)
@@ -53,7 +50,7 @@ name_form at text false e = tt
 
 said_form : (part : Part) → SaysForm (said_by part)
 said_form (Operand at text) = operand_form at text (begins_option text)
-said_form (Valued opts.Arch at value) = arch_form _ (arch_spoken value)
+said_form (Valued opts.Arch at value) = arch_form _ (arch_named value)
 said_form (Valued opts.Name at value) = name_form _ value (is_name value) refl
 said_form (Valued opts.Obs at value) = mode_form _ (mode_named value)
 said_form (Unvalued option at) = tt

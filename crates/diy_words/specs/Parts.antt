@@ -1,15 +1,14 @@
 -- The words behind the tool's name: options, each with the word behind it as its value, and operands.
 use Rattle.std.specs.Prelude.{ℕ, ◌+◌, List, [], ◌∷◌, Option, Some, None, codes, if◌then◌else◌}
 use Rattle.std.specs.Str.{bytes_eq}
-use Rattle.relax_edges.specs.declared.kinds.ArchName.TheVariants.{X86, PPC, AArch64}
+use Rattle.relax_edges.specs.declared.kinds.ArchName.{ArchName}
+use Rattle.relax_edges.specs.declared.kinds.ArchName.TheVariants as archs
 use Rattle.relax_edges.specs.declared.kinds.ObsMode.{ObsMode}
 use Rattle.relax_edges.specs.declared.kinds.ObsMode.TheVariants as modes
 use Rattle.diy_words.specs.declared.options.Tool.{Tool}
 use Rattle.diy_words.specs.declared.options.Tool.TheVariants as tools
 use Rattle.diy_words.specs.declared.options.OptionName.{OptionName}
 use Rattle.diy_words.specs.declared.options.OptionName.TheVariants as opts
-use Rattle.diy_words.specs.declared.options.Spoken.{Spoken}
-use Rattle.diy_words.specs.declared.options.Spoken.TheVariants.{Built, Later}
 
 -- the first of some named things whose name is the text
 abbrev pub named : {X : Type 0} → List (List ℕ × X) → List ℕ → Option X
@@ -26,8 +25,8 @@ abbrev pub option_named : List ℕ → Option OptionName
 option_named = named ((codes "-arch", opts.Arch) ∷ (codes "-name", opts.Name) ∷ (codes "-obs", opts.Obs) ∷ [])
 
 -- the architectures by their names
-abbrev pub arch_spoken : List ℕ → Option Spoken
-arch_spoken = named ((codes "X86", Built X86) ∷ (codes "PPC", Built PPC) ∷ (codes "AArch64", Built AArch64) ∷ (codes "RISCV", Later) ∷ [])
+abbrev pub arch_named : List ℕ → Option ArchName
+arch_named = named ((codes "X86", archs.X86) ∷ (codes "PPC", archs.PPC) ∷ (codes "AArch64", archs.AArch64) ∷ (codes "RISCV", archs.RISCV) ∷ [])
 
 -- the observer modes by their names
 abbrev pub mode_named : List ℕ → Option ObsMode

@@ -11,11 +11,9 @@ use Rattle.diy_words.specs.declared.usage.UsageKind.TheVariants.{UnknownTool, Un
 use Rattle.diy_words.specs.declared.options.Tool.{Tool}
 use Rattle.diy_words.specs.declared.options.Tool.TheVariants as tools
 use Rattle.diy_words.specs.declared.options.OptionName.TheVariants as opts
-use Rattle.diy_words.specs.declared.options.Spoken.{Spoken}
-use Rattle.diy_words.specs.declared.options.Spoken.TheVariants.{Built, Later}
 use Rattle.diy_words.specs.Names.{is_name}
 use Rattle.diy_words.specs.Edges.{operand_edges}
-use Rattle.diy_words.specs.Parts.{Part, Operand, Valued, Unvalued, parts_of, tool_named, arch_spoken, mode_named}
+use Rattle.diy_words.specs.Parts.{Part, Operand, Valued, Unvalued, parts_of, tool_named, arch_named, mode_named}
 
 -- what a word of diyone7 says, an option with its value
 pub data Said : Type 0 where
@@ -36,9 +34,8 @@ abbrev pub fault : ℕ → UsageKind → Result Said Usage
 fault word kind = Err (record { word = word; kind = kind })
 
 -- the value of `-arch`, at its place
-abbrev pub arch_said : ℕ → Option Spoken → Result Said Usage
-arch_said at (Some (Built arch)) = Ok (SaysArch arch)
-arch_said at (Some Later) = fault at NotBuilt
+abbrev pub arch_said : ℕ → Option ArchName → Result Said Usage
+arch_said at (Some arch) = Ok (SaysArch arch)
 arch_said at None = fault at UnknownArch
 
 -- the value of `-name`, at its place
@@ -63,7 +60,7 @@ begins_option (byte ∷ _) = byte == 45
 -- what a word says, an option with its value, or what is wrong with it
 abbrev pub said_by : Part → Result Said Usage
 said_by (Operand at text) = if begins_option text then fault at UnknownOption else edges_said at (operand_edges text)
-said_by (Valued opts.Arch at value) = arch_said (at + 1) (arch_spoken value)
+said_by (Valued opts.Arch at value) = arch_said (at + 1) (arch_named value)
 said_by (Valued opts.Name at value) = name_said (at + 1) value
 said_by (Valued opts.Obs at value) = mode_said (at + 1) (mode_named value)
 said_by (Unvalued _ at) = fault at MissingValue

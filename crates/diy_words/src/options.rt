@@ -1,5 +1,5 @@
 ghost use Rattle.std.specs.Prelude.{◌≡◌};
-ghost use Rattle.diy_words.specs.Parts.{tool_named, option_named, arch_spoken, mode_named};
+ghost use Rattle.diy_words.specs.Parts.{tool_named, option_named, arch_named, mode_named};
 
 use relax_edges::{ArchName, ObsMode};
 
@@ -17,14 +17,6 @@ pub enum OptionName {
     Arch,
     Name,
     Obs,
-}
-
-/// What the value of `-arch` names.
-#[derive(Clone, Copy)]
-pub enum Spoken {
-    Built(ArchName),
-    /// An architecture that isn't built yet.
-    Later,
 }
 
 /// The tool with this name.
@@ -56,14 +48,14 @@ pub fn option_named(text: &str) -> Option<OptionName>
 }
 
 /// The architecture with this name.
-pub fn arch_spoken(text: &str) -> Option<Spoken>
-    ensures { result ≡ arch_spoken text.now }
+pub fn arch_named(text: &str) -> Option<ArchName>
+    ensures { result ≡ arch_named text.now }
 {
     match text {
-        "X86" => Some(Spoken::Built(ArchName::X86)),
-        "PPC" => Some(Spoken::Built(ArchName::PPC)),
-        "AArch64" => Some(Spoken::Built(ArchName::AArch64)),
-        "RISCV" => Some(Spoken::Later),
+        "X86" => Some(ArchName::X86),
+        "PPC" => Some(ArchName::PPC),
+        "AArch64" => Some(ArchName::AArch64),
+        "RISCV" => Some(ArchName::RISCV),
         _ => None,
     }
 }

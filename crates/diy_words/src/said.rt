@@ -1,13 +1,12 @@
 ghost use Rattle.std.specs.Prelude.{◌≡◌};
 ghost use Rattle.diy_words.specs.Parts.{Part, Operand, Valued, Unvalued};
 ghost use Rattle.std.specs.Prelude.{◌<◌, ◌+◌, ◌^◌, Err};
-ghost use Rattle.diy_words.specs.declared.usage.UsageKind.TheVariants.{NotBuilt};
-ghost use Rattle.diy_words.specs.Parts.{arch_spoken, mode_named};
+ghost use Rattle.diy_words.specs.Parts.{arch_named, mode_named};
 ghost use Rattle.diy_words.specs.Requests.{said_by, arch_said, name_said, mode_said, begins_option};
 
 use crate::name::name_of;
 use crate::operand::read_operand;
-use crate::options::{OptionName, Spoken, arch_spoken, mode_named};
+use crate::options::{OptionName, arch_named, mode_named};
 use crate::request::{EdgeList, TestName};
 use crate::usage::{Usage, UsageKind};
 use arrayvec::ArrayVec;
@@ -49,14 +48,13 @@ impl Said {
     }
 
     fn take_arch(&mut self, at: usize, value: &str) -> Result<(), Usage>
-        ensures { left_by result (held self.new) ≡ absorbed (held self.old) (arch_said at (arch_spoken value.now)) }
+        ensures { left_by result (held self.new) ≡ absorbed (held self.old) (arch_said at (arch_named value.now)) }
     {
-        match arch_spoken(value) {
-            Some(Spoken::Built(arch)) => {
+        match arch_named(value) {
+            Some(arch) => {
                 self.arch = Some(arch);
                 Ok(())
             }
-            Some(Spoken::Later) => Err(not_built(at)),
             None => Err(Usage {
                 word: at,
                 kind: UsageKind::UnknownArch,
@@ -122,15 +120,6 @@ pub fn unvalued(option: OptionName, at: usize) -> Usage
     Usage {
         word: at,
         kind: UsageKind::MissingValue,
-    }
-}
-
-fn not_built(at: usize) -> Usage
-    ensures { result ≡ record { word = at; kind = NotBuilt } }
-{
-    Usage {
-        word: at,
-        kind: UsageKind::NotBuilt,
     }
 }
 

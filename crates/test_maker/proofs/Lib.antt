@@ -1,4 +1,4 @@
-pub mod Accepted
+pub mod HavingTests
 pub mod Filling
 pub mod Forcing
 pub mod Growing
