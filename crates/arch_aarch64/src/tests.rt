@@ -19,6 +19,13 @@ const READ_Y: Step = Step {
     link: Link::Plain,
 };
 
+const READ_X: Step = Step {
+    dir: Dir::R,
+    place: 0,
+    value: 0,
+    link: Link::Plain,
+};
+
 const READ_X_BY_ADDRESS: Step = Step {
     dir: Dir::R,
     place: 0,
@@ -188,8 +195,35 @@ fn each_dependency_and_fence_has_its_code(rt: HostRuntime) {
 
 #[test]
 fn no_more_registers_than_there_are(rt: HostRuntime) {
-    let stores = [WRITE_X; 27];
-    assert!(rt; compile_thread::<A64>(&stores).is_ok());
+    let fourteen = [
+        READ_X,
+        READ_Y,
+        Step { place: 2, ..READ_X },
+        Step { place: 3, ..READ_X },
+        Step { place: 4, ..READ_X },
+        Step { place: 5, ..READ_X },
+        Step { place: 6, ..READ_X },
+        Step { place: 7, ..READ_X },
+        Step { place: 8, ..READ_X },
+        Step { place: 9, ..READ_X },
+        Step {
+            place: 10,
+            ..READ_X
+        },
+        Step {
+            place: 11,
+            ..READ_X
+        },
+        Step {
+            place: 12,
+            ..READ_X
+        },
+        Step {
+            place: 13,
+            ..READ_X
+        },
+    ];
+    assert!(rt; compile_thread::<A64>(&fourteen).is_ok());
     let stores = [WRITE_X; 28];
     assert_eq!(rt;
         compile_thread::<A64>(&stores).err(),

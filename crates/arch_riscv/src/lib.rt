@@ -10,6 +10,8 @@ ghost use Rattle.arch_riscv.specs.ReadsBack.{reads_back as riscv_reads_back};
 
 mod put;
 mod read;
+#[cfg(test)]
+mod tests;
 mod write;
 
 use arch_trait::{Arch, Instrs, Link, MAX_TEXT, Operands, Places, Raw, Regs, Shape};
