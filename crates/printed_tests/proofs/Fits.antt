@@ -88,11 +88,11 @@ each_code a es mode P h =
     let i = image_of (compiled a) (cycle_steps es mode plain) k code g in subst P i.image (h k i.element i.got))
 
 -- the code of a thread
-pub record Thread (a : Puts) (es : List Edge) (ss : List Step) : Type 0 where
+pub record HasCode (a : Puts) (ss : List Step) : Type 0 where
   pub thread : IsThread a.name ss
   pub formed : IsFormed a ss (compiled a ss)
 
-pub thread_is : (a : Puts) (es : List Edge) (mode : ObsMode) (k : ℕ) (ss : List Step) → IsArch a → HasTest a es mode → slice_get (cycle_steps es mode plain) k ≡ Some ss → Thread a es ss
+pub thread_is : (a : Puts) (es : List Edge) (mode : ObsMode) (k : ℕ) (ss : List Step) → IsArch a → HasTest a es mode → slice_get (cycle_steps es mode plain) k ≡ Some ss → HasCode a ss
 thread_is a es mode k ss laws t g =
     let thread = steps_fit es mode plain a.name k ss t.resolved t.of_arch g in
     record { thread = thread; formed = is_formed a laws ss thread.fit (t.room k ss g) }
