@@ -6,10 +6,6 @@ use Rattle.std.proofs.lemmas.Bool.Decides.{nat_tests}
 use Rattle.relax_edges.specs.declared.edge.Edge.{Edge}
 use Rattle.relax_edges.specs.declared.kinds.ObsMode.{ObsMode}
 use Rattle.relax_edges.specs.EdgeTable.{is_of_arch}
-use Rattle.cycle_resolve.specs.Resolution.{turned}
-use Rattle.arch_trait.specs.Names.{number_in}
-use Rattle.test_laws.specs.Headline.{Forces}
-use Rattle.test_laws.specs.TestOf.{TestSeen, plain}
 use Rattle.edge_algebra.specs.declared.errors.CycleError.{CycleError}
 use Rattle.edge_algebra.specs.declared.errors.CycleError.TheVariants as composing
 use Rattle.edge_algebra.specs.Compose.{composed, unbroken}
@@ -25,14 +21,13 @@ use Rattle.test_maker.specs.declared.refusal.MakeRefusal.{MakeRefusal}
 use Rattle.test_maker.specs.declared.refusal.MakeRefusal.TheVariants as making
 use Rattle.test_maker.specs.Refusals.{refusal_of}
 use Rattle.diy_tools.specs.declared.status.Status.{Status}
-use Rattle.diy_tools.specs.declared.status.Status.TheVariants as statuses
 use Rattle.diy_tools.specs.declared.status.Refusal.{Refusal}
 use Rattle.diy_tools.specs.declared.status.Refusal.TheVariants as refusals
 use Rattle.test_maker.specs.Made as made
 use Rattle.diy_tools.specs.Machines.{Machine}
 use Rattle.diy_tools.specs.Refused.{refused_of, refused_of_arch, refused_composed, refused_making, making_refusal, composing_refusal}
 use Rattle.diy_tools.specs.Report.{RefusesLocation}
-use Rattle.diy_tools.specs.Answers.{AnswersEdges, TakesLine, refused_kept, edges_kept, cycle_text, MakesTestOf, TestForcesCycle, WherePrinted, cycle_test}
+use Rattle.diy_tools.specs.Answers.{AnswersEdges, TakesLine, refused_kept, edges_kept, cycle_text, MakesTestOf}
 
 by_test : {G : Type 0} (b : Bool) → (b ≡ true → G) → (b ≡ false → G) → G
 by_test true t f = t refl
@@ -103,34 +98,3 @@ pub composing_located : (error : CycleError) → RefusesLocation (composing_refu
 composing_located composing.Empty = tt
 composing_located composing.TooLong = tt
 composing_located (composing.DoesNotCompose at) = tt
-
--- what is so is so where a text is printed
-pub where_printed : (said : Type 0) (status : Status) → said → WherePrinted said status
-where_printed said statuses.Done h = h
-where_printed said (statuses.WriteFault _) h = h
-where_printed said (statuses.Refused _) h = tt
-where_printed said (statuses.Usage _ _) h = tt
-
--- what is said of edges as they are kept is said of those that were given
-pub kept_forces : {Sink : Type 0} (seen : Sink → SinkSeen) (m : Machine) (mode : ObsMode) (name : List ℕ) (es : List Edge) (status : Status) (old new : Sink)
-    → AnswersEdges seen (refused_kept m mode (kept es)) (cycle_text m mode name (edges_kept (kept es))) status old new
-    → WherePrinted (TestForcesCycle m mode (edges_kept (kept es))) status → WherePrinted (TestForcesCycle m mode es) status
-kept_forces seen m mode name es status old new answered h =
-    by_test (nat_le (length es) 24)
-    (λ t. subst (λ k. WherePrinted (TestForcesCycle m mode (edges_kept k)) status) (ap (λ b. if b then Whole (record { items = es }) else TooLong) t) h)
-    (λ f. refused_says (TestForcesCycle m mode es) refusals.TooLong status
-    (subst (λ k. AnswersEdges seen (refused_kept m mode k) (cycle_text m mode name (edges_kept k)) status old new) (ap (λ b. if b then Whole (record { items = es }) else TooLong) f) answered).0)
-  where
-    refused_says : (said : Type 0) (refusal : Refusal) (s : Status) → s ≡ statuses.Refused refusal → WherePrinted said s
-    refused_says said refusal s e = subst (λ (u : Status). WherePrinted said u) (sym e) tt
-
--- the test that is made of a cycle is its test, so that forces it too
-pub cycle_forced : (m : Machine) (mode : ObsMode) (test : TestSeen) (cycle : List Edge) → test ≡ cycle_test m mode cycle
-    → Forces test (number_in m.writing.registers) (turned cycle) mode plain → TestForcesCycle m mode cycle
-unfolding TestForcesCycle
-cycle_forced m mode test cycle same h = subst (λ (t : TestSeen). Forces t (number_in m.writing.registers) (turned cycle) mode plain) same h
-
--- what is said of the cycle is said of the edges that make it
-pub composed_forced : (m : Machine) (mode : ObsMode) (es u : List Edge) (result : Result Test Refusal) → composed es ≡ Ok u
-    → OnOk result (TestForcesCycle m mode u) → OnOk result (TestForcesCycle m mode es)
-composed_forced m mode es u result e h = subst (λ v. OnOk result (TestForcesCycle m mode v)) (composed_is es u e) h

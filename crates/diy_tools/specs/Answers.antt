@@ -8,14 +8,13 @@ use Rattle.diy_words.specs.declared.request.EdgeList.{EdgeList}
 use Rattle.diy_words.specs.declared.request.EdgeList.TheVariants.{Whole, TooLong}
 use Rattle.diy_words.specs.declared.usage.Usage.{Usage}
 use Rattle.diy_words.specs.Requests.{Asked, asked_of}
-use Rattle.arch_trait.specs.Names.{number_in}
 use Rattle.arch_trait.specs.Writing.{name_in}
 use Rattle.litmus_text.specs.declared.test.Test.{Test}
 use Rattle.litmus_text.specs.Tests.{test_seen}
 use Rattle.litmus_text.specs.TestText.{test_text}
 use Rattle.litmus_text.specs.Wrote.{SinkSeen, WroteAll, WrotePart}
-use Rattle.test_laws.specs.Headline.{Forces}
-use Rattle.test_laws.specs.TestOf.{TestSeen, plain, test_of}
+use Rattle.printed_tests.specs.Headline.{BytesForce}
+use Rattle.test_laws.specs.TestOf.{TestSeen, test_of}
 use Rattle.test_maker.specs.Made.{shown}
 use Rattle.diy_tools.specs.declared.status.Status.{Status}
 use Rattle.diy_tools.specs.declared.status.Status.TheVariants as statuses
@@ -28,11 +27,6 @@ use Rattle.diy_tools.specs.Refused.{refused_of}
 -- the test of a cycle on an architecture in a mode
 abbrev pub cycle_test : Machine → ObsMode → List Edge → TestSeen
 cycle_test m mode cycle = test_of m.puts (name_in m.writing.registers) (turned cycle) mode
-
--- the test of a cycle forces it: all its edges stand in every candidate execution of the test that is coherent per location
--- and meets the condition, there is no such execution but the intended one, and that is one
-unfoldable pub TestForcesCycle : Machine → ObsMode → List Edge → Type 0
-TestForcesCycle m mode cycle = Forces (cycle_test m mode cycle) (number_in m.writing.registers) (turned cycle) mode plain
 
 -- what is said of a test is so where its text is printed, or a front of it
 abbrev pub WherePrinted : Type 0 → Status → Type 0
@@ -88,10 +82,12 @@ abbrev pub MakesTestOf : Machine → ObsMode → List Edge → Option Refusal �
 MakesTestOf m mode cycle refused (Ok test) = (refused ≡ None) × (test_seen test ≡ shown (cycle_test m mode cycle))
 MakesTestOf m mode cycle refused (Err refusal) = refused ≡ Some refusal
 
--- where the test that words ask for is printed, it forces its cycle
+-- where the test that words ask for is printed, the bytes of its text force the cycle that the edges make
 abbrev pub ForcesAsked : Result Asked Usage → Status → Type 0
 ForcesAsked (Err usage) status = Unit {0}
-ForcesAsked (Ok asked) status = WherePrinted (TestForcesCycle (machine_of asked.arch) asked.mode asked.edges) status
+ForcesAsked (Ok asked) status =
+    let m = machine_of asked.arch in
+    WherePrinted (BytesForce m.puts.name m.writing (cycle_text m asked.mode asked.name asked.edges) (turned asked.edges) asked.mode) status
 
 abbrev pub PrintedForces : List (List ℕ) → Status → Type 0
 PrintedForces words status = ForcesAsked (asked_of words) status

@@ -1,4 +1,4 @@
-ghost use Rattle.std.specs.Prelude.{◌≡◌, ◌≤◌, not, length, IfOk, IfErr, OnOk};
+ghost use Rattle.std.specs.Prelude.{◌≡◌, ◌≤◌, not, length, IfOk, IfErr};
 ghost use Rattle.std.specs.List.{position_from};
 ghost use Rattle.relax_edges.specs.EdgeTable.{is_of_arch};
 ghost use Rattle.edge_algebra.specs.Compose.{composed};
@@ -10,7 +10,7 @@ ghost use Rattle.test_maker.specs.Made.{CanPrint};
 ghost use Rattle.diy_tools.specs.Machines.{machine, machine_of};
 ghost use Rattle.diy_tools.specs.Refused.{refused_of, refused_composed, refused_making};
 ghost use Rattle.diy_tools.specs.Report.{status_line, NamesLocation, RefusesLocation};
-ghost use Rattle.diy_tools.specs.Answers.{Answers, AnswersEdges, Prints, TakesLine, refused_kept, edges_kept, cycle_text, MakesTestOf, PrintedForces, TestForcesCycle, WherePrinted};
+ghost use Rattle.diy_tools.specs.Answers.{Answers, AnswersEdges, Prints, TakesLine, refused_kept, edges_kept, cycle_text, MakesTestOf, PrintedForces};
 
 use crate::report::report;
 use crate::status::{Device, Refusal, Status};
@@ -32,7 +32,7 @@ use test_maker::make;
 /// Where the words make no request, or the edges are refused, nothing is written to `out`. Where
 /// `out` fails, it has taken a front of the test's text. The line that tells the status is written
 /// to `err`, which doesn't change the status where it fails.
-#[tactic(auto, using(crate::proofs::Running::takes_line))]
+#[tactic(auto, using(crate::proofs::Running::takes_line, crate::proofs::Forced::answers_force))]
 pub fn run<O: Sink, E: Sink>(_alloc: Global, words: &Words, out: &mut O, err: &mut E) -> Status
     ensures answers { Answers (λ sink. sink_seen (O.told sink) (O.faults sink)) words.now result out.old out.new }
     ensures forces { PrintedForces words.now result }
@@ -44,10 +44,9 @@ pub fn run<O: Sink, E: Sink>(_alloc: Global, words: &Words, out: &mut O, err: &m
 }
 
 /// Answers the words, all but the line of the status.
-#[tactic(auto, using(crate::proofs::Running::kept_answered, crate::proofs::Running::kept_forces))]
+#[tactic(auto, using(crate::proofs::Running::kept_answered))]
 fn answer<O: Sink>(words: &Words, out: &mut O) -> Status
     ensures answers { Answers (λ sink. sink_seen (O.told sink) (O.faults sink)) words.now result out.old out.new }
-    ensures forces { PrintedForces words.now result }
     ensures location { NamesLocation result }
 {
     match read_request(words) {
@@ -62,7 +61,6 @@ fn answer<O: Sink>(words: &Words, out: &mut O) -> Status
 /// Prints the test that is asked for.
 fn diyone<O: Sink>(request: &DiyOne, out: &mut O) -> Status
     ensures answers { AnswersEdges (λ sink. sink_seen (O.told sink) (O.faults sink)) (refused_kept (machine_of request.now.arch) request.now.mode request.now.edges) (cycle_text (machine_of request.now.arch) request.now.mode request.now.name.bytes (edges_kept request.now.edges)) result out.old out.new }
-    ensures forces { WherePrinted (TestForcesCycle (machine_of request.now.arch) request.now.mode (edges_kept request.now.edges)) result }
     ensures location { NamesLocation result }
 {
     match request.arch {
@@ -76,7 +74,6 @@ fn diyone<O: Sink>(request: &DiyOne, out: &mut O) -> Status
 /// Prints the test that is asked for, on an architecture.
 fn diyone_on<A: Arch, O: Sink>(request: &DiyOne, out: &mut O) -> Status
     ensures answers { AnswersEdges (λ sink. sink_seen (O.told sink) (O.faults sink)) (refused_kept (machine A.puts A.writing) request.now.mode request.now.edges) (cycle_text (machine A.puts A.writing) request.now.mode request.now.name.bytes (edges_kept request.now.edges)) result out.old out.new }
-    ensures forces { WherePrinted (TestForcesCycle (machine A.puts A.writing) request.now.mode (edges_kept request.now.edges)) result }
     ensures location { NamesLocation result }
 {
     match &request.edges {
@@ -87,11 +84,10 @@ fn diyone_on<A: Arch, O: Sink>(request: &DiyOne, out: &mut O) -> Status
     }
 }
 
-#[tactic(auto, using(crate::proofs::Running::where_printed), unfolding(crate::specs::Answers::cycle_text))]
+#[tactic(auto, unfolding(crate::specs::Answers::cycle_text))]
 fn answer_edges<A: Arch, O: Sink>(edges: &[Edge], mode: ObsMode, name: &str, out: &mut O) -> Status
     requires { length edges.now ≤ MAX_EDGES }
     ensures answers { AnswersEdges (λ sink. sink_seen (O.told sink) (O.faults sink)) (refused_of A.puts mode edges.now) (cycle_text (machine A.puts A.writing) mode name.now edges.now) result out.old out.new }
-    ensures forces { WherePrinted (TestForcesCycle (machine A.puts A.writing) mode edges.now) result }
     ensures location { NamesLocation result }
 {
     match test_of::<A>(edges, mode) {
@@ -117,7 +113,6 @@ fn test_of<A: Arch>(edges: &[Edge], mode: ObsMode) -> Result<Test, Refusal>
     requires { length edges.now ≤ MAX_EDGES }
     ensures made { MakesTestOf (machine A.puts A.writing) mode edges.now (refused_of A.puts mode edges.now) result }
     ensures printable { IfOk result (CanPrint A.puts A.REGISTERS) }
-    ensures forces { OnOk result (TestForcesCycle (machine A.puts A.writing) mode edges.now) }
     ensures location { IfErr result RefusesLocation }
 {
     if edges.is_empty() {
@@ -145,7 +140,6 @@ fn first_foreign<A: Arch>(edges: &[Edge]) -> Option<u8>
 fn test_of_composed<A: Arch>(edges: &[Edge], mode: ObsMode) -> Result<Test, Refusal>
     ensures made { MakesTestOf (machine A.puts A.writing) mode edges.now (refused_composed A.puts mode (composed edges.now)) result }
     ensures printable { IfOk result (CanPrint A.puts A.REGISTERS) }
-    ensures forces { OnOk result (TestForcesCycle (machine A.puts A.writing) mode edges.now) }
     ensures location { IfErr result RefusesLocation }
 {
     match cycle(edges) {
@@ -157,7 +151,6 @@ fn test_of_composed<A: Arch>(edges: &[Edge], mode: ObsMode) -> Result<Test, Refu
 fn test_of_cycle<A: Arch>(cycle: &Cycle, mode: ObsMode) -> Result<Test, Refusal>
     ensures made { MakesTestOf (machine A.puts A.writing) mode cycle.now (refused_making (refusal_of A.puts cycle.now mode)) result }
     ensures printable { IfOk result (CanPrint A.puts A.REGISTERS) }
-    ensures forces { OnOk result (TestForcesCycle (machine A.puts A.writing) mode cycle.now) }
     ensures location { IfErr result RefusesLocation }
 {
     match make::<A>(cycle, mode) {

@@ -1,7 +1,7 @@
 -- The test of a cycle is within the limits of the format: its code, its address registers and its terms.
-use Rattle.std.proofs.Common.{◌≡◌, ℕ, zero, suc, ◌+◌, ◌<◌, ◌≤◌, ◌==◌, ◌^◌, Bool, true, false, cond, ◌||◌, List, [], ◌∷◌, ◌++◌, length, get_or, map, Option, Some, None, slice_get, refl, sym, ap, ◌∙◌, subst, arith, length-append}
+use Rattle.std.proofs.Common.{◌≡◌, ℕ, zero, suc, ◌+◌, ◌<◌, ◌≤◌, ◌==◌, Bool, true, false, cond, ◌||◌, List, [], ◌∷◌, ◌++◌, length, map, Some, slice_get, refl, sym, ap, ◌∙◌, subst, arith}
 use Rattle.std.specs.Prelude.{◌&&◌, is_some, nat_lt, count_by}
-use Rattle.std.specs.List.{AllByRecursion, list_all, filter, flat_map, enumerate_from, position_from, zip}
+use Rattle.std.specs.List.{AllByRecursion, list_all, filter, position_from, zip}
 use Rattle.std.specs.Str.{bytes_eq}
 use Rattle.std.proofs.lemmas.Bool.{eqb-true, lt-ltb, and_from}
 use Rattle.std.proofs.lemmas.List.{length-map}
@@ -17,10 +17,8 @@ use Rattle.relax_edges.specs.declared.kinds.Dir.{Dir}
 use Rattle.relax_edges.specs.declared.kinds.Dir.TheVariants as dirs
 use Rattle.relax_edges.specs.declared.kinds.ObsMode.{ObsMode}
 use Rattle.relax_edges.specs.declared.edge.Edge.{Edge}
-use Rattle.coherence_values.specs.Values.{write_count}
 use Rattle.coherence_values.proofs.Along.{write_count_most}
 use Rattle.cycle_resolve.specs.Resolution.{IsResolved, move_count}
-use Rattle.final_cond.specs.Conditions.{TermSeen}
 use Rattle.final_cond.specs.Names.{is_place_name, is_register_name}
 use Rattle.arch_trait.specs.declared.step.Step.{Step}
 use Rattle.arch_trait.specs.Cells.{MakesOneAccess}
@@ -32,7 +30,7 @@ use Rattle.arch_trait.specs.Threads.{Puts, ThreadCode, FitSteps, compiled, is_lo
 use Rattle.arch_trait.specs.Writing.{Writing, WritesBack, name_in}
 use Rattle.arch_trait.proofs.Codes.{thread_short}
 use Rattle.arch_trait.proofs.Ordered.{compiled_ordered, compiled_accesses}
-use Rattle.arch_trait.proofs.Tables.{location_new, length-letters}
+use Rattle.arch_trait.proofs.Tables.{location_new}
 use Rattle.arch_trait.proofs.Whole.{is_formed}
 use Rattle.litmus_text.specs.Items.{Link, LinkFits, links_of}
 use Rattle.litmus_text.specs.Progress.{CodeFits, code_lands}
@@ -90,11 +88,11 @@ each_code a es mode P h =
     let i = image_of (compiled a) (cycle_steps es mode plain) k code g in subst P i.image (h k i.element i.got))
 
 -- the code of a thread
-pub record Thread (a : Puts) (es : List Edge) (ss : List Step) : Type 0 where
+pub record HasCode (a : Puts) (ss : List Step) : Type 0 where
   pub thread : IsThread a.name ss
   pub formed : IsFormed a ss (compiled a ss)
 
-pub thread_is : (a : Puts) (es : List Edge) (mode : ObsMode) (k : ℕ) (ss : List Step) → IsArch a → HasTest a es mode → slice_get (cycle_steps es mode plain) k ≡ Some ss → Thread a es ss
+pub thread_is : (a : Puts) (es : List Edge) (mode : ObsMode) (k : ℕ) (ss : List Step) → IsArch a → HasTest a es mode → slice_get (cycle_steps es mode plain) k ≡ Some ss → HasCode a ss
 thread_is a es mode k ss laws t g =
     let thread = steps_fit es mode plain a.name k ss t.resolved t.of_arch g in
     record { thread = thread; formed = is_formed a laws ss thread.fit (t.room k ss g) }

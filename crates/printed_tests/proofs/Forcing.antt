@@ -1,9 +1,8 @@
 -- The printed bytes of a readable test of a cycle force the cycle.
-use Rattle.std.proofs.Common.{◌≡◌, ℕ, List, length, map, Option, Ok, refl, sym, ap, ◌∙◌, subst}
+use Rattle.std.proofs.Common.{◌≡◌, ℕ, List, length, refl, sym, ◌∙◌, subst}
 use Rattle.relax_edges.specs.declared.kinds.ArchName.{ArchName}
 use Rattle.relax_edges.specs.declared.kinds.ObsMode.{ObsMode}
 use Rattle.relax_edges.specs.declared.edge.Edge.{Edge}
-use Rattle.final_cond.specs.Conditions.{CondSeen}
 use Rattle.final_cond.specs.States.{Meets}
 use Rattle.cycle_resolve.specs.Resolution.{move_count}
 use Rattle.arch_trait.specs.Laws.{IsArch}

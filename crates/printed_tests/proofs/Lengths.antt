@@ -1,6 +1,6 @@
 -- The text of a cycle's test isn't too long.
-use Rattle.std.proofs.Common.{◌≡◌, ℕ, zero, suc, ◌+◌, ◌-◌, ◌*◌, ◌<◌, ◌≤◌, Bool, true, List, [], ◌∷◌, ◌++◌, length, get_or, map, max, fold, refl, sym, ap, ◌∙◌, subst, arith, length-append, zero-add}
-use Rattle.std.specs.Prelude.{codes, nat_lt, ◌&&◌}
+use Rattle.std.proofs.Common.{◌≡◌, ℕ, zero, suc, ◌+◌, ◌-◌, ◌*◌, ◌<◌, ◌≤◌, true, List, [], ◌∷◌, ◌++◌, length, get_or, map, max, fold, refl, ap, arith, length-append}
+use Rattle.std.specs.Prelude.{codes, nat_lt}
 use Rattle.std.specs.List.{AllByRecursion, join_by, flat_map, enumerate_from, range_with_len}
 use Rattle.std.specs.Fmt.{decimal}
 use Rattle.std.proofs.Math.ListN.{replicate}
@@ -28,7 +28,7 @@ use Rattle.arch_trait.specs.Threads.{ThreadCode}
 use Rattle.arch_trait.specs.Writing.{Writing, op_text, name_in}
 use Rattle.litmus_text.specs.declared.limits.TheConstants.{MAX_TEXT}
 use Rattle.litmus_text.proofs.InitialLaws.{flat_map-flat_map}
-use Rattle.litmus_text.specs.TestText.{TestSeen, header_line, edges_line, item_text, items_lines, initial_lines, column_of, columns_of, width_of, cell_text, row_line, row_count, table_lines, test_lines, ended, test_text}
+use Rattle.litmus_text.specs.TestText.{TestSeen, header_line, edges_line, item_text, items_lines, initial_lines, column_of, width_of, cell_text, row_line, row_count, table_lines, test_lines, ended, test_text}
 
 suc_times : (n c : ℕ) → suc n * c ≡ c + n * c
 suc_times n c = omega arith

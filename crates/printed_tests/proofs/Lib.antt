@@ -5,3 +5,4 @@ pub mod Fits
 pub mod Lengths
 pub mod SomeTerm
 pub mod Readable
+pub mod Printed

@@ -1,11 +1,9 @@
 -- The test of a cycle, under a name of its form, reads back.
-use Rattle.std.proofs.Common.{◌≡◌, ℕ, zero, suc, ◌+◌, ◌<◌, ◌≤◌, Bool, true, List, [], ◌∷◌, ◌++◌, length, map, refl, sym, ap, ◌∙◌, subst, arith, cond, Some, slice_get}
-use Rattle.std.specs.Prelude.{nat_le}
+use Rattle.std.proofs.Common.{◌≡◌, ℕ, ◌+◌, ◌<◌, ◌≤◌, true, List, [], ◌∷◌, ◌++◌, length, map, sym, ◌∙◌, subst, arith, cond, Some}
 use Rattle.std.specs.List.{AllByRecursion, list_all}
 use Rattle.std.proofs.lemmas.Bool.{and_parts, leb-true}
 use Rattle.std.proofs.lemmas.List.{length-map}
 use Rattle.std.proofs.lemmas.Option.{slice_get_within}
-use Rattle.relax_edges.specs.declared.TheConstants.{MAX_EDGES}
 use Rattle.relax_edges.specs.declared.kinds.ArchName.{ArchName}
 use Rattle.relax_edges.specs.declared.kinds.ObsMode.{ObsMode}
 use Rattle.relax_edges.specs.declared.edge.Edge.{Edge}
@@ -15,7 +13,6 @@ use Rattle.final_cond.specs.Conditions.{TermSeen}
 use Rattle.final_cond.specs.Names.{is_register_name}
 use Rattle.final_cond.specs.ReadBack.{IsFormedTerm}
 use Rattle.final_cond.proofs.NameLaws.{place_name_short, register_name_short}
-use Rattle.arch_trait.specs.declared.step.Step.{Step}
 use Rattle.arch_trait.specs.Cells.{WritesCells, MakesOneAccess, is_access}
 use Rattle.arch_trait.specs.LabelOrder.{labels_after}
 use Rattle.arch_trait.specs.Laws.{IsArch, InOrder}

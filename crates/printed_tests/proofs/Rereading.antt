@@ -1,7 +1,7 @@
 -- What is read of the printed test of a cycle is that test, but for the numbers of places.
-use Rattle.std.proofs.Common.{◌≡◌, ℕ, zero, suc, ◌+◌, ◌<◌, ◌≤◌, ◌==◌, Bool, true, false, cond, List, [], ◌∷◌, ◌++◌, length, get_or, map, Option, Some, None, slice_get, refl, sym, ap, ◌∙◌, subst, arith}
+use Rattle.std.proofs.Common.{◌≡◌, ℕ, zero, suc, ◌+◌, ◌<◌, ◌≤◌, ◌==◌, Bool, true, List, [], ◌∷◌, get_or, map, Some, slice_get, refl, sym, ap, ◌∙◌, subst, arith}
 use Rattle.std.specs.Prelude.{unwrap_or}
-use Rattle.std.specs.List.{AllByRecursion, find, flat_map, enumerate_from}
+use Rattle.std.specs.List.{AllByRecursion, find}
 use Rattle.std.proofs.lemmas.List.Folds.{find-append}
 use Rattle.std.proofs.lemmas.Option.{slice_get_within, slice_get-get_or}
 use Rattle.relax_edges.specs.declared.kinds.ObsMode.{ObsMode}
@@ -12,7 +12,6 @@ use Rattle.micro_ops.specs.declared.operation.Micro.{Micro}
 use Rattle.micro_ops.specs.declared.operation.Micro.TheVariants as ops
 use Rattle.micro_ops.specs.Renumbering.{op_at}
 use Rattle.list_laws.specs.Numbers.{upto}
-use Rattle.list_laws.proofs.Numbers.{slice_get-upto, length-upto}
 use Rattle.cycle_resolve.specs.Resolution.{IsResolved, move_count, external_count, events_in, location_of, slot_of}
 use Rattle.cycle_resolve.specs.Resolution as resolution
 use Rattle.cycle_resolve.proofs.Arcs.{leaving, thread_below}
@@ -24,7 +23,7 @@ use Rattle.arch_trait.specs.Names.{location_name, letters}
 use Rattle.arch_trait.specs.Renumbering.{renumbered}
 use Rattle.arch_trait.specs.Taking.{initial}
 use Rattle.arch_trait.specs.Threads.{Puts, ThreadCode, compiled}
-use Rattle.arch_trait.specs.Writing.{Writing, name_in}
+use Rattle.arch_trait.specs.Writing.{name_in}
 use Rattle.arch_trait.proofs.Tables.{length-letters, letters_more, location_new}
 use Rattle.arch_trait.proofs.Whole.{makes_steps}
 use Rattle.litmus_text.specs.Items.{links_of}
@@ -40,7 +39,7 @@ use Rattle.test_laws.specs.Headline.{HasTest, IsRenumbered}
 use Rattle.test_laws.specs.Programs.{thread_from}
 use Rattle.test_laws.specs.Steps.{event_step, thread_steps, cycle_steps}
 use Rattle.test_laws.specs.TestOf.{TestSeen, plain, test_of}
-use Rattle.test_laws.proofs.Everywhere.{all_gets, all_from, all_parts}
+use Rattle.test_laws.proofs.Everywhere.{all_gets, all_parts}
 use Rattle.test_laws.proofs.PlaceNames.{letter_at, locations_few}
 use Rattle.test_laws.proofs.StepsAt.{thread_steps_at}
 use Rattle.test_laws.proofs.StepsFit.{steps_fit}

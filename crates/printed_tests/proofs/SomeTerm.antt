@@ -1,22 +1,22 @@
 -- The condition of a cycle's test has a term.
-use Rattle.std.proofs.Common.{◌≡◌, ℕ, zero, suc, ◌+◌, ◌-◌, ◌<◌, ◌≤◌, ◌==◌, Bool, true, false, cond, List, [], ◌∷◌, ◌++◌, length, map, Some, slice_get, refl, sym, ap, ◌∙◌, subst, arith, length-append}
-use Rattle.std.specs.Prelude.{◌&&◌, not, nat_le, count_by}
+use Rattle.std.proofs.Common.{◌≡◌, ℕ, zero, suc, ◌+◌, ◌-◌, ◌<◌, ◌≤◌, Bool, true, false, cond, List, [], ◌∷◌, ◌++◌, length, Some, slice_get, refl, ap, ◌∙◌, arith, length-append}
+use Rattle.std.specs.Prelude.{not, nat_le, count_by}
 use Rattle.std.specs.List.{filter, sum_by}
 use Rattle.std.proofs.lemmas.Bool.{le-leb, and_from}
 use Rattle.std.proofs.lemmas.List.{length-map}
 use Rattle.std.proofs.lemmas.List.Sums.{count_by-le-length, length-filter, sum_by-cons}
 use Rattle.list_laws.proofs.Cases.{by_test}
 use Rattle.list_laws.specs.Numbers.{upto}
-use Rattle.list_laws.proofs.Numbers.{length-upto, slice_get-upto}
+use Rattle.list_laws.proofs.Numbers.{slice_get-upto}
 use Rattle.list_laws.proofs.Ranks.{rank_upto}
 use Rattle.relax_edges.specs.declared.kinds.Dir.{Dir}
 use Rattle.relax_edges.specs.declared.kinds.Dir.TheVariants as dirs
 use Rattle.relax_edges.specs.declared.kinds.ObsMode.{ObsMode}
 use Rattle.relax_edges.specs.declared.edge.Edge.{Edge}
-use Rattle.relax_edges.specs.EdgeTable.{is_diff, is_external, same_dir, source_of}
+use Rattle.relax_edges.specs.EdgeTable.{is_external, same_dir, source_of}
 use Rattle.cycle_resolve.specs.Resolution.{IsResolved, edge_at, event_after, events_in, external_count, location_of, move_count, slot_of}
 use Rattle.cycle_resolve.specs.Resolution as resolution
-use Rattle.cycle_resolve.proofs.Arcs.{last_outside, last_keeps, location_below, thread_below}
+use Rattle.cycle_resolve.proofs.Arcs.{last_keeps, location_below, thread_below}
 use Rattle.cycle_resolve.proofs.Around.{after_below}
 use Rattle.cycle_resolve.proofs.Threads.{event_in_slot}
 use Rattle.coherence_values.specs.Values.{is_observed, value_of, write_count}

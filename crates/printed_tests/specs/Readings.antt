@@ -1,7 +1,6 @@
 -- What the reading of a test's text means: its program, and the executions that it asks for.
 -- Source: own.
-use Rattle.std.specs.Prelude.{ℕ, List, map, length}
-use Rattle.relax_edges.specs.declared.kinds.Value.{Value}
+use Rattle.std.specs.Prelude.{ℕ, map, length}
 use Rattle.final_cond.specs.States.{Meets}
 use Rattle.arch_trait.specs.Names.{location_name, number_in}
 use Rattle.arch_trait.specs.Writing.{Writing}

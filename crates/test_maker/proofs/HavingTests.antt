@@ -1,6 +1,6 @@
 -- A cycle that isn't refused has a test.
-use Rattle.std.proofs.Common.{◌≡◌, ℕ, not, List, Option, Some, None, Result, Ok, Err, refl, sym, ap, ◌∙◌, subst}
-use Rattle.std.specs.List.{list_all, position_from}
+use Rattle.std.proofs.Common.{◌≡◌, ℕ, not, List, Option, Some, None, Result, Ok, Err, refl, sym, subst}
+use Rattle.std.specs.List.{position_from}
 use Rattle.std.specs.Option.{option_map}
 use Rattle.walk_laws.specs.Composable.{IsCycle}
 use Rattle.relax_edges.specs.declared.kinds.ObsMode.{ObsMode}

@@ -1,0 +1,136 @@
+-- Where a test is printed, its bytes force the cycle.
+use Rattle.std.proofs.Common.{◌≡◌, ℕ, Bool, true, false, cond, not, nat_lt, nat_le, List, [], ◌∷◌, ◌++◌, length, Option, Some, None, refl, sym, ap, subst, arith, Ok, Err, ◌∙◌}
+use Rattle.std.specs.Char.{is_ascii_alphanumeric}
+use Rattle.std.specs.Prelude.{Result, ◌==◌, ◌&&◌, ◌||◌, if◌then◌else◌}
+use Rattle.std.specs.List.{list_all, position_from}
+use Rattle.std.proofs.lemmas.Bool.{and_parts, ltb-false}
+use Rattle.std.proofs.lemmas.Bool.Decides.{nat_tests}
+use Rattle.relax_edges.specs.declared.kinds.ArchName.{ArchName}
+use Rattle.relax_edges.specs.declared.kinds.ObsMode.{ObsMode}
+use Rattle.relax_edges.specs.declared.edge.Edge.{Edge}
+use Rattle.relax_edges.specs.EdgeTable.{is_of_arch}
+use Rattle.walk_laws.specs.Composable.{IsCycle, first_break}
+use Rattle.walk_laws.proofs.Composing.{unbroken_cycle}
+use Rattle.edge_algebra.specs.declared.errors.CycleError.TheVariants as composing
+use Rattle.edge_algebra.specs.Compose.{unbroken}
+use Rattle.cycle_resolve.specs.Resolution.{turned}
+use Rattle.arch_trait.specs.Cells.{WritesCells, MakesOneAccess}
+use Rattle.arch_trait.specs.Laws.{IsArch}
+use Rattle.arch_trait.specs.Threads.{Puts}
+use Rattle.arch_trait.specs.Writing.{WritesBack}
+use Rattle.arch_x86.specs.InCells as x86_cells
+use Rattle.arch_x86.specs.Laws as x86_laws
+use Rattle.arch_x86.specs.ReadsBack as x86_back
+use Rattle.litmus_text.specs.Printable as printable
+use Rattle.litmus_text.specs.Printable.{IsTestName}
+use Rattle.litmus_text.specs.Wrote.{SinkSeen}
+use Rattle.litmus_text.proofs.CutBack.{weaker}
+use Rattle.diy_words.specs.declared.usage.Usage.{Usage}
+use Rattle.diy_words.specs.Names.{is_name, is_name_byte}
+use Rattle.diy_words.specs.Requests.{Asked, asked_of}
+use Rattle.diy_words.proofs.NameForm.{asked_form}
+use Rattle.test_maker.specs.declared.refusal.MakeRefusal.{MakeRefusal}
+use Rattle.test_maker.specs.Refusals.{refusal_of}
+use Rattle.test_maker.proofs.Accepted.{accepted_has_test}
+use Rattle.printed_tests.specs.Headline.{BytesForce}
+use Rattle.printed_tests.proofs.Printed.{printed_force}
+use Rattle.diy_tools.specs.declared.status.Refusal.{Refusal}
+use Rattle.diy_tools.specs.declared.status.Refusal.TheVariants as refusals
+use Rattle.diy_tools.specs.declared.status.Status.{Status}
+use Rattle.diy_tools.specs.declared.status.Status.TheVariants as statuses
+use Rattle.diy_tools.specs.Machines.{Machine, machine_of}
+use Rattle.diy_tools.specs.Refused.{refused_of, refused_of_arch, refused_composed, refused_making}
+use Rattle.diy_tools.specs.Answers.{AnswersEdges, Answers, AnswersAsked, WherePrinted, ForcesAsked, PrintedForces, cycle_text}
+
+-- what the law over the bytes asks of an architecture
+record KeepsLaws (m : Machine) : Type 0 where
+  laws : IsArch m.puts
+  back : WritesBack m.puts m.writing
+  cells : WritesCells m.puts m.writing
+  one : MakesOneAccess m.puts
+
+-- each architecture of the tools keeps it
+keeps_laws : (arch : ArchName) → KeepsLaws (machine_of arch)
+keeps_laws arch = record {
+  laws = x86_laws.laws;
+  back = x86_back.reads_back;
+  cells = x86_cells.writes_cells;
+  one = x86_cells.makes_one_access;
+}
+
+-- edges that aren't refused make a cycle that isn't refused
+record IsAccepted (a : Puts) (mode : ObsMode) (es : List Edge) : Type 0 where
+  is_cycle : IsCycle es
+  unrefused : refusal_of a es mode ≡ None
+
+accepted : (a : Puts) (mode : ObsMode) (es : List Edge) → refused_of a mode es ≡ None → IsAccepted a mode es
+accepted a mode [] h = cc
+accepted a mode (e ∷ es) h = of_size (nat_lt 24 (length (e ∷ es))) refl (position_from (λ u. not (is_of_arch u a.name)) 0 (e ∷ es)) h
+  where
+    none_made : (reason : Option MakeRefusal) → refused_making reason ≡ None → reason ≡ None
+    none_made None h = refl
+    none_made (Some reason) h = cc
+
+    of_break : (b : Option ℕ) → first_break ((e ∷ es) ++ e ∷ []) ≡ b → nat_lt 24 (length (e ∷ es)) ≡ false → refused_composed a mode (unbroken (e ∷ es) b) ≡ None → IsAccepted a mode (e ∷ es)
+    of_break (Some at) s f h = cc
+    of_break None s f h = record {
+      is_cycle = unbroken_cycle (e ∷ es) e refl (ltb-false 24 (length (e ∷ es)) f) s;
+      unrefused = none_made (refusal_of a (e ∷ es) mode) h;
+    }
+
+    of_size : (b : Bool) → nat_lt 24 (length (e ∷ es)) ≡ b → (foreign : Option ℕ) → (if b then Some refusals.TooLong else refused_of_arch a mode (e ∷ es) foreign) ≡ None → IsAccepted a mode (e ∷ es)
+    of_size true f foreign h = cc
+    of_size false f (Some at) h = cc
+    of_size false f None h =
+        of_break (first_break ((e ∷ es) ++ e ∷ [])) refl f
+        (sym (ap (λ b. refused_composed a mode (cond b (Err composing.TooLong) (unbroken (e ∷ es) (first_break ((e ∷ es) ++ e ∷ []))))) f) ∙ h)
+
+-- a byte of a name as words give it
+name_byte : (b : ℕ) → is_name_byte b ≡ true → printable.is_name_byte b ≡ true
+name_byte b h = regrouped (is_ascii_alphanumeric b) (b == 43) (b == 45) (b == 46) (b == 95) h
+  where
+    regrouped : (p q r s t : Bool) → (p || q || r || s || t) ≡ true → (p || (q || (r || (s || t)))) ≡ true
+    regrouped true q r s t h = refl
+    regrouped false true r s t h = refl
+    regrouped false false true s t h = refl
+    regrouped false false false true t h = refl
+    regrouped false false false false t h = h
+
+-- a name as words give it has the form that a test's has
+named_so : (name : List ℕ) → is_name name ≡ true → IsTestName name
+named_so name h =
+    let outer = and_parts (nat_lt 0 (length name) && nat_le (length name) 800) (list_all is_name_byte name) h in
+    let inner = and_parts (nat_lt 0 (length name)) (nat_le (length name) 800) outer.0 in
+    record { some = grind (arith, nat_tests, inner.0); short = inner.1; bytes = weaker is_name_byte printable.is_name_byte name_byte name outer.1 }
+
+-- what is answered of words whose test is printed
+pub answers_force : {Sink : Type 0} (seen : Sink → SinkSeen) (words : List (List ℕ)) (status : Status) (old new : Sink) → Answers seen words status old new → PrintedForces words status
+unfolding cycle_text
+answers_force {Sink} seen words status old new h = of_asked (asked_of words) refl h
+  where
+    refused_says : (said : Type 0) (refusal : Refusal) (s : Status) → s ≡ statuses.Refused refusal → WherePrinted said s
+    refused_says said refusal s e = subst (λ (u : Status). WherePrinted said u) (sym e) tt
+
+    where_printed : (said : Type 0) (s : Status) → said → WherePrinted said s
+    where_printed said statuses.Done h = h
+    where_printed said (statuses.WriteFault _) h = h
+    where_printed said (statuses.Refused _) h = tt
+    where_printed said (statuses.Usage _ _) h = tt
+
+    forced : (asked : Asked) → asked_of words ≡ Ok asked → refused_of (machine_of asked.arch).puts asked.mode asked.edges ≡ None
+        → BytesForce (machine_of asked.arch).puts.name (machine_of asked.arch).writing (cycle_text (machine_of asked.arch) asked.mode asked.name asked.edges) (turned asked.edges) asked.mode
+    forced asked e none =
+        let m = machine_of asked.arch in
+        let keeps = keeps_laws asked.arch in
+        let whole = accepted m.puts asked.mode asked.edges none in
+        printed_force m.puts m.puts.name m.writing asked.name (turned asked.edges) asked.mode keeps.laws keeps.back keeps.cells keeps.one (named_so asked.name (asked_form words asked e))
+        (accepted_has_test m.puts asked.edges asked.mode whole.is_cycle whole.unrefused)
+
+    of_refused : (asked : Asked) → asked_of words ≡ Ok asked → (refused : Option Refusal) → refused_of (machine_of asked.arch).puts asked.mode asked.edges ≡ refused
+        → AnswersEdges seen refused (cycle_text (machine_of asked.arch) asked.mode asked.name asked.edges) status old new → ForcesAsked (Ok asked) status
+    of_refused asked e (Some refusal) r h = refused_says _ refusal status h.0
+    of_refused asked e None r h = where_printed _ status (forced asked e r)
+
+    of_asked : (asked : Result Asked Usage) → asked_of words ≡ asked → AnswersAsked seen asked status old new → ForcesAsked asked status
+    of_asked (Err usage) e h = tt
+    of_asked (Ok asked) e h = of_refused asked e (refused_of (machine_of asked.arch).puts asked.mode asked.edges) refl h
