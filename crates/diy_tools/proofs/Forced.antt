@@ -6,6 +6,7 @@ use Rattle.std.specs.List.{list_all, position_from}
 use Rattle.std.proofs.lemmas.Bool.{and_parts, ltb-false}
 use Rattle.std.proofs.lemmas.Bool.Decides.{nat_tests}
 use Rattle.relax_edges.specs.declared.kinds.ArchName.{ArchName}
+use Rattle.relax_edges.specs.declared.kinds.ArchName.TheVariants as archs
 use Rattle.relax_edges.specs.declared.kinds.ObsMode.{ObsMode}
 use Rattle.relax_edges.specs.declared.edge.Edge.{Edge}
 use Rattle.relax_edges.specs.EdgeTable.{is_of_arch}
@@ -21,6 +22,15 @@ use Rattle.arch_trait.specs.Writing.{WritesBack}
 use Rattle.arch_x86.specs.InCells as x86_cells
 use Rattle.arch_x86.specs.Laws as x86_laws
 use Rattle.arch_x86.specs.ReadsBack as x86_back
+use Rattle.arch_power.specs.InCells as power_cells
+use Rattle.arch_power.specs.Laws as power_laws
+use Rattle.arch_power.specs.ReadsBack as power_back
+use Rattle.arch_aarch64.specs.InCells as aarch64_cells
+use Rattle.arch_aarch64.specs.Laws as aarch64_laws
+use Rattle.arch_aarch64.specs.ReadsBack as aarch64_back
+use Rattle.arch_riscv.specs.InCells as riscv_cells
+use Rattle.arch_riscv.specs.Laws as riscv_laws
+use Rattle.arch_riscv.specs.ReadsBack as riscv_back
 use Rattle.litmus_text.specs.Printable as printable
 use Rattle.litmus_text.specs.Printable.{IsTestName}
 use Rattle.litmus_text.specs.Wrote.{SinkSeen}
@@ -31,7 +41,7 @@ use Rattle.diy_words.specs.Requests.{Asked, asked_of}
 use Rattle.diy_words.proofs.NameForm.{asked_form}
 use Rattle.test_maker.specs.declared.refusal.MakeRefusal.{MakeRefusal}
 use Rattle.test_maker.specs.Refusals.{refusal_of}
-use Rattle.test_maker.proofs.Accepted.{accepted_has_test}
+use Rattle.test_maker.proofs.HavingTests.{accepted_has_test}
 use Rattle.printed_tests.specs.Headline.{BytesForce}
 use Rattle.printed_tests.proofs.Printed.{printed_force}
 use Rattle.diy_tools.specs.declared.status.Refusal.{Refusal}
@@ -51,11 +61,29 @@ record KeepsLaws (m : Machine) : Type 0 where
 
 -- each architecture of the tools keeps it
 keeps_laws : (arch : ArchName) → KeepsLaws (machine_of arch)
-keeps_laws arch = record {
+keeps_laws archs.X86 = record {
   laws = x86_laws.laws;
   back = x86_back.reads_back;
   cells = x86_cells.writes_cells;
   one = x86_cells.makes_one_access;
+}
+keeps_laws archs.PPC = record {
+  laws = power_laws.laws;
+  back = power_back.reads_back;
+  cells = power_cells.writes_cells;
+  one = power_cells.makes_one_access;
+}
+keeps_laws archs.AArch64 = record {
+  laws = aarch64_laws.laws;
+  back = aarch64_back.reads_back;
+  cells = aarch64_cells.writes_cells;
+  one = aarch64_cells.makes_one_access;
+}
+keeps_laws archs.RISCV = record {
+  laws = riscv_laws.laws;
+  back = riscv_back.reads_back;
+  cells = riscv_cells.writes_cells;
+  one = riscv_cells.makes_one_access;
 }
 
 -- edges that aren't refused make a cycle that isn't refused
