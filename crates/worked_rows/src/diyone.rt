@@ -3,7 +3,7 @@ use diy_io::Words;
 use std::test::Fail;
 
 /// Words of diyone7, and the test that they print.
-const TESTS: [(&str, &str); 13] = [
+const TESTS: [(&str, &str); 17] = [
     (
         "diyone7 -arch X86 -name SB PodWR Fre PodWR Fre",
         "X86 SB\n\"PodWR Fre PodWR Fre\"\n{\n}\n P0          | P1          ;\n MOV [x],$1  | MOV [y],$1  ;\n MOV EAX,[y] | MOV EAX,[x] ;\nexists (0:EAX=0 /\\ 1:EAX=0)\n",
@@ -55,6 +55,22 @@ const TESTS: [(&str, &str); 13] = [
     (
         "diyone7 -obs force -arch X86 -obs accept -name R PodWW Wse PodWR Fre",
         "X86 R\n\"PodWW Wse PodWR Fre\"\n{\n}\n P0         | P1          ;\n MOV [x],$1 | MOV [y],$2  ;\n MOV [y],$1 | MOV EAX,[x] ;\nexists ([y]=2 /\\ 1:EAX=0)\n",
+    ),
+    (
+        "diyone7 -arch PPC -name MP+lwsync+addr LwSyncdWW Rfe DpAddrdR Fre",
+        "PPC MP+lwsync+addr\n\"LwSyncdWW Rfe DpAddrdR Fre\"\n{\n0:r2=x; 0:r4=y;\n1:r2=y; 1:r5=x;\n}\n P0           | P1            ;\n li r1,1      | lwz r1,0(r2)  ;\n stw r1,0(r2) | xor r3,r1,r1  ;\n lwsync       | lwzx r4,r3,r5 ;\n li r3,1      |               ;\n stw r3,0(r4) |               ;\nexists (1:r1=1 /\\ 1:r4=0)\n",
+    ),
+    (
+        "diyone7 -arch AArch64 -name MP+dmb.sy+ctrlisb DMB.SYdWW Rfe DpCtrlIsbdR Fre",
+        "AArch64 MP+dmb.sy+ctrlisb\n\"DMB.SYdWW Rfe DpCtrlIsbdR Fre\"\n{\n0:X1=x; 0:X3=y;\n1:X1=y; 1:X3=x;\n}\n P0          | P1           ;\n MOV W0,#1   | LDR W0,[X1]  ;\n STR W0,[X1] | CBNZ W0,LC00 ;\n DMB SY      | LC00:        ;\n MOV W2,#1   | ISB          ;\n STR W2,[X3] | LDR W2,[X3]  ;\nexists (1:X0=1 /\\ 1:X2=0)\n",
+    ),
+    (
+        "diyone7 -arch RISCV -name LB+data+fence.rw.rw Fence.rw.rwdRW Rfe DpDatadW Rfe",
+        "RISCV LB+data+fence.rw.rw\n\"Fence.rw.rwdRW Rfe DpDatadW Rfe\"\n{\n0:x6=x; 0:x8=y;\n1:x6=y; 1:x8=x;\n}\n P0          | P1           ;\n lw x5,0(x6) | lw x5,0(x6)  ;\n fence rw,rw | xor x7,x5,x5 ;\n ori x7,x0,1 | ori x7,x7,1  ;\n sw x7,0(x8) | sw x7,0(x8)  ;\nexists (0:x5=1 /\\ 1:x5=1)\n",
+    ),
+    (
+        "diyone7 -arch RISCV -name A DpAddrsR DpAddrdW Rfe PodRW Rfe",
+        "RISCV A\n\"DpAddrsR DpAddrdW Rfe PodRW Rfe\"\n{\n0:x6=x; 0:x11=y;\n1:x6=y; 1:x8=x;\n}\n P0            | P1          ;\n lw x5,0(x6)   | lw x5,0(x6) ;\n xor x7,x5,x5  | ori x7,x0,1 ;\n add x7,x7,x6  | sw x7,0(x8) ;\n lw x8,0(x7)   |             ;\n xor x9,x8,x8  |             ;\n ori x10,x0,1  |             ;\n add x9,x9,x11 |             ;\n sw x10,0(x9)  |             ;\nexists (0:x5=1 /\\ 0:x8=1 /\\ 1:x5=1)\n",
     ),
 ];
 
@@ -136,9 +152,9 @@ const REFUSED: [(&str, u8, &str); 22] = [
         "diy: usage NotBuilt\n",
     ),
     (
-        "diyone7 -arch RISCV -name A PodWR",
-        2,
-        "diy: usage NotBuilt: RISCV\n",
+        "diyone7 -arch RISCV -name Q PodWW Rfe PodRR PodRR PodRR PodRR PodRR PodRR PodRR PodRR PodRR PodRR PodRR PodRR PodRR Fre",
+        1,
+        "diy: refused TooManyRegisters 1\n",
     ),
     ("diyone7 -obs all -arch X86", 2, "diy: usage BadMode: all\n"),
     ("norm7 -arch X86", 2, "diy: usage NotBuilt: norm7\n"),
@@ -195,6 +211,18 @@ fn a_cycle_of_24_edges_has_twelve_threads(rt: HostRuntime) -> Result<(), Fail> {
             .bytes()
             .starts_with(b"X86 B\n\"PodWR Fre PodWR Fre PodWR".as_slice())
     );
+    Ok(())
+}
+
+#[test]
+fn fourteen_loads_fit_on_aarch64(rt: HostRuntime) -> Result<(), Fail> {
+    let ran = ran(
+        rt.alloc(),
+        "diyone7 -arch AArch64 -name Q PodWW Rfe PodRR PodRR PodRR PodRR PodRR PodRR PodRR PodRR PodRR PodRR PodRR PodRR PodRR Fre",
+        4096,
+    )?;
+    assert_eq!(rt; ran.status.exit(), 0);
+    assert!(rt; ran.out.bytes().ends_with(b" /\\ 1:X26=0)\n".as_slice()));
     Ok(())
 }
 
