@@ -1,9 +1,10 @@
-use crate::ran::{ran, ran_on};
-use diy_io::Words;
+use crate::ran::{ran, ran_on, words_of};
+use diy_io::{MemSink, Words};
+use diy_tools::run;
 use std::test::Fail;
 
 /// Words of diyone7, and the test that they print.
-const TESTS: [(&str, &str); 17] = [
+const TESTS: [(&str, &str); 24] = [
     (
         "diyone7 -arch X86 -name SB PodWR Fre PodWR Fre",
         "X86 SB\n\"PodWR Fre PodWR Fre\"\n{\n}\n P0          | P1          ;\n MOV [x],$1  | MOV [y],$1  ;\n MOV EAX,[y] | MOV EAX,[x] ;\nexists (0:EAX=0 /\\ 1:EAX=0)\n",
@@ -71,6 +72,34 @@ const TESTS: [(&str, &str); 17] = [
     (
         "diyone7 -arch RISCV -name A DpAddrsR DpAddrdW Rfe PodRW Rfe",
         "RISCV A\n\"DpAddrsR DpAddrdW Rfe PodRW Rfe\"\n{\n0:x6=x; 0:x11=y;\n1:x6=y; 1:x8=x;\n}\n P0            | P1          ;\n lw x5,0(x6)   | lw x5,0(x6) ;\n xor x7,x5,x5  | ori x7,x0,1 ;\n add x7,x7,x6  | sw x7,0(x8) ;\n lw x8,0(x7)   |             ;\n xor x9,x8,x8  |             ;\n ori x10,x0,1  |             ;\n add x9,x9,x11 |             ;\n sw x10,0(x9)  |             ;\nexists (0:x5=1 /\\ 0:x8=1 /\\ 1:x5=1)\n",
+    ),
+    (
+        "diyone7 -arch X86 -name WO PodWW Wse PodWW Wse Wse",
+        "X86 WO\n\"PodWW Wse PodWW Wse Wse\"\n{\n}\n P0         | P1         | P2         | P3          ;\n MOV [x],$3 | MOV [y],$2 | MOV [x],$2 | MOV EAX,[x] ;\n MOV [y],$1 | MOV [x],$1 |            | MOV EBX,[x] ;\n            |            |            | MOV ECX,[x] ;\nexists ([y]=2 /\\ 3:EAX=1 /\\ 3:EBX=2 /\\ 3:ECX=3)\n",
+    ),
+    (
+        "diyone7 -arch X86 -name F PodWW Rfe Fri PodWR Fre",
+        "X86 F\n\"PodWW Rfe Fri PodWR Fre\"\n{\n}\n P0         | P1          ;\n MOV [x],$1 | MOV EAX,[y] ;\n MOV [y],$1 | MOV [y],$2  ;\n            | MOV EBX,[x] ;\nexists ([y]=2 /\\ 1:EAX=1 /\\ 1:EBX=0)\n",
+    ),
+    (
+        "diyone7 -arch X86 -name RF PodWW Rfi Fre PodWR Fre",
+        "X86 RF\n\"PodWW Rfi Fre PodWR Fre\"\n{\n}\n P0          | P1          ;\n MOV [x],$1  | MOV [y],$2  ;\n MOV [y],$1  | MOV EAX,[x] ;\n MOV EAX,[y] |             ;\nexists ([y]=2 /\\ 0:EAX=1 /\\ 1:EAX=0)\n",
+    ),
+    (
+        "diyone7 -arch PPC -name CC DpCtrldR DpCtrldW Rfe PodRW Rfe",
+        "PPC CC\n\"DpCtrldR DpCtrldW Rfe PodRW Rfe\"\n{\n0:r2=x; 0:r4=y; 0:r6=z;\n1:r2=z; 1:r4=x;\n}\n P0           | P1           ;\n lwz r1,0(r2) | lwz r1,0(r2) ;\n cmpw r1,r1   | li r3,1      ;\n beq LC00     | stw r3,0(r4) ;\n LC00:        |              ;\n lwz r3,0(r4) |              ;\n cmpw r3,r3   |              ;\n beq LC01     |              ;\n LC01:        |              ;\n li r5,1      |              ;\n stw r5,0(r6) |              ;\nexists (0:r1=1 /\\ 0:r3=0 /\\ 1:r1=1)\n",
+    ),
+    (
+        "diyone7 -arch PPC -name CI LwSyncdWW Rfe DpCtrlIsyncdR Fre",
+        "PPC CI\n\"LwSyncdWW Rfe DpCtrlIsyncdR Fre\"\n{\n0:r2=x; 0:r4=y;\n1:r2=y; 1:r4=x;\n}\n P0           | P1           ;\n li r1,1      | lwz r1,0(r2) ;\n stw r1,0(r2) | cmpw r1,r1   ;\n lwsync       | beq LC00     ;\n li r3,1      | LC00:        ;\n stw r3,0(r4) | isync        ;\n              | lwz r3,0(r4) ;\nexists (1:r1=1 /\\ 1:r3=0)\n",
+    ),
+    (
+        "diyone7 -arch AArch64 -name DA DpDatadW Rfe DpAddrdW Rfe",
+        "AArch64 DA\n\"DpDatadW Rfe DpAddrdW Rfe\"\n{\n0:X1=x; 0:X3=y;\n1:X1=y; 1:X4=x;\n}\n P0           | P1                  ;\n LDR W0,[X1]  | LDR W0,[X1]         ;\n EOR W2,W0,W0 | EOR W2,W0,W0        ;\n ADD W2,W2,#1 | MOV W3,#1           ;\n STR W2,[X3]  | STR W3,[X4,W2,SXTW] ;\nexists (0:X0=1 /\\ 1:X0=1)\n",
+    ),
+    (
+        "diyone7 -arch RISCV -name FO -obs force Fence.w.wdWW Wse PodWW Wse",
+        "RISCV FO\n\"Fence.w.wdWW Wse PodWW Wse\"\n{\n0:x6=x; 0:x8=y;\n1:x6=y; 1:x8=x;\n2:x6=x;\n3:x6=y;\n}\n P0          | P1          | P2          | P3          ;\n ori x5,x0,2 | ori x5,x0,2 | lw x5,0(x6) | lw x5,0(x6) ;\n sw x5,0(x6) | sw x5,0(x6) | lw x7,0(x6) | lw x7,0(x6) ;\n fence w,w   | ori x7,x0,1 |             |             ;\n ori x7,x0,1 | sw x7,0(x8) |             |             ;\n sw x7,0(x8) |             |             |             ;\nexists (2:x5=1 /\\ 2:x7=2 /\\ 3:x5=1 /\\ 3:x7=2)\n",
     ),
 ];
 
@@ -223,6 +252,36 @@ fn fourteen_loads_fit_on_aarch64(rt: HostRuntime) -> Result<(), Fail> {
     )?;
     assert_eq!(rt; ran.status.exit(), 0);
     assert!(rt; ran.out.bytes().ends_with(b" /\\ 1:X26=0)\n".as_slice()));
+    Ok(())
+}
+
+/// Row after row of room: a front of the text is written, and the fault is told, if `err` has room.
+#[test]
+fn each_room_takes_a_front(rt: HostRuntime) -> Result<(), Fail> {
+    let (line, text) = TESTS[0];
+    let text = text.as_bytes();
+    for room in 0..text.len() {
+        let ran = ran(rt.alloc(), line, room)?;
+        assert_eq!(rt; ran.status.exit(), 3);
+        assert_eq!(rt; ran.out.bytes(), &text[..room]);
+        assert_eq!(rt; ran.err.bytes(), b"diy: write fault: out\n".as_slice());
+    }
+    let whole = ran(rt.alloc(), line, text.len())?;
+    assert_eq!(rt; whole.status.exit(), 0);
+    assert_eq!(rt; text.len(), 148);
+    Ok(())
+}
+
+/// The status doesn't depend on `err`.
+#[test]
+fn an_err_without_room_changes_no_status(rt: HostRuntime) -> Result<(), Fail> {
+    for (line, exit, _) in REFUSED {
+        let mut out = MemSink::new(rt.alloc(), 4096)?;
+        let mut err = MemSink::new(rt.alloc(), 0)?;
+        let status = run(rt.alloc(), &words_of(rt.alloc(), line)?, &mut out, &mut err);
+        assert_eq!(rt; status.exit(), exit, "{line}");
+        assert_eq!(rt; err.bytes(), b"".as_slice(), "{line}");
+    }
     Ok(())
 }
 

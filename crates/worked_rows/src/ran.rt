@@ -10,15 +10,20 @@ pub struct Outcome {
     pub err: MemSink,
 }
 
-/// Calls `run` on words that blanks separate, with a sink of so much room.
-pub fn ran(alloc: Global, line: &str, room: usize) -> Result<Outcome, NoMemory> {
+/// The words of a line, which blanks separate.
+pub fn words_of(alloc: Global, line: &str) -> Result<Words, NoMemory> {
     let mut words = Words::new(alloc);
     for word in line.split(' ') {
         if !word.is_empty() {
             words.push(word)?;
         }
     }
-    ran_on(alloc, &words, room)
+    Ok(words)
+}
+
+/// Calls `run` on words that blanks separate, with a sink of so much room.
+pub fn ran(alloc: Global, line: &str, room: usize) -> Result<Outcome, NoMemory> {
+    ran_on(alloc, &words_of(alloc, line)?, room)
 }
 
 /// Calls `run` on words, with a sink of so much room.
