@@ -1,5 +1,5 @@
 -- Power's instructions stand in the cells of a table, and each access is one of them.
-use Rattle.std.proofs.Common.{ℕ, ◌<◌, ◌≤◌, ◌≡◌, refl, true, false, ◌&&◌, nat_le, List, ◌∷◌, ◌++◌, Option, Some, None, length, arith}
+use Rattle.std.proofs.Common.{ℕ, ◌≤◌, ◌≡◌, refl, true, false, ◌&&◌, nat_le, List, Some, None, length, arith}
 use Rattle.std.specs.Fmt.{decimal}
 use Rattle.std.specs.List.{list_all}
 use Rattle.std.proofs.lemmas.Bool.{and_parts, ltb-true, leb-true}
@@ -12,7 +12,7 @@ use Rattle.micro_ops.specs.declared.operation.Barrier.{Barrier}
 use Rattle.micro_ops.specs.declared.operation.Barrier.TheVariants as barriers
 use Rattle.arch_trait.specs.Cells.{is_cell_byte, ends_rows, is_label_op, WritesCells, MakesOneAccess}
 use Rattle.arch_trait.specs.Forms.{pointed}
-use Rattle.arch_trait.specs.Writing.{op_text, name_of, is_named, label_name}
+use Rattle.arch_trait.specs.Writing.{op_text, name_of, is_named}
 use Rattle.arch_trait.proofs.Addressed.{accesses_once}
 use Rattle.arch_trait.proofs.CellTexts.{decimal_cell}
 use Rattle.arch_trait.proofs.FormBacks.{name_cell, name_short, pointed_cell, length-pointed, label_cell, two_cell, three_cell, length-two, length-three}

@@ -1,5 +1,5 @@
 -- Power's instructions read back from their text.
-use Rattle.std.proofs.Common.{ℕ, ◌<◌, ◌≤◌, ◌≡◌, refl, true, ◌&&◌, nat_le, List, ◌∷◌, Option, Some, None, ◌∙◌, ap, arith}
+use Rattle.std.proofs.Common.{ℕ, ◌<◌, ◌≤◌, ◌≡◌, refl, true, ◌&&◌, nat_le, List, Some, None, ◌∙◌, ap, arith}
 use Rattle.std.specs.Prelude.{option_map}
 use Rattle.std.specs.Fmt.{decimal}
 use Rattle.std.proofs.lemmas.Bool.{and_parts, and_from, ltb-true, leb-true}
@@ -12,7 +12,7 @@ use Rattle.arch_trait.specs.Forms.{both, unnamed}
 use Rattle.arch_trait.specs.Writing.{WritesBack, immediate, is_named, name_of, raw_of, is_plain, all_plain}
 use Rattle.arch_trait.proofs.PlainTexts.{immediate_back, label_back}
 use Rattle.arch_trait.proofs.FormBacks.{name_back, two_back, three_back, registers_immediate_back, register_pointed_back, name_plain, pointed_plain, number_plain, label_plain, label_word_plain, names_count, names_formed, names_once}
-use Rattle.arch_power.specs.Puts.{puts, has, is_register, is_index}
+use Rattle.arch_power.specs.Puts.{puts, has, is_register}
 use Rattle.arch_power.specs.Text.{general, register, writing, written, raw}
 use Rattle.arch_power.specs.Names.{are_numbered}
 
