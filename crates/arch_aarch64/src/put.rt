@@ -1,12 +1,10 @@
-ghost use Rattle.std.specs.Prelude.{◌≡◌, ◌≤◌, ◌+◌, ◌++◌, ◌∷◌, [], true, false, is_some};
+ghost use Rattle.std.specs.Prelude.{◌≡◌, ◌≤◌, ◌+◌, ◌++◌, ◌∷◌, [], Some, None, cond, is_some, true, false};
 ghost use Rattle.arrayvec.specs.ArrayVec.{array_vec_len};
 ghost use Rattle.micro_ops.specs.declared.operation.Micro.TheVariants as ops;
-ghost use Rattle.arch_trait.specs.Links.{link_is_of, depends};
+ghost use Rattle.arch_trait.specs.Links.{link_is_of, depends, is_data};
 ghost use Rattle.arch_trait.specs.Laws.{link_room, access_room};
-ghost use Rattle.arch_trait.specs.Links.{is_data};
 ghost use Rattle.arch_trait.specs.Taking.{took, with_address};
 ghost use Rattle.arch_trait.specs.Addressed.{store_on};
-ghost use Rattle.std.specs.Prelude.{cond, Some, None};
 ghost use Rattle.arch_aarch64.specs.Puts.{puts, instructions};
 
 use arch_trait::{Instrs, Link, MAX_INSTRS, Regs, address_source, data_source};

@@ -1,6 +1,6 @@
 ghost use Rattle.std.specs.Prelude.{◌≡◌, ◌&&◌, ◌≤◌, false, length};
 ghost use Rattle.arch_trait.specs.Threads.{FitSteps};
-ghost use Rattle.arch_trait.specs.Writing.{label_below};
+ghost use Rattle.arch_trait.specs.Writing.{place_below, label_below};
 
 use super::A64;
 use arch_trait::{
@@ -89,10 +89,11 @@ const WRITE_X_BEHIND_BRANCH: Step = Step {
     link: Link::Ctrl,
 };
 
-fn has_label(op: &Micro) -> bool
-    ensures { result ≡ label_below 64 op.now }
+fn is_printable(op: &Micro, places: u8) -> bool
+    ensures { result ≡ (place_below places op.now && label_below 64 op.now) }
 {
     match *op {
+        Micro::LoadAt { place, .. } | Micro::StoreAt { place, .. } => place < places,
         Micro::BranchEq { label } | Micro::BranchNz { label, .. } | Micro::Label { label } => {
             label < 64
         }
@@ -100,20 +101,20 @@ fn has_label(op: &Micro) -> bool
     }
 }
 
-fn compiles(rt: &impl Abort, steps: &[Step], texts: &[&str], links: &[(u8, u8)])
-    requires fit { FitSteps A64.puts.name false steps.now }
+fn compiles<A: Arch>(rt: &impl Abort, steps: &[Step], texts: &[&str], links: &[(u8, u8)])
+    requires fit { FitSteps A.puts.name false steps.now }
     requires few { length steps.now ≤ MAX_STEPS }
 {
-    let code = compile_thread::<A64>(steps).expect(rt, "registers enough");
+    let code = compile_thread::<A>(steps).expect(rt, "registers enough");
     let mut places = Places::letters(2);
     let mut labels = Places::new();
     let mut text: ArrayString<MAX_TEXT> = ArrayString::new();
     assert_eq!(rt; code.instrs.len(), texts.len());
     for (op, expected) in code.instrs.as_slice().iter().zip(texts) {
-        assert!(rt; A64::has(op) && has_label(op));
-        A64::print(op, &places, &mut text);
+        assert!(rt; A::has(op) && is_printable(op, places.len()));
+        A::print(op, &places, &mut text);
         assert_eq!(rt; text.as_str(), *expected);
-        let read = A64::read_instr(text.as_str(), &mut places, &mut labels);
+        let read = A::read_instr(text.as_str(), &mut places, &mut labels);
         assert_eq!(rt; read, Ok(*op));
     }
     assert_eq!(rt; code.links.as_slice(), links);
@@ -121,7 +122,7 @@ fn compiles(rt: &impl Abort, steps: &[Step], texts: &[&str], links: &[(u8, u8)])
 
 #[test]
 fn threads_of_worked_tests_have_their_code(rt: HostRuntime) {
-    compiles(
+    compiles::<A64>(
         &rt,
         &[WRITE_X, WRITE_Y_SY],
         &[
@@ -133,7 +134,7 @@ fn threads_of_worked_tests_have_their_code(rt: HostRuntime) {
         ],
         &[(1, 0), (3, 1)],
     );
-    compiles(
+    compiles::<A64>(
         &rt,
         &[READ_Y, READ_X_BEHIND_BRANCH],
         &["LDR W0,[X1]", "CBNZ W0,LC00", "LC00:", "ISB", "LDR W2,[X3]"],
@@ -143,13 +144,13 @@ fn threads_of_worked_tests_have_their_code(rt: HostRuntime) {
 
 #[test]
 fn each_dependency_and_fence_has_its_code(rt: HostRuntime) {
-    compiles(
+    compiles::<A64>(
         &rt,
         &[READ_Y, READ_X_BY_ADDRESS],
         &["LDR W0,[X1]", "EOR W2,W0,W0", "LDR W3,[X4,W2,SXTW]"],
         &[(1, 1), (4, 0)],
     );
-    compiles(
+    compiles::<A64>(
         &rt,
         &[READ_Y, WRITE_X_BY_ADDRESS],
         &[
@@ -160,13 +161,13 @@ fn each_dependency_and_fence_has_its_code(rt: HostRuntime) {
         ],
         &[(1, 1), (4, 0)],
     );
-    compiles(
+    compiles::<A64>(
         &rt,
         &[READ_Y, WRITE_X_BY_VALUE],
         &["LDR W0,[X1]", "EOR W2,W0,W0", "ADD W2,W2,#1", "STR W2,[X3]"],
         &[(1, 1), (3, 0)],
     );
-    compiles(
+    compiles::<A64>(
         &rt,
         &[READ_Y, WRITE_X_BEHIND_BRANCH],
         &[
@@ -178,7 +179,7 @@ fn each_dependency_and_fence_has_its_code(rt: HostRuntime) {
         ],
         &[(1, 1), (3, 0)],
     );
-    compiles(
+    compiles::<A64>(
         &rt,
         &[READ_Y, READ_X_LD, WRITE_X_ST],
         &[

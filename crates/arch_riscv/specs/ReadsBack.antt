@@ -1,5 +1,5 @@
 -- RISC-V's instructions read back from their text.
-use Rattle.std.proofs.Common.{ℕ, ◌+◌, ◌<◌, ◌≤◌, ◌≡◌, refl, true, false, ◌&&◌, cond, List, [], ◌∷◌, Option, Some, None, get_or, ◌∙◌, ap, arith}
+use Rattle.std.proofs.Common.{ℕ, ◌+◌, ◌<◌, ◌≡◌, refl, true, false, ◌&&◌, cond, List, Some, None, get_or, ◌∙◌, ap, arith}
 use Rattle.std.specs.Prelude.{Bool, nat_le}
 use Rattle.std.specs.Fmt.{decimal}
 use Rattle.std.specs.Str.{bytes_eq}
@@ -14,7 +14,7 @@ use Rattle.micro_ops.specs.declared.operation.Micro.TheVariants as ops
 use Rattle.micro_ops.specs.declared.operation.Barrier.{Barrier}
 use Rattle.micro_ops.specs.declared.operation.Barrier.TheVariants as barriers
 use Rattle.arch_trait.specs.Forms.{register_in, registers_immediate}
-use Rattle.arch_trait.specs.Writing.{WritesBack, RawInstr, three, is_named, name_of, raw_of, is_plain, all_plain, immediate, label_name}
+use Rattle.arch_trait.specs.Writing.{WritesBack, three, is_named, name_of, raw_of, is_plain, all_plain, immediate, label_name}
 use Rattle.arch_trait.proofs.Taking.{by_test}
 use Rattle.arch_trait.proofs.PlainTexts.{immediate_back, label_back}
 use Rattle.arch_trait.proofs.FormBacks.{IsNumbered, name_back, three_back, registers_immediate_back, register_pointed_back, name_plain, pointed_plain, number_plain, label_plain, label_word_plain, names_count, names_formed, names_once}

@@ -1,6 +1,6 @@
 ghost use Rattle.std.specs.Prelude.{◌≡◌, ◌&&◌, ◌≤◌, false, length};
 ghost use Rattle.arch_trait.specs.Threads.{FitSteps};
-ghost use Rattle.arch_trait.specs.Writing.{label_below};
+ghost use Rattle.arch_trait.specs.Writing.{place_below, label_below};
 
 use super::Riscv;
 use arch_trait::{
@@ -91,10 +91,11 @@ const WRITE_X_BEHIND_BRANCH: Step = Step {
     link: Link::Ctrl,
 };
 
-fn has_label(op: &Micro) -> bool
-    ensures { result ≡ label_below 64 op.now }
+fn is_printable(op: &Micro, places: u8) -> bool
+    ensures { result ≡ (place_below places op.now && label_below 64 op.now) }
 {
     match *op {
+        Micro::LoadAt { place, .. } | Micro::StoreAt { place, .. } => place < places,
         Micro::BranchEq { label } | Micro::BranchNz { label, .. } | Micro::Label { label } => {
             label < 64
         }
@@ -102,20 +103,20 @@ fn has_label(op: &Micro) -> bool
     }
 }
 
-fn compiles(rt: &impl Abort, steps: &[Step], texts: &[&str], links: &[(u8, u8)])
-    requires fit { FitSteps Riscv.puts.name false steps.now }
+fn compiles<A: Arch>(rt: &impl Abort, steps: &[Step], texts: &[&str], links: &[(u8, u8)])
+    requires fit { FitSteps A.puts.name false steps.now }
     requires few { length steps.now ≤ MAX_STEPS }
 {
-    let code = compile_thread::<Riscv>(steps).expect(rt, "registers enough");
+    let code = compile_thread::<A>(steps).expect(rt, "registers enough");
     let mut places = Places::letters(2);
     let mut labels = Places::new();
     let mut text: ArrayString<MAX_TEXT> = ArrayString::new();
     assert_eq!(rt; code.instrs.len(), texts.len());
     for (op, expected) in code.instrs.as_slice().iter().zip(texts) {
-        assert!(rt; Riscv::has(op) && has_label(op));
-        Riscv::print(op, &places, &mut text);
+        assert!(rt; A::has(op) && is_printable(op, places.len()));
+        A::print(op, &places, &mut text);
         assert_eq!(rt; text.as_str(), *expected);
-        let read = Riscv::read_instr(text.as_str(), &mut places, &mut labels);
+        let read = A::read_instr(text.as_str(), &mut places, &mut labels);
         assert_eq!(rt; read, Ok(*op));
     }
     assert_eq!(rt; code.links.as_slice(), links);
@@ -123,13 +124,13 @@ fn compiles(rt: &impl Abort, steps: &[Step], texts: &[&str], links: &[(u8, u8)])
 
 #[test]
 fn threads_of_worked_tests_have_their_code(rt: HostRuntime) {
-    compiles(
+    compiles::<Riscv>(
         &rt,
         &[READ_X, WRITE_Y_RW_RW],
         &["lw x5,0(x6)", "fence rw,rw", "ori x7,x0,1", "sw x7,0(x8)"],
         &[(1, 0), (3, 1)],
     );
-    compiles(
+    compiles::<Riscv>(
         &rt,
         &[READ_X, WRITE_Y_BY_VALUE],
         &["lw x5,0(x6)", "xor x7,x5,x5", "ori x7,x7,1", "sw x7,0(x8)"],
@@ -139,13 +140,13 @@ fn threads_of_worked_tests_have_their_code(rt: HostRuntime) {
 
 #[test]
 fn each_dependency_and_some_fences_have_their_code(rt: HostRuntime) {
-    compiles(
+    compiles::<Riscv>(
         &rt,
         &[READ_Y, READ_X_BY_ADDRESS],
         &["lw x5,0(x6)", "xor x7,x5,x5", "add x7,x7,x9", "lw x8,0(x7)"],
         &[(1, 1), (4, 0)],
     );
-    compiles(
+    compiles::<Riscv>(
         &rt,
         &[READ_Y, WRITE_X_BY_ADDRESS],
         &[
@@ -157,7 +158,7 @@ fn each_dependency_and_some_fences_have_their_code(rt: HostRuntime) {
         ],
         &[(1, 1), (4, 0)],
     );
-    compiles(
+    compiles::<Riscv>(
         &rt,
         &[READ_Y, WRITE_X_BEHIND_BRANCH],
         &[
@@ -169,7 +170,7 @@ fn each_dependency_and_some_fences_have_their_code(rt: HostRuntime) {
         ],
         &[(1, 1), (3, 0)],
     );
-    compiles(
+    compiles::<Riscv>(
         &rt,
         &[WRITE_X, WRITE_X_W_W, READ_X_W_R],
         &[
