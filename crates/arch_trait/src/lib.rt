@@ -19,7 +19,9 @@ pub use code::{Code, TooManyRegisters, compile_into, compile_thread};
 pub use link::{Link, link_of};
 pub use operand::{MAX_IMMEDIATE, Numbered, immediate, inside_brackets, push_label, read_label};
 pub use places::{MAX_PLACES, Places};
-pub use reading::{InstrError, Named, Operands, Raw};
+pub use reading::{
+    InstrError, Named, Operands, Raw, after_blanks, before_blanks, split_word, trimmed,
+};
 pub use regs::{Links, MAX_REGISTERS, Regs};
 pub use shape::shape_of;
 pub use step::{MAX_STEPS, Shape, Step};

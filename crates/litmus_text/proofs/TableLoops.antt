@@ -1,0 +1,113 @@
+-- Reading the table as loops do.
+use Rattle.std.proofs.Common.{◌≡◌, ◌==◌, ◌+◌, ◌-◌, ◌<◌, ◌≤◌, ℕ, zero, suc, Bool, true, false, List, [], ◌∷◌, ◌++◌, Result, Ok, Err, length, map, get_or, take, drop, refl, sym, ap, ◌∙◌, arith, add-one, append_assoc}
+use Rattle.std.specs.Prelude.{nat_lt, cond}
+use Rattle.std.proofs.Math.ListN.{replicate, set}
+use Rattle.std.proofs.Math.Seq.{drop-cons, take-length, drop-length}
+use Rattle.std.proofs.lemmas.List.{take_more_set, drop-set-lt, append-nil}
+use Rattle.arch_trait.specs.Cells.{ends_rows}
+use Rattle.arch_trait.specs.Writing.{Writing}
+use Rattle.litmus_text.specs.declared.errors.TextError.{TextError}
+use Rattle.litmus_text.specs.declared.errors.TestKind.TheVariants.{BadTable, TooLarge, EndMissing}
+use Rattle.litmus_text.specs.declared.limits.TheConstants.{MAX_THREADS, MAX_ROWS}
+use Rattle.litmus_text.specs.Lines.{Lines, ends, line, Read, ◌>>=◌, bad}
+use Rattle.litmus_text.specs.Table.{cells_of, is_head, heads_read, Column, Among, among, cell_read, before_columns, row_read, rows_read}
+use Rattle.litmus_text.proofs.CutBack.{by_test}
+
+-- the cells of the header
+pub heads_end : (n k : ℕ) (whole : Bool) (ps : List (List ℕ)) → ps ≡ [] → heads_read n whole k ps ≡ cond whole (Ok k) (bad BadTable n)
+unfolding heads_read
+heads_end n k whole ps e = rw e refl
+
+pub heads_bad : (n k : ℕ) (whole : Bool) (ps : List (List ℕ)) (cell : List ℕ) (rest : List (List ℕ)) → ps ≡ cell ∷ rest → is_head k cell ≡ false → heads_read n whole k ps ≡ bad BadTable n
+unfolding heads_read
+heads_bad n k whole ps cell rest e h = rw (e, h) refl
+
+pub heads_full : (n k : ℕ) (whole : Bool) (ps : List (List ℕ)) (cell : List ℕ) (rest : List (List ℕ)) → ps ≡ cell ∷ rest → is_head k cell ≡ true → nat_lt k MAX_THREADS ≡ false
+    → heads_read n whole k ps ≡ bad TooLarge n
+unfolding heads_read
+heads_full n k whole ps cell rest e h f = rw (e, h, f) refl
+
+pub heads_more : (n k : ℕ) (whole : Bool) (ps : List (List ℕ)) (cell : List ℕ) (rest : List (List ℕ)) → ps ≡ cell ∷ rest → is_head k cell ≡ true → nat_lt k MAX_THREADS ≡ true
+    → heads_read n whole (k + 1) rest ≡ heads_read n whole k ps
+unfolding heads_read
+heads_more n k whole ps cell rest e h f = rw (e, h, f) refl
+
+-- the columns that were read before others
+abbrev pub carried : List Column → Result (Among (List Column)) TextError → Result (Among (List Column)) TextError
+carried front (Ok s) = Ok (among s.names (front ++ s.value))
+carried front (Err e) = Err e
+
+pub carried_nothing : (r : Result (Among (List Column)) TextError) → carried [] r ≡ r
+carried_nothing (Ok s) = refl
+carried_nothing (Err e) = refl
+
+carried_more : (front : List Column) (column : Column) (r : Result (Among (List Column)) TextError) → carried (front ++ column ∷ []) r ≡ carried front (r >>= λ s. Ok (before_columns column s))
+carried_more front column (Ok s) = ap (λ cs. Ok (among s.names cs)) (append_assoc front (column ∷ []) s.value)
+carried_more front column (Err e) = refl
+
+-- a row whose first columns are read
+pub row_more : (w : Writing) (n : ℕ) (whole : Bool) (ps rest : List (List ℕ)) (cell : List ℕ) (names names' : List (List ℕ)) (cs : List Column) (i : ℕ) (d c' : Column) → i < length cs → ps ≡ cell ∷ rest
+    → cell_read w n cell (among names (get_or cs i d)) ≡ Ok (among names' c')
+    → carried (take (i + 1) (set cs i c')) (row_read w n whole rest names' (drop (i + 1) (set cs i c'))) ≡ carried (take i cs) (row_read w n whole ps names (drop i cs))
+unfolding row_read
+row_more w n whole ps rest cell names names' cs i d c' inside e h =
+    let t : take (i + 1) (set cs i c') ≡ take i cs ++ c' ∷ [] = take_more_set cs i c' inside in
+    let r : drop (i + 1) (set cs i c') ≡ drop (i + 1) cs = drop-set-lt (i + 1) cs i c' (omega arith) in
+    let s : drop i cs ≡ get_or cs i d ∷ drop (i + 1) cs = rw add-one (drop-cons cs i d inside) in
+    let m = carried_more (take i cs) c' (row_read w n whole rest names' (drop (i + 1) cs)) in
+    rw (t, r, s, e, h) m
+
+pub row_fails : (w : Writing) (n : ℕ) (whole : Bool) (ps rest : List (List ℕ)) (cell : List ℕ) (names : List (List ℕ)) (cs front : List Column) (i : ℕ) (d : Column) (f : TextError) → i < length cs → ps ≡ cell ∷ rest
+    → cell_read w n cell (among names (get_or cs i d)) ≡ Err f → carried front (row_read w n whole ps names (drop i cs)) ≡ Err f
+unfolding row_read
+row_fails w n whole ps rest cell names cs front i d f inside e h =
+    let s : drop i cs ≡ get_or cs i d ∷ drop (i + 1) cs = rw add-one (drop-cons cs i d inside) in
+    rw (s, e, h) refl
+
+pub row_short : (w : Writing) (n : ℕ) (whole : Bool) (ps : List (List ℕ)) (names : List (List ℕ)) (cs front : List Column) (i : ℕ) (d : Column) → i < length cs → ps ≡ []
+    → carried front (row_read w n whole ps names (drop i cs)) ≡ bad BadTable n
+unfolding row_read
+row_short w n whole ps names cs front i d inside e =
+    let s : drop i cs ≡ get_or cs i d ∷ drop (i + 1) cs = rw add-one (drop-cons cs i d inside) in
+    rw (s, e) refl
+
+pub row_long : (w : Writing) (n : ℕ) (whole : Bool) (ps rest : List (List ℕ)) (cell : List ℕ) (names : List (List ℕ)) (cs front : List Column) (i : ℕ) → i ≡ length cs → ps ≡ cell ∷ rest
+    → carried front (row_read w n whole ps names (drop i cs)) ≡ bad BadTable n
+unfolding row_read
+row_long w n whole ps rest cell names cs front i end e = let s : drop i cs ≡ [] = ap (λ k. drop k cs) end ∙ drop-length cs in rw (s, e) refl
+
+pub row_open : (w : Writing) (n : ℕ) (ps : List (List ℕ)) (names : List (List ℕ)) (cs front : List Column) (i : ℕ) → i ≡ length cs → ps ≡ []
+    → carried front (row_read w n false ps names (drop i cs)) ≡ bad BadTable n
+unfolding row_read
+row_open w n ps names cs front i end e = let s : drop i cs ≡ [] = ap (λ k. drop k cs) end ∙ drop-length cs in rw (s, e) refl
+
+pub row_whole : (w : Writing) (n : ℕ) (ps : List (List ℕ)) (names : List (List ℕ)) (cs : List Column) (i : ℕ) → i ≡ length cs → ps ≡ []
+    → carried (take i cs) (row_read w n true ps names (drop i cs)) ≡ Ok (among names cs)
+unfolding row_read
+row_whole w n ps names cs i end e =
+    let s : drop i cs ≡ [] = ap (λ k. drop k cs) end ∙ drop-length cs in
+    let t : take i cs ++ [] ≡ cs = append-nil (take i cs) ∙ (ap (λ k. take k cs) end ∙ take-length cs) in
+    rw (s, e) (ap (λ k. Ok (among names k)) t)
+
+-- the rows
+pub rows_missing : (w : Writing) (k n : ℕ) (s : Among (List Column)) (ls : Lines) → ends n ≡ ls → rows_read w k s ls ≡ bad EndMissing n
+unfolding rows_read
+rows_missing w k n s ls e = rw (sym e) refl
+
+pub rows_stop : (w : Writing) (k n : ℕ) (s : Among (List Column)) (ls rest : Lines) (text : List ℕ) → line n text rest ≡ ls → ends_rows text ≡ true → rows_read w k s ls ≡ Ok (s, ls)
+unfolding rows_read
+rows_stop w k n s ls rest text e h = rw (sym e, h) refl
+
+pub rows_full : (w : Writing) (k n : ℕ) (s : Among (List Column)) (ls rest : Lines) (text : List ℕ) → line n text rest ≡ ls → ends_rows text ≡ false → nat_lt k MAX_ROWS ≡ false → rows_read w k s ls ≡ bad TooLarge n
+unfolding rows_read
+rows_full w k n s ls rest text e h f = rw (sym e, h, f) refl
+
+pub rows_fail : (w : Writing) (k n : ℕ) (s : Among (List Column)) (ls rest : Lines) (text : List ℕ) (f : TextError) → line n text rest ≡ ls → ends_rows text ≡ false → nat_lt k MAX_ROWS ≡ true
+    → row_read w n (cells_of text).whole (cells_of text).texts s.names s.value ≡ Err f → rows_read w k s ls ≡ Err f
+unfolding rows_read
+rows_fail w k n s ls rest text f e h g r = rw (sym e, h, g, r) refl
+
+pub rows_more : (w : Writing) (k n : ℕ) (s s' : Among (List Column)) (ls rest : Lines) (text : List ℕ) → line n text rest ≡ ls → ends_rows text ≡ false → nat_lt k MAX_ROWS ≡ true
+    → row_read w n (cells_of text).whole (cells_of text).texts s.names s.value ≡ Ok s' → rows_read w (k + 1) s' rest ≡ rows_read w k s ls
+unfolding rows_read
+rows_more w k n s s' ls rest text e h g r = rw (sym e, h, g, r) refl

@@ -1,0 +1,114 @@
+ghost use Rattle.std.specs.Prelude.{◌≡◌, ◌≤◌, [], map, length};
+ghost use Rattle.litmus_text.specs.Gives.{Gives, GivesInMemory};
+ghost use Rattle.litmus_text.specs.TestReading.{values_of, threads_of, lines_read, test_read, arch_in_text};
+ghost use Rattle.litmus_text.specs.Views.{text_left, begun_seen, column_seen, thread_seen};
+
+use crate::errors::{ReadError, TestKind, TextError, bad};
+use crate::limits::{MAX_TEXT, MAX_THREADS};
+use crate::reading::condition::read_condition;
+use crate::reading::header::{after_settings, read_arch, read_header, read_quote};
+use crate::reading::initial::{Begun, Given, read_initial};
+use crate::reading::labels::judge_all_labels;
+use crate::reading::rows::{after_locations, no_columns, read_rows};
+use crate::reading::table::{Column, Placed, read_head};
+use crate::reading::test::{ReadTest, Thread};
+use crate::reading::text::Text;
+use arch_trait::Arch;
+use micro_ops::Micro;
+use relax_edges::{ArchName, Value};
+use std::alloc::Global;
+use std::marker::PhantomData;
+
+/// The architecture that the header of a text names. The fault is BadHeader or EndMissing.
+#[tactic(auto, unfolding(crate::specs::TestReading::arch_in_text))]
+pub fn arch_of(bytes: &[u8]) -> Result<ArchName, TextError>
+    ensures { Gives (λ arch. arch) result (arch_in_text bytes.now) }
+{
+    let (arch, _) = read_arch(Text::new(bytes))?;
+    Ok(arch)
+}
+
+/// The initial values of a thread.
+fn values_of(alloc: Global, thread: u8, values: &[Given]) -> Result<Vec<(u8, Value)>, ReadError>
+    ensures { GivesInMemory (λ init. init.items) result (Ok (values_of thread values.now)) }
+{
+    let mut init = Vec::new(alloc);
+    for given in values {
+        if given.0 == thread {
+            init.push(given.1)?;
+        }
+    }
+    Ok(init)
+}
+
+/// The operations of a column.
+fn ops_of(alloc: Global, ops: &[Placed]) -> Result<Vec<Micro>, ReadError>
+    ensures { GivesInMemory (λ code. code.items) result (Ok (map (λ placed. placed.op) ops.now)) }
+{
+    let mut code = Vec::with_capacity(alloc, ops.len())?;
+    for placed in ops {
+        code.push(placed.op)?;
+    }
+    Ok(code)
+}
+
+/// The threads of the columns.
+fn threads_of(
+    alloc: Global,
+    values: &[Given],
+    columns: &[Column],
+) -> Result<Vec<Thread>, ReadError>
+    requires { length columns.now ≤ MAX_THREADS }
+    ensures { GivesInMemory (λ threads. map thread_seen threads.items) result (Ok (threads_of (record { names = []; values = values.now }) (map column_seen columns.now))) }
+{
+    let mut threads = Vec::with_capacity(alloc, columns.len())?;
+    for (thread, column) in columns.iter().enumerate() {
+        threads.push(Thread {
+            init: values_of(alloc, thread as u8, values)?,
+            code: ops_of(alloc, &column.ops)?,
+        })?;
+    }
+    Ok(threads)
+}
+
+/// Reads the lines of a text.
+#[tactic(auto, unfolding(crate::specs::TestReading::lines_read))]
+fn read_lines<A: Arch>(alloc: Global, text: Text<'_>) -> Result<ReadTest<A>, ReadError>
+    ensures { GivesInMemory (λ test. test) result (lines_read A.NAME A.writing (text_left text.entry)) }
+{
+    let (name, text) = read_header(A::NAME, text)?;
+    let (quoted, text) = read_quote(text)?;
+    let mut begun = Begun::new(alloc);
+    let text = read_initial::<A>(alloc, after_settings(text), &mut begun)?;
+    let (count, text) = read_head(&begun, text)?;
+    let Begun { mut names, values } = begun;
+    let mut columns = no_columns(alloc, count)?;
+    let text = read_rows::<A>(text, &mut names, &mut columns)?;
+    judge_all_labels(&columns)?;
+    let (cond, places) = read_condition::<A>(alloc, count, names, after_locations(text))?;
+    Ok(ReadTest {
+        name: Vec::from_slice(alloc, name)?,
+        quoted: match quoted {
+            Some(text) => Some(Vec::from_slice(alloc, text)?),
+            None => None,
+        },
+        places,
+        threads: threads_of(alloc, &values, &columns)?,
+        cond,
+        arch: PhantomData,
+    })
+}
+
+/// The test that a text is, as a test of the architecture. A text that is none is answered with its
+/// first faulty line, and the leftmost fault in that line.
+///
+/// A text of more than `MAX_TEXT` bytes is TooLarge at line 1, whatever it holds.
+#[tactic(auto, unfolding(crate::specs::TestReading::test_read))]
+pub fn read_test<A: Arch>(alloc: Global, bytes: &[u8]) -> Result<ReadTest<A>, ReadError>
+    ensures { GivesInMemory (λ test. test) result (test_read A.NAME A.writing bytes.now) }
+{
+    if bytes.len() > MAX_TEXT {
+        return Err(ReadError::Text(bad(TestKind::TooLarge, 1)));
+    }
+    read_lines::<A>(alloc, Text::new(bytes))
+}
