@@ -17,10 +17,6 @@ use Rattle.litmus_text.specs.Views.{CutParts}
 use Rattle.litmus_text.proofs.CutBack.{by_test, is_without, piece_last, first_piece}
 use Rattle.litmus_text.proofs.CutLaws.{pieces_cut}
 
-pub replicate_more : {A : Type 0} (i : ℕ) (x : A) → replicate i x ++ x ∷ [] ≡ replicate (i + 1) x
-replicate_more zero x = refl
-replicate_more (suc i) x = ap (λ xs. x ∷ xs) (replicate_more i x) ∙ ap (λ n. replicate n x) (sym (add-one {i}))
-
 -- a blank and a line behind a text
 pub blank_before : (j : Joined) (n : ℕ) (text : List ℕ) → with_text (with_text j n (32 ∷ [])) n text ≡ with_text j n (32 ∷ text)
 blank_before j n text =

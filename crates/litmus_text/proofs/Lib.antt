@@ -26,3 +26,6 @@ pub mod LineLaws
 pub mod ItemLoops
 pub mod TableLoops
 pub mod TermLoops
+pub mod ItemLaws
+pub mod PartLoops
+pub mod GiveLaws

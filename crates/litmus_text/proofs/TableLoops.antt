@@ -1,7 +1,8 @@
 -- Reading the table as loops do.
 use Rattle.std.proofs.Common.{◌≡◌, ◌==◌, ◌+◌, ◌-◌, ◌<◌, ◌≤◌, ℕ, zero, suc, Bool, true, false, List, [], ◌∷◌, ◌++◌, Result, Ok, Err, length, map, get_or, take, drop, refl, sym, ap, ◌∙◌, arith, add-one, append_assoc}
 use Rattle.std.specs.Prelude.{nat_lt, cond}
-use Rattle.std.proofs.Math.ListN.{replicate, set}
+use Rattle.std.proofs.Math.ListN.{set}
+use Rattle.std.proofs.lemmas.Bool.{ltb-true, ltb-false}
 use Rattle.std.proofs.Math.Seq.{drop-cons, take-length, drop-length}
 use Rattle.std.proofs.lemmas.List.{take_more_set, drop-set-lt, append-nil}
 use Rattle.arch_trait.specs.Cells.{ends_rows}
@@ -111,3 +112,9 @@ pub rows_more : (w : Writing) (k n : ℕ) (s s' : Among (List Column)) (ls rest 
     → row_read w n (cells_of text).whole (cells_of text).texts s.names s.value ≡ Ok s' → rows_read w (k + 1) s' rest ≡ rows_read w k s ls
 unfolding rows_read
 rows_more w k n s s' ls rest text e h g r = rw (sym e, h, g, r) refl
+
+pub below_is : (a b : ℕ) → a < b → nat_lt a b ≡ true
+below_is a b h = by_test (nat_lt a b) (λ e. e) (λ e. let k = ltb-false a b e in absurd (omega arith))
+
+pub not_below_is : (a b : ℕ) → b ≤ a → nat_lt a b ≡ false
+not_below_is a b h = by_test (nat_lt a b) (λ e. let k = ltb-true a b e in absurd (omega arith)) (λ e. e)

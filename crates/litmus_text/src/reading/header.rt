@@ -125,14 +125,18 @@ fn is_setting(text: &[u8]) -> bool
 }
 
 /// What is left behind the lines of letters, `=` and anything.
+#[tactic(auto, using(crate::proofs::PartLoops::settings_more, crate::proofs::PartLoops::settings_stop, crate::proofs::PartLoops::settings_end))]
 pub(crate) fn after_settings(text: Text<'_>) -> Text<'_>
     ensures { text_left result ≡ after_settings (text_left text.entry) }
 {
     let mut left = text;
     'settings: loop {
-        match left.lines() {
-            Lines::Line(line) if is_setting(line.text) => left = line.rest,
-            _ => return left,
+        let Lines::Line(line) = left.lines() else {
+            return left;
+        };
+        if !is_setting(line.text) {
+            return left;
         }
+        left = line.rest;
     }
 }

@@ -76,10 +76,13 @@ fn item_between<'a, A: Arch>(left: &'a [u8], right: &'a [u8]) -> Option<Item<'a>
     ensures item { option_map item_seen result ≡ item_if A.writing (whole_left (left_at_front (trimmed left.now))) (trimmed right.now) }
     ensures formed { IfSome result (λ item. item_formed item ≡ true) }
 {
-    match read_left(trimmed(left)) {
-        Ok((left, [])) => item_with::<A>(left, trimmed(right)),
-        _ => None,
+    let Ok((left, rest)) = read_left(trimmed(left)) else {
+        return None;
+    };
+    if !rest.is_empty() {
+        return None;
     }
+    item_with::<A>(left, trimmed(right))
 }
 
 /// The item that a text is, with blanks at both ends and around its `=`.

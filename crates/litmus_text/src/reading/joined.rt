@@ -18,7 +18,6 @@ pub(crate) struct Joined {
 }
 
 /// Appends a number so many times.
-#[tactic(auto, using(crate::proofs::ItemLoops::replicate_more))]
 fn push_times(numbers: &mut Vec<u64>, number: u64, times: usize) -> Result<(), ReadError>
     ensures { OnOk result (numbers.new.items ≡ numbers.old.items ++ replicate times number) }
 {

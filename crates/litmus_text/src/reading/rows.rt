@@ -51,6 +51,7 @@ fn has_room(column: &Column, op: &Micro) -> bool
 }
 
 /// Reads an instruction in a line.
+#[tactic(auto, unfolding(crate::specs::Table::instr_in))]
 fn read_instr<A: Arch>(
     number: u64,
     text: &[u8],
@@ -130,7 +131,10 @@ fn read_row<A: Arch>(
         read_one_cell::<A>(number, cell, names, &mut columns[i])?;
         pieces = behind;
     }
-    if pieces.rest.is_some() || !cells.whole {
+    if pieces.first().is_some() {
+        return Err(ReadError::Text(bad(TestKind::BadTable, number)));
+    }
+    if !cells.whole {
         return Err(ReadError::Text(bad(TestKind::BadTable, number)));
     }
     Ok(())
