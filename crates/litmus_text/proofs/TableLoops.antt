@@ -1,17 +1,20 @@
 -- Reading the table as loops do.
 use Rattle.std.proofs.Common.{◌≡◌, ◌==◌, ◌+◌, ◌-◌, ◌<◌, ◌≤◌, ℕ, zero, suc, Bool, true, false, List, [], ◌∷◌, ◌++◌, Result, Ok, Err, length, map, get_or, take, drop, refl, sym, ap, ◌∙◌, arith, add-one, append_assoc}
-use Rattle.std.specs.Prelude.{nat_lt, cond}
-use Rattle.std.proofs.Math.ListN.{set}
+use Rattle.std.specs.Prelude.{nat_lt, cond, codes, Some}
+use Rattle.std.proofs.Math.ListN.{set, get_or-map}
 use Rattle.std.proofs.lemmas.Bool.{ltb-true, ltb-false}
-use Rattle.std.proofs.Math.Seq.{drop-cons, take-length, drop-length}
-use Rattle.std.proofs.lemmas.List.{take_more_set, drop-set-lt, append-nil}
+use Rattle.std.proofs.Math.Seq.{drop-cons, take-length, drop-length, take-append-add}
+use Rattle.litmus_text.specs.Cuts.{cut_at}
+use Rattle.litmus_text.specs.Views.{CutParts, column_seen}
+use Rattle.litmus_text.specs.declared.reading.table.Column.{Column as ThreadColumn}
+use Rattle.std.proofs.lemmas.List.{take_more_set, drop-set-lt, append-nil, map-set, length-map}
 use Rattle.arch_trait.specs.Cells.{ends_rows}
 use Rattle.arch_trait.specs.Writing.{Writing}
 use Rattle.litmus_text.specs.declared.errors.TextError.{TextError}
 use Rattle.litmus_text.specs.declared.errors.TestKind.TheVariants.{BadTable, TooLarge, EndMissing}
 use Rattle.litmus_text.specs.declared.limits.TheConstants.{MAX_THREADS, MAX_ROWS}
 use Rattle.litmus_text.specs.Lines.{Lines, ends, line, Read, ◌>>=◌, bad}
-use Rattle.litmus_text.specs.Table.{cells_of, is_head, heads_read, Column, Among, among, cell_read, before_columns, row_read, rows_read}
+use Rattle.litmus_text.specs.Table.{cells_of, is_head, heads_read, Column, Among, among, cell_read, instr_in, instr_or_nothing, before_columns, row_read, rows_read}
 use Rattle.litmus_text.proofs.CutBack.{by_test}
 
 -- the cells of the header
@@ -72,23 +75,35 @@ row_short w n whole ps names cs front i d inside e =
     let s : drop i cs ≡ get_or cs i d ∷ drop (i + 1) cs = rw add-one (drop-cons cs i d inside) in
     rw (s, e) refl
 
-pub row_long : (w : Writing) (n : ℕ) (whole : Bool) (ps rest : List (List ℕ)) (cell : List ℕ) (names : List (List ℕ)) (cs front : List Column) (i : ℕ) → i ≡ length cs → ps ≡ cell ∷ rest
-    → carried front (row_read w n whole ps names (drop i cs)) ≡ bad BadTable n
-unfolding row_read
-row_long w n whole ps rest cell names cs front i end e = let s : drop i cs ≡ [] = ap (λ k. drop k cs) end ∙ drop-length cs in rw (s, e) refl
-
-pub row_open : (w : Writing) (n : ℕ) (ps : List (List ℕ)) (names : List (List ℕ)) (cs front : List Column) (i : ℕ) → i ≡ length cs → ps ≡ []
-    → carried front (row_read w n false ps names (drop i cs)) ≡ bad BadTable n
-unfolding row_read
-row_open w n ps names cs front i end e = let s : drop i cs ≡ [] = ap (λ k. drop k cs) end ∙ drop-length cs in rw (s, e) refl
-
-pub row_whole : (w : Writing) (n : ℕ) (ps : List (List ℕ)) (names : List (List ℕ)) (cs : List Column) (i : ℕ) → i ≡ length cs → ps ≡ []
-    → carried (take i cs) (row_read w n true ps names (drop i cs)) ≡ Ok (among names cs)
-unfolding row_read
-row_whole w n ps names cs i end e =
+pub row_ends : (w : Writing) (n : ℕ) (whole : Bool) (ps : List (List ℕ)) (names : List (List ℕ)) (cs : List Column) (i : ℕ) → i ≡ length cs → row_read w n whole ps names [] ≡ Ok (among names [])
+    → carried (take i cs) (row_read w n whole ps names (drop i cs)) ≡ Ok (among names cs)
+row_ends w n whole ps names cs i end e =
     let s : drop i cs ≡ [] = ap (λ k. drop k cs) end ∙ drop-length cs in
     let t : take i cs ++ [] ≡ cs = append-nil (take i cs) ∙ (ap (λ k. take k cs) end ∙ take-length cs) in
     rw (s, e) (ap (λ k. Ok (among names k)) t)
+
+pub row_ends_bad : (w : Writing) (n : ℕ) (whole : Bool) (ps : List (List ℕ)) (names : List (List ℕ)) (cs front : List Column) (i : ℕ) (f : TextError) → i ≡ length cs → row_read w n whole ps names [] ≡ Err f
+    → carried front (row_read w n whole ps names (drop i cs)) ≡ Err f
+row_ends_bad w n whole ps names cs front i f end e = let s : drop i cs ≡ [] = ap (λ k. drop k cs) end ∙ drop-length cs in rw (s, e) refl
+
+-- the same of columns of the code
+pub row_step : (w : Writing) (n : ℕ) (whole : Bool) (ps rest : List (List ℕ)) (cell : List ℕ) (names names' : List (List ℕ)) (xs : List ThreadColumn) (i : ℕ) (d y : ThreadColumn) → i < length xs → ps ≡ cell ∷ rest
+    → cell_read w n cell (among names (column_seen (get_or xs i d))) ≡ Ok (among names' (column_seen y))
+    → carried (take (i + 1) (map column_seen (set xs i y))) (row_read w n whole rest names' (drop (i + 1) (map column_seen (set xs i y)))) ≡ carried (take i (map column_seen xs)) (row_read w n whole ps names (drop i (map column_seen xs)))
+row_step w n whole ps rest cell names names' xs i d y inside e h =
+    let k : i < length (map column_seen xs) = rw length-map inside in
+    let g : get_or (map column_seen xs) i (column_seen d) ≡ column_seen (get_or xs i d) = get_or-map column_seen xs i d in
+    let h' : cell_read w n cell (among names (get_or (map column_seen xs) i (column_seen d))) ≡ Ok (among names' (column_seen y)) = rw g h in
+    let m : map column_seen (set xs i y) ≡ set (map column_seen xs) i (column_seen y) = map-set column_seen xs i y in
+    rw m (row_more w n whole ps rest cell names names' (map column_seen xs) i (column_seen d) (column_seen y) k e h')
+
+pub row_stops : (w : Writing) (n : ℕ) (whole : Bool) (ps rest : List (List ℕ)) (cell : List ℕ) (names : List (List ℕ)) (xs : List ThreadColumn) (front : List Column) (i : ℕ) (d : ThreadColumn) (f : TextError) → i < length xs → ps ≡ cell ∷ rest
+    → cell_read w n cell (among names (column_seen (get_or xs i d))) ≡ Err f → carried front (row_read w n whole ps names (drop i (map column_seen xs))) ≡ Err f
+row_stops w n whole ps rest cell names xs front i d f inside e h =
+    let k : i < length (map column_seen xs) = rw length-map inside in
+    let g : get_or (map column_seen xs) i (column_seen d) ≡ column_seen (get_or xs i d) = get_or-map column_seen xs i d in
+    let h' : cell_read w n cell (among names (get_or (map column_seen xs) i (column_seen d))) ≡ Err f = rw g h in
+    row_fails w n whole ps rest cell names (map column_seen xs) front i (column_seen d) f k e h'
 
 -- the rows
 pub rows_missing : (w : Writing) (k n : ℕ) (s : Among (List Column)) (ls : Lines) → ends n ≡ ls → rows_read w k s ls ≡ bad EndMissing n
@@ -118,3 +133,14 @@ below_is a b h = by_test (nat_lt a b) (λ e. e) (λ e. let k = ltb-false a b e i
 
 pub not_below_is : (a b : ℕ) → b ≤ a → nat_lt a b ≡ false
 not_below_is a b h = by_test (nat_lt a b) (λ e. let k = ltb-true a b e in absurd (omega arith)) (λ e. e)
+
+-- a cell that begins with a label
+pub label_front : (text front behind : List ℕ) → CutParts 58 text front behind → take (length front + 1) text ≡ front ++ codes ":"
+label_front text front behind p = ap (take (length front + 1)) p.parts ∙ take-append-add front (58 ∷ behind) 1
+
+pub cell_labelled : (w : Writing) (n : ℕ) (text front behind : List ℕ) (s s' : Among Column) → Some (front, behind) ≡ cut_at 58 text → CutParts 58 text front behind
+    → instr_in w n (take (length front + 1) text) s ≡ Ok s' → cell_read w n text s ≡ instr_or_nothing w n behind s'
+unfolding cell_read
+cell_labelled w n text front behind s s' e p h =
+    let k : instr_in w n (front ++ codes ":") s ≡ Ok s' = ap (λ t. instr_in w n t s) (sym (label_front text front behind p)) ∙ h in
+    rw (sym e, k) refl

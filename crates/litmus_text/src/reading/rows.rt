@@ -1,12 +1,13 @@
-ghost use Rattle.std.specs.Prelude.{◌≡◌, ◌==◌, ◌+◌, ◌<◌, ◌^◌, ◌++◌, [], ◌∷◌, codes, map, length, count_by};
+ghost use Rattle.std.specs.Prelude.{◌≡◌, ℕ, List, [], map, count_by};
+ghost use Rattle.arch_trait.specs.Writing.{Writing};
 ghost use Rattle.arch_trait.specs.Cells.{is_access, ends_rows};
-ghost use Rattle.litmus_text.specs.Gives.{GivesInMemory};
+ghost use Rattle.litmus_text.specs.Gives.{Gives, GivesInMemory};
 ghost use Rattle.litmus_text.specs.Table.{among, no_columns, has_room, instr_in, instr_or_nothing, cell_read, row_read, rows_read, after_locations};
-ghost use Rattle.litmus_text.specs.Views.{text_left, cells_seen, column_seen};
+ghost use Rattle.litmus_text.specs.Views.{text_left, pieces_left, cells_seen, column_seen};
 
-use crate::errors::{ReadError, TestKind, bad};
+use crate::errors::{ReadError, TestKind, TextError, bad};
 use crate::limits::{MAX_ACCESSES, MAX_ROWS};
-use crate::reading::cuts::{cut, first_word_of_line};
+use crate::reading::cuts::{Pieces, cut, first_word_of_line};
 use crate::reading::lines::Lines;
 use crate::reading::table::{Cells, Column, Placed, cells_of};
 use crate::reading::text::Text;
@@ -114,6 +115,21 @@ fn read_one_cell<A: Arch>(
     }
 }
 
+/// Judges the end of a row behind its last column: no cell is left, and the row is whole.
+#[tactic(auto, unfolding(crate::specs::Table::row_read))]
+fn judge_end(number: u64, pieces: Pieces<'_>, is_whole: bool) -> Result<(), TextError>
+    ensures { (w : Writing) → (names : List (List ℕ)) → Gives (λ _. among names []) result (row_read w number is_whole (pieces_left pieces.entry) names []) }
+{
+    if let Some(_) = pieces.first() {
+        return Err(bad(TestKind::BadTable, number));
+    }
+    if is_whole {
+        Ok(())
+    } else {
+        Err(bad(TestKind::BadTable, number))
+    }
+}
+
 /// Reads the cells of a row, one for each column.
 fn read_row<A: Arch>(
     number: u64,
@@ -131,12 +147,7 @@ fn read_row<A: Arch>(
         read_one_cell::<A>(number, cell, names, &mut columns[i])?;
         pieces = behind;
     }
-    if pieces.first().is_some() {
-        return Err(ReadError::Text(bad(TestKind::BadTable, number)));
-    }
-    if !cells.whole {
-        return Err(ReadError::Text(bad(TestKind::BadTable, number)));
-    }
+    judge_end(number, pieces, cells.whole)?;
     Ok(())
 }
 

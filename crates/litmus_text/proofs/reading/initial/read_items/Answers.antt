@@ -15,7 +15,7 @@ returns-in_err-read_item-in-Some g c =
 
 pub items-preserved : goal.items-preserved
 items-preserved g c = record {
-  same = item_more g.A.Arch.writing (joined_seen c.args.joined.now) c.items.i c.items.rest.now c.in-Some.piece.now c.in-Some.behind.now (begun_seen c.items.begun) (begun_seen c.read_item.new.begun) c.in-Some.ensures.parts c.in_ok-read_item.ensures
+  same = item_more g.A.Arch.writing (joined_seen c.args.joined.now) c.items.i c.items.rest.now c.in-Some.piece.now c.in-Some.behind.now (begun_seen c.items.begun) (begun_seen c.read_item.new.begun) c.in-Some.ensures.parts c.in_ok-read_item-in-Some.ensures
       ∙ c.items.invariant.same;
   within = let e = cut_length 59 c.items.rest.now c.in-Some.piece.now c.in-Some.behind.now c.in-Some.ensures.parts in let k = c.items.invariant.within in omega arith;
 }
