@@ -14,7 +14,7 @@ use Rattle.litmus_text.specs.declared.errors.TextError.{TextError}
 use Rattle.litmus_text.specs.declared.errors.TestKind.TheVariants.{BadTable, TooLarge, EndMissing}
 use Rattle.litmus_text.specs.declared.limits.TheConstants.{MAX_THREADS, MAX_ROWS}
 use Rattle.litmus_text.specs.Lines.{Lines, ends, line, Read, ◌>>=◌, bad}
-use Rattle.litmus_text.specs.Table.{cells_of, is_head, heads_read, Column, Among, among, cell_read, instr_in, instr_or_nothing, before_columns, row_read, rows_read}
+use Rattle.litmus_text.specs.Table.{Cells, cells_of, is_head, heads_read, Column, Among, among, cell_read, instr_in, instr_or_nothing, before_columns, row_read, rows_read}
 use Rattle.litmus_text.proofs.CutBack.{by_test}
 
 -- the cells of the header
@@ -118,15 +118,15 @@ pub rows_full : (w : Writing) (k n : ℕ) (s : Among (List Column)) (ls rest : L
 unfolding rows_read
 rows_full w k n s ls rest text e h f = rw (sym e, h, f) refl
 
-pub rows_fail : (w : Writing) (k n : ℕ) (s : Among (List Column)) (ls rest : Lines) (text : List ℕ) (f : TextError) → line n text rest ≡ ls → ends_rows text ≡ false → nat_lt k MAX_ROWS ≡ true
-    → row_read w n (cells_of text).whole (cells_of text).texts s.names s.value ≡ Err f → rows_read w k s ls ≡ Err f
+pub rows_fail : (w : Writing) (k n : ℕ) (s : Among (List Column)) (ls rest : Lines) (text : List ℕ) (cells : Cells) (f : TextError) → line n text rest ≡ ls → ends_rows text ≡ false → nat_lt k MAX_ROWS ≡ true → cells ≡ cells_of text
+    → row_read w n cells.whole cells.texts s.names s.value ≡ Err f → rows_read w k s ls ≡ Err f
 unfolding rows_read
-rows_fail w k n s ls rest text f e h g r = rw (sym e, h, g, r) refl
+rows_fail w k n s ls rest text cells f e h g same r = rw (sym e, h, g, sym same, r) refl
 
-pub rows_more : (w : Writing) (k n : ℕ) (s s' : Among (List Column)) (ls rest : Lines) (text : List ℕ) → line n text rest ≡ ls → ends_rows text ≡ false → nat_lt k MAX_ROWS ≡ true
-    → row_read w n (cells_of text).whole (cells_of text).texts s.names s.value ≡ Ok s' → rows_read w (k + 1) s' rest ≡ rows_read w k s ls
+pub rows_more : (w : Writing) (k n : ℕ) (s s' : Among (List Column)) (ls rest : Lines) (text : List ℕ) (cells : Cells) → line n text rest ≡ ls → ends_rows text ≡ false → nat_lt k MAX_ROWS ≡ true → cells ≡ cells_of text
+    → row_read w n cells.whole cells.texts s.names s.value ≡ Ok s' → rows_read w (k + 1) s' rest ≡ rows_read w k s ls
 unfolding rows_read
-rows_more w k n s s' ls rest text e h g r = rw (sym e, h, g, r) refl
+rows_more w k n s s' ls rest text cells e h g same r = rw (sym e, h, g, sym same, r) refl
 
 pub below_is : (a b : ℕ) → a < b → nat_lt a b ≡ true
 below_is a b h = by_test (nat_lt a b) (λ e. e) (λ e. let k = ltb-false a b e in absurd (omega arith))

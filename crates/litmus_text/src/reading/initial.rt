@@ -223,6 +223,7 @@ fn read_braced<'a, A: Arch>(
 }
 
 /// Reads the initial state into `begun`, in which nothing is given yet.
+#[tactic(auto, unfolding(crate::specs::InitialState::initial_read))]
 pub(crate) fn read_initial<'a, A: Arch>(
     alloc: Global,
     text: Text<'a>,
