@@ -1,23 +1,79 @@
 use arch_x86::X86;
 use diy_io::NoMemory;
-use litmus_text::{ReadError, ReadTest, TestKind, read_test};
-use micro_ops::Micro;
-use relax_edges::Value;
+use litmus_text::{ReadError, TestKind, TextError, arch_of, read_test};
+use relax_edges::ArchName;
 use std::alloc::Global;
 use std::test::Fail;
 
+/// The text `sb`, as other tools lay it out.
+const FROM_ELSEWHERE: &str = "X86 sb\n{ x=0;\n  y=0; }\nP0|P1;\nMOV [x] , $1|MOV [y],$1;\n(* the reads *)\nMOV  EAX,[y]|MOV EAX,[x] ;\n~exists (0:EAX=0\n/\\ x=1)\n";
+
+/// Faulty texts, with the line and the kind of the fault.
+const FAULTY: [(&str, u64, TestKind); 18] = [
+    (
+        "X86 sb\n{ x=0;\n  y=0; }\nP0|P1;\nMOV [x] , $1|MOV [y],$1;\n(* the reads *)\nXCHG EAX,[y]|MOV EAX,[x] ;\n~exists (0:EAX=0\n/\\ x=1)\n",
+        7,
+        TestKind::BadInstruction,
+    ),
+    (
+        "ARM sb\n{ x=0;\n  y=0; }\nP0|P1;\nMOV [x] , $1|MOV [y],$1;\n(* the reads *)\nMOV  EAX,[y]|MOV EAX,[x] ;\n~exists (0:EAX=0\n/\\ x=1)\n",
+        1,
+        TestKind::BadHeader,
+    ),
+    ("", 1, TestKind::EndMissing),
+    ("X86\n", 1, TestKind::BadHeader),
+    ("PPC a\n", 1, TestKind::BadHeader),
+    ("X86 a\n", 2, TestKind::EndMissing),
+    ("X86 a\n\"Po\n{}\n", 2, TestKind::BadQuote),
+    ("X86 a\n\n{ x=1; }\n", 3, TestKind::BadInit),
+    ("X86 a\n{ x=0;\n\n 0:EBP=x; }\n", 4, TestKind::BadInit),
+    ("X86 a\n{}\nP0|P2;\n", 3, TestKind::BadTable),
+    ("X86 a\n{ 1:EAX=x; }\nP0;\n", 3, TestKind::BadTable),
+    ("X86 a\n{}\nP0;\nMFENCE|;\n", 4, TestKind::BadTable),
+    ("X86 a\n{}\nP0;\nMFENCE\n", 4, TestKind::BadTable),
+    ("X86 a\n{}\nP0;\nL:;\n", 4, TestKind::BadInstruction),
+    ("X86 a\n{}\nP0;\nMFENCE;\n", 5, TestKind::EndMissing),
+    ("X86 a\n{}\nP0;\nexists (x=01)\n", 4, TestKind::BadCondition),
+    ("X86 a\n{}\nP0;\nexists (1:EAX=0)\n", 4, TestKind::BadCondition),
+    (
+        "X86 a\r\n{}\r\nP0;\r\nMFENCE;\r\nexists\r\n(x=1))",
+        5,
+        TestKind::BadCondition,
+    ),
+];
+
 /// What is faulty in a text, and where.
-fn fault(alloc: Global, text: &[u8]) -> Option<(u64, TestKind)> {
-    match read_test::<X86>(alloc, text) {
-        Err(ReadError::Text(fault)) => Some((fault.line, fault.kind)),
-        _ => None,
+fn fault(alloc: Global, text: &str) -> Result<Option<TextError>, NoMemory> {
+    match read_test::<X86>(alloc, text.as_bytes()) {
+        Ok(_) => Ok(None),
+        Err(ReadError::Text(fault)) => Ok(Some(fault)),
+        Err(ReadError::NoMemory) => Err(NoMemory),
     }
 }
 
-const FROM_ELSEWHERE: &str = "X86 sb\n{ x=0;\n  y=0; }\nP0|P1;\nMOV [x] , $1|MOV [y],$1;\n(* the reads *)\nMOV  EAX,[y]|MOV EAX,[x] ;\n~exists (0:EAX=0\n/\\ x=1)\n";
+#[test]
+fn faults_have_their_line_and_kind(rt: HostRuntime) -> Result<(), Fail> {
+    for (text, line, kind) in FAULTY {
+        let found = fault(rt.alloc(), text)?;
+        assert_eq!(rt; found, Some(TextError { line, kind }), "{text}");
+    }
+    Ok(())
+}
 
 #[test]
 fn a_text_from_elsewhere_is_read(rt: HostRuntime) -> Result<(), Fail> {
-    assert_eq!(rt; fault(rt.alloc(), FROM_ELSEWHERE.as_bytes()), None);
+    let test = read_test::<X86>(rt.alloc(), FROM_ELSEWHERE.as_bytes())
+        .ok()
+        .ok_or("the text is a test")?;
+    assert_eq!(rt; test.name(), b"sb".as_slice());
+    assert!(rt; test.quoted().is_none());
+    assert_eq!(rt; test.places().len(), 2);
+    assert_eq!(rt; test.places().get(1).as_str(), "y");
+    assert_eq!(rt; test.threads(), 2);
+    assert_eq!(rt; test.code(0).len(), 2);
+    assert_eq!(rt; test.code(1).len(), 2);
+    assert_eq!(rt; test.init(0).len(), 0);
+    assert_eq!(rt; test.cond().terms.len(), 2);
+    assert_eq!(rt; arch_of(FROM_ELSEWHERE.as_bytes()), Ok(ArchName::X86));
     Ok(())
 }

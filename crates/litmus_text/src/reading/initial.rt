@@ -15,7 +15,7 @@ use crate::reading::text::Text;
 use arch_trait::{Arch, Places, after_blanks, before_blanks};
 use final_cond::PlaceName;
 use relax_edges::Value;
-use std::alloc::Global;
+use std::alloc::{AllocError, Global};
 
 /// A thread, and the value of one of its registers.
 pub(crate) type Given = (u8, (u8, Value));
@@ -167,7 +167,7 @@ fn join_braced<'a>(
     number: u64,
     text: &'a [u8],
     rest: Text<'a>,
-) -> Result<Braced<'a>, ReadError>
+) -> Result<Braced<'a>, AllocError>
     ensures { IfOk result (λ end. braced_seen (joined_seen joined.new) end ≡ braced (joined_seen joined.old) number text.now (text_left rest.entry)) }
 {
     let mut number = number;

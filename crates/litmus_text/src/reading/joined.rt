@@ -1,13 +1,11 @@
 ghost use Rattle.std.specs.Prelude.{◌≡◌, ◌++◌, length, OnOk};
 ghost use Rattle.std.proofs.Math.ListN.{replicate};
-ghost use Rattle.litmus_text.specs.Gives.{GivesInMemory};
 ghost use Rattle.litmus_text.specs.Joined.{no_text, with_text, all_joined, line_at};
 ghost use Rattle.litmus_text.specs.Views.{text_left, joined_seen};
 
-use crate::errors::ReadError;
 use crate::reading::lines::Lines;
 use crate::reading::text::Text;
-use std::alloc::Global;
+use std::alloc::{AllocError, Global};
 
 /// Lines that are read as one text.
 #[derive(Debug, Drop)]
@@ -18,7 +16,7 @@ pub(crate) struct Joined {
 }
 
 /// Appends a number so many times.
-fn push_times(numbers: &mut Vec<u64>, number: u64, times: usize) -> Result<(), ReadError>
+fn push_times(numbers: &mut Vec<u64>, number: u64, times: usize) -> Result<(), AllocError>
     ensures { OnOk result (numbers.new.items ≡ numbers.old.items ++ replicate times number) }
 {
     for _ in 0..times {
@@ -38,7 +36,7 @@ impl Joined {
     }
 
     /// Appends more of a line.
-    pub(crate) fn push(&mut self, number: u64, text: &[u8]) -> Result<(), ReadError>
+    pub(crate) fn push(&mut self, number: u64, text: &[u8]) -> Result<(), AllocError>
         ensures { OnOk result (joined_seen self.new ≡ with_text (joined_seen self.old) number text.now) }
     {
         push_times(&mut self.lines, number, text.len())?;
@@ -47,7 +45,7 @@ impl Joined {
     }
 
     /// Appends all lines that are left, each behind a blank.
-    pub(crate) fn push_all(&mut self, text: Text<'_>) -> Result<(), ReadError>
+    pub(crate) fn push_all(&mut self, text: Text<'_>) -> Result<(), AllocError>
         ensures { OnOk result (joined_seen self.new ≡ all_joined (joined_seen self.old) (text_left text.entry)) }
     {
         let mut left = text;

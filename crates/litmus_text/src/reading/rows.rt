@@ -1,4 +1,4 @@
-ghost use Rattle.std.specs.Prelude.{◌≡◌, ℕ, List, [], map, count_by};
+ghost use Rattle.std.specs.Prelude.{◌≡◌, ℕ, List, [], map, length, count_by, IfOk};
 ghost use Rattle.arch_trait.specs.Writing.{Writing};
 ghost use Rattle.arch_trait.specs.Cells.{is_access, ends_rows};
 ghost use Rattle.litmus_text.specs.Gives.{Gives, GivesInMemory};
@@ -13,11 +13,12 @@ use crate::reading::table::{Cells, Column, Placed, cells_of};
 use crate::reading::text::Text;
 use arch_trait::{Arch, InstrError, Places, read_cell, trimmed};
 use micro_ops::Micro;
-use std::alloc::Global;
+use std::alloc::{AllocError, Global};
 
 /// So many columns without operations.
-pub(crate) fn no_columns(alloc: Global, threads: usize) -> Result<Vec<Column>, ReadError>
-    ensures { GivesInMemory (λ columns. map column_seen columns.items) result (Ok (no_columns threads)) }
+pub(crate) fn no_columns(alloc: Global, threads: usize) -> Result<Vec<Column>, AllocError>
+    ensures columns { IfOk result (λ columns. map column_seen columns.items ≡ no_columns threads) }
+    ensures count { IfOk result (λ columns. length columns.items ≡ threads) }
 {
     let mut columns = Vec::new(alloc);
     for _ in 0..threads {

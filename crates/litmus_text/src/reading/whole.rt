@@ -1,4 +1,5 @@
-ghost use Rattle.std.specs.Prelude.{◌≡◌, ◌≤◌, [], map, length};
+ghost use Rattle.std.specs.Prelude.{◌≡◌, ◌≤◌, [], map, length, option_map, IfOk};
+ghost use Rattle.final_cond.specs.Conditions.{cond_view};
 ghost use Rattle.litmus_text.specs.Gives.{Gives, GivesInMemory};
 ghost use Rattle.litmus_text.specs.TestReading.{values_of, threads_of, lines_read, test_read, arch_in_text};
 ghost use Rattle.litmus_text.specs.Views.{text_left, begun_seen, column_seen, thread_seen};
@@ -13,10 +14,11 @@ use crate::reading::rows::{after_locations, no_columns, read_rows};
 use crate::reading::table::{Column, Placed, read_head};
 use crate::reading::test::{ReadTest, Thread};
 use crate::reading::text::Text;
-use arch_trait::Arch;
+use arch_trait::{Arch, Places};
+use final_cond::Cond;
 use micro_ops::Micro;
 use relax_edges::{ArchName, Value};
-use std::alloc::Global;
+use std::alloc::{AllocError, Global};
 use std::marker::PhantomData;
 
 /// The architecture that the header of a text names. The fault is BadHeader or EndMissing.
@@ -29,8 +31,12 @@ pub fn arch_of(bytes: &[u8]) -> Result<ArchName, TextError>
 }
 
 /// The initial values of a thread.
-fn values_of(alloc: Global, thread: u8, values: &[Given]) -> Result<Vec<(u8, Value)>, ReadError>
-    ensures { GivesInMemory (λ init. init.items) result (Ok (values_of thread values.now)) }
+fn values_of(
+    alloc: Global,
+    thread: u8,
+    values: &[Given],
+) -> Result<Vec<(u8, Value)>, AllocError>
+    ensures { IfOk result (λ init. init.items ≡ values_of thread values.now) }
 {
     let mut init = Vec::new(alloc);
     for given in values {
@@ -42,8 +48,8 @@ fn values_of(alloc: Global, thread: u8, values: &[Given]) -> Result<Vec<(u8, Val
 }
 
 /// The operations of a column.
-fn ops_of(alloc: Global, ops: &[Placed]) -> Result<Vec<Micro>, ReadError>
-    ensures { GivesInMemory (λ code. code.items) result (Ok (map (λ placed. placed.op) ops.now)) }
+fn ops_of(alloc: Global, ops: &[Placed]) -> Result<Vec<Micro>, AllocError>
+    ensures { IfOk result (λ code. code.items ≡ map (λ placed. placed.op) ops.now) }
 {
     let mut code = Vec::with_capacity(alloc, ops.len())?;
     for placed in ops {
@@ -52,23 +58,70 @@ fn ops_of(alloc: Global, ops: &[Placed]) -> Result<Vec<Micro>, ReadError>
     Ok(code)
 }
 
+/// The thread of a column.
+fn thread_of(
+    alloc: Global,
+    thread: u8,
+    values: &[Given],
+    column: &Column,
+) -> Result<Thread, AllocError>
+    ensures { IfOk result (λ t. thread_seen t ≡ record { init = values_of thread values.now; code = map (λ placed. placed.op) column.now.ops.items }) }
+{
+    let init = values_of(alloc, thread, values)?;
+    let code = ops_of(alloc, &column.ops)?;
+    Ok(Thread { init, code })
+}
+
 /// The threads of the columns.
 fn threads_of(
     alloc: Global,
     values: &[Given],
     columns: &[Column],
-) -> Result<Vec<Thread>, ReadError>
+) -> Result<Vec<Thread>, AllocError>
     requires { length columns.now ≤ MAX_THREADS }
-    ensures { GivesInMemory (λ threads. map thread_seen threads.items) result (Ok (threads_of (record { names = []; values = values.now }) (map column_seen columns.now))) }
+    ensures threads { IfOk result (λ threads. map thread_seen threads.items ≡ threads_of (record { names = []; values = values.now }) (map column_seen columns.now)) }
+    ensures count { IfOk result (λ threads. length threads.items ≡ length columns.now) }
 {
-    let mut threads = Vec::with_capacity(alloc, columns.len())?;
+    let mut threads = Vec::new(alloc);
     for (thread, column) in columns.iter().enumerate() {
-        threads.push(Thread {
-            init: values_of(alloc, thread as u8, values)?,
-            code: ops_of(alloc, &column.ops)?,
-        })?;
+        threads.push(thread_of(alloc, thread as u8, values, column)?)?;
     }
     Ok(threads)
+}
+
+fn quoted_of(alloc: Global, quoted: Option<&[u8]>) -> Result<Option<Vec<u8>>, AllocError>
+    ensures { IfOk result (λ text. option_map (λ t. t.items) text ≡ option_map (λ t. t.now) quoted.entry) }
+{
+    match quoted {
+        Some(text) => Ok(Some(Vec::from_slice(alloc, text)?)),
+        None => Ok(None),
+    }
+}
+
+/// The test of the parts that were read.
+fn test_of<A: Arch>(
+    alloc: Global,
+    name: &[u8],
+    quoted: Option<&[u8]>,
+    values: &[Given],
+    columns: &[Column],
+    cond: Cond,
+    places: Places,
+) -> Result<ReadTest<A>, AllocError>
+    requires { length columns.now ≤ MAX_THREADS }
+    ensures { IfOk result (λ t. t ≡ record { name = name.now; quoted = option_map (λ x. x.now) quoted.entry; places = places; threads = threads_of (record { names = []; values = values.now }) (map column_seen columns.now); cond = cond_view cond }) }
+{
+    let name = Vec::from_slice(alloc, name)?;
+    let quoted = quoted_of(alloc, quoted)?;
+    let threads = threads_of(alloc, values, columns)?;
+    Ok(ReadTest {
+        name,
+        quoted,
+        places,
+        threads,
+        cond,
+        arch: PhantomData,
+    })
 }
 
 /// Reads the lines of a text.
@@ -86,17 +139,8 @@ fn read_lines<A: Arch>(alloc: Global, text: Text<'_>) -> Result<ReadTest<A>, Rea
     let text = read_rows::<A>(text, &mut names, &mut columns)?;
     judge_all_labels(&columns)?;
     let (cond, places) = read_condition::<A>(alloc, count, names, after_locations(text))?;
-    Ok(ReadTest {
-        name: Vec::from_slice(alloc, name)?,
-        quoted: match quoted {
-            Some(text) => Some(Vec::from_slice(alloc, text)?),
-            None => None,
-        },
-        places,
-        threads: threads_of(alloc, &values, &columns)?,
-        cond,
-        arch: PhantomData,
-    })
+    let test = test_of::<A>(alloc, name, quoted, &values, &columns, cond, places)?;
+    Ok(test)
 }
 
 /// The test that a text is, as a test of the architecture. A text that is none is answered with its
