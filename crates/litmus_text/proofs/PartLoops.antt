@@ -1,23 +1,23 @@
 -- The values, the operations and the threads of a test, as loops make them.
-use Rattle.std.proofs.Common.{◌≡◌, ◌==◌, ◌+◌, ◌<◌, ◌≤◌, ℕ, zero, suc, List, [], ◌∷◌, ◌++◌, Option, Ok, true, false, length, length-take, map, get_or, take, drop, refl, sym, ap, ◌∙◌, arith, add-one, add-zero}
+use Rattle.std.proofs.Common.{◌≡◌, ◌==◌, ◌+◌, ◌<◌, ◌≤◌, ℕ, zero, suc, List, [], ◌∷◌, ◌++◌, Option, Ok, Err, true, false, length, length-take, map, get_or, take, drop, refl, sym, ap, ◌∙◌, arith, add-one, add-zero}
 use Rattle.std.specs.List.{filter, enumerate_from}
 use Rattle.std.proofs.lemmas.List.Elements.{filter-append}
 use Rattle.std.proofs.Math.Seq.{take-length, take-append_seam}
 use Rattle.std.proofs.lemmas.List.{map_push, take_more, append-nil, length-map}
 use Rattle.std.specs.Prelude.{Bool}
 use Rattle.relax_edges.specs.declared.kinds.Value.{Value}
+use Rattle.litmus_text.specs.declared.errors.TextError.{TextError}
 use Rattle.std.proofs.Math.ListN.{get_or-map}
 use Rattle.relax_edges.specs.declared.kinds.ArchName.{ArchName}
 use Rattle.arch_trait.specs.Writing.{Writing}
-use Rattle.litmus_text.specs.Condition.{CondRead, condition_read}
 use Rattle.litmus_text.specs.Header.{after_settings, is_setting, header_read, quote_read}
 use Rattle.litmus_text.specs.declared.reading.table.Column.{Column as ThreadColumn}
 use Rattle.litmus_text.specs.declared.reading.test.Thread.{Thread}
-use Rattle.litmus_text.specs.Views.{column_seen, thread_seen}
+use Rattle.litmus_text.specs.Views.{column_seen, thread_seen, rest_read, table_read, body_read}
 use Rattle.litmus_text.specs.Lines.{Lines, ends, line}
 use Rattle.litmus_text.specs.InitialState.{Begun, initial_read}
-use Rattle.litmus_text.specs.Table.{Column, Among, among, head_read, rows_read, no_columns, all_labels_judged, after_locations}
-use Rattle.litmus_text.specs.TestReading.{ThreadRead, values_of, threads_of, lines_read, TestRead}
+use Rattle.litmus_text.specs.Table.{Column, Among, among, head_read, rows_read, no_columns, all_labels_judged}
+use Rattle.litmus_text.specs.TestReading.{ThreadRead, values_of, threads_of, lines_read}
 use Rattle.litmus_text.proofs.CutBack.{by_test}
 
 -- the lines of settings
@@ -72,32 +72,39 @@ thread_step begun xs i d threads t inside is e so_far =
     let m = thread_more begun (map column_seen xs) i (column_seen d) k in
     map_push thread_seen threads t ∙ rw (so_far, e) (sym (m ∙ rw g refl))
 
--- a test from its parts
-pub lines_are : (arch : ArchName) (w : Writing) (ls l1 l2 l3 l4 l5 : Lines) (name : List ℕ) (quoted : Option (List ℕ)) (begun : Begun) (threads : ℕ) (rows : Among (List Column)) (condition : CondRead)
-    → header_read arch ls ≡ Ok (name, l1) → quote_read l1 ≡ Ok (quoted, l2) → initial_read w (after_settings l2) ≡ Ok (begun, l3) → head_read begun l3 ≡ Ok (threads, l4)
-    → rows_read w 0 (among begun.names (no_columns threads)) l4 ≡ Ok (rows, l5) → all_labels_judged rows.value ≡ Ok tt → condition_read w threads rows.names (after_locations l5) ≡ Ok condition
-    → lines_read arch w ls ≡ Ok (record { name = name; quoted = quoted; places = condition.names; threads = threads_of begun rows.value; cond = condition.cond })
-unfolding lines_read
-lines_are arch w ls l1 l2 l3 l4 l5 name quoted begun threads rows condition a b c d e f g = rw (a, b, c, d, e, f, g) refl
-
-pub lines_test : (arch arch' : ArchName) (w : Writing) (ls l1 l2 l2' l3 l4 l5 l5' : Lines) (name : List ℕ) (quoted : Option (List ℕ)) (begun : Begun) (threads : ℕ) (cs : List Column) (rows : Among (List Column)) (condition : CondRead) (test : TestRead)
-    → arch' ≡ arch → header_read arch' ls ≡ Ok (name, l1) → quote_read l1 ≡ Ok (quoted, l2) → l2' ≡ after_settings l2 → initial_read w l2' ≡ Ok (begun, l3) → head_read begun l3 ≡ Ok (threads, l4)
-    → cs ≡ no_columns threads → rows_read w 0 (among begun.names cs) l4 ≡ Ok (rows, l5) → all_labels_judged rows.value ≡ Ok tt → l5' ≡ after_locations l5 → condition_read w threads rows.names l5' ≡ Ok condition
-    → test ≡ record { name = name; quoted = quoted; places = condition.names; threads = threads_of begun rows.value; cond = condition.cond } → lines_read arch w ls ≡ Ok test
-lines_test arch arch' w ls l1 l2 l2' l3 l4 l5 l5' name quoted begun threads cs rows condition test same a b s c d n e f k g t =
-    lines_are arch w ls l1 l2 l3 l4 l5 name quoted begun threads rows condition (ap (λ x. header_read x ls) (sym same) ∙ a) b (ap (initial_read w) (sym s) ∙ c) d
-    (ap (λ x. rows_read w 0 (among begun.names x) l4) (sym n) ∙ e) f (ap (condition_read w threads rows.names) (sym k) ∙ g) ∙ ap Ok (sym t)
-
--- the same of the columns of the code
-pub lines_code : (arch arch' : ArchName) (w : Writing) (ls l1 l2 l2' l3 l4 l5 l5' : Lines) (name : List ℕ) (quoted : Option (List ℕ)) (begun : Begun) (threads : ℕ) (c0 c r j t : List ThreadColumn) (names : List (List ℕ))
-    (condition : CondRead) (test : TestRead)
-    → arch' ≡ arch → header_read arch' ls ≡ Ok (name, l1) → quote_read l1 ≡ Ok (quoted, l2) → l2' ≡ after_settings l2 → initial_read w l2' ≡ Ok (begun, l3) → head_read begun l3 ≡ Ok (threads, l4)
+-- a test from its table on, of the columns of the code
+pub table_is : (w : Writing) (l4 l5 : Lines) (name : List ℕ) (quoted : Option (List ℕ)) (begun : Begun) (threads count : ℕ) (c0 c r j t : List ThreadColumn) (names : List (List ℕ))
     → map column_seen c0 ≡ no_columns threads → c ≡ c0 → rows_read w 0 (among begun.names (map column_seen c)) l4 ≡ Ok (among names (map column_seen r), l5) → j ≡ r → all_labels_judged (map column_seen j) ≡ Ok tt
-    → l5' ≡ after_locations l5 → condition_read w threads names l5' ≡ Ok condition → t ≡ r
-    → test ≡ record { name = name; quoted = quoted; places = condition.names; threads = threads_of begun (map column_seen t); cond = condition.cond } → lines_read arch w ls ≡ Ok test
-lines_code arch arch' w ls l1 l2 l2' l3 l4 l5 l5' name quoted begun threads c0 c r j t names condition test same a b s x d n m e p f k g q v =
-    lines_test arch arch' w ls l1 l2 l2' l3 l4 l5 l5' name quoted begun threads (map column_seen c) (among names (map column_seen r)) condition test same a b s x d (ap (map column_seen) m ∙ n) e
-    (ap (λ z. all_labels_judged (map column_seen z)) (sym p) ∙ f) k g (rw (sym q) v)
+    → t ≡ r → count ≡ threads → (values : List (ℕ × (ℕ × Value))) → values ≡ begun.values
+    → table_read w name quoted begun threads l4 ≡ rest_read w name quoted (record { names = []; values = values }) (map column_seen t) count names l5
+unfolding table_read rest_read
+table_is w l4 l5 name quoted begun threads count c0 c r j t names n m e p f q k values u =
+    let a : rows_read w 0 (among begun.names (no_columns threads)) l4 ≡ Ok (among names (map column_seen r), l5) = ap (λ z. rows_read w 0 (among begun.names z) l4) (sym (ap (map column_seen) m ∙ n)) ∙ e in
+    let b : all_labels_judged (map column_seen r) ≡ Ok tt = ap (λ z. all_labels_judged (map column_seen z)) (sym p) ∙ f in
+    rw (a, b, q, k, u) refl
+
+-- an error of a part, on the way to it
+pub table_rows_bad : (w : Writing) (l4 : Lines) (name : List ℕ) (quoted : Option (List ℕ)) (begun : Begun) (threads : ℕ) (c0 c : List ThreadColumn) (x : TextError)
+    → map column_seen c0 ≡ no_columns threads → c ≡ c0 → rows_read w 0 (among begun.names (map column_seen c)) l4 ≡ Err x → table_read w name quoted begun threads l4 ≡ Err x
+unfolding table_read
+table_rows_bad w l4 name quoted begun threads c0 c x n m e =
+    let a : rows_read w 0 (among begun.names (no_columns threads)) l4 ≡ Err x = ap (λ z. rows_read w 0 (among begun.names z) l4) (sym (ap (map column_seen) m ∙ n)) ∙ e in
+    rw a refl
+
+pub table_labels_bad : (w : Writing) (l4 l5 : Lines) (name : List ℕ) (quoted : Option (List ℕ)) (begun : Begun) (threads : ℕ) (c0 c r j : List ThreadColumn) (names : List (List ℕ)) (x : TextError)
+    → map column_seen c0 ≡ no_columns threads → c ≡ c0 → rows_read w 0 (among begun.names (map column_seen c)) l4 ≡ Ok (among names (map column_seen r), l5) → j ≡ r → all_labels_judged (map column_seen j) ≡ Err x
+    → table_read w name quoted begun threads l4 ≡ Err x
+unfolding table_read
+table_labels_bad w l4 l5 name quoted begun threads c0 c r j names x n m e p f =
+    let a : rows_read w 0 (among begun.names (no_columns threads)) l4 ≡ Ok (among names (map column_seen r), l5) = ap (λ z. rows_read w 0 (among begun.names z) l4) (sym (ap (map column_seen) m ∙ n)) ∙ e in
+    let b : all_labels_judged (map column_seen r) ≡ Err x = ap (λ z. all_labels_judged (map column_seen z)) (sym p) ∙ f in
+    rw (a, b) refl
+
+-- the body of a test behind its header
+pub lines_body : (arch : ArchName) (w : Writing) (ls l1 l2 l2' : Lines) (name : List ℕ) (quoted : Option (List ℕ)) → header_read arch ls ≡ Ok (name, l1) → quote_read l1 ≡ Ok (quoted, l2) → l2' ≡ after_settings l2
+    → lines_read arch w ls ≡ body_read w name quoted l2'
+unfolding lines_read body_read table_read rest_read
+lines_body arch w ls l1 l2 l2' name quoted a b s = rw (a, b, s) refl
 
 -- what was written through a slice of a whole vector is its content
 pub written_back : (len : ℕ) (r items : List ThreadColumn) → len ≡ length r → take len (r ++ drop (length r) items) ≡ r

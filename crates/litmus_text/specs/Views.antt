@@ -1,6 +1,6 @@
 -- The values of the code that reads, as the definitions see them.
 -- Source: own.
-use Rattle.std.specs.Prelude.{◌≡◌, ◌<◌, ℕ, length, ◌==◌, Bool, true, not, List, [], ◌∷◌, ◌++◌, Option, Some, None, option_map, map}
+use Rattle.std.specs.Prelude.{◌≡◌, ◌<◌, ℕ, length, ◌==◌, Bool, true, not, List, [], ◌∷◌, ◌++◌, Option, Some, None, Result, Ok, option_map, map}
 use Rattle.std.specs.Borrow.{Bor}
 use Rattle.std.specs.List.{list_all}
 use Rattle.final_cond.specs.declared.cond.Cond.{Cond}
@@ -25,12 +25,14 @@ use Rattle.litmus_text.specs.declared.reading.terms.Setting.{Setting as Here}
 use Rattle.litmus_text.specs.declared.reading.terms.Mentioned.{Mentioned as Names}
 use Rattle.litmus_text.specs.declared.reading.test.Thread.{Thread}
 use Rattle.litmus_text.specs.Cuts.{pieces}
-use Rattle.litmus_text.specs.Lines.{Lines, ends, line, lines_from}
+use Rattle.litmus_text.specs.Lines.{Lines, ends, line, lines_from, ◌>>=◌}
+use Rattle.arch_trait.specs.Writing.{Writing}
+use Rattle.litmus_text.specs.declared.errors.TextError.{TextError}
 use Rattle.litmus_text.specs.Joined.{Joined}
-use Rattle.litmus_text.specs.InitialState.{Worth, a_number, a_place, Item, empty, gives, zero_at, Begun, Braced, closed, open_to}
-use Rattle.litmus_text.specs.Table.{Cells, Column}
-use Rattle.litmus_text.specs.Condition.{Setting, Mentioned, TermRead, TermsRead, CondRead}
-use Rattle.litmus_text.specs.TestReading.{ThreadRead}
+use Rattle.litmus_text.specs.InitialState.{Worth, a_number, a_place, Item, empty, gives, zero_at, Begun, initial_read, Braced, closed, open_to}
+use Rattle.litmus_text.specs.Table.{Cells, Column, among, no_columns, rows_read, head_read, all_labels_judged, after_locations}
+use Rattle.litmus_text.specs.Condition.{Setting, Mentioned, TermRead, TermsRead, CondRead, condition_read}
+use Rattle.litmus_text.specs.TestReading.{ThreadRead, TestRead, threads_of}
 
 -- two texts of a cut
 abbrev pub cut_seen : Option (Bor (List ℕ) × Bor (List ℕ)) → Option (List ℕ × List ℕ)
@@ -131,6 +133,26 @@ terms_read_seen terms m rest = record { terms = terms; state = mentioned_seen m;
 
 abbrev pub cond_read_seen : Cond × List (List ℕ) → CondRead
 cond_read_seen c = record { cond = cond_view c.0; names = c.1 }
+
+-- a test, from what stands behind its table on
+unfoldable pub rest_read : Writing → List ℕ → Option (List ℕ) → Begun → List Column → ℕ → List (List ℕ) → Lines → Result TestRead TextError
+rest_read w name quoted begun columns threads names ls = do
+  condition ← condition_read w threads names (after_locations ls)
+  Ok (record { name = name; quoted = quoted; places = condition.names; threads = threads_of begun columns; cond = condition.cond })
+
+-- a test, from the rows of its table on
+unfoldable pub table_read : Writing → List ℕ → Option (List ℕ) → Begun → ℕ → Lines → Result TestRead TextError
+table_read w name quoted begun threads ls = do
+  rows ← rows_read w 0 (among begun.names (no_columns threads)) ls
+  judged ← all_labels_judged rows.0.value
+  rest_read w name quoted begun rows.0.value threads rows.0.names rows.1
+
+-- a test, from its initial state on
+unfoldable pub body_read : Writing → List ℕ → Option (List ℕ) → Lines → Result TestRead TextError
+body_read w name quoted ls = do
+  initial ← initial_read w ls
+  head ← head_read initial.0 initial.1
+  table_read w name quoted initial.0 head.0 head.1
 
 -- a thread that was read
 abbrev pub thread_seen : Thread → ThreadRead

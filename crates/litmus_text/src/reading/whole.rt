@@ -2,7 +2,7 @@ ghost use Rattle.std.specs.Prelude.{◌≡◌, ◌≤◌, [], map, length, optio
 ghost use Rattle.final_cond.specs.Conditions.{cond_view};
 ghost use Rattle.litmus_text.specs.Gives.{Gives, GivesInMemory};
 ghost use Rattle.litmus_text.specs.TestReading.{values_of, threads_of, lines_read, test_read, arch_in_text};
-ghost use Rattle.litmus_text.specs.Views.{text_left, begun_seen, column_seen, thread_seen};
+ghost use Rattle.litmus_text.specs.Views.{rest_read, table_read, body_read, text_left, begun_seen, column_seen, thread_seen};
 
 use crate::errors::{ReadError, TestKind, TextError, bad};
 use crate::limits::{MAX_TEXT, MAX_THREADS};
@@ -124,6 +124,60 @@ fn test_of<A: Arch>(
     })
 }
 
+/// Reads what stands behind the table, and makes the test.
+#[tactic(auto, unfolding(crate::specs::Views::rest_read))]
+fn read_rest<A: Arch>(
+    alloc: Global,
+    head: (&[u8], Option<&[u8]>),
+    values: &[Given],
+    columns: &[Column],
+    names: Places,
+    text: Text<'_>,
+) -> Result<ReadTest<A>, ReadError>
+    requires { length columns.now ≤ MAX_THREADS }
+    ensures { GivesInMemory (λ test. test) result (rest_read A.writing head.entry.0.now (option_map (λ x. x.now) head.entry.1) (record { names = []; values = values.now }) (map column_seen columns.now) (length columns.now) names (text_left text.entry)) }
+{
+    let (name, quoted) = head;
+    let text = after_locations(text);
+    let (cond, places) = read_condition::<A>(alloc, columns.len(), names, text)?;
+    let test = test_of::<A>(alloc, name, quoted, values, columns, cond, places)?;
+    Ok(test)
+}
+
+/// Reads the rows of the table and what stands behind them.
+#[tactic(auto, unfolding(crate::specs::Views::table_read))]
+fn read_table<A: Arch>(
+    alloc: Global,
+    head: (&[u8], Option<&[u8]>),
+    begun: Begun,
+    threads: usize,
+    text: Text<'_>,
+) -> Result<ReadTest<A>, ReadError>
+    requires { threads ≤ MAX_THREADS }
+    ensures { GivesInMemory (λ test. test) result (table_read A.writing head.entry.0.now (option_map (λ x. x.now) head.entry.1) (begun_seen begun) threads (text_left text.entry)) }
+{
+    let Begun { mut names, values } = begun;
+    let mut columns = no_columns(alloc, threads)?;
+    let text = read_rows::<A>(text, &mut names, &mut columns)?;
+    judge_all_labels(&columns)?;
+    read_rest::<A>(alloc, head, &values, &columns, names, text)
+}
+
+/// Reads the initial state and what stands behind it.
+#[tactic(auto, unfolding(crate::specs::Views::body_read))]
+fn read_body<A: Arch>(
+    alloc: Global,
+    head: (&[u8], Option<&[u8]>),
+    text: Text<'_>,
+) -> Result<ReadTest<A>, ReadError>
+    ensures { GivesInMemory (λ test. test) result (body_read A.writing head.entry.0.now (option_map (λ x. x.now) head.entry.1) (text_left text.entry)) }
+{
+    let mut begun = Begun::new(alloc);
+    let text = read_initial::<A>(alloc, text, &mut begun)?;
+    let (threads, text) = read_head(&begun, text)?;
+    read_table::<A>(alloc, head, begun, threads, text)
+}
+
 /// Reads the lines of a text.
 #[tactic(auto, unfolding(crate::specs::TestReading::lines_read))]
 fn read_lines<A: Arch>(alloc: Global, text: Text<'_>) -> Result<ReadTest<A>, ReadError>
@@ -131,16 +185,7 @@ fn read_lines<A: Arch>(alloc: Global, text: Text<'_>) -> Result<ReadTest<A>, Rea
 {
     let (name, text) = read_header(A::NAME, text)?;
     let (quoted, text) = read_quote(text)?;
-    let mut begun = Begun::new(alloc);
-    let text = read_initial::<A>(alloc, after_settings(text), &mut begun)?;
-    let (count, text) = read_head(&begun, text)?;
-    let Begun { mut names, values } = begun;
-    let mut columns = no_columns(alloc, count)?;
-    let text = read_rows::<A>(text, &mut names, &mut columns)?;
-    judge_all_labels(&columns)?;
-    let (cond, places) = read_condition::<A>(alloc, count, names, after_locations(text))?;
-    let test = test_of::<A>(alloc, name, quoted, &values, &columns, cond, places)?;
-    Ok(test)
+    read_body::<A>(alloc, (name, quoted), after_settings(text))
 }
 
 /// The test that a text is, as a test of the architecture. A text that is none is answered with its
