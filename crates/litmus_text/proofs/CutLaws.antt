@@ -1,16 +1,16 @@
 -- A text that is cut at the first place of a sign, its pieces and its words.
-use Rattle.std.proofs.Common.{◌≡◌, ◌==◌, ◌+◌, ◌-◌, ◌<◌, ◌≤◌, ℕ, zero, suc, List, [], ◌∷◌, ◌++◌, Option, Some, None, true, false, get_or, take, drop, length, length-drop, length-append, refl, sym, ap, ◌∙◌, arith, add-one}
-use Rattle.std.specs.Prelude.{Bool, not, ◌&&◌, ◌||◌}
-use Rattle.std.specs.List.{list_all, filter, slice_split, onto_first}
-use Rattle.std.proofs.lemmas.Bool.{eqb-true, eqb-false, eq-eqb}
+use Rattle.std.proofs.Common.{◌≡◌, ◌==◌, ◌+◌, ◌-◌, ◌<◌, ◌≤◌, ℕ, zero, suc, List, [], ◌∷◌, ◌++◌, Some, true, false, get_or, take, drop, length, length-drop, length-append, refl, sym, ap, ◌∙◌, arith, add-one}
+use Rattle.std.specs.Prelude.{not, ◌||◌}
+use Rattle.std.specs.List.{list_all, filter, slice_split}
+use Rattle.std.proofs.lemmas.Bool.{eqb-true, eqb-false}
 use Rattle.std.proofs.lemmas.List.{take-append-drop}
 use Rattle.std.proofs.Math.Seq.{drop-cons, take-length}
 use Rattle.final_cond.specs.Runs.{run_of, after_run, is_blank, unblanked}
 use Rattle.arch_trait.specs.Reading.{before_blanks, kept_before, trimmed, is_inked}
 use Rattle.litmus_text.specs.Cuts.{is_nil, cut_at, pieces, words}
-use Rattle.litmus_text.specs.Lines.{Lines, ends, line, is_comment, is_passed, kept, without_return, last_byte, lines_in, is_line_feed, lines_from}
+use Rattle.litmus_text.specs.Lines.{is_comment, is_passed}
 use Rattle.litmus_text.specs.Views.{CutParts}
-use Rattle.litmus_text.proofs.CutBack.{by_test, is_without, cut_back, cut_none, piece_back, piece_last, first_piece}
+use Rattle.litmus_text.proofs.CutBack.{by_test, is_without, cut_back, piece_back}
 
 -- the bytes before a place are without a sign that stands at none of them
 pub without_take : (sign : ℕ) (text : List ℕ) (k : ℕ) → ((j : ℕ) → j < k → j < length text → get_or text j 0 == sign ≡ true → ⊥) → is_without sign (take k text) ≡ true

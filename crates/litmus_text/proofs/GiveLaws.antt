@@ -1,5 +1,5 @@
 -- What a part answers where a part of it fails.
-use Rattle.std.proofs.Common.{◌≡◌, refl, Result, Ok, Err}
+use Rattle.std.proofs.Common.{◌≡◌, Result, Err}
 use Rattle.litmus_text.specs.declared.errors.TextError.{TextError}
 use Rattle.litmus_text.specs.declared.errors.ReadError.{ReadError}
 use Rattle.litmus_text.specs.declared.errors.ReadError.TheVariants.{Text, NoMemory}

@@ -1,6 +1,6 @@
 -- The item of a text, by what the reading of conditions knows of its left side.
-use Rattle.std.proofs.Common.{◌≡◌, ◌==◌, ◌+◌, ◌<◌, ◌≤◌, ℕ, zero, suc, List, [], ◌∷◌, ◌++◌, Option, Some, None, Result, Ok, Err, Bool, true, false, length, refl, sym, ap, ◌∙◌, arith}
-use Rattle.std.specs.Prelude.{◌&&◌, nat_lt, cond}
+use Rattle.std.proofs.Common.{◌≡◌, ◌==◌, ◌+◌, ◌≤◌, ℕ, suc, List, [], ◌∷◌, Option, Some, None, Ok, Err, true, false, length, refl, sym, ap, ◌∙◌, arith}
+use Rattle.std.specs.Prelude.{nat_lt, cond}
 use Rattle.std.specs.List.{list_all, position_from}
 use Rattle.std.specs.Str.{bytes_eq}
 use Rattle.std.proofs.lemmas.Bool.{eqb-true}
@@ -8,13 +8,12 @@ use Rattle.std.proofs.lemmas.Slice.Eq.{bytes_eq-Decides}
 use Rattle.final_cond.specs.declared.errors.CondKind.TheVariants.{BadTerm}
 use Rattle.final_cond.specs.Runs.{is_blank, after_run, unblanked}
 use Rattle.final_cond.specs.Conditions.{LeftSeen, InRegister, AtPlace}
-use Rattle.final_cond.specs.Names.{is_register_name, is_place_name}
-use Rattle.final_cond.specs.Reading.{Fault, found, left_at_front, left_read, only_known, known_left, before_text, has_form}
-use Rattle.arch_trait.specs.Names.{number_in}
+use Rattle.final_cond.specs.Names.{is_register_name}
+use Rattle.final_cond.specs.Reading.{Fault, found, left_at_front, left_read, only_known, has_form}
 use Rattle.arch_trait.specs.Reading.{before_blanks, kept_before, trimmed}
 use Rattle.arch_trait.specs.Writing.{Writing}
 use Rattle.litmus_text.specs.Cuts.{is_nil}
-use Rattle.litmus_text.specs.InitialState.{Item, item_with, whole_left, item_if, given, worth_of}
+use Rattle.litmus_text.specs.InitialState.{item_with, whole_left, item_if}
 use Rattle.litmus_text.proofs.CutBack.{by_test, both}
 
 -- a text without blanks at its ends has none at its front

@@ -1,20 +1,14 @@
 -- Reading the initial state as loops do.
-use Rattle.std.proofs.Common.{◌≡◌, ◌==◌, ◌+◌, ◌-◌, ◌<◌, ◌≤◌, ℕ, zero, suc, List, [], ◌∷◌, ◌++◌, Option, Some, None, Result, Ok, Err, true, false, length, refl, sym, ap, ◌∙◌, arith, add-one, append_assoc}
+use Rattle.std.proofs.Common.{◌≡◌, ◌==◌, ◌+◌, ℕ, List, [], ◌∷◌, Some, None, Result, Ok, Err, true, length, refl, sym, ap, ◌∙◌, append_assoc}
 use Rattle.std.proofs.Math.ListN.{replicate}
 use Rattle.litmus_text.specs.declared.errors.TextError.{TextError}
-use Rattle.litmus_text.specs.declared.errors.TestKind.TheVariants.{EndMissing}
-use Rattle.final_cond.specs.Runs.{unblanked}
-use Rattle.final_cond.specs.Conditions.{LeftSeen, InRegister, AtPlace}
-use Rattle.final_cond.specs.Names.{is_register_name}
-use Rattle.final_cond.specs.Reading.{Read, found, left_at_front, left_read, only_known, known_left, has_form}
-use Rattle.arch_trait.specs.Reading.{trimmed}
 use Rattle.arch_trait.specs.Writing.{Writing}
-use Rattle.litmus_text.specs.Cuts.{is_nil, cut_at, pieces}
-use Rattle.litmus_text.specs.Lines.{Lines, ends, line, ◌>>=◌, bad}
+use Rattle.litmus_text.specs.Cuts.{cut_at, pieces}
+use Rattle.litmus_text.specs.Lines.{Lines, ends, line, ◌>>=◌}
 use Rattle.litmus_text.specs.Joined.{Joined, with_text, all_joined}
-use Rattle.litmus_text.specs.InitialState.{Begun, item_read, items_read, but_last, Braced, closed, open_to, braced, braced_if}
+use Rattle.litmus_text.specs.InitialState.{Begun, item_read, items_read, but_last, closed, open_to, braced}
 use Rattle.litmus_text.specs.Views.{CutParts}
-use Rattle.litmus_text.proofs.CutBack.{by_test, is_without, piece_last, first_piece}
+use Rattle.litmus_text.proofs.CutBack.{is_without, piece_last, first_piece}
 use Rattle.litmus_text.proofs.CutLaws.{pieces_cut}
 
 -- a blank and a line behind a text

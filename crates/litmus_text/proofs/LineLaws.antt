@@ -1,8 +1,7 @@
 -- The first line of what is left of a text.
-use Rattle.std.proofs.Common.{◌≡◌, ◌==◌, ◌+◌, ◌-◌, ◌<◌, ◌≤◌, ℕ, zero, suc, List, [], ◌∷◌, ◌++◌, true, false, get_or, take, drop, length, refl, sym, ap, ◌∙◌, arith}
-use Rattle.std.specs.List.{slice_split}
+use Rattle.std.proofs.Common.{◌≡◌, ◌==◌, ◌+◌, ◌-◌, ◌<◌, ◌≤◌, ℕ, suc, List, [], ◌∷◌, true, false, get_or, take, length, refl, sym, ap, ◌∙◌, arith}
 use Rattle.std.proofs.lemmas.Bool.{eqb-true}
-use Rattle.litmus_text.specs.Lines.{Lines, ends, line, kept, is_passed, without_return, last_byte, lines_in, is_line_feed, lines_from}
+use Rattle.litmus_text.specs.Lines.{Lines, ends, line, kept, is_passed, without_return, lines_in, is_line_feed, lines_from}
 use Rattle.litmus_text.specs.Views.{CutParts}
 use Rattle.litmus_text.proofs.CutBack.{by_test, is_without, piece_last, first_piece}
 use Rattle.litmus_text.proofs.CutLaws.{pieces_cut}

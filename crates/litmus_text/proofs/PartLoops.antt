@@ -1,8 +1,8 @@
 -- The values, the operations and the threads of a test, as loops make them.
-use Rattle.std.proofs.Common.{◌≡◌, ◌==◌, ◌+◌, ◌<◌, ◌≤◌, ℕ, zero, suc, List, [], ◌∷◌, ◌++◌, Option, Ok, Err, true, false, length, length-take, map, get_or, take, drop, refl, sym, ap, ◌∙◌, arith, add-one, add-zero}
+use Rattle.std.proofs.Common.{◌≡◌, ◌==◌, ◌+◌, ◌<◌, ℕ, suc, List, [], ◌∷◌, ◌++◌, Option, Ok, Err, true, false, length, length-take, map, get_or, take, drop, refl, sym, ap, ◌∙◌, arith, add-zero}
 use Rattle.std.specs.List.{filter, enumerate_from}
 use Rattle.std.proofs.lemmas.List.Elements.{filter-append}
-use Rattle.std.proofs.Math.Seq.{take-length, take-append_seam}
+use Rattle.std.proofs.Math.Seq.{take-append_seam}
 use Rattle.std.proofs.lemmas.List.{map_push, take_more, append-nil, length-map}
 use Rattle.std.specs.Prelude.{Bool}
 use Rattle.relax_edges.specs.declared.kinds.Value.{Value}
@@ -15,10 +15,9 @@ use Rattle.litmus_text.specs.declared.reading.table.Column.{Column as ThreadColu
 use Rattle.litmus_text.specs.declared.reading.test.Thread.{Thread}
 use Rattle.litmus_text.specs.Views.{column_seen, thread_seen, rest_read, table_read, body_read}
 use Rattle.litmus_text.specs.Lines.{Lines, ends, line}
-use Rattle.litmus_text.specs.InitialState.{Begun, initial_read}
-use Rattle.litmus_text.specs.Table.{Column, Among, among, head_read, rows_read, no_columns, all_labels_judged}
+use Rattle.litmus_text.specs.InitialState.{Begun}
+use Rattle.litmus_text.specs.Table.{Column, among, rows_read, no_columns, all_labels_judged}
 use Rattle.litmus_text.specs.TestReading.{ThreadRead, values_of, threads_of, lines_read}
-use Rattle.litmus_text.proofs.CutBack.{by_test}
 
 -- the lines of settings
 pub settings_more : (n : ℕ) (text : List ℕ) (rest ls : Lines) → line n text rest ≡ ls → is_setting text ≡ true → after_settings rest ≡ after_settings ls

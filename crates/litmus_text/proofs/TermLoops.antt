@@ -1,5 +1,5 @@
 -- Reading the terms of a condition as a loop does.
-use Rattle.std.proofs.Common.{◌≡◌, ◌+◌, ◌<◌, ◌≤◌, ℕ, zero, suc, true, List, [], ◌∷◌, ◌++◌, Result, Ok, Err, length, refl, sym, ap, ◌∙◌, arith, append_assoc}
+use Rattle.std.proofs.Common.{◌≡◌, ◌+◌, ◌<◌, ℕ, zero, suc, List, [], ◌∷◌, ◌++◌, Result, Ok, Err, refl, sym, ap, ◌∙◌, arith, append_assoc}
 use Rattle.final_cond.specs.declared.read.Follow.{Follow}
 use Rattle.final_cond.specs.declared.read.Follow.TheVariants as follows
 use Rattle.final_cond.specs.Conditions.{TermSeen}

@@ -6,7 +6,8 @@ use std::alloc::Global;
 use std::test::Fail;
 
 /// The text `sb`, as other tools lay it out.
-const FROM_ELSEWHERE: &str = "X86 sb\n{ x=0;\n  y=0; }\nP0|P1;\nMOV [x] , $1|MOV [y],$1;\n(* the reads *)\nMOV  EAX,[y]|MOV EAX,[x] ;\n~exists (0:EAX=0\n/\\ x=1)\n";
+const FROM_ELSEWHERE: &str =
+    "X86 sb\n{ x=0;\n  y=0; }\nP0|P1;\nMOV [x] , $1|MOV [y],$1;\n(* the reads *)\nMOV  EAX,[y]|MOV EAX,[x] ;\n~exists (0:EAX=0\n/\\ x=1)\n";
 
 /// Faulty texts, with the line and the kind of the fault.
 const FAULTY: [(&str, u64, TestKind); 18] = [
@@ -34,7 +35,11 @@ const FAULTY: [(&str, u64, TestKind); 18] = [
     ("X86 a\n{}\nP0;\nL:;\n", 4, TestKind::BadInstruction),
     ("X86 a\n{}\nP0;\nMFENCE;\n", 5, TestKind::EndMissing),
     ("X86 a\n{}\nP0;\nexists (x=01)\n", 4, TestKind::BadCondition),
-    ("X86 a\n{}\nP0;\nexists (1:EAX=0)\n", 4, TestKind::BadCondition),
+    (
+        "X86 a\n{}\nP0;\nexists (1:EAX=0)\n",
+        4,
+        TestKind::BadCondition,
+    ),
     (
         "X86 a\r\n{}\r\nP0;\r\nMFENCE;\r\nexists\r\n(x=1))",
         5,

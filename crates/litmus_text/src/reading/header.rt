@@ -75,10 +75,7 @@ fn name_in_header<'a>(
 
 /// The name in the header, which is of this architecture.
 #[tactic(auto, unfolding(crate::specs::Header::header_read))]
-pub(crate) fn read_header(
-    arch: ArchName,
-    text: Text<'_>,
-) -> Result<(&[u8], Text<'_>), TextError>
+pub(crate) fn read_header(arch: ArchName, text: Text<'_>) -> Result<(&[u8], Text<'_>), TextError>
     ensures { Gives (λ x. (x.0.now, text_left x.1)) result (header_read arch (text_left text.entry)) }
 {
     match text.lines() {

@@ -86,11 +86,13 @@ impl Begun {
         match item {
             None => Err(ReadError::Text(bad(TestKind::BadInit, first))),
             Some(Item::Empty) => Ok(()),
-            Some(Item::Register {
-                thread,
-                register,
-                worth,
-            }) => {
+            Some(
+                Item::Register {
+                    thread,
+                    register,
+                    worth,
+                },
+            ) => {
                 if self.is_given(*thread, *register) {
                     return Err(ReadError::Text(bad(TestKind::BadInit, first)));
                 }

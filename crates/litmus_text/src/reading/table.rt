@@ -98,10 +98,7 @@ fn has_threads(begun: &Begun, threads: usize) -> bool
 
 /// The number of threads that the header of the table names.
 #[tactic(auto, unfolding(crate::specs::Table::head_read))]
-pub(crate) fn read_head<'a>(
-    begun: &Begun,
-    text: Text<'a>,
-) -> Result<(usize, Text<'a>), TextError>
+pub(crate) fn read_head<'a>(begun: &Begun, text: Text<'a>) -> Result<(usize, Text<'a>), TextError>
     ensures head { Gives (λ x. (x.0, text_left x.1)) result (head_read (begun_seen begun.now) (text_left text.entry)) }
     ensures few { IfOk result (λ x. x.0 ≤ MAX_THREADS) }
 {

@@ -90,8 +90,7 @@ fn put_left<A: Arch>(
 }
 
 /// What a part of the condition gives, or the fault at the line where the condition begins.
-pub(crate) fn at_begin<'a, T>(begins: u64, read: Result<T, CondFault<'a>>) -> Result<T, TextError>
-{
+pub(crate) fn at_begin<'a, T>(begins: u64, read: Result<T, CondFault<'a>>) -> Result<T, TextError> {
     match read {
         Ok(part) => Ok(part),
         Err(_) => Err(bad(TestKind::BadCondition, begins)),
@@ -111,7 +110,12 @@ fn read_term<'a, A: Arch>(
         Ok(left) => left,
         Err(_) => return Err(bad(TestKind::BadCondition, here.begins)),
     };
-    put_left::<A>(here, here.line_of_rest(after_blanks(text)), &left, mentioned)?;
+    put_left::<A>(
+        here,
+        here.line_of_rest(after_blanks(text)),
+        &left,
+        mentioned,
+    )?;
     match read_right(rest) {
         Ok((value, rest)) => Ok((Term { left, value }, rest)),
         Err(_) => Err(bad(TestKind::BadCondition, here.begins)),

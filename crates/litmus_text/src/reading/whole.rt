@@ -31,11 +31,7 @@ pub fn arch_of(bytes: &[u8]) -> Result<ArchName, TextError>
 }
 
 /// The initial values of a thread.
-fn values_of(
-    alloc: Global,
-    thread: u8,
-    values: &[Given],
-) -> Result<Vec<(u8, Value)>, AllocError>
+fn values_of(alloc: Global, thread: u8, values: &[Given]) -> Result<Vec<(u8, Value)>, AllocError>
     ensures { IfOk result (λ init. init.items ≡ values_of thread values.now) }
 {
     let mut init = Vec::new(alloc);

@@ -1,5 +1,4 @@
-use Rattle.std.proofs.Common.{sym, ap, ◌∙◌, Err, refl, arith, length, ◌≡◌, ◌+◌, ◌∷◌}
-use Rattle.std.proofs.lemmas.Bool.{ltb-true, ltb-false}
+use Rattle.std.proofs.Common.{sym, ap, ◌∙◌, Err, refl, arith}
 use Rattle.litmus_text.specs.declared.limits.TheConstants.{MAX_THREADS}
 use Rattle.litmus_text.specs.Views.{pieces_left}
 use Rattle.litmus_text.proofs.TableLoops.{heads_end, heads_bad, heads_full, heads_more, below_is, not_below_is}

@@ -1,4 +1,4 @@
-use Rattle.std.proofs.Common.{◌≡◌, ◌≢◌, ◌≤◌, ◌+◌, ◌-◌, ◌++◌, ℕ, false, nat_eq, refl, ◌∷◌, [], map, length, ◌∙◌, sym, ap, Err, arith}
+use Rattle.std.proofs.Common.{◌≡◌, ◌≢◌, ◌≤◌, ◌+◌, ◌-◌, ◌++◌, ℕ, false, nat_eq, ◌∷◌, [], map, length, ◌∙◌, sym, ap, Err, arith}
 use Rattle.std.proofs.lemmas.Bool.{eqb-true, eqb-false}
 use Rattle.std.proofs.lemmas.List.{map_push}
 use Rattle.final_cond.specs.declared.cond.TheConstants.{MAX_TERMS}
@@ -38,7 +38,7 @@ pub returns-in-Ok-End-default : goal.returns-in-Ok-End-default
 returns-in-Ok-End-default g c =
     let f : map term_view c.push.new.self.items ≡ map term_view c.terms.terms.items ++ term_view c.in-Ok.term.0 ∷ [] = rw c.push.ensures.items (map_push term_view c.terms.terms.items c.in-Ok.term.0) in
     let r : MAX_TERMS - length c.terms.terms.items ≡ (MAX_TERMS - length c.push.new.self.items) + 1 =
-        room_left (length c.terms.terms.items) (length c.push.new.self.items) (sym c.if-is_full.ensures.value) c.if-is_full.ensures.fits c.push.ensures.len in
+    room_left (length c.terms.terms.items) (length c.push.new.self.items) (sym c.if-is_full.ensures.value) c.if-is_full.ensures.fits c.push.ensures.len in
     ends_at_follow g.A.Arch.writing (setting_seen c.args.here.now) (MAX_TERMS - length c.terms.terms.items) (mentioned_seen c.terms.mentioned) c.terms.rest.now
     (map term_view c.terms.terms.items) (map term_view c.push.new.self.items) (term_read_seen c.read_term.new.mentioned c.in-Ok.term) c.in-Ok-End-default.field-0-0 c.in-Ok-End-default.behind.now
     (terms_here g.A.Arch.writing (setting_seen c.args.here.now) MAX_TERMS (mentioned_seen c.args.mentioned.now) c.args.text.now)
@@ -47,7 +47,7 @@ returns-in-Ok-End-default g c =
 pub returns-in-Err-read_follow : goal.returns-in-Err-read_follow
 returns-in-Err-read_follow g c =
     let r : MAX_TERMS - length c.terms.terms.items ≡ (MAX_TERMS - length c.push.new.self.items) + 1 =
-        room_left (length c.terms.terms.items) (length c.push.new.self.items) (sym c.if-is_full.ensures.value) c.if-is_full.ensures.fits c.push.ensures.len in
+    room_left (length c.terms.terms.items) (length c.push.new.self.items) (sym c.if-is_full.ensures.value) c.if-is_full.ensures.fits c.push.ensures.len in
     stops_at_follow g.A.Arch.writing (setting_seen c.args.here.now) (MAX_TERMS - length c.terms.terms.items) (mentioned_seen c.terms.mentioned) c.terms.rest.now (map term_view c.terms.terms.items)
     (term_read_seen c.read_term.new.mentioned c.in-Ok.term) (fault_view c.in-Err-read_follow.field-0)
     (terms_here g.A.Arch.writing (setting_seen c.args.here.now) MAX_TERMS (mentioned_seen c.args.mentioned.now) c.args.text.now) (omega arith) c.in-Ok.ensures c.in-Err-read_follow.ensures c.terms.invariant

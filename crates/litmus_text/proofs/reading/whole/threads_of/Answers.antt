@@ -1,7 +1,5 @@
-use Rattle.std.proofs.Common.{◌≡◌, ◌++◌, ◌∷◌, ◌+◌, [], map, take, length, length-append, arith}
+use Rattle.std.proofs.Common.{◌∷◌, [], length-append, arith}
 use Rattle.litmus_text.specs.InitialState.{Begun}
-use Rattle.litmus_text.specs.TestReading.{threads_of}
-use Rattle.litmus_text.specs.Views.{column_seen, thread_seen}
 use Rattle.litmus_text.proofs.PartLoops.{thread_step}
 use Rattle.litmus_text.proofs.reading.whole.threads_of.Goals as goal
 
