@@ -1,8 +1,9 @@
+use crate::diyone::TESTS;
 use arch_x86::X86;
 use diy_io::NoMemory;
 use litmus_text::{ReadError, TestKind, TextError, arch_of, read_test};
 use relax_edges::ArchName;
-use std::alloc::Global;
+use std::alloc::{AllocError, Global};
 use std::test::Fail;
 
 /// The text `sb`, as other tools lay it out.
@@ -80,5 +81,78 @@ fn a_text_from_elsewhere_is_read(rt: HostRuntime) -> Result<(), Fail> {
     assert_eq!(rt; test.init(0).len(), 0);
     assert_eq!(rt; test.cond().terms.len(), 2);
     assert_eq!(rt; arch_of(FROM_ELSEWHERE.as_bytes()), Ok(ArchName::X86));
+    Ok(())
+}
+
+#[test]
+fn printed_tests_are_read(rt: HostRuntime) -> Result<(), Fail> {
+    for (line, text) in TESTS {
+        assert_eq!(rt; fault(rt.alloc(), text)?, None, "{line}");
+    }
+    Ok(())
+}
+
+/// A text with a piece in it so many times.
+fn repeated(
+    alloc: Global,
+    front: &str,
+    piece: &str,
+    count: usize,
+    back: &str,
+) -> Result<String, AllocError> {
+    let mut text = String::from_str(alloc, front)?;
+    for _ in 0..count {
+        text.push_str(piece)?;
+    }
+    text.push_str(back)?;
+    Ok(text)
+}
+
+/// A front, a piece and a back, how often the piece may stand, and the line of one too many.
+const LIMITS: [(&str, &str, &str, usize, u64); 4] = [
+    (
+        "X86 a\n{}\nP0;\n",
+        "MFENCE;\n",
+        "exists (x=0)\n",
+        1024,
+        1028,
+    ),
+    (
+        "X86 a\n{}\nP0;\n",
+        "MOV [x],$1;\n",
+        "exists (x=0)\n",
+        64,
+        68,
+    ),
+    ("X86 a\n{}\nP0;\n\nexists (x=0", "\n/\\ y=0", ")", 127, 5),
+    ("X86 a\n{}\nP0;\nexists (x=0)\n", "\n", "", 262_118, 1),
+];
+
+#[test]
+fn one_past_a_limit_is_too_large(rt: HostRuntime) -> Result<(), Fail> {
+    for (front, piece, back, most, line) in LIMITS {
+        let fits = repeated(rt.alloc(), front, piece, most, back)?;
+        assert_eq!(rt; fault(rt.alloc(), fits.as_str())?, None, "{front}");
+        let exceeds = repeated(rt.alloc(), front, piece, most + 1, back)?;
+        let kind = TestKind::TooLarge;
+        assert_eq!(rt;
+            fault(rt.alloc(), exceeds.as_str())?,
+            Some(TextError { line, kind }),
+            "{front}"
+        );
+    }
+    Ok(())
+}
+
+#[test]
+fn a_text_cut_off_is_faulty(rt: HostRuntime) -> Result<(), Fail> {
+    let text = FROM_ELSEWHERE.as_bytes();
+    for end in 0..text.len() - 1 {
+        let is_faulty = matches!(
+            read_test::<X86>(rt.alloc(), &text[..end]),
+            Err(ReadError::Text(_))
+        );
+        assert!(rt; is_faulty, "{end}");
+    }
     Ok(())
 }
