@@ -10,9 +10,7 @@ use crate::errors::{TestKind, TextError, bad};
 use crate::reading::joined::Joined;
 use arch_trait::{Arch, Places, after_blanks, register_named};
 use arrayvec::ArrayVec;
-use final_cond::{
-    CondFault, Follow, Left, MAX_TERMS, PlaceName, Term, read_follow, read_left, read_right,
-};
+use final_cond::{Follow, Left, MAX_TERMS, PlaceName, Term, read_follow, read_left, read_right};
 
 /// The threads of the table, the line where the condition begins, and its text.
 #[derive(Debug, Drop)]
@@ -86,14 +84,6 @@ fn put_left<A: Arch>(
             }
         }
         Left::Place { name } => put_place(here.begins, line, name, mentioned),
-    }
-}
-
-/// What a part of the condition gives, or the fault at the line where the condition begins.
-pub(crate) fn at_begin<'a, T>(begins: u64, read: Result<T, CondFault<'a>>) -> Result<T, TextError> {
-    match read {
-        Ok(part) => Ok(part),
-        Err(_) => Err(bad(TestKind::BadCondition, begins)),
     }
 }
 
