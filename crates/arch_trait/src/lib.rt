@@ -26,7 +26,9 @@ pub use operand::{
     read_label_alone, read_to_label,
 };
 pub use places::{MAX_PLACES, Places};
-pub use reading::{InstrError, Named, Operands, Raw};
+pub use reading::{
+    InstrError, Named, Operands, Raw, after_blanks, before_blanks, split_word, trimmed,
+};
 pub use regs::{Links, MAX_REGISTERS, Regs};
 pub use shape::shape_of;
 pub use step::{MAX_STEPS, Shape, Step};

@@ -71,7 +71,7 @@ fn is_blank(byte: u8) -> bool
 
 /// The text without the blanks at its front.
 #[tactic(auto, using(crate::proofs::Blanks::blank_first, crate::proofs::Blanks::no_blank_first, crate::proofs::Blanks::nothing_first))]
-pub(crate) fn after_blanks(text: &[u8]) -> &[u8]
+pub fn after_blanks(text: &[u8]) -> &[u8]
     ensures { result.now ≡ unblanked text.now }
 {
     let mut rest = text;
@@ -86,7 +86,7 @@ pub(crate) fn after_blanks(text: &[u8]) -> &[u8]
 
 /// The text without the blanks at its end.
 #[tactic(auto, using(crate::proofs::Blanks::blank_last, crate::proofs::Blanks::no_blank_last, crate::proofs::Blanks::nothing_last))]
-fn before_blanks(text: &[u8]) -> &[u8]
+pub fn before_blanks(text: &[u8]) -> &[u8]
     ensures { result.now ≡ before_blanks text.now }
 {
     let mut rest = text;
@@ -99,7 +99,8 @@ fn before_blanks(text: &[u8]) -> &[u8]
     rest
 }
 
-fn trimmed(text: &[u8]) -> &[u8]
+/// The text without the blanks at both ends.
+pub fn trimmed(text: &[u8]) -> &[u8]
     ensures { result.now ≡ trimmed text.now }
 {
     before_blanks(after_blanks(text))
@@ -107,7 +108,7 @@ fn trimmed(text: &[u8]) -> &[u8]
 
 /// The first word of a text that doesn't begin with a blank, and what stands behind it.
 #[tactic(auto, using(final_cond::proofs::RunLaws::run_stops, final_cond::proofs::RunLaws::run_ends, final_cond::proofs::RunLaws::none_passed, final_cond::proofs::RunLaws::one_passed))]
-pub(crate) fn split_word(text: &[u8]) -> (&[u8], &[u8])
+pub fn split_word(text: &[u8]) -> (&[u8], &[u8])
     ensures word { result.0.now ≡ run_of is_inked text.now }
     ensures rest { result.1.now ≡ after_run is_inked text.now }
 {

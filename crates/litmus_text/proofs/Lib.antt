@@ -21,3 +21,11 @@ pub mod CondBack
 pub mod WholeBack
 pub mod MentionedBack
 pub mod FormedFits
+pub mod CutLaws
+pub mod LineLaws
+pub mod ItemLoops
+pub mod TableLoops
+pub mod TermLoops
+pub mod ItemLaws
+pub mod PartLoops
+pub mod GiveLaws

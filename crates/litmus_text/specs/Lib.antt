@@ -18,3 +18,5 @@ pub mod Items
 pub mod Terms
 pub mod Reread
 pub mod Mentioned
+pub mod Gives
+pub mod Views

@@ -15,6 +15,7 @@ use Rattle.arch_trait.specs.Writing.{Writing}
 use Rattle.litmus_text.specs.declared.errors.TestKind.TheVariants.{BadTable, BadInstruction, BadLabel, TooLarge, EndMissing}
 use Rattle.litmus_text.specs.declared.errors.TextError.{TextError}
 use Rattle.litmus_text.specs.declared.limits.TheConstants.{MAX_THREADS, MAX_ROWS, MAX_ACCESSES}
+use Rattle.litmus_text.specs.declared.reading.table.Placed.{Placed}
 use Rattle.litmus_text.specs.Lines.{Lines, ends, line, Read, ◌>>=◌, bad}
 use Rattle.litmus_text.specs.Cuts.{is_nil, cut_at, pieces}
 use Rattle.litmus_text.specs.InitialState.{Begun}
@@ -59,11 +60,6 @@ head_read begun (line n text rest) = do
   threads ← heads_read n (cells_of text).whole 0 (cells_of text).texts
   there ← threads_there n begun threads
   Ok (there, rest)
-
--- an operation and the line where it stands
-pub record Placed : Type 0 where
-  pub op : Micro
-  pub at_line : ℕ
 
 -- the column of a thread so far, and the names of its labels
 pub record Column : Type 0 where

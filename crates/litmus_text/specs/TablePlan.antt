@@ -5,7 +5,8 @@ use Rattle.std.specs.List.{range_with_len}
 use Rattle.micro_ops.specs.declared.operation.Micro.{Micro}
 use Rattle.arch_trait.specs.LabelOrder.{labels_in}
 use Rattle.arch_trait.specs.Writing.{label_name}
-use Rattle.litmus_text.specs.Table.{Placed, Column}
+use Rattle.litmus_text.specs.declared.reading.table.Placed.{Placed}
+use Rattle.litmus_text.specs.Table.{Column}
 use Rattle.litmus_text.specs.Placing.{renumbered}
 
 -- operations with their lines, from a line on

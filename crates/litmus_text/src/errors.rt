@@ -1,3 +1,8 @@
+ghost use Rattle.std.specs.Prelude.{◌≡◌};
+ghost use Rattle.litmus_text.specs.declared.errors.ReadError.TheVariants.{Text, NoMemory};
+
+use std::alloc::{AllocError, AllocFailed};
+
 /// What is faulty or missing in the text of a test.
 #[derive(Clone, Copy, Debug, PartialEq, Eq)]
 pub enum TestKind {
@@ -30,4 +35,44 @@ pub struct TextError {
     /// The number of the line, from 1. All lines are counted.
     pub line: u64,
     pub kind: TestKind,
+}
+
+/// Why a text can't be read as a test.
+#[derive(Clone, Copy, Debug, PartialEq, Eq)]
+pub enum ReadError {
+    /// The text is no test.
+    Text(TextError),
+    /// There is no memory for the test.
+    NoMemory,
+}
+
+impl From<TextError> for ReadError {
+    ghost from_gives = { λ fault error. error ≡ Text fault };
+
+    fn from(fault: TextError) -> ReadError {
+        ReadError::Text(fault)
+    }
+}
+
+impl From<AllocError> for ReadError {
+    ghost from_gives = { λ _ error. error ≡ NoMemory };
+
+    fn from(_error: AllocError) -> ReadError {
+        ReadError::NoMemory
+    }
+}
+
+impl<T: Drop> From<AllocFailed<T>> for ReadError {
+    ghost from_gives = { λ _ error. error ≡ NoMemory };
+
+    fn from(_error: AllocFailed<T>) -> ReadError {
+        ReadError::NoMemory
+    }
+}
+
+/// A fault of this kind at a line.
+pub(crate) fn bad(kind: TestKind, line: u64) -> TextError
+    ensures { result ≡ record { line = line; kind = kind } }
+{
+    TextError { line, kind }
 }

@@ -8,12 +8,14 @@ mod initial;
 mod law;
 mod limits;
 mod print;
+mod reading;
 mod table;
 mod test;
 mod write;
 
-pub use errors::{TestKind, TextError};
+pub use errors::{ReadError, TestKind, TextError};
 pub use law::printed_reads_back;
 pub use limits::{MAX_ACCESSES, MAX_NAME, MAX_ROWS, MAX_TEXT, MAX_THREADS};
 pub use print::print_test;
+pub use reading::{ReadTest, arch_of, read_test};
 pub use test::Test;

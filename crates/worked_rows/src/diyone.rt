@@ -4,7 +4,7 @@ use diy_tools::run;
 use std::test::Fail;
 
 /// Words of diyone7, and the test that they print.
-const TESTS: [(&str, &str); 24] = [
+pub const TESTS: [(&str, &str); 24] = [
     (
         "diyone7 -arch X86 -name SB PodWR Fre PodWR Fre",
         "X86 SB\n\"PodWR Fre PodWR Fre\"\n{\n}\n P0          | P1          ;\n MOV [x],$1  | MOV [y],$1  ;\n MOV EAX,[y] | MOV EAX,[x] ;\nexists (0:EAX=0 /\\ 1:EAX=0)\n",

@@ -5,3 +5,5 @@
 mod diyone;
 #[cfg(test)]
 mod ran;
+#[cfg(test)]
+mod reading;

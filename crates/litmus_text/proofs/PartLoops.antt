@@ -1,0 +1,110 @@
+-- The values, the operations and the threads of a test, as loops make them.
+use Rattle.std.proofs.Common.{◌≡◌, ◌==◌, ◌+◌, ◌<◌, ℕ, suc, List, [], ◌∷◌, ◌++◌, Option, Ok, Err, true, false, length, length-take, map, get_or, take, drop, refl, sym, ap, ◌∙◌, arith, add-zero}
+use Rattle.std.specs.List.{filter, enumerate_from}
+use Rattle.std.proofs.lemmas.List.Elements.{filter-append}
+use Rattle.std.proofs.Math.Seq.{take-append_seam}
+use Rattle.std.proofs.lemmas.List.{map_push, take_more, append-nil, length-map}
+use Rattle.std.specs.Prelude.{Bool}
+use Rattle.relax_edges.specs.declared.kinds.Value.{Value}
+use Rattle.litmus_text.specs.declared.errors.TextError.{TextError}
+use Rattle.std.proofs.Math.ListN.{get_or-map}
+use Rattle.relax_edges.specs.declared.kinds.ArchName.{ArchName}
+use Rattle.arch_trait.specs.Writing.{Writing}
+use Rattle.litmus_text.specs.Header.{after_settings, is_setting, header_read, quote_read}
+use Rattle.litmus_text.specs.declared.reading.table.Column.{Column as ThreadColumn}
+use Rattle.litmus_text.specs.declared.reading.test.Thread.{Thread}
+use Rattle.litmus_text.specs.Views.{column_seen, thread_seen, rest_read, table_read, body_read}
+use Rattle.litmus_text.specs.Lines.{Lines, ends, line}
+use Rattle.litmus_text.specs.InitialState.{Begun}
+use Rattle.litmus_text.specs.Table.{Column, among, rows_read, no_columns, all_labels_judged}
+use Rattle.litmus_text.specs.TestReading.{ThreadRead, values_of, threads_of, lines_read}
+
+-- the lines of settings
+pub settings_more : (n : ℕ) (text : List ℕ) (rest ls : Lines) → line n text rest ≡ ls → is_setting text ≡ true → after_settings rest ≡ after_settings ls
+unfolding after_settings
+settings_more n text rest ls e h = rw (sym e, h) refl
+
+pub settings_stop : (n : ℕ) (text : List ℕ) (rest ls : Lines) → line n text rest ≡ ls → is_setting text ≡ false → after_settings ls ≡ ls
+unfolding after_settings
+settings_stop n text rest ls e h = rw (sym e, h) refl
+
+pub settings_end : (n : ℕ) (ls : Lines) → ends n ≡ ls → after_settings ls ≡ ls
+unfolding after_settings
+settings_end n ls e = rw (sym e) refl
+
+filter_push : {A : Type 0} (p : A → Bool) (xs : List A) (x : A) → filter p (xs ++ x ∷ []) ≡ filter p xs ++ filter p (x ∷ [])
+filter_push p xs x = filter-append p xs (x ∷ [])
+
+-- a value of the thread, and one of another
+pub value_more : (thread : ℕ) (values : List (ℕ × (ℕ × Value))) (i : ℕ) (d : ℕ × (ℕ × Value)) → i < length values → (get_or values i d).0 == thread ≡ true
+    → values_of thread (take (i + 1) values) ≡ values_of thread (take i values) ++ (get_or values i d).1 ∷ []
+value_more thread values i d inside h =
+    let p = λ (v : ℕ × (ℕ × Value)). v.0 == thread in
+    ap (values_of thread) (take_more values i d inside) ∙ ap (map (λ v. v.1)) (filter_push p (take i values) (get_or values i d)) ∙ rw h (map_push (λ v. v.1) (filter p (take i values)) (get_or values i d))
+
+pub value_other : (thread : ℕ) (values : List (ℕ × (ℕ × Value))) (i : ℕ) (d : ℕ × (ℕ × Value)) → i < length values → (get_or values i d).0 == thread ≡ false
+    → values_of thread (take (i + 1) values) ≡ values_of thread (take i values)
+value_other thread values i d inside h =
+    let p = λ (v : ℕ × (ℕ × Value)). v.0 == thread in
+    ap (values_of thread) (take_more values i d inside) ∙ ap (map (λ v. v.1)) (filter_push p (take i values) (get_or values i d)) ∙ rw h (ap (map (λ v. v.1)) (append-nil (filter p (take i values))))
+
+numbered_push : {A : Type 0} (n : ℕ) (xs : List A) (x : A) → enumerate_from n (xs ++ x ∷ []) ≡ enumerate_from n xs ++ (n + length xs, x) ∷ []
+numbered_push n [] x = ap (λ k. (k, x) ∷ []) (sym (add-zero n))
+numbered_push n (y ∷ xs) x = let e : (n + 1) + length xs ≡ n + suc (length xs) = omega arith in ap (λ l. (n, y) ∷ l) (numbered_push (n + 1) xs x ∙ ap (λ k. enumerate_from (n + 1) xs ++ (k, x) ∷ []) e)
+
+-- a thread more
+pub thread_more : (begun : Begun) (columns : List Column) (i : ℕ) (d : Column) → i < length columns
+    → threads_of begun (take (i + 1) columns) ≡ threads_of begun (take i columns) ++ (record { init = values_of i begun.values; code = map (λ placed. placed.op) (get_or columns i d).ops }) ∷ []
+thread_more begun columns i d inside =
+    let f : ℕ × Column → ThreadRead = λ c. record { init = values_of c.0 begun.values; code = map (λ placed. placed.op) c.1.ops } in
+    let n : 0 + length (take i columns) ≡ i = omega (arith, length-take i columns) in
+    ap (threads_of begun) (take_more columns i d inside) ∙ ap (map f) (numbered_push 0 (take i columns) (get_or columns i d) ∙ ap (λ k. enumerate_from 0 (take i columns) ++ (k, get_or columns i d) ∷ []) n)
+    ∙ map_push f (enumerate_from 0 (take i columns)) (i, get_or columns i d)
+
+-- a thread more, of the code's columns
+pub thread_step : (begun : Begun) (xs : List ThreadColumn) (i : ℕ) (d : ThreadColumn) (threads : List Thread) (t : Thread) → i < length xs → d ≡ get_or xs i d
+    → thread_seen t ≡ record { init = values_of i begun.values; code = map (λ placed. placed.op) d.ops.items }
+    → map thread_seen threads ≡ threads_of begun (take i (map column_seen xs)) → map thread_seen (threads ++ t ∷ []) ≡ threads_of begun (take (i + 1) (map column_seen xs))
+thread_step begun xs i d threads t inside is e so_far =
+    let k : i < length (map column_seen xs) = rw length-map inside in
+    let g : get_or (map column_seen xs) i (column_seen d) ≡ column_seen d = get_or-map column_seen xs i d ∙ ap column_seen (sym is) in
+    let m = thread_more begun (map column_seen xs) i (column_seen d) k in
+    map_push thread_seen threads t ∙ rw (so_far, e) (sym (m ∙ rw g refl))
+
+-- a test from its table on, of the columns of the code
+pub table_is : (w : Writing) (l4 l5 : Lines) (name : List ℕ) (quoted : Option (List ℕ)) (begun : Begun) (threads count : ℕ) (c0 c r j t : List ThreadColumn) (names : List (List ℕ))
+    → map column_seen c0 ≡ no_columns threads → c ≡ c0 → rows_read w 0 (among begun.names (map column_seen c)) l4 ≡ Ok (among names (map column_seen r), l5) → j ≡ r → all_labels_judged (map column_seen j) ≡ Ok tt
+    → t ≡ r → count ≡ threads → (values : List (ℕ × (ℕ × Value))) → values ≡ begun.values
+    → table_read w name quoted begun threads l4 ≡ rest_read w name quoted (record { names = []; values = values }) (map column_seen t) count names l5
+unfolding table_read rest_read
+table_is w l4 l5 name quoted begun threads count c0 c r j t names n m e p f q k values u =
+    let a : rows_read w 0 (among begun.names (no_columns threads)) l4 ≡ Ok (among names (map column_seen r), l5) = ap (λ z. rows_read w 0 (among begun.names z) l4) (sym (ap (map column_seen) m ∙ n)) ∙ e in
+    let b : all_labels_judged (map column_seen r) ≡ Ok tt = ap (λ z. all_labels_judged (map column_seen z)) (sym p) ∙ f in
+    rw (a, b, q, k, u) refl
+
+-- an error of a part, on the way to it
+pub table_rows_bad : (w : Writing) (l4 : Lines) (name : List ℕ) (quoted : Option (List ℕ)) (begun : Begun) (threads : ℕ) (c0 c : List ThreadColumn) (x : TextError)
+    → map column_seen c0 ≡ no_columns threads → c ≡ c0 → rows_read w 0 (among begun.names (map column_seen c)) l4 ≡ Err x → table_read w name quoted begun threads l4 ≡ Err x
+unfolding table_read
+table_rows_bad w l4 name quoted begun threads c0 c x n m e =
+    let a : rows_read w 0 (among begun.names (no_columns threads)) l4 ≡ Err x = ap (λ z. rows_read w 0 (among begun.names z) l4) (sym (ap (map column_seen) m ∙ n)) ∙ e in
+    rw a refl
+
+pub table_labels_bad : (w : Writing) (l4 l5 : Lines) (name : List ℕ) (quoted : Option (List ℕ)) (begun : Begun) (threads : ℕ) (c0 c r j : List ThreadColumn) (names : List (List ℕ)) (x : TextError)
+    → map column_seen c0 ≡ no_columns threads → c ≡ c0 → rows_read w 0 (among begun.names (map column_seen c)) l4 ≡ Ok (among names (map column_seen r), l5) → j ≡ r → all_labels_judged (map column_seen j) ≡ Err x
+    → table_read w name quoted begun threads l4 ≡ Err x
+unfolding table_read
+table_labels_bad w l4 l5 name quoted begun threads c0 c r j names x n m e p f =
+    let a : rows_read w 0 (among begun.names (no_columns threads)) l4 ≡ Ok (among names (map column_seen r), l5) = ap (λ z. rows_read w 0 (among begun.names z) l4) (sym (ap (map column_seen) m ∙ n)) ∙ e in
+    let b : all_labels_judged (map column_seen r) ≡ Err x = ap (λ z. all_labels_judged (map column_seen z)) (sym p) ∙ f in
+    rw (a, b) refl
+
+-- the body of a test behind its header
+pub lines_body : (arch : ArchName) (w : Writing) (ls l1 l2 l2' : Lines) (name : List ℕ) (quoted : Option (List ℕ)) → header_read arch ls ≡ Ok (name, l1) → quote_read l1 ≡ Ok (quoted, l2) → l2' ≡ after_settings l2
+    → lines_read arch w ls ≡ body_read w name quoted l2'
+unfolding lines_read body_read table_read rest_read
+lines_body arch w ls l1 l2 l2' name quoted a b s = rw (a, b, s) refl
+
+-- what was written through a slice of a whole vector is its content
+pub written_back : (len : ℕ) (r items : List ThreadColumn) → len ≡ length r → take len (r ++ drop (length r) items) ≡ r
+written_back len r items e = ap (λ n. take n (r ++ drop (length r) items)) e ∙ take-append_seam r (drop (length r) items)

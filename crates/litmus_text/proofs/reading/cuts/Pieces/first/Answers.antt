@@ -1,0 +1,13 @@
+use Rattle.std.proofs.Common.{sym, ap, ◌∙◌, ◌∷◌}
+use Rattle.litmus_text.specs.Views.{pieces_if}
+use Rattle.litmus_text.proofs.CutLaws.{pieces_cut}
+use Rattle.litmus_text.proofs.CutBack.{piece_last}
+use Rattle.litmus_text.proofs.reading.cuts.Pieces.first.Goals as goal
+
+pub returns-in-Some : goal.returns-in-Some
+returns-in-Some c =
+    ap (pieces_if c.args.self.sign) c.in_ok-text.was ∙ pieces_cut c.args.self.sign c.in_ok-text.text.now c.in-Some.piece.now c.in-Some.behind.now c.in-Some.ensures.parts
+    ∙ ap (λ ps. c.in-Some.piece.now ∷ ps) (sym c.new.ensures)
+
+pub returns-in-None : goal.returns-in-None
+returns-in-None c = ap (pieces_if c.args.self.sign) c.in_ok-text.was ∙ piece_last c.args.self.sign c.in_ok-text.text.now c.in-None.ensures.parts

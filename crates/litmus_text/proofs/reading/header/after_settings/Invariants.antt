@@ -1,0 +1,10 @@
+use Rattle.std.proofs.Common.{◌≡◌, length}
+use Rattle.litmus_text.specs.Header.{after_settings}
+use Rattle.litmus_text.specs.Views.{text_left}
+use Rattle.litmus_text.proofs.reading.header.after_settings.Given as goal
+
+abbrev pub invariant-settings : goal.invariant-settings
+invariant-settings l = after_settings (text_left l.left) ≡ after_settings (text_left l.fn.text)
+
+abbrev pub decreases-settings : goal.decreases-settings
+decreases-settings l = length l.left.bytes.now

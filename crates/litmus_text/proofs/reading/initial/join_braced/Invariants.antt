@@ -1,0 +1,10 @@
+use Rattle.std.proofs.Common.{◌≡◌, length}
+use Rattle.litmus_text.specs.InitialState.{braced}
+use Rattle.litmus_text.specs.Views.{joined_seen, text_left}
+use Rattle.litmus_text.proofs.reading.initial.join_braced.Given as goal
+
+abbrev pub invariant-lines : goal.invariant-lines
+invariant-lines l = braced (joined_seen l.joined) l.number l.text (text_left l.rest) ≡ braced (joined_seen l.fn.joined) l.fn.number l.fn.text (text_left l.fn.rest)
+
+abbrev pub decreases-lines : goal.decreases-lines
+decreases-lines l = length l.rest.bytes.now

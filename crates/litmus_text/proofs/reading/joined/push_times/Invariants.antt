@@ -1,0 +1,6 @@
+use Rattle.std.proofs.Common.{◌≡◌, ◌++◌}
+use Rattle.std.proofs.Math.ListN.{replicate}
+use Rattle.litmus_text.proofs.reading.joined.push_times.Given as goal
+
+abbrev pub invariant-loop : goal.invariant-loop
+invariant-loop l = l.numbers.items ≡ l.fn.numbers.items ++ replicate l.counter l.number

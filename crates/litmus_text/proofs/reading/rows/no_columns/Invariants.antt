@@ -1,0 +1,7 @@
+use Rattle.std.proofs.Common.{◌≡◌, map}
+use Rattle.litmus_text.specs.Table.{no_columns}
+use Rattle.litmus_text.specs.Views.{column_seen}
+use Rattle.litmus_text.proofs.reading.rows.no_columns.Given as goal
+
+abbrev pub invariant-loop : goal.invariant-loop
+invariant-loop l = map column_seen l.columns.items ≡ no_columns l.counter

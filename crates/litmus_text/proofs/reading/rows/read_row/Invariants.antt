@@ -1,0 +1,10 @@
+use Rattle.std.proofs.Common.{◌≡◌, map, take, drop}
+use Rattle.litmus_text.specs.Table.{row_read}
+use Rattle.litmus_text.specs.Views.{pieces_left, column_seen}
+use Rattle.litmus_text.proofs.TableLoops.{carried}
+use Rattle.litmus_text.proofs.reading.rows.read_row.Given as goal
+
+abbrev pub invariant-loop-i : goal.invariant-loop-i
+invariant-loop-i g l =
+    carried (take l.i (map column_seen l.columns)) (row_read g.A.Arch.writing l.number l.cells.whole (pieces_left l.pieces) l.names (drop l.i (map column_seen l.columns)))
+    ≡ row_read g.A.Arch.writing l.number l.cells.whole (pieces_left l.fn.cells.pieces) l.fn.names (map column_seen l.fn.columns)

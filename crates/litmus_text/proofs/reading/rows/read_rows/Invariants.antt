@@ -1,0 +1,15 @@
+use Rattle.std.proofs.Common.{◌≡◌, ◌≤◌, length, map}
+use Rattle.litmus_text.specs.declared.limits.TheConstants.{MAX_ROWS}
+use Rattle.litmus_text.specs.Table.{among, rows_read}
+use Rattle.litmus_text.specs.Views.{text_left, column_seen}
+use Rattle.litmus_text.proofs.reading.rows.read_rows.Given as goal
+
+abbrev pub invariant-rows : goal.invariant-rows
+invariant-rows g l = record {
+  same : rows_read g.A.Arch.writing l.rows (among l.names (map column_seen l.columns)) (text_left l.left)
+      ≡ rows_read g.A.Arch.writing 0 (among l.fn.names (map column_seen l.fn.columns)) (text_left l.fn.text);
+  few : l.rows ≤ MAX_ROWS;
+}
+
+abbrev pub decreases-rows : goal.decreases-rows
+decreases-rows g l = length l.left.bytes.now

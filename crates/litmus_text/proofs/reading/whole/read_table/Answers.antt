@@ -1,0 +1,14 @@
+use Rattle.std.proofs.Common.{◌≡◌, ◌∙◌, ap, length, arith}
+use Rattle.litmus_text.specs.Views.{text_left, begun_seen}
+use Rattle.litmus_text.proofs.PartLoops.{table_is, written_back}
+use Rattle.litmus_text.proofs.reading.whole.read_table.Goals as goal
+
+pub returns : goal.returns
+returns g c =
+    let e : c.in_ok-columns.columns.len ≡ length c.read_rows.new.columns = omega (arith, c.deref_mut.ensures.len, c.read_rows.auto.columns) in
+    let b = written_back c.in_ok-columns.columns.len c.read_rows.new.columns c.in_ok-columns.columns.items e in
+    let k : length c.deref-3.result.now ≡ c.args.threads = ap length (c.deref-3.ensures.value ∙ b) ∙ (omega (arith, c.read_rows.auto.columns, ap length c.deref_mut.ensures.value, c.in_ok-columns.ensures.count)) in
+    rw (table_is g.A.Arch.writing (text_left c.args.text) (text_left c.in_ok-text.text) _ _ (begun_seen c.args.begun) c.args.threads (length c.deref-3.result.now) c.in_ok-columns.columns.items c.deref_mut.result.now
+    c.read_rows.new.columns c.deref.result.now c.deref-3.result.now c.read_rows.new.names
+    c.in_ok-columns.ensures.columns c.deref_mut.ensures.value c.in_ok-text.ensures (c.deref.ensures.value ∙ b) c.in_ok-judge_all_labels.ensures (c.deref-3.ensures.value ∙ b) k c.deref-2.result.now c.deref-2.ensures.value)
+    c.read_rest.ensures

@@ -1,0 +1,159 @@
+-- The values of the code that reads, as the definitions see them.
+-- Source: own.
+use Rattle.std.specs.Prelude.{◌≡◌, ◌<◌, ℕ, length, ◌==◌, Bool, true, not, List, [], ◌∷◌, ◌++◌, Option, Some, None, Result, Ok}
+use Rattle.std.specs.Borrow.{Bor}
+use Rattle.std.specs.List.{list_all}
+use Rattle.final_cond.specs.declared.cond.Cond.{Cond}
+use Rattle.final_cond.specs.declared.cond.Term.{Term}
+use Rattle.final_cond.specs.Names.{is_place_name}
+use Rattle.final_cond.specs.Conditions.{TermSeen, term_view, cond_view}
+use Rattle.litmus_text.specs.declared.reading.cuts.Pieces.{Pieces}
+use Rattle.litmus_text.specs.declared.reading.text.Text.{Text}
+use Rattle.litmus_text.specs.declared.reading.lines.Lines.{Lines as Left}
+use Rattle.litmus_text.specs.declared.reading.lines.Lines.TheVariants as lefts
+use Rattle.litmus_text.specs.declared.reading.joined.Joined.{Joined as JoinedText}
+use Rattle.litmus_text.specs.declared.reading.items.Worth.{Worth as TextWorth}
+use Rattle.litmus_text.specs.declared.reading.items.Worth.TheVariants as worths
+use Rattle.litmus_text.specs.declared.reading.items.Item.{Item as TextItem}
+use Rattle.litmus_text.specs.declared.reading.items.Item.TheVariants as items
+use Rattle.litmus_text.specs.declared.reading.initial.Begun.{Begun as State}
+use Rattle.litmus_text.specs.declared.reading.initial.Braced.{Braced as BracedText}
+use Rattle.litmus_text.specs.declared.reading.initial.Braced.TheVariants as ends_of
+use Rattle.litmus_text.specs.declared.reading.table.Cells.{Cells as RowCells}
+use Rattle.litmus_text.specs.declared.reading.table.Column.{Column as ThreadColumn}
+use Rattle.litmus_text.specs.declared.reading.terms.Setting.{Setting as Here}
+use Rattle.litmus_text.specs.declared.reading.terms.Mentioned.{Mentioned as Names}
+use Rattle.litmus_text.specs.declared.reading.test.Thread.{Thread}
+use Rattle.litmus_text.specs.Cuts.{pieces}
+use Rattle.litmus_text.specs.Lines.{Lines, ends, line, lines_from, ◌>>=◌}
+use Rattle.arch_trait.specs.Writing.{Writing}
+use Rattle.litmus_text.specs.declared.errors.TextError.{TextError}
+use Rattle.litmus_text.specs.Joined.{Joined}
+use Rattle.litmus_text.specs.InitialState.{Worth, a_number, a_place, Item, empty, gives, zero_at, Begun, initial_read, Braced, closed, open_to}
+use Rattle.litmus_text.specs.Table.{Cells, Column, among, no_columns, rows_read, head_read, all_labels_judged, after_locations}
+use Rattle.litmus_text.specs.Condition.{Setting, Mentioned, TermRead, TermsRead, CondRead, condition_read}
+use Rattle.litmus_text.specs.TestReading.{ThreadRead, TestRead, threads_of}
+
+-- two texts of a cut
+abbrev pub cut_seen : Option (Bor (List ℕ) × Bor (List ℕ)) → Option (List ℕ × List ℕ)
+cut_seen None = None
+cut_seen (Some parts) = Some (parts.0.now, parts.1.now)
+
+-- a text cut at the first place of a sign
+pub record CutParts (sign : ℕ) (text front behind : List ℕ) : Type 0 where
+  pub parts : text ≡ front ++ sign ∷ behind
+  pub first : list_all (λ byte. not (byte == sign)) front ≡ true
+
+abbrev pub CutsAt : ℕ → List ℕ → Option (Bor (List ℕ) × Bor (List ℕ)) → Type 0
+CutsAt sign text None = list_all (λ byte. not (byte == sign)) text ≡ true
+CutsAt sign text (Some cut) = CutParts sign text cut.0.now cut.1.now
+
+-- the pieces that are left
+abbrev pub pieces_if : ℕ → Option (Bor (List ℕ)) → List (List ℕ)
+pieces_if sign None = []
+pieces_if sign (Some text) = pieces sign text.now
+
+abbrev pub pieces_left : Pieces → List (List ℕ)
+pieces_left p = pieces_if p.sign p.rest
+
+-- the first of some pieces, and the others
+abbrev pub FirstPiece : Option (Bor (List ℕ) × Pieces) → List (List ℕ) → Type 0
+FirstPiece None all = all ≡ []
+FirstPiece (Some first) all = all ≡ first.0.now ∷ pieces_left first.1
+
+-- the first of some words, and the others as those of a text
+abbrev pub FirstWord : (List ℕ → List (List ℕ)) → Option (Bor (List ℕ) × Bor (List ℕ)) → List (List ℕ) → Type 0
+FirstWord words None all = all ≡ []
+FirstWord words (Some first) all = all ≡ first.0.now ∷ words first.1.now
+
+-- the lines that are left of a text
+abbrev pub text_left : Text → Lines
+text_left text = lines_from text.number text.bytes.now
+
+abbrev pub lines_seen : Left → Lines
+lines_seen (lefts.Ends n) = ends n
+lines_seen (lefts.Line l) = line l.number l.text.now (text_left l.rest)
+
+-- what is left behind the first line is shorter
+abbrev pub IsShorter : Left → ℕ → Type 0
+IsShorter (lefts.Ends n) size = Unit {0}
+IsShorter (lefts.Line l) size = length l.rest.bytes.now < size
+
+-- lines as one text
+abbrev pub joined_seen : JoinedText → Joined
+joined_seen j = record { bytes = j.bytes.items; lines = j.lines.items }
+
+-- items of the initial state
+abbrev pub worth_seen : TextWorth → Worth
+worth_seen (worths.Number n) = a_number n
+worth_seen (worths.Place name) = a_place name.now
+
+abbrev pub item_seen : TextItem → Item
+item_seen items.Empty = empty
+item_seen (items.Register thread register worth) = gives thread register (worth_seen worth)
+item_seen (items.Zero name) = zero_at name.bytes
+
+-- a place that an item names has its form
+abbrev pub worth_formed : TextWorth → Bool
+worth_formed (worths.Number n) = true
+worth_formed (worths.Place name) = is_place_name name.now
+
+abbrev pub item_formed : TextItem → Bool
+item_formed items.Empty = true
+item_formed (items.Register thread register worth) = worth_formed worth
+item_formed (items.Zero name) = is_place_name name.bytes
+
+abbrev pub begun_seen : State → Begun
+begun_seen b = record { names = b.names; values = b.values.items }
+
+-- what ends the text of the items
+abbrev pub braced_seen : Joined → BracedText → Braced
+braced_seen joined (ends_of.Closed n behind rest) = closed joined n behind.now (text_left rest)
+braced_seen joined (ends_of.Open n) = open_to joined n
+
+-- cells and columns of the table
+abbrev pub cells_seen : RowCells → Cells
+cells_seen c = record { texts = pieces_left c.pieces; whole = c.whole }
+
+abbrev pub column_seen : ThreadColumn → Column
+column_seen c = record { ops = c.ops.items; labels = c.labels }
+
+-- terms of the condition
+abbrev pub setting_seen : Here → Setting
+setting_seen h = record { threads = h.threads; begins = h.begins; text = joined_seen h.text }
+
+abbrev pub mentioned_seen : Names → Mentioned
+mentioned_seen m = record { names = m.names; over = m.over }
+
+abbrev pub term_read_seen : Names → Term × Bor (List ℕ) → TermRead
+term_read_seen m t = record { term = term_view t.0; state = mentioned_seen m; rest = t.1.now }
+
+abbrev pub terms_read_seen : List TermSeen → Names → List ℕ → TermsRead
+terms_read_seen terms m rest = record { terms = terms; state = mentioned_seen m; rest = rest }
+
+abbrev pub cond_read_seen : Cond × List (List ℕ) → CondRead
+cond_read_seen c = record { cond = cond_view c.0; names = c.1 }
+
+-- a test, from what stands behind its table on
+unfoldable pub rest_read : Writing → List ℕ → Option (List ℕ) → Begun → List Column → ℕ → List (List ℕ) → Lines → Result TestRead TextError
+rest_read w name quoted begun columns threads names ls = do
+  condition ← condition_read w threads names (after_locations ls)
+  Ok (record { name = name; quoted = quoted; places = condition.names; threads = threads_of begun columns; cond = condition.cond })
+
+-- a test, from the rows of its table on
+unfoldable pub table_read : Writing → List ℕ → Option (List ℕ) → Begun → ℕ → Lines → Result TestRead TextError
+table_read w name quoted begun threads ls = do
+  rows ← rows_read w 0 (among begun.names (no_columns threads)) ls
+  judged ← all_labels_judged rows.0.value
+  rest_read w name quoted begun rows.0.value threads rows.0.names rows.1
+
+-- a test, from its initial state on
+unfoldable pub body_read : Writing → List ℕ → Option (List ℕ) → Lines → Result TestRead TextError
+body_read w name quoted ls = do
+  initial ← initial_read w ls
+  head ← head_read initial.0 initial.1
+  table_read w name quoted initial.0 head.0 head.1
+
+-- a thread that was read
+abbrev pub thread_seen : Thread → ThreadRead
+thread_seen t = record { init = t.init.items; code = t.code.items }

@@ -1,0 +1,62 @@
+ghost use Rattle.std.specs.Prelude.{◌≡◌};
+ghost use Rattle.final_cond.specs.Conditions.{cond_view};
+ghost use Rattle.litmus_text.specs.Gives.{Gives, GivesInMemory};
+ghost use Rattle.litmus_text.specs.Condition.{cond_here, condition_read};
+ghost use Rattle.litmus_text.specs.Views.{text_left, setting_seen, cond_read_seen};
+
+use crate::errors::{ReadError, TestKind, TextError, bad};
+use crate::reading::joined::Joined;
+use crate::reading::lines::Lines;
+use crate::reading::terms::{Mentioned, Setting, read_terms};
+use crate::reading::text::Text;
+use arch_trait::{Arch, Places, after_blanks};
+use arrayvec::ArrayVec;
+use final_cond::{Cond, read_opening};
+use std::alloc::Global;
+
+/// Reads the whole text of a condition.
+#[tactic(auto, unfolding(crate::specs::Condition::cond_here))]
+fn read_cond_here<A: Arch>(here: &Setting, names: Places) -> Result<(Cond, Places), TextError>
+    ensures { Gives cond_read_seen result (cond_here A.writing (setting_seen here.now) names) }
+{
+    let (quantifier, inside) = match read_opening(here.text.bytes.as_slice()) {
+        Ok(opening) => opening,
+        Err(_) => return Err(bad(TestKind::BadCondition, here.begins)),
+    };
+    let mut terms = ArrayVec::new();
+    let mut mentioned = Mentioned { names, over: None };
+    let behind = read_terms::<A>(here, inside, &mut mentioned, &mut terms)?;
+    if !after_blanks(behind).is_empty() {
+        return Err(bad(TestKind::BadCondition, here.begins));
+    }
+    match mentioned.over {
+        None => Ok((Cond { quantifier, terms }, mentioned.names)),
+        Some(line) => Err(bad(TestKind::TooLarge, line)),
+    }
+}
+
+/// Reads the condition: the rest of the text.
+#[tactic(auto, unfolding(crate::specs::Condition::condition_read))]
+pub(crate) fn read_condition<A: Arch>(
+    alloc: Global,
+    threads: usize,
+    names: Places,
+    text: Text<'_>,
+) -> Result<(Cond, Places), ReadError>
+    ensures { GivesInMemory cond_read_seen result (condition_read A.writing threads names (text_left text.entry)) }
+{
+    let line = match text.lines() {
+        Lines::Ends(end) => return Err(ReadError::Text(bad(TestKind::EndMissing, end))),
+        Lines::Line(line) => line,
+    };
+    let mut joined = Joined::new(alloc);
+    joined.push(line.number, line.text)?;
+    joined.push_all(line.rest)?;
+    let here = Setting {
+        threads,
+        begins: line.number,
+        text: joined,
+    };
+    let read = read_cond_here::<A>(&here, names)?;
+    Ok(read)
+}

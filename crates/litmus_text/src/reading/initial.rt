@@ -1,0 +1,247 @@
+ghost use Rattle.std.specs.Prelude.{◌≡◌, ◌<◌, ◌+◌, ◌^◌, true, length, option_map, IfSome, IfOk};
+ghost use Rattle.final_cond.specs.Names.{is_place_name};
+ghost use Rattle.arch_trait.specs.Names.{number_added};
+ghost use Rattle.litmus_text.specs.Gives.{GivesInMemory};
+ghost use Rattle.litmus_text.specs.Cuts.{pieces};
+ghost use Rattle.litmus_text.specs.InitialState.{nothing_begun, is_given, with_worth, with_named, item_put, item_read, items_read, but_last, braced, braced_read, initial_read};
+ghost use Rattle.litmus_text.specs.Views.{text_left, joined_seen, begun_seen, worth_seen, worth_formed, item_seen, item_formed, braced_seen};
+
+use crate::errors::{ReadError, TestKind, bad};
+use crate::reading::cuts::cut;
+use crate::reading::items::{Item, Worth, item_of};
+use crate::reading::joined::Joined;
+use crate::reading::lines::Lines;
+use crate::reading::text::Text;
+use arch_trait::{Arch, Places, after_blanks, before_blanks};
+use final_cond::PlaceName;
+use relax_edges::Value;
+use std::alloc::{AllocError, Global};
+
+/// A thread, and the value of one of its registers.
+pub(crate) type Given = (u8, (u8, Value));
+
+/// The initial state so far.
+#[derive(Debug, Drop)]
+pub(crate) struct Begun {
+    pub(crate) names: Places,
+    pub(crate) values: Vec<Given>,
+}
+
+impl Begun {
+    pub(crate) fn new(alloc: Global) -> Begun
+        ensures { begun_seen result ≡ nothing_begun }
+    {
+        Begun {
+            names: Places::new(),
+            values: Vec::new(alloc),
+        }
+    }
+
+    fn is_given(&self, thread: u8, register: u8) -> bool
+        ensures { result ≡ is_given thread register self.now.values.items }
+    {
+        self.values
+            .iter()
+            .any(|given| given.0 == thread && given.1.0 == register)
+    }
+
+    /// Gives a register a value, which stands at a line.
+    fn give(
+        &mut self,
+        line: u64,
+        thread: u8,
+        register: u8,
+        worth: Worth<'_>,
+    ) -> Result<(), ReadError>
+        requires { worth_formed worth ≡ true }
+        ensures { GivesInMemory (λ _. begun_seen self.new) result (with_worth line (begun_seen self.old) thread register (worth_seen worth.entry)) }
+    {
+        let value = match worth {
+            Worth::Number(number) => Value::Num(number),
+            Worth::Place(name) => match self.names.add_bytes(name) {
+                Some(place) => Value::Place(place),
+                None => return Err(ReadError::Text(bad(TestKind::TooLarge, line))),
+            },
+        };
+        self.values.push((thread, (register, value)))?;
+        Ok(())
+    }
+
+    /// Names a place, which stands at a line.
+    fn name(&mut self, line: u64, name: &PlaceName) -> Result<(), ReadError>
+        requires { is_place_name name.now.bytes ≡ true }
+        ensures { GivesInMemory (λ _. begun_seen self.new) result (with_named line (begun_seen self.old) name.now.bytes (number_added self.old.names name.now.bytes)) }
+    {
+        match self.names.add_bytes(name.as_str().as_bytes()) {
+            Some(_) => Ok(()),
+            None => Err(ReadError::Text(bad(TestKind::TooLarge, line))),
+        }
+    }
+
+    /// Takes an item from its first line to its last.
+    fn put(&mut self, first: u64, last: u64, item: &Option<Item<'_>>) -> Result<(), ReadError>
+        requires { IfSome item.now (λ i. item_formed i ≡ true) }
+        ensures { GivesInMemory (λ _. begun_seen self.new) result (item_put first last (begun_seen self.old) (option_map item_seen item.now)) }
+    {
+        match item {
+            None => Err(ReadError::Text(bad(TestKind::BadInit, first))),
+            Some(Item::Empty) => Ok(()),
+            Some(
+                Item::Register {
+                    thread,
+                    register,
+                    worth,
+                },
+            ) => {
+                if self.is_given(*thread, *register) {
+                    return Err(ReadError::Text(bad(TestKind::BadInit, first)));
+                }
+                self.give(last, *thread, *register, *worth)
+            }
+            Some(Item::Zero(name)) => self.name(first, name),
+        }
+    }
+}
+
+/// Reads the item of a piece that begins at byte number `i` of a text.
+#[tactic(auto, unfolding(crate::specs::InitialState::item_read))]
+fn read_item<A: Arch>(
+    joined: &Joined,
+    i: usize,
+    piece: &[u8],
+    begun: &mut Begun,
+) -> Result<(), ReadError>
+    requires { i + length piece.now < 2 ^ 64 }
+    ensures { GivesInMemory (λ _. begun_seen begun.new) result (item_read A.writing (joined_seen joined.now) i piece.now (begun_seen begun.old)) }
+{
+    let first = joined.line_at(i + (piece.len() - after_blanks(piece).len()));
+    let last = joined.line_at(i + before_blanks(piece).len().saturating_sub(1));
+    begun.put(first, last, &item_of::<A>(piece))
+}
+
+/// Reads the items of a text that a `}` ends.
+fn read_items<A: Arch>(joined: &Joined, begun: &mut Begun) -> Result<(), ReadError>
+    ensures { GivesInMemory (λ _. begun_seen begun.new) result (items_read A.writing (joined_seen joined.now) 0 (pieces 59 joined.now.bytes.items) (begun_seen begun.old)) }
+{
+    let mut i = 0;
+    let mut rest = joined.bytes.as_slice();
+    'items: loop {
+        match cut(b';', rest) {
+            Some((piece, behind)) => {
+                read_item::<A>(joined, i, piece, begun)?;
+                i += piece.len() + 1;
+                rest = behind;
+            }
+            None => return read_item::<A>(joined, i, rest, begun),
+        }
+    }
+}
+
+/// Reads the items of a text that no `}` ends: those that a `;` ends.
+fn read_ended_items<A: Arch>(joined: &Joined, begun: &mut Begun) -> Result<(), ReadError>
+    ensures { GivesInMemory (λ _. begun_seen begun.new) result (items_read A.writing (joined_seen joined.now) 0 (but_last (pieces 59 joined.now.bytes.items)) (begun_seen begun.old)) }
+{
+    let mut i = 0;
+    let mut rest = joined.bytes.as_slice();
+    'items: while let Some((piece, behind)) = cut(b';', rest) {
+        read_item::<A>(joined, i, piece, begun)?;
+        i += piece.len() + 1;
+        rest = behind;
+    }
+    Ok(())
+}
+
+/// What ends the items: a `}`, with the rest of its line and what is left behind that, or the text.
+#[derive(Clone, Copy)]
+pub(crate) enum Braced<'a> {
+    Closed {
+        number: u64,
+        behind: &'a [u8],
+        rest: Text<'a>,
+    },
+    /// With the number behind the last line.
+    Open(u64),
+}
+
+/// Puts the text up to the first `}` into `joined`, from the rest of a line on.
+fn join_braced<'a>(
+    joined: &mut Joined,
+    number: u64,
+    text: &'a [u8],
+    rest: Text<'a>,
+) -> Result<Braced<'a>, AllocError>
+    ensures { IfOk result (λ end. braced_seen (joined_seen joined.new) end ≡ braced (joined_seen joined.old) number text.now (text_left rest.entry)) }
+{
+    let mut number = number;
+    let mut text = text;
+    let mut rest = rest;
+    'lines: loop {
+        if let Some((front, behind)) = cut(b'}', text) {
+            joined.push(number, front)?;
+            return Ok(Braced::Closed {
+                number,
+                behind,
+                rest,
+            });
+        }
+        joined.push(number, text)?;
+        match rest.lines() {
+            Lines::Ends(end) => return Ok(Braced::Open(end)),
+            Lines::Line(line) => {
+                joined.push(line.number, b" ")?;
+                number = line.number;
+                text = line.text;
+                rest = line.rest;
+            }
+        }
+    }
+}
+
+fn read_braced<'a, A: Arch>(
+    joined: &Joined,
+    end: Braced<'a>,
+    begun: &mut Begun,
+) -> Result<Text<'a>, ReadError>
+    requires { begun_seen begun.old ≡ nothing_begun }
+    ensures { GivesInMemory (λ rest. (begun_seen begun.new, text_left rest)) result (braced_read A.writing (braced_seen (joined_seen joined.now) end.entry)) }
+{
+    match end {
+        Braced::Closed {
+            number,
+            behind,
+            rest,
+        } => {
+            read_items::<A>(joined, begun)?;
+            if !behind.is_empty() {
+                return Err(ReadError::Text(bad(TestKind::BadInit, number)));
+            }
+            Ok(rest)
+        }
+        Braced::Open(end) => {
+            read_ended_items::<A>(joined, begun)?;
+            Err(ReadError::Text(bad(TestKind::EndMissing, end)))
+        }
+    }
+}
+
+/// Reads the initial state into `begun`, in which nothing is given yet.
+#[tactic(auto, unfolding(crate::specs::InitialState::initial_read))]
+pub(crate) fn read_initial<'a, A: Arch>(
+    alloc: Global,
+    text: Text<'a>,
+    begun: &mut Begun,
+) -> Result<Text<'a>, ReadError>
+    requires { begun_seen begun.old ≡ nothing_begun }
+    ensures { GivesInMemory (λ rest. (begun_seen begun.new, text_left rest)) result (initial_read A.writing (text_left text.entry)) }
+{
+    let line = match text.lines() {
+        Lines::Ends(end) => return Err(ReadError::Text(bad(TestKind::EndMissing, end))),
+        Lines::Line(line) => line,
+    };
+    let [b'{', inner @ ..] = line.text else {
+        return Err(ReadError::Text(bad(TestKind::BadInit, line.number)));
+    };
+    let mut joined = Joined::new(alloc);
+    let end = join_braced(&mut joined, line.number, inner, line.rest)?;
+    read_braced::<A>(&joined, end, begun)
+}

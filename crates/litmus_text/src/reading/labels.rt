@@ -1,0 +1,71 @@
+ghost use Rattle.std.specs.Prelude.{◌≡◌, map, count_by};
+ghost use Rattle.litmus_text.specs.Gives.{Gives};
+ghost use Rattle.litmus_text.specs.Table.{is_label, lands_once, is_landing, labels_judged, all_labels_judged};
+ghost use Rattle.litmus_text.specs.Views.{column_seen};
+
+use crate::errors::{TestKind, TextError, bad};
+use crate::reading::table::{Column, Placed};
+use micro_ops::Micro;
+
+fn is_label(label: u8, placed: &Placed) -> bool
+    ensures { result ≡ is_label label placed.now }
+{
+    match placed.op {
+        Micro::Label { label: known } => known == label,
+        _ => false,
+    }
+}
+
+fn count_labels(label: u8, ops: &[Placed]) -> usize
+    ensures { result ≡ count_by (is_label label) ops.now }
+{
+    ops.iter().filter(|placed| is_label(label, placed)).count()
+}
+
+/// Whether a label stands once in a thread, behind a branch.
+fn lands_once(label: u8, all: &[Placed], behind: &[Placed]) -> bool
+    ensures { result ≡ lands_once label all.now behind.now }
+{
+    count_labels(label, all) == 1 && count_labels(label, behind) == 1
+}
+
+/// Whether the label of an operation stands as it must, if the operation is a branch.
+fn is_landing(op: &Micro, all: &[Placed], behind: &[Placed]) -> bool
+    ensures { result ≡ is_landing op.now all.now behind.now }
+{
+    match *op {
+        Micro::BranchEq { label } => lands_once(label, all, behind),
+        Micro::BranchNz { label, .. } => lands_once(label, all, behind),
+        _ => true,
+    }
+}
+
+/// Judges the labels of the branches from an operation of a thread on.
+#[tactic(auto, unfolding(crate::specs::Table::labels_judged))]
+fn judge_labels(all: &[Placed], behind: &[Placed]) -> Result<(), TextError>
+    ensures { Gives (λ judged. judged) result (labels_judged all.now behind.now) }
+{
+    match behind {
+        [] => Ok(()),
+        [placed, further @ ..] => {
+            if !is_landing(&placed.op, all, further) {
+                return Err(bad(TestKind::BadLabel, placed.at_line));
+            }
+            judge_labels(all, further)
+        }
+    }
+}
+
+/// Judges the labels of all threads.
+#[tactic(auto, unfolding(crate::specs::Table::all_labels_judged))]
+pub(crate) fn judge_all_labels(columns: &[Column]) -> Result<(), TextError>
+    ensures { Gives (λ judged. judged) result (all_labels_judged (map column_seen columns.now)) }
+{
+    match columns {
+        [] => Ok(()),
+        [column, further @ ..] => {
+            judge_labels(&column.ops, &column.ops)?;
+            judge_all_labels(further)
+        }
+    }
+}

@@ -1,0 +1,203 @@
+ghost use Rattle.std.specs.Prelude.{◌≡◌, ℕ, List, [], map, length, count_by, IfOk};
+ghost use Rattle.arch_trait.specs.Writing.{Writing};
+ghost use Rattle.arch_trait.specs.Cells.{is_access, ends_rows};
+ghost use Rattle.litmus_text.specs.Gives.{Gives, GivesInMemory};
+ghost use Rattle.litmus_text.specs.Table.{among, no_columns, has_room, instr_in, instr_or_nothing, cell_read, row_read, rows_read, after_locations};
+ghost use Rattle.litmus_text.specs.Views.{text_left, pieces_left, cells_seen, column_seen};
+
+use crate::errors::{ReadError, TestKind, TextError, bad};
+use crate::limits::{MAX_ACCESSES, MAX_ROWS};
+use crate::reading::cuts::{Pieces, cut, first_word_of_line};
+use crate::reading::lines::Lines;
+use crate::reading::table::{Cells, Column, Placed, cells_of};
+use crate::reading::text::Text;
+use arch_trait::{Arch, InstrError, Places, read_cell, trimmed};
+use micro_ops::Micro;
+use std::alloc::{AllocError, Global};
+
+/// So many columns without operations.
+pub(crate) fn no_columns(alloc: Global, threads: usize) -> Result<Vec<Column>, AllocError>
+    ensures columns { IfOk result (λ columns. map column_seen columns.items ≡ no_columns threads) }
+    ensures count { IfOk result (λ columns. length columns.items ≡ threads) }
+{
+    let mut columns = Vec::new(alloc);
+    for _ in 0..threads {
+        columns.push(Column {
+            ops: Vec::new(alloc),
+            labels: Places::new(),
+        })?;
+    }
+    Ok(columns)
+}
+
+fn is_access(op: &Micro) -> bool
+    ensures { result ≡ is_access op.now }
+{
+    matches!(
+        op,
+        Micro::Load { .. } | Micro::LoadAt { .. } | Micro::Store { .. } | Micro::StoreAt { .. }
+    )
+}
+
+fn count_accesses(ops: &[Placed]) -> usize
+    ensures { result ≡ count_by (λ placed. is_access placed.op) ops.now }
+{
+    ops.iter().filter(|placed| is_access(&placed.op)).count()
+}
+
+/// Whether one access more is not too many, if the operation is one.
+fn has_room(column: &Column, op: &Micro) -> bool
+    ensures { result ≡ has_room (column_seen column.now) op.now }
+{
+    !is_access(op) || count_accesses(&column.ops) < MAX_ACCESSES
+}
+
+/// Reads an instruction in a line.
+#[tactic(auto, unfolding(crate::specs::Table::instr_in))]
+fn read_instr<A: Arch>(
+    number: u64,
+    text: &[u8],
+    names: &mut Places,
+    column: &mut Column,
+) -> Result<(), ReadError>
+    ensures { GivesInMemory (λ _. among names.new (column_seen column.new)) result (instr_in A.writing number text.now (among names.old (column_seen column.old))) }
+{
+    match read_cell::<A>(text, names, &mut column.labels) {
+        Ok(op) => {
+            if !has_room(column, &op) {
+                return Err(ReadError::Text(bad(TestKind::TooLarge, number)));
+            }
+            column.ops.push(Placed {
+                op,
+                at_line: number,
+            })?;
+            Ok(())
+        }
+        Err(InstrError::BadInstruction) => {
+            Err(ReadError::Text(bad(TestKind::BadInstruction, number)))
+        }
+        Err(InstrError::TooManyPlaces | InstrError::TooManyLabels) => {
+            Err(ReadError::Text(bad(TestKind::TooLarge, number)))
+        }
+    }
+}
+
+/// Reads an instruction, or nothing.
+fn read_instr_or_nothing<A: Arch>(
+    number: u64,
+    text: &[u8],
+    names: &mut Places,
+    column: &mut Column,
+) -> Result<(), ReadError>
+    ensures { GivesInMemory (λ _. among names.new (column_seen column.new)) result (instr_or_nothing A.writing number text.now (among names.old (column_seen column.old))) }
+{
+    if trimmed(text).is_empty() {
+        return Ok(());
+    }
+    read_instr::<A>(number, text, names, column)
+}
+
+/// Reads a cell: nothing, an instruction, `L:`, or `L:` and an instruction.
+#[tactic(auto, unfolding(crate::specs::Table::cell_read))]
+fn read_one_cell<A: Arch>(
+    number: u64,
+    text: &[u8],
+    names: &mut Places,
+    column: &mut Column,
+) -> Result<(), ReadError>
+    ensures { GivesInMemory (λ _. among names.new (column_seen column.new)) result (cell_read A.writing number text.now (among names.old (column_seen column.old))) }
+{
+    match cut(b':', text) {
+        None => read_instr_or_nothing::<A>(number, text, names, column),
+        Some((label, behind)) => {
+            read_instr::<A>(number, &text[..label.len() + 1], names, column)?;
+            read_instr_or_nothing::<A>(number, behind, names, column)
+        }
+    }
+}
+
+/// Judges the end of a row behind its last column: no cell is left, and the row is whole.
+#[tactic(auto, unfolding(crate::specs::Table::row_read))]
+fn judge_end(number: u64, pieces: Pieces<'_>, is_whole: bool) -> Result<(), TextError>
+    ensures { (w : Writing) → (names : List (List ℕ)) → Gives (λ _. among names []) result (row_read w number is_whole (pieces_left pieces.entry) names []) }
+{
+    if let Some(_) = pieces.first() {
+        return Err(bad(TestKind::BadTable, number));
+    }
+    if is_whole {
+        Ok(())
+    } else {
+        Err(bad(TestKind::BadTable, number))
+    }
+}
+
+/// Reads the cells of a row, one for each column.
+fn read_row<A: Arch>(
+    number: u64,
+    cells: Cells<'_>,
+    names: &mut Places,
+    columns: &mut [Column],
+) -> Result<(), ReadError>
+    ensures { GivesInMemory (λ _. among names.new (map column_seen columns.new)) result (row_read A.writing number (cells_seen cells.entry).whole (cells_seen cells.entry).texts names.old (map column_seen columns.old)) }
+{
+    let mut pieces = cells.pieces;
+    for i in 0..columns.len() {
+        let Some((cell, behind)) = pieces.first() else {
+            return Err(ReadError::Text(bad(TestKind::BadTable, number)));
+        };
+        read_one_cell::<A>(number, cell, names, &mut columns[i])?;
+        pieces = behind;
+    }
+    judge_end(number, pieces, cells.whole)?;
+    Ok(())
+}
+
+/// Whether the first word of a line ends the rows of a table.
+#[tactic(auto, unfolding(arch_trait::specs::Cells::ends_rows))]
+fn ends_rows(text: &[u8]) -> bool
+    ensures { result ≡ ends_rows text.now }
+{
+    let word = first_word_of_line(text);
+    word == b"exists".as_slice()
+        || word == b"~exists".as_slice()
+        || word == b"forall".as_slice()
+        || word == b"locations".as_slice()
+}
+
+/// Reads the rows, up to the line that ends them.
+pub(crate) fn read_rows<'a, A: Arch>(
+    text: Text<'a>,
+    names: &mut Places,
+    columns: &mut [Column],
+) -> Result<Text<'a>, ReadError>
+    ensures { GivesInMemory (λ rest. (among names.new (map column_seen columns.new), text_left rest)) result (rows_read A.writing 0 (among names.old (map column_seen columns.old)) (text_left text.entry)) }
+{
+    let mut left = text;
+    let mut rows = 0;
+    'rows: loop {
+        let line = match left.lines() {
+            Lines::Ends(end) => return Err(ReadError::Text(bad(TestKind::EndMissing, end))),
+            Lines::Line(line) => line,
+        };
+        if ends_rows(line.text) {
+            return Ok(left);
+        }
+        if rows >= MAX_ROWS {
+            return Err(ReadError::Text(bad(TestKind::TooLarge, line.number)));
+        }
+        read_row::<A>(line.number, cells_of(line.text), names, columns)?;
+        rows += 1;
+        left = line.rest;
+    }
+}
+
+/// What is left behind a line of locations, if the next line is one.
+#[tactic(auto, unfolding(crate::specs::Table::after_locations))]
+pub(crate) fn after_locations(text: Text<'_>) -> Text<'_>
+    ensures { text_left result ≡ after_locations (text_left text.entry) }
+{
+    match text.lines() {
+        Lines::Line(line) if first_word_of_line(line.text) == b"locations".as_slice() => line.rest,
+        _ => text,
+    }
+}

@@ -1,0 +1,141 @@
+ghost use Rattle.std.specs.Prelude.{◌≡◌, [], true, map};
+ghost use Rattle.final_cond.specs.Conditions.{AtPlace, left_view, term_view};
+ghost use Rattle.final_cond.specs.Reading.{has_form};
+ghost use Rattle.arch_trait.specs.Names.{number_added};
+ghost use Rattle.litmus_text.specs.Gives.{Gives};
+ghost use Rattle.litmus_text.specs.Condition.{place_put, left_put, line_of_rest, term_here, terms_here};
+ghost use Rattle.litmus_text.specs.Views.{setting_seen, mentioned_seen, term_read_seen, terms_read_seen};
+
+use crate::errors::{TestKind, TextError, bad};
+use crate::reading::joined::Joined;
+use arch_trait::{Arch, Places, after_blanks, register_named};
+use arrayvec::ArrayVec;
+use final_cond::{Follow, Left, MAX_TERMS, PlaceName, Term, read_follow, read_left, read_right};
+
+/// The threads of the table, the line where the condition begins, and its text.
+#[derive(Debug, Drop)]
+pub(crate) struct Setting {
+    pub(crate) threads: usize,
+    pub(crate) begins: u64,
+    pub(crate) text: Joined,
+}
+
+impl Setting {
+    /// The line of the first byte of what is left of the text.
+    fn line_of_rest(&self, rest: &[u8]) -> u64
+        ensures { result ≡ line_of_rest (setting_seen self.now) rest.now }
+    {
+        self.text
+            .line_at(self.text.bytes.len().saturating_sub(rest.len()))
+    }
+}
+
+/// The names of places, and the line of the first place that was one too many, behind the line where
+/// the condition begins.
+#[derive(Debug, Drop)]
+pub(crate) struct Mentioned {
+    pub(crate) names: Places,
+    pub(crate) over: Option<u64>,
+}
+
+fn put_place(
+    begins: u64,
+    line: u64,
+    name: &PlaceName,
+    mentioned: &mut Mentioned,
+) -> Result<(), TextError>
+    requires { has_form (AtPlace name.now.bytes) ≡ true }
+    ensures { Gives (λ _. mentioned_seen mentioned.new) result (place_put begins line (mentioned_seen mentioned.old) name.now.bytes (number_added mentioned.old.names name.now.bytes)) }
+{
+    if mentioned
+        .names
+        .add_bytes(name.as_str().as_bytes())
+        .is_some()
+    {
+        return Ok(());
+    }
+    if line == begins {
+        return Err(bad(TestKind::TooLarge, line));
+    }
+    if mentioned.over.is_none() {
+        mentioned.over = Some(line);
+    }
+    Ok(())
+}
+
+/// Takes a left side at a line: a register of a thread of the table, or a place.
+fn put_left<A: Arch>(
+    here: &Setting,
+    line: u64,
+    left: &Left,
+    mentioned: &mut Mentioned,
+) -> Result<(), TextError>
+    requires { has_form (left_view left.now) ≡ true }
+    ensures { Gives (λ _. mentioned_seen mentioned.new) result (left_put A.writing (setting_seen here.now) line (mentioned_seen mentioned.old) (left_view left.now)) }
+{
+    match left {
+        Left::Register { thread, name } => {
+            let is_known = usize::from(*thread) < here.threads
+                && register_named::<A>(name.as_str().as_bytes()).is_some();
+            if is_known {
+                Ok(())
+            } else {
+                Err(bad(TestKind::BadCondition, here.begins))
+            }
+        }
+        Left::Place { name } => put_place(here.begins, line, name, mentioned),
+    }
+}
+
+/// Reads the term at the front of what is left.
+#[tactic(auto, unfolding(crate::specs::Condition::term_here))]
+fn read_term<'a, A: Arch>(
+    here: &Setting,
+    text: &'a [u8],
+    mentioned: &mut Mentioned,
+) -> Result<(Term, &'a [u8]), TextError>
+    ensures { Gives (term_read_seen mentioned.new) result (term_here A.writing (setting_seen here.now) (mentioned_seen mentioned.old) text.now) }
+{
+    let (left, rest) = match read_left(text) {
+        Ok(left) => left,
+        Err(_) => return Err(bad(TestKind::BadCondition, here.begins)),
+    };
+    put_left::<A>(
+        here,
+        here.line_of_rest(after_blanks(text)),
+        &left,
+        mentioned,
+    )?;
+    match read_right(rest) {
+        Ok((value, rest)) => Ok((Term { left, value }, rest)),
+        Err(_) => Err(bad(TestKind::BadCondition, here.begins)),
+    }
+}
+
+/// Puts the terms into `terms`, which is empty, up to the `)` behind the last.
+pub(crate) fn read_terms<'a, A: Arch>(
+    here: &Setting,
+    text: &'a [u8],
+    mentioned: &mut Mentioned,
+    terms: &mut ArrayVec<Term, MAX_TERMS>,
+) -> Result<&'a [u8], TextError>
+    requires { terms.old.items ≡ [] }
+    ensures { Gives (λ rest. terms_read_seen (map term_view terms.new.items) mentioned.new rest.now) result (terms_here A.writing (setting_seen here.now) MAX_TERMS (mentioned_seen mentioned.old) text.now) }
+{
+    let mut rest = text;
+    'terms: loop {
+        let (term, after) = match read_term::<A>(here, rest, mentioned) {
+            Ok(term) => term,
+            Err(fault) => return Err(fault),
+        };
+        if terms.is_full() {
+            return Err(bad(TestKind::TooLarge, here.begins));
+        }
+        terms.push(term);
+        match read_follow(after) {
+            Ok((Follow::Term, behind)) => rest = behind,
+            Ok((Follow::End, behind)) => return Ok(behind),
+            Err(_) => return Err(bad(TestKind::BadCondition, here.begins)),
+        }
+    }
+}

@@ -1,0 +1,199 @@
+ghost use Rattle.std.specs.Prelude.{◌≡◌, ◌≤◌, [], map, length, option_map, IfOk};
+ghost use Rattle.final_cond.specs.Conditions.{cond_view};
+ghost use Rattle.litmus_text.specs.Gives.{Gives, GivesInMemory};
+ghost use Rattle.litmus_text.specs.TestReading.{values_of, threads_of, lines_read, test_read, arch_in_text};
+ghost use Rattle.litmus_text.specs.Views.{rest_read, table_read, body_read, text_left, begun_seen, column_seen, thread_seen};
+
+use crate::errors::{ReadError, TestKind, TextError, bad};
+use crate::limits::{MAX_TEXT, MAX_THREADS};
+use crate::reading::condition::read_condition;
+use crate::reading::header::{after_settings, read_arch, read_header, read_quote};
+use crate::reading::initial::{Begun, Given, read_initial};
+use crate::reading::labels::judge_all_labels;
+use crate::reading::rows::{after_locations, no_columns, read_rows};
+use crate::reading::table::{Column, Placed, read_head};
+use crate::reading::test::{ReadTest, Thread};
+use crate::reading::text::Text;
+use arch_trait::{Arch, Places};
+use final_cond::Cond;
+use micro_ops::Micro;
+use relax_edges::{ArchName, Value};
+use std::alloc::{AllocError, Global};
+use std::marker::PhantomData;
+
+/// The architecture that the header of a text names. The fault is BadHeader or EndMissing.
+#[tactic(auto, unfolding(crate::specs::TestReading::arch_in_text))]
+pub fn arch_of(bytes: &[u8]) -> Result<ArchName, TextError>
+    ensures { Gives (λ arch. arch) result (arch_in_text bytes.now) }
+{
+    let (arch, _) = read_arch(Text::new(bytes))?;
+    Ok(arch)
+}
+
+/// The initial values of a thread.
+fn values_of(alloc: Global, thread: u8, values: &[Given]) -> Result<Vec<(u8, Value)>, AllocError>
+    ensures { IfOk result (λ init. init.items ≡ values_of thread values.now) }
+{
+    let mut init = Vec::new(alloc);
+    for given in values {
+        if given.0 == thread {
+            init.push(given.1)?;
+        }
+    }
+    Ok(init)
+}
+
+/// The operations of a column.
+fn ops_of(alloc: Global, ops: &[Placed]) -> Result<Vec<Micro>, AllocError>
+    ensures { IfOk result (λ code. code.items ≡ map (λ placed. placed.op) ops.now) }
+{
+    let mut code = Vec::with_capacity(alloc, ops.len())?;
+    for placed in ops {
+        code.push(placed.op)?;
+    }
+    Ok(code)
+}
+
+/// The thread of a column.
+fn thread_of(
+    alloc: Global,
+    thread: u8,
+    values: &[Given],
+    column: &Column,
+) -> Result<Thread, AllocError>
+    ensures { IfOk result (λ t. thread_seen t ≡ record { init = values_of thread values.now; code = map (λ placed. placed.op) column.now.ops.items }) }
+{
+    let init = values_of(alloc, thread, values)?;
+    let code = ops_of(alloc, &column.ops)?;
+    Ok(Thread { init, code })
+}
+
+/// The threads of the columns.
+fn threads_of(
+    alloc: Global,
+    values: &[Given],
+    columns: &[Column],
+) -> Result<Vec<Thread>, AllocError>
+    requires { length columns.now ≤ MAX_THREADS }
+    ensures threads { IfOk result (λ threads. map thread_seen threads.items ≡ threads_of (record { names = []; values = values.now }) (map column_seen columns.now)) }
+    ensures count { IfOk result (λ threads. length threads.items ≡ length columns.now) }
+{
+    let mut threads = Vec::new(alloc);
+    for (thread, column) in columns.iter().enumerate() {
+        threads.push(thread_of(alloc, thread as u8, values, column)?)?;
+    }
+    Ok(threads)
+}
+
+fn quoted_of(alloc: Global, quoted: Option<&[u8]>) -> Result<Option<Vec<u8>>, AllocError>
+    ensures { IfOk result (λ text. option_map (λ t. t.items) text ≡ option_map (λ t. t.now) quoted.entry) }
+{
+    match quoted {
+        Some(text) => Ok(Some(Vec::from_slice(alloc, text)?)),
+        None => Ok(None),
+    }
+}
+
+/// The test of the parts that were read.
+fn test_of<A: Arch>(
+    alloc: Global,
+    name: &[u8],
+    quoted: Option<&[u8]>,
+    values: &[Given],
+    columns: &[Column],
+    cond: Cond,
+    places: Places,
+) -> Result<ReadTest<A>, AllocError>
+    requires { length columns.now ≤ MAX_THREADS }
+    ensures { IfOk result (λ t. t ≡ record { name = name.now; quoted = option_map (λ x. x.now) quoted.entry; places = places; threads = threads_of (record { names = []; values = values.now }) (map column_seen columns.now); cond = cond_view cond }) }
+{
+    let name = Vec::from_slice(alloc, name)?;
+    let quoted = quoted_of(alloc, quoted)?;
+    let threads = threads_of(alloc, values, columns)?;
+    Ok(ReadTest {
+        name,
+        quoted,
+        places,
+        threads,
+        cond,
+        arch: PhantomData,
+    })
+}
+
+/// Reads what stands behind the table, and makes the test.
+#[tactic(auto, unfolding(crate::specs::Views::rest_read))]
+fn read_rest<A: Arch>(
+    alloc: Global,
+    head: (&[u8], Option<&[u8]>),
+    values: &[Given],
+    columns: &[Column],
+    names: Places,
+    text: Text<'_>,
+) -> Result<ReadTest<A>, ReadError>
+    requires { length columns.now ≤ MAX_THREADS }
+    ensures { GivesInMemory (λ test. test) result (rest_read A.writing head.entry.0.now (option_map (λ x. x.now) head.entry.1) (record { names = []; values = values.now }) (map column_seen columns.now) (length columns.now) names (text_left text.entry)) }
+{
+    let (name, quoted) = head;
+    let text = after_locations(text);
+    let (cond, places) = read_condition::<A>(alloc, columns.len(), names, text)?;
+    let test = test_of::<A>(alloc, name, quoted, values, columns, cond, places)?;
+    Ok(test)
+}
+
+/// Reads the rows of the table and what stands behind them.
+#[tactic(auto, unfolding(crate::specs::Views::table_read))]
+fn read_table<A: Arch>(
+    alloc: Global,
+    head: (&[u8], Option<&[u8]>),
+    begun: Begun,
+    threads: usize,
+    text: Text<'_>,
+) -> Result<ReadTest<A>, ReadError>
+    requires { threads ≤ MAX_THREADS }
+    ensures { GivesInMemory (λ test. test) result (table_read A.writing head.entry.0.now (option_map (λ x. x.now) head.entry.1) (begun_seen begun) threads (text_left text.entry)) }
+{
+    let Begun { mut names, values } = begun;
+    let mut columns = no_columns(alloc, threads)?;
+    let text = read_rows::<A>(text, &mut names, &mut columns)?;
+    judge_all_labels(&columns)?;
+    read_rest::<A>(alloc, head, &values, &columns, names, text)
+}
+
+/// Reads the initial state and what stands behind it.
+#[tactic(auto, unfolding(crate::specs::Views::body_read))]
+fn read_body<A: Arch>(
+    alloc: Global,
+    head: (&[u8], Option<&[u8]>),
+    text: Text<'_>,
+) -> Result<ReadTest<A>, ReadError>
+    ensures { GivesInMemory (λ test. test) result (body_read A.writing head.entry.0.now (option_map (λ x. x.now) head.entry.1) (text_left text.entry)) }
+{
+    let mut begun = Begun::new(alloc);
+    let text = read_initial::<A>(alloc, text, &mut begun)?;
+    let (threads, text) = read_head(&begun, text)?;
+    read_table::<A>(alloc, head, begun, threads, text)
+}
+
+/// Reads the lines of a text.
+#[tactic(auto, unfolding(crate::specs::TestReading::lines_read))]
+fn read_lines<A: Arch>(alloc: Global, text: Text<'_>) -> Result<ReadTest<A>, ReadError>
+    ensures { GivesInMemory (λ test. test) result (lines_read A.NAME A.writing (text_left text.entry)) }
+{
+    let (name, text) = read_header(A::NAME, text)?;
+    let (quoted, text) = read_quote(text)?;
+    read_body::<A>(alloc, (name, quoted), after_settings(text))
+}
+
+/// The test that a text is, as a test of the architecture. A text that is none is answered with its
+/// first faulty line, and the leftmost fault in that line.
+///
+/// A text of more than `MAX_TEXT` bytes is TooLarge at line 1, whatever it holds.
+#[tactic(auto, unfolding(crate::specs::TestReading::test_read))]
+pub fn read_test<A: Arch>(alloc: Global, bytes: &[u8]) -> Result<ReadTest<A>, ReadError>
+    ensures { GivesInMemory (λ test. test) result (test_read A.NAME A.writing bytes.now) }
+{
+    if bytes.len() > MAX_TEXT {
+        return Err(ReadError::Text(bad(TestKind::TooLarge, 1)));
+    }
+    read_lines::<A>(alloc, Text::new(bytes))
+}
