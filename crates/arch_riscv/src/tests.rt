@@ -304,7 +304,7 @@ fn spellings_and_faults_of_instructions(rt: HostRuntime) {
 }
 
 #[test]
-fn nine_fences_read_back(rt: HostRuntime) {
+fn nine_fences_are_printed(rt: HostRuntime) {
     let places = Places::new();
     let mut text: ArrayString<MAX_TEXT> = ArrayString::new();
     let texts = [
