@@ -1,5 +1,6 @@
 -- What is held while the words are read is what the definition takes from all of them.
-use Rattle.std.proofs.Common.{◌≡◌, ℕ, zero, suc, ◌+◌, ◌<◌, ◌≤◌, Bool, true, false, List, [], ◌∷◌, ◌++◌, length, map, drop, Option, Some, None, Result, Ok, Err, refl, sym, ap, ◌∙◌, arith, slice_get, nat_lt, nat_le, append_assoc, append-nil, length-append, le-leb, lit≤}
+use Rattle.std.proofs.Common.{◌≡◌, ℕ, zero, suc, ◌+◌, ◌<◌, ◌≤◌, Bool, true, false, List, [], ◌∷◌, ◌++◌, length, map, drop, Option, Some, None, Result, Ok, Err, refl, sym, ap, ◌∙◌, subst, arith, slice_get, nat_lt, nat_le, append_assoc, append-nil, length-append, le-leb, lit≤}
+use Rattle.std.specs.Option.{option_or}
 use Rattle.std.proofs.lemmas.List.{drop_all}
 use Rattle.std.proofs.lemmas.Bool.Decides.{nat_tests}
 use Rattle.relax_edges.specs.declared.TheConstants.{MAX_EDGES}
@@ -9,54 +10,57 @@ use Rattle.relax_edges.specs.declared.kinds.ObsMode.{ObsMode}
 use Rattle.relax_edges.specs.declared.kinds.ObsMode.TheVariants.{Accept}
 use Rattle.diy_words.specs.declared.request.EdgeList.{EdgeList}
 use Rattle.diy_words.specs.declared.request.EdgeList.TheVariants.{Whole, TooLong}
-use Rattle.diy_words.specs.declared.request.DiyOne.{DiyOne}
+use Rattle.diy_words.specs.declared.request.Request.{Request}
+use Rattle.diy_words.specs.declared.request.Request.TheVariants as requests
+use Rattle.diy_words.specs.declared.request.Norm.{Norm}
 use Rattle.diy_words.specs.declared.usage.Usage.{Usage}
 use Rattle.diy_words.specs.declared.options.OptionName.{OptionName}
 use Rattle.diy_words.specs.Edges.{kept}
 use Rattle.diy_words.specs.Kept.{added, pushed}
 use Rattle.diy_words.specs.Parts.{Operand, Valued, Unvalued, Waits, parts_from, parts_of, option_named, tool_named}
+use Rattle.diy_words.specs.declared.options.Tool.{Tool}
 use Rattle.diy_words.specs.declared.options.Tool.TheVariants as tools
-use Rattle.diy_words.specs.Requests.{Said, SaysArch, SaysName, SaysMode, SaysEdges, said_by, said_first, said_all, or_later, last_given, arch_in, name_in, mode_in, edges_in, mode_or_accept, edges_given, asked_with, asked_of, diyone_asked}
-use Rattle.diy_words.specs.Given.{Held, absorbed, all_absorbed, saying_from, finished, finished_with, shown, nothing_held, AskedHeld, Gives, IsKept}
+use Rattle.diy_words.specs.Requests.{Said, SaysArch, SaysName, SaysMode, SaysFrom, SaysEdges, NameAsked, AsksTest, AsksName, said_by, said_first, said_all, or_later, last_given, first_given, arch_in, name_in, mode_in, from_in, operand_in, edges_in, mode_or_accept, edges_given, asks, asked_with, named_with, asked_of, asked_for, tool_asked}
+use Rattle.diy_words.specs.Given.{Held, absorbed, all_absorbed, saying_from, finished, named, keeps, KeepsTest, KeepsName, tool_held, shown, shown_request, nothing_held, AskedHeld, Gives, IsKept, IsSought}
 
 drop_get : {X : Type 0} (xs : List X) (i : ℕ) (x : X) → slice_get xs i ≡ Some x → drop i xs ≡ x ∷ drop (i + 1) xs
 drop_get [] i x h = cc h
 drop_get (y ∷ ys) zero x h = ap (λ z. z ∷ ys) (cc h)
 drop_get (y ∷ ys) (suc i) x h = drop_get ys i x h ∙ (let e : suc i + 1 ≡ suc (i + 1) = omega arith in rw e)
 
-operand_parts : (word : List ℕ) (at : ℕ) (rest : List (List ℕ)) (found : Option OptionName) → option_named word ≡ found → found ≡ None →
-    parts_of at (word ∷ rest) ≡ Operand at word ∷ parts_of (at + 1) rest
-operand_parts word at rest found e n = rw (e ∙ n)
+operand_parts : (tool : Tool) (word : List ℕ) (at : ℕ) (rest : List (List ℕ)) (found : Option OptionName) → option_named tool word ≡ found → found ≡ None →
+    parts_of tool at (word ∷ rest) ≡ Operand at word ∷ parts_of tool (at + 1) rest
+operand_parts tool word at rest found e n = rw (e ∙ n)
 
-option_parts : (word : List ℕ) (at : ℕ) (rest : List (List ℕ)) (option : OptionName) → option_named word ≡ Some option →
-    parts_of at (word ∷ rest) ≡ parts_from (Waits option at) (at + 1) rest
-option_parts word at rest option e = rw e
+option_parts : (tool : Tool) (word : List ℕ) (at : ℕ) (rest : List (List ℕ)) (option : OptionName) → option_named tool word ≡ Some option →
+    parts_of tool at (word ∷ rest) ≡ parts_from tool (Waits option at) (at + 1) rest
+option_parts tool word at rest option e = rw e
 
 -- an operand and what the words behind it say
-pub operand_first : (words : List (List ℕ)) (at : ℕ) (word : List ℕ) →
-    slice_get words at ≡ Some word → option_named word ≡ None →
-    saying_from words at ≡ said_by (Operand at word) ∷ saying_from words (at + 1)
-operand_first words at word got plain =
-    ap (λ rest. map said_by (parts_of at rest)) (drop_get words at word got) ∙ ap (map said_by) (operand_parts word at (drop (at + 1) words) None plain refl)
+pub operand_first : (tool : Tool) (words : List (List ℕ)) (at : ℕ) (word : List ℕ) →
+    slice_get words at ≡ Some word → option_named tool word ≡ None →
+    saying_from tool words at ≡ said_by (Operand at word) ∷ saying_from tool words (at + 1)
+operand_first tool words at word got plain =
+    ap (λ rest. map said_by (parts_of tool at rest)) (drop_get words at word got) ∙ ap (map said_by) (operand_parts tool word at (drop (at + 1) words) None plain refl)
 
 -- an option with its value and what the words behind them say
-pub value_first : (words : List (List ℕ)) (at : ℕ) (word value : List ℕ) (option : OptionName) →
-    slice_get words at ≡ Some word → option_named word ≡ Some option → slice_get words (at + 1) ≡ Some value →
-    saying_from words at ≡ said_by (Valued option at value) ∷ saying_from words (at + 2)
-value_first words at word value option got named valued =
-    ap (λ rest. map said_by (parts_of at rest)) (drop_get words at word got) ∙
-    ap (map said_by) (option_parts word at (drop (at + 1) words) option named) ∙
-    ap (λ rest. map said_by (parts_from (Waits option at) (at + 1) rest)) (drop_get words (at + 1) value valued) ∙
+pub value_first : (tool : Tool) (words : List (List ℕ)) (at : ℕ) (word value : List ℕ) (option : OptionName) →
+    slice_get words at ≡ Some word → option_named tool word ≡ Some option → slice_get words (at + 1) ≡ Some value →
+    saying_from tool words at ≡ said_by (Valued option at value) ∷ saying_from tool words (at + 2)
+value_first tool words at word value option got named valued =
+    ap (λ rest. map said_by (parts_of tool at rest)) (drop_get words at word got) ∙
+    ap (map said_by) (option_parts tool word at (drop (at + 1) words) option named) ∙
+    ap (λ rest. map said_by (parts_from tool (Waits option at) (at + 1) rest)) (drop_get words (at + 1) value valued) ∙
     (let e : at + 1 + 1 ≡ at + 2 = omega arith in rw e)
 
 -- an option that is the last word
-pub unvalued_last : (words : List (List ℕ)) (at : ℕ) (word : List ℕ) (option : OptionName) →
-    slice_get words at ≡ Some word → option_named word ≡ Some option → at + 1 ≡ length words →
-    saying_from words at ≡ said_by (Unvalued option at) ∷ []
-unvalued_last words at word option got named last =
-    ap (λ rest. map said_by (parts_of at rest)) (drop_get words at word got) ∙
-    ap (map said_by) (option_parts word at (drop (at + 1) words) option named) ∙
-    ap (λ rest. map said_by (parts_from (Waits option at) (at + 1) rest)) (drop_all (at + 1) words (omega arith))
+pub unvalued_last : (tool : Tool) (words : List (List ℕ)) (at : ℕ) (word : List ℕ) (option : OptionName) →
+    slice_get words at ≡ Some word → option_named tool word ≡ Some option → at + 1 ≡ length words →
+    saying_from tool words at ≡ said_by (Unvalued option at) ∷ []
+unvalued_last tool words at word option got named last =
+    ap (λ rest. map said_by (parts_of tool at rest)) (drop_get words at word got) ∙
+    ap (map said_by) (option_parts tool word at (drop (at + 1) words) option named) ∙
+    ap (λ rest. map said_by (parts_from tool (Waits option at) (at + 1) rest)) (drop_all (at + 1) words (omega arith))
 
 fault_stays : (usage : Usage) (rest : List (Result Said Usage)) → all_absorbed (Err usage) rest ≡ Err usage
 fault_stays usage [] = refl
@@ -87,6 +91,8 @@ held_behind h said = record {
   arch = or_later h.arch (last_given arch_in said);
   name = or_later h.name (last_given name_in said);
   mode = mode_behind h.mode (last_given mode_in said);
+  from = or_later h.from (last_given from_in said);
+  operand = option_or h.operand (first_given operand_in said);
   edges = added h.edges (edges_given said);
 }
 
@@ -104,23 +110,35 @@ held_with h said = record {
   arch = or_later h.arch (arch_in said);
   name = or_later h.name (name_in said);
   mode = mode_behind h.mode (mode_in said);
+  from = or_later h.from (from_in said);
+  operand = option_or h.operand (operand_in said);
   edges = added h.edges (edges_in said);
 }
 
+or_none : {X : Type 0} (a : Option X) → option_or a None ≡ a
+or_none None = refl
+or_none (Some x) = refl
+
+or_twice : {X : Type 0} (a b c : Option X) → option_or (option_or a b) c ≡ option_or a (option_or b c)
+or_twice None b c = refl
+or_twice (Some x) b c = refl
+
 absorbed_one : (h : Held) (said : Said) → absorbed h (Ok said) ≡ Ok (held_with h said)
-absorbed_one h (SaysArch arch) = refl
-absorbed_one h (SaysName name) = refl
-absorbed_one h (SaysMode mode) = refl
-absorbed_one h (SaysEdges edges) = refl
+absorbed_one h (SaysArch arch) = rw (or_none h.operand) refl
+absorbed_one h (SaysName name) = rw (or_none h.operand) refl
+absorbed_one h (SaysMode mode) = rw (or_none h.operand) refl
+absorbed_one h (SaysFrom at) = rw (or_none h.operand) refl
+absorbed_one h (SaysEdges at edges) = refl
 
 held_one : (h : Held) (said : Said) (rest : List Said) → held_behind (held_with h said) rest ≡ held_behind h (said ∷ rest)
 held_one h said rest =
-    rw (
-      later_twice h.arch (arch_in said) (last_given arch_in rest),
-      later_twice h.name (name_in said) (last_given name_in rest),
-      mode_twice h.mode (mode_in said) (last_given mode_in rest),
-      added_more h.edges (edges_in said) (edges_given rest),
-    ) refl
+    let arch = later_twice h.arch (arch_in said) (last_given arch_in rest) in
+    let name = later_twice h.name (name_in said) (last_given name_in rest) in
+    let mode = mode_twice h.mode (mode_in said) (last_given mode_in rest) in
+    let from = later_twice h.from (from_in said) (last_given from_in rest) in
+    let operand = or_twice h.operand (operand_in said) (first_given operand_in rest) in
+    let edges = added_more h.edges (edges_in said) (edges_given rest) in
+    cc (arch, name, mode, from, operand, edges)
 
 abbrev held_after : Held → Result (List Said) Usage → Result Held Usage
 held_after h (Ok said) = Ok (held_behind h said)
@@ -133,7 +151,7 @@ after_first h one said (Ok list) same = ap Ok (same list)
 after_first h one said (Err usage) same = refl
 
 all_held : (h : Held) (said : List (Result Said Usage)) → all_absorbed (Ok h) said ≡ held_after h (said_all said)
-all_held h [] = refl
+all_held h [] = rw (or_none h.operand) refl
 all_held h (Err usage ∷ rest) = fault_stays usage rest
 all_held h (Ok said ∷ rest) =
     ap (λ r. all_absorbed r rest) (absorbed_one h said) ∙ all_held (held_with h said) rest ∙ after_first h (held_with h said) said (said_all rest) (held_one h said)
@@ -166,22 +184,50 @@ added_whole list (edge ∷ edges) h =
     (λ e. rw e (added_whole (list ++ edge ∷ []) edges (room_left list edge e) ∙ ap kept (append_assoc list (edge ∷ []) edges)))
     (λ e. rw e (added_too_long edges ∙ sym (kept_many (list ++ edge ∷ edges) (room_passed list edge edges e))))
 
-kept_fields : (request : DiyOne) (arch : ArchName) (name : List ℕ) (mode : ObsMode) (edges : List Edge) →
-    record { arch = request.arch; name = request.name.bytes; mode = request.mode; edges = request.edges } ≡ (let asked : AskedHeld = record { arch = arch; name = name; mode = mode; edges = added (Whole (record { items = [] })) edges } in asked) →
-    IsKept request (record { arch = arch; name = name; mode = mode; edges = edges })
-kept_fields request arch name mode edges h =
-    (ap (λ (a : AskedHeld). a.arch) h, ap (λ (a : AskedHeld). a.name) h, ap (λ (a : AskedHeld). a.mode) h, ap (λ (a : AskedHeld). a.edges) h ∙ added_whole [] edges (lit≤ tt))
+kept_test : (request : Request) (arch : ArchName) (name : List ℕ) (mode : ObsMode) (edges : List Edge) →
+    shown_request request ≡ KeepsTest (record { arch = arch; name = name; mode = mode; edges = added (Whole (record { items = [] })) edges }) →
+    IsKept request (AsksTest (record { arch = arch; name = name; mode = mode; edges = edges }))
+kept_test (requests.Name request) arch name mode edges h = cc h
+kept_test (requests.Test request) arch name mode edges h =
+    let f = fields _ _ h in (f.0, f.1, f.2, f.3 ∙ added_whole [] edges (lit≤ tt))
+  where
+    fields : (a b : AskedHeld) → KeepsTest a ≡ KeepsTest b → (a.arch ≡ b.arch) × (a.name ≡ b.name) × (a.mode ≡ b.mode) × (a.edges ≡ b.edges)
+    fields a b e = let same : a ≡ b = cc e in (ap (λ (o : AskedHeld). o.arch) same, ap (λ (o : AskedHeld). o.name) same, ap (λ (o : AskedHeld). o.mode) same, ap (λ (o : AskedHeld). o.edges) same)
 
-gives_cases : (count : ℕ) (request : Result DiyOne Usage) (arch : Option ArchName) (name : Option (List ℕ)) (mode : ObsMode) (edges : List Edge) →
-    shown request ≡ finished count arch name mode (added (Whole (record { items = [] })) edges) → Gives request (asked_with count arch name mode edges)
-gives_cases count (Ok request) None name mode edges h = cc h
-gives_cases count (Err usage) None name mode edges h = cc h
-gives_cases count (Ok request) (Some arch) None mode edges h = cc h
-gives_cases count (Err usage) (Some arch) None mode edges h = cc h
-gives_cases count (Ok request) (Some arch) (Some name) mode edges h = kept_fields request arch name mode edges (cc h)
-gives_cases count (Err usage) (Some arch) (Some name) mode edges h = cc h
+kept_name : (request : Request) (norm : Norm) (asked : NameAsked) → shown_request request ≡ KeepsName norm → norm.arch ≡ asked.arch → IsSought norm.cycle asked.cycle →
+    IsKept request (AsksName asked)
+kept_name (requests.Test request) norm asked h a s = cc h
+kept_name (requests.Name request) norm asked h a s =
+    let same : norm ≡ request = cc h in
+    subst (λ (n : Norm). (n.arch ≡ asked.arch) × IsSought n.cycle asked.cycle) same (a, s)
 
-gives_fault : (request : Result DiyOne Usage) (usage : Usage) → shown request ≡ Err usage → Gives request (Err usage)
+ok_is : {X : Type 0} (x y : X) → (let left : Result X Usage = Ok x in left) ≡ Ok y → x ≡ y
+ok_is x y e = cc e
+
+gives_test : (count : ℕ) (request : Result Request Usage) (arch : Option ArchName) (name : Option (List ℕ)) (mode : ObsMode) (edges : List Edge) →
+    shown request ≡ keeps KeepsTest (finished count arch name mode (added (Whole (record { items = [] })) edges)) → Gives request (asks AsksTest (asked_with count arch name mode edges))
+gives_test count (Ok request) None name mode edges h = cc h
+gives_test count (Err usage) None name mode edges h = cc h
+gives_test count (Ok request) (Some arch) None mode edges h = cc h
+gives_test count (Err usage) (Some arch) None mode edges h = cc h
+gives_test count (Ok request) (Some arch) (Some name) mode edges h =
+    let k = kept_test request arch name mode (edges) (ok_is _ _ h) in k
+gives_test count (Err usage) (Some arch) (Some name) mode edges h = cc h
+
+gives_name : (count : ℕ) (request : Result Request Usage) (arch : Option ArchName) (from operand : Option ℕ) (edges : List Edge) →
+    shown request ≡ keeps KeepsName (named count arch from operand (added (Whole (record { items = [] })) edges)) → Gives request (asks AsksName (named_with count arch from operand edges))
+gives_name count (Ok request) None from operand edges h = cc h
+gives_name count (Err usage) None from operand edges h = cc h
+gives_name count (Ok request) (Some arch) None None edges h = cc h
+gives_name count (Err usage) (Some arch) None None edges h = cc h
+gives_name count (Ok request) (Some arch) (Some from) None edges h = kept_name request _ _ (ok_is _ _ h) refl refl
+gives_name count (Err usage) (Some arch) (Some from) None edges h = cc h
+gives_name count (Ok request) (Some arch) None (Some operand) edges h = kept_name request _ _ (ok_is _ _ h) refl (added_whole [] edges (lit≤ tt))
+gives_name count (Err usage) (Some arch) None (Some operand) edges h = cc h
+gives_name count (Ok request) (Some arch) (Some from) (Some operand) edges h = cc h
+gives_name count (Err usage) (Some arch) (Some from) (Some operand) edges h = cc h
+
+gives_fault : (request : Result Request Usage) (usage : Usage) → shown request ≡ Err usage → Gives request (Err usage)
 gives_fault (Ok request) usage h = cc h
 gives_fault (Err other) usage h = cc h
 
@@ -193,25 +239,31 @@ mode_accept : (mode : Option ObsMode) → mode_behind Accept mode ≡ mode_or_ac
 mode_accept None = refl
 mode_accept (Some mode) = refl
 
-gives_found : (count : ℕ) (request : Result DiyOne Usage) (said : Result (List Said) Usage) →
-    shown request ≡ finished_with count (held_after nothing_held said) → Gives request (diyone_asked count said)
-gives_found count request (Err usage) h = gives_fault request usage h
-gives_found count request (Ok said) h =
-    let e : shown request ≡ finished count (last_given arch_in said) (last_given name_in said) (mode_or_accept (last_given mode_in said)) (added (Whole (record { items = [] })) (edges_given said)) =
-    rw (sym (later_none (last_given arch_in said)), sym (later_none (last_given name_in said)), sym (mode_accept (last_given mode_in said))) h in
-    gives_cases count request _ _ _ (edges_given said) e
-
 -- a request from what is held is the request of the definition, as it is kept
-pub gives_asked : (count : ℕ) (request : Result DiyOne Usage) (said : List (Result Said Usage)) →
-    shown request ≡ finished_with count (all_absorbed (Ok nothing_held) said) → Gives request (diyone_asked count (said_all said))
-gives_asked count request said h = gives_found count request (said_all said) (h ∙ ap (finished_with count) (all_held nothing_held said))
+gives_held : (tool : Tool) (count : ℕ) (request : Result Request Usage) (said : Result (List Said) Usage) →
+    shown request ≡ tool_held tool count (held_after nothing_held said) → Gives request (tool_asked tool count said)
+gives_held tool count request (Err usage) h = gives_fault request usage h
+gives_held tools.DiyOne count request (Ok said) h =
+    gives_test count request _ _ _ (edges_given said)
+    (rw (sym (later_none (last_given arch_in said)), sym (later_none (last_given name_in said)), sym (mode_accept (last_given mode_in said))) h)
+gives_held tools.Norm count request (Ok said) h =
+    gives_name count request _ _ _ (edges_given said)
+    (rw (sym (later_none (last_given arch_in said)), sym (later_none (last_given from_in said))) h)
+gives_held tools.Later count request (Ok said) h = gives_fault request _ h
 
--- the request of diyone7, where the first word names it
-pub gives_diyone : (words : List (List ℕ)) (tool : List ℕ) (request : Result DiyOne Usage) →
-    slice_get words 0 ≡ Some tool → tool_named tool ≡ Some tools.DiyOne →
-    shown request ≡ finished_with (length words) (all_absorbed (Ok nothing_held) (saying_from words 1)) → Gives request (asked_of words)
-gives_diyone [] tool request got named h = cc got
-gives_diyone (word ∷ words) tool request got named h =
-    let same : word ≡ tool = cc got in
-    let e : tool_named word ≡ Some tools.DiyOne = ap (λ w. tool_named w) same ∙ named in
-    rw e (gives_asked (length (word ∷ words)) request (map said_by (parts_of 1 words)) h)
+-- the request of a tool, where the first word names it
+pub gives_named : (words : List (List ℕ)) (word : List ℕ) (tool : Tool) (request : Result Request Usage) →
+    slice_get words 0 ≡ Some word → tool_named word ≡ Some tool → (tool ≡ tools.Later → ⊥) →
+    shown request ≡ tool_held tool (length words) (all_absorbed (Ok nothing_held) (saying_from tool words 1)) → Gives request (asked_of words)
+gives_named [] word tool request got named built h = cc got
+gives_named (first ∷ words) word tool request got named built h =
+    let same : first ≡ word = cc got in
+    let e : tool_named first ≡ Some tool = ap (λ w. tool_named w) same ∙ named in
+    rw e (of_tool tool built (gives_held tool (length (first ∷ words)) request (said_all (map said_by (parts_of tool 1 words)))
+    (h ∙ ap (tool_held tool (length (first ∷ words))) (all_held nothing_held (map said_by (parts_of tool 1 words))))))
+  where
+    of_tool : (t : Tool) → (t ≡ tools.Later → ⊥) → Gives request (tool_asked t (length (first ∷ words)) (said_all (map said_by (parts_of t 1 words))))
+        → Gives request (asked_for (Some t) (length (first ∷ words)) words)
+    of_tool tools.DiyOne built g = g
+    of_tool tools.Norm built g = g
+    of_tool tools.Later built g = absurd (built refl)

@@ -18,11 +18,16 @@ named (row ∷ rows) text = if bytes_eq text row.0 then Some row.1 else named ro
 -- the tools by their names
 abbrev pub tool_named : List ℕ → Option Tool
 tool_named = named ((codes "diyone7", tools.DiyOne) ∷ (codes "diy7", tools.Later) ∷ (codes "diycross7", tools.Later) ∷
-    (codes "norm7", tools.Later) ∷ (codes "classify7", tools.Later) ∷ (codes "msum7", tools.Later) ∷ (codes "demo", tools.Later) ∷ [])
+    (codes "norm7", tools.Norm) ∷ (codes "classify7", tools.Later) ∷ (codes "msum7", tools.Later) ∷ (codes "demo", tools.Later) ∷ [])
 
--- the options of diyone7
-abbrev pub option_named : List ℕ → Option OptionName
-option_named = named ((codes "-arch", opts.Arch) ∷ (codes "-name", opts.Name) ∷ (codes "-obs", opts.Obs) ∷ [])
+-- the options of a tool by their names
+abbrev pub options_of : Tool → List (List ℕ × OptionName)
+options_of tools.DiyOne = (codes "-arch", opts.Arch) ∷ (codes "-name", opts.Name) ∷ (codes "-obs", opts.Obs) ∷ []
+options_of tools.Norm = (codes "-arch", opts.Arch) ∷ (codes "-from", opts.From) ∷ []
+options_of tools.Later = []
+
+abbrev pub option_named : Tool → List ℕ → Option OptionName
+option_named tool = named (options_of tool)
 
 -- the architectures by their names
 abbrev pub arch_named : List ℕ → Option ArchName
@@ -53,14 +58,14 @@ abbrev pub operand_before : Option OptionName → ℕ → List ℕ → List Part
 operand_before (Some _) at word rest = rest
 operand_before None at word rest = Operand at word ∷ rest
 
--- the parts of words, the first of which stands at a place, behind an option that waits
-abbrev pub parts_from : Waiting → ℕ → List (List ℕ) → List Part
-parts_from Ready at [] = []
-parts_from (Waits option place) at [] = Unvalued option place ∷ []
-parts_from (Waits option place) at (value ∷ words) = Valued option place value ∷ parts_from Ready (at + 1) words
-parts_from Ready at (word ∷ words) =
-    operand_before (option_named word) at word (parts_from (waiting_at (option_named word) at) (at + 1) words)
+-- the parts of the words of a tool, the first of which stands at a place, behind an option that waits
+abbrev pub parts_from : Tool → Waiting → ℕ → List (List ℕ) → List Part
+parts_from tool Ready at [] = []
+parts_from tool (Waits option place) at [] = Unvalued option place ∷ []
+parts_from tool (Waits option place) at (value ∷ words) = Valued option place value ∷ parts_from tool Ready (at + 1) words
+parts_from tool Ready at (word ∷ words) =
+    operand_before (option_named tool word) at word (parts_from tool (waiting_at (option_named tool word) at) (at + 1) words)
 
--- the parts of words, the first of which stands at a place
-abbrev pub parts_of : ℕ → List (List ℕ) → List Part
-parts_of at words = parts_from Ready at words
+-- the parts of the words of a tool, the first of which stands at a place
+abbrev pub parts_of : Tool → ℕ → List (List ℕ) → List Part
+parts_of tool at words = parts_from tool Ready at words

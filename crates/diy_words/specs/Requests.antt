@@ -1,13 +1,14 @@
 -- The request that words make, or the first fault among them. Words are judged from left to right, an option with its
 -- value; then all of them. Source: own, after the command lines of the diy tools.
 use Rattle.std.specs.Prelude.{ℕ, ◌+◌, ◌==◌, Bool, false, if◌then◌else◌, List, [], ◌∷◌, ◌++◌, length, map, Option, Some, None, Result, Ok, Err}
+use Rattle.std.specs.Option.{option_or}
 use Rattle.relax_edges.specs.declared.kinds.ArchName.{ArchName}
 use Rattle.relax_edges.specs.declared.kinds.ObsMode.{ObsMode}
 use Rattle.relax_edges.specs.declared.kinds.ObsMode.TheVariants.{Accept}
 use Rattle.relax_edges.specs.declared.edge.Edge.{Edge}
 use Rattle.diy_words.specs.declared.usage.Usage.{Usage}
 use Rattle.diy_words.specs.declared.usage.UsageKind.{UsageKind}
-use Rattle.diy_words.specs.declared.usage.UsageKind.TheVariants.{UnknownTool, UnknownOption, MissingValue, UnknownArch, BadMode, BadName, UnknownEdge, MissingArch, NotBuilt}
+use Rattle.diy_words.specs.declared.usage.UsageKind.TheVariants.{UnknownTool, UnknownOption, MissingValue, UnknownArch, BadMode, BadName, UnknownEdge, StrayWord, MissingArch, NotBuilt}
 use Rattle.diy_words.specs.declared.options.Tool.{Tool}
 use Rattle.diy_words.specs.declared.options.Tool.TheVariants as tools
 use Rattle.diy_words.specs.declared.options.OptionName.TheVariants as opts
@@ -15,19 +16,35 @@ use Rattle.diy_words.specs.Names.{is_name}
 use Rattle.diy_words.specs.Edges.{operand_edges}
 use Rattle.diy_words.specs.Parts.{Part, Operand, Valued, Unvalued, parts_of, tool_named, arch_named, mode_named}
 
--- what a word of diyone7 says, an option with its value
+-- what a word says, an option with its value; the value of `-from` and an operand with their places
 pub data Said : Type 0 where
   SaysArch : ArchName → Said
   SaysName : List ℕ → Said
   SaysMode : ObsMode → Said
-  SaysEdges : List Edge → Said
+  SaysFrom : ℕ → Said
+  SaysEdges : ℕ → List Edge → Said
 
--- what diyone7 is asked for
-pub record Asked : Type 0 where
+-- what diyone7 is asked for: a test
+pub record TestAsked : Type 0 where
   pub arch : ArchName
   pub name : List ℕ
   pub mode : ObsMode
   pub edges : List Edge
+
+-- of which cycle norm7 is asked for the name: of the one that edges make, or of the one that the word at a place names
+pub data Sought : Type 0 where
+  OfEdges : List Edge → Sought
+  OfName : ℕ → Sought
+
+-- what norm7 is asked for: the name and the edges of a cycle
+pub record NameAsked : Type 0 where
+  pub arch : ArchName
+  pub cycle : Sought
+
+-- what words ask for
+pub data Asked : Type 0 where
+  AsksTest : TestAsked → Asked
+  AsksName : NameAsked → Asked
 
 -- a fault at a word
 abbrev pub fault : ℕ → UsageKind → Result Said Usage
@@ -49,7 +66,7 @@ mode_said at None = fault at BadMode
 
 -- the edges of an operand, at its place
 abbrev pub edges_said : ℕ → Option (List Edge) → Result Said Usage
-edges_said at (Some es) = Ok (SaysEdges es)
+edges_said at (Some es) = Ok (SaysEdges at es)
 edges_said at None = fault at UnknownEdge
 
 -- a text begins with `-`
@@ -63,6 +80,7 @@ said_by (Operand at text) = if begins_option text then fault at UnknownOption el
 said_by (Valued opts.Arch at value) = arch_said (at + 1) (arch_named value)
 said_by (Valued opts.Name at value) = name_said (at + 1) value
 said_by (Valued opts.Obs at value) = mode_said (at + 1) (mode_named value)
+said_by (Valued opts.From at value) = Ok (SaysFrom (at + 1))
 said_by (Unvalued _ at) = fault at MissingValue
 
 -- something said before the rest, where the rest has no fault
@@ -90,8 +108,17 @@ mode_in (SaysMode mode) = Some mode
 mode_in _ = None
 
 abbrev pub edges_in : Said → List Edge
-edges_in (SaysEdges edges) = edges
+edges_in (SaysEdges _ edges) = edges
 edges_in _ = []
+
+-- where a word stands that is the value of `-from`, or an operand
+abbrev pub from_in : Said → Option ℕ
+from_in (SaysFrom at) = Some at
+from_in _ = None
+
+abbrev pub operand_in : Said → Option ℕ
+operand_in (SaysEdges at _) = Some at
+operand_in _ = None
 
 -- the later of two, where it is there
 abbrev pub or_later : {X : Type 0} → Option X → Option X → Option X
@@ -102,6 +129,11 @@ or_later earlier None = earlier
 abbrev pub last_given : {X : Type 0} → (Said → Option X) → List Said → Option X
 last_given given [] = None
 last_given given (said ∷ rest) = or_later (given said) (last_given given rest)
+
+-- the first of the things of a kind that words give
+abbrev pub first_given : {X : Type 0} → (Said → Option X) → List Said → Option X
+first_given given [] = None
+first_given given (said ∷ rest) = option_or (given said) (first_given given rest)
 
 -- the edges of all operands
 abbrev pub edges_given : List Said → List Edge
@@ -114,22 +146,46 @@ mode_or_accept (Some mode) = mode
 mode_or_accept None = Accept
 
 -- the request of diyone7 from what was given; `count` is the number of words
-abbrev pub asked_with : ℕ → Option ArchName → Option (List ℕ) → ObsMode → List Edge → Result Asked Usage
+abbrev pub asked_with : ℕ → Option ArchName → Option (List ℕ) → ObsMode → List Edge → Result TestAsked Usage
 asked_with count None _ mode edges = Err (record { word = count; kind = MissingArch })
 asked_with count (Some _) None mode edges = Err (record { word = count; kind = NotBuilt })
 asked_with count (Some arch) (Some name) mode edges = Ok (record { arch = arch; name = name; mode = mode; edges = edges })
 
--- the request of diyone7 from what its words say, where no word is faulty
-abbrev pub diyone_asked : ℕ → Result (List Said) Usage → Result Asked Usage
-diyone_asked count (Err usage) = Err usage
-diyone_asked count (Ok said) =
+-- the request of norm7 from what was given: `-from` or operands, and not both
+abbrev pub named_with : ℕ → Option ArchName → Option ℕ → Option ℕ → List Edge → Result NameAsked Usage
+named_with count None _ _ edges = Err (record { word = count; kind = MissingArch })
+named_with count (Some arch) None None edges = Err (record { word = count; kind = NotBuilt })
+named_with count (Some arch) (Some from) None edges = Ok (record { arch = arch; cycle = OfName from })
+named_with count (Some arch) None (Some operand) edges = Ok (record { arch = arch; cycle = OfEdges edges })
+named_with count (Some arch) (Some from) (Some operand) edges = Err (record { word = operand; kind = StrayWord })
+
+-- a request of one of the tools
+abbrev pub asks : {X : Type 0} → (X → Asked) → Result X Usage → Result Asked Usage
+asks request (Ok asked) = Ok (request asked)
+asks request (Err usage) = Err usage
+
+-- the request of diyone7 from what its words say
+abbrev pub diyone_asked : ℕ → List Said → Result TestAsked Usage
+diyone_asked count said =
     asked_with count (last_given arch_in said) (last_given name_in said) (mode_or_accept (last_given mode_in said)) (edges_given said)
+
+-- the request of norm7 from what its words say
+abbrev pub norm_asked : ℕ → List Said → Result NameAsked Usage
+norm_asked count said =
+    named_with count (last_given arch_in said) (last_given from_in said) (first_given operand_in said) (edges_given said)
+
+-- the request of a tool from what its words say, where no word is faulty
+abbrev pub tool_asked : Tool → ℕ → Result (List Said) Usage → Result Asked Usage
+tool_asked tool count (Err usage) = Err usage
+tool_asked tools.DiyOne count (Ok said) = asks AsksTest (diyone_asked count said)
+tool_asked tools.Norm count (Ok said) = asks AsksName (norm_asked count said)
+tool_asked tools.Later count (Ok said) = Err (record { word = 0; kind = NotBuilt })
 
 -- the request of a tool from its words but the first
 abbrev pub asked_for : Option Tool → ℕ → List (List ℕ) → Result Asked Usage
 asked_for None count words = Err (record { word = 0; kind = UnknownTool })
-asked_for (Some tools.DiyOne) count words = diyone_asked count (said_all (map said_by (parts_of 1 words)))
 asked_for (Some tools.Later) count words = Err (record { word = 0; kind = NotBuilt })
+asked_for (Some tool) count words = tool_asked tool count (said_all (map said_by (parts_of tool 1 words)))
 
 -- the request that words make: the first names the tool
 abbrev pub asked_of : List (List ℕ) → Result Asked Usage

@@ -1,4 +1,5 @@
 ghost use Rattle.std.specs.Prelude.{◌≡◌};
+ghost use Rattle.diy_words.specs.declared.options.Tool.TheVariants as tools;
 ghost use Rattle.diy_words.specs.Parts.{tool_named, option_named, arch_named, mode_named};
 
 use relax_edges::{ArchName, ObsMode};
@@ -7,16 +8,18 @@ use relax_edges::{ArchName, ObsMode};
 #[derive(Clone, Copy)]
 pub enum Tool {
     DiyOne,
+    Norm,
     /// A tool that isn't built yet.
     Later,
 }
 
-/// The options of diyone7.
+/// The options of the tools.
 #[derive(Clone, Copy)]
 pub enum OptionName {
     Arch,
     Name,
     Obs,
+    From,
 }
 
 /// The tool with this name.
@@ -27,7 +30,7 @@ pub fn tool_named(text: &str) -> Option<Tool>
         "diyone7" => Some(Tool::DiyOne),
         "diy7" => Some(Tool::Later),
         "diycross7" => Some(Tool::Later),
-        "norm7" => Some(Tool::Later),
+        "norm7" => Some(Tool::Norm),
         "classify7" => Some(Tool::Later),
         "msum7" => Some(Tool::Later),
         "demo" => Some(Tool::Later),
@@ -35,14 +38,34 @@ pub fn tool_named(text: &str) -> Option<Tool>
     }
 }
 
-/// The option of diyone7 with this name.
-pub fn option_named(text: &str) -> Option<OptionName>
-    ensures { result ≡ option_named text.now }
+/// The option of a tool with this name.
+pub fn option_named(tool: Tool, text: &str) -> Option<OptionName>
+    ensures { result ≡ option_named tool text.now }
+{
+    match tool {
+        Tool::DiyOne => diyone_option(text),
+        Tool::Norm => norm_option(text),
+        Tool::Later => None,
+    }
+}
+
+fn diyone_option(text: &str) -> Option<OptionName>
+    ensures { result ≡ option_named tools.DiyOne text.now }
 {
     match text {
         "-arch" => Some(OptionName::Arch),
         "-name" => Some(OptionName::Name),
         "-obs" => Some(OptionName::Obs),
+        _ => None,
+    }
+}
+
+fn norm_option(text: &str) -> Option<OptionName>
+    ensures { result ≡ option_named tools.Norm text.now }
+{
+    match text {
+        "-arch" => Some(OptionName::Arch),
+        "-from" => Some(OptionName::From),
         _ => None,
     }
 }

@@ -1,21 +1,21 @@
-ghost use Rattle.std.specs.Prelude.{◌≡◌, ◌<◌, ◌+◌, ◌^◌, true, length, IfOk, Ok};
-ghost use Rattle.diy_words.specs.Names.{is_name};
+ghost use Rattle.std.specs.Prelude.{◌≡◌, ◌<◌, ◌+◌, ◌^◌, length, IfOk, Ok};
+ghost use Rattle.diy_words.specs.declared.usage.UsageKind.TheVariants.{MissingArch, NotBuilt};
 ghost use Rattle.diy_words.specs.Requests.{asked_of};
-ghost use Rattle.diy_words.specs.Given.{Gives, Steps, IsPlain, IsOption, held, saying_from, shown, finished_with, all_absorbed, nothing_held};
+ghost use Rattle.diy_words.specs.Given.{Gives, NamesTest, Steps, IsPlain, IsOption, held, saying_from, shown, keeps, KeepsTest, KeepsName, tool_held, test_held, name_held, all_absorbed, nothing_held};
 
 use crate::options::{OptionName, Tool, option_named, tool_named};
-use crate::request::DiyOne;
+use crate::request::{DiyOne, Norm, Request, Sought};
 use crate::said::{Said, unvalued};
 use crate::usage::{Usage, UsageKind};
 use diy_io::Words;
 
 /// The request that the words make, or the first fault among them: words are judged from left to
 /// right, an option with its value, and then all of them.
-pub fn read_request(words: &Words) -> Result<DiyOne, Usage>
+pub fn read_request(words: &Words) -> Result<Request, Usage>
     ensures given { Gives result (asked_of words.now) }
 
-    // The name has the form of a test's name.
-    ensures named { IfOk result (λ request. is_name request.name.bytes ≡ true) }
+    // The name of a test has its form.
+    ensures named { IfOk result NamesTest }
 {
     if words.len() == 0 {
         return Err(Usage {
@@ -24,11 +24,12 @@ pub fn read_request(words: &Words) -> Result<DiyOne, Usage>
         });
     }
     match tool_named(words.get(0)) {
-        Some(Tool::DiyOne) => read_diyone(words),
         Some(Tool::Later) => Err(Usage {
             word: 0,
             kind: UsageKind::NotBuilt,
         }),
+        Some(Tool::DiyOne) => read_words(Tool::DiyOne, words),
+        Some(Tool::Norm) => read_words(Tool::Norm, words),
         None => Err(Usage {
             word: 0,
             kind: UsageKind::UnknownTool,
@@ -36,33 +37,33 @@ pub fn read_request(words: &Words) -> Result<DiyOne, Usage>
     }
 }
 
-fn read_diyone(words: &Words) -> Result<DiyOne, Usage>
+fn read_words(tool: Tool, words: &Words) -> Result<Request, Usage>
     requires { 0 < length words.now }
-    ensures { shown result ≡ finished_with (length words.now) (all_absorbed (Ok nothing_held) (saying_from words.now 1)) }
+    ensures { shown result ≡ tool_held tool (length words.now) (all_absorbed (Ok nothing_held) (saying_from tool words.now 1)) }
 {
     let mut said = Said::new();
     let mut at = 1;
     while at < words.len() {
-        at = read_part(words, at, &mut said)?;
+        at = read_part(tool, words, at, &mut said)?;
     }
-    finish(words.len(), said)
+    finish(tool, words.len(), said)
 }
 
 /// Takes in the part of the words that begins at place `at`, and gives the place behind it.
-fn read_part(words: &Words, at: usize, said: &mut Said) -> Result<usize, Usage>
+fn read_part(tool: Tool, words: &Words, at: usize, said: &mut Said) -> Result<usize, Usage>
     requires { at < length words.now }
-    ensures { Steps words.now at (held said.old) (held said.new) result }
+    ensures { Steps tool words.now at (held said.old) (held said.new) result }
 {
-    match option_named(words.get(at)) {
-        None => read_operand_at(words, at, said),
-        Some(option) => read_option_at(words, at, option, said),
+    match option_named(tool, words.get(at)) {
+        None => read_operand_at(tool, words, at, said),
+        Some(option) => read_option_at(tool, words, at, option, said),
     }
 }
 
-fn read_operand_at(words: &Words, at: usize, said: &mut Said) -> Result<usize, Usage>
+fn read_operand_at(tool: Tool, words: &Words, at: usize, said: &mut Said) -> Result<usize, Usage>
     requires within { at < length words.now }
-    requires operand { IsPlain words.now at }
-    ensures { Steps words.now at (held said.old) (held said.new) result }
+    requires operand { IsPlain tool words.now at }
+    ensures { Steps tool words.now at (held said.old) (held said.new) result }
 {
     let _count = words.len();
     match said.take_operand(at, words.get(at)) {
@@ -72,15 +73,17 @@ fn read_operand_at(words: &Words, at: usize, said: &mut Said) -> Result<usize, U
 }
 
 fn read_option_at(
+    tool: Tool,
     words: &Words,
     at: usize,
     option: OptionName,
     said: &mut Said,
 ) -> Result<usize, Usage>
     requires within { at < length words.now }
-    requires named { IsOption words.now at option }
-    ensures { Steps words.now at (held said.old) (held said.new) result }
+    requires named { IsOption tool words.now at option }
+    ensures { Steps tool words.now at (held said.old) (held said.new) result }
 {
+    let _tool = tool;
     let count = words.len();
     if count - at == 1 {
         return Err(unvalued(option, at));
@@ -91,26 +94,72 @@ fn read_option_at(
     }
 }
 
-/// The request that was held at the end of `count` words.
-fn finish(count: usize, said: Said) -> Result<DiyOne, Usage>
-    ensures { shown result ≡ finished_with count (Ok (held said)) }
+/// The request of a tool that was held at the end of `count` words.
+fn finish(tool: Tool, count: usize, said: Said) -> Result<Request, Usage>
+    ensures { shown result ≡ tool_held tool count (Ok (held said)) }
+{
+    match tool {
+        Tool::DiyOne => finish_test(count, said),
+        Tool::Norm => finish_name(count, said),
+        Tool::Later => Err(Usage {
+            word: 0,
+            kind: UsageKind::NotBuilt,
+        }),
+    }
+}
+
+fn finish_test(count: usize, said: Said) -> Result<Request, Usage>
+    ensures { shown result ≡ keeps KeepsTest (test_held count (held said)) }
 {
     let Some(arch) = said.arch else {
-        return Err(Usage {
-            word: count,
-            kind: UsageKind::MissingArch,
-        });
+        return Err(missing_arch(count));
     };
     let Some(name) = said.name else {
-        return Err(Usage {
-            word: count,
-            kind: UsageKind::NotBuilt,
-        });
+        return Err(not_built(count));
     };
-    Ok(DiyOne {
+    Ok(Request::Test(DiyOne {
         arch,
         name,
         mode: said.mode,
         edges: said.edges,
-    })
+    }))
+}
+
+fn finish_name(count: usize, said: Said) -> Result<Request, Usage>
+    ensures { shown result ≡ keeps KeepsName (name_held count (held said)) }
+{
+    let Some(arch) = said.arch else {
+        return Err(missing_arch(count));
+    };
+    let cycle = match (said.from, said.operand) {
+        (None, None) => return Err(not_built(count)),
+        (Some(word), None) => Sought::Named { word },
+        (None, Some(_)) => Sought::Edges(said.edges),
+        (Some(_), Some(word)) => {
+            return Err(Usage {
+                word,
+                kind: UsageKind::StrayWord,
+            });
+        }
+    };
+    Ok(Request::Name(Norm { arch, cycle }))
+}
+
+fn missing_arch(count: usize) -> Usage
+    ensures { result ≡ record { word = count; kind = MissingArch } }
+{
+    Usage {
+        word: count,
+        kind: UsageKind::MissingArch,
+    }
+}
+
+/// What `count` words ask for isn't built yet.
+fn not_built(count: usize) -> Usage
+    ensures { result ≡ record { word = count; kind = NotBuilt } }
+{
+    Usage {
+        word: count,
+        kind: UsageKind::NotBuilt,
+    }
 }

@@ -35,6 +35,33 @@ impl EdgeList {
     }
 }
 
+/// What words ask for.
+#[derive(Drop)]
+pub enum Request {
+    /// A test, of diyone7.
+    Test(DiyOne),
+    /// The name of a cycle, of norm7.
+    Name(Norm),
+}
+
+/// What norm7 is asked for.
+#[derive(Drop)]
+pub struct Norm {
+    /// The architecture of the cycle.
+    pub arch: ArchName,
+    /// The cycle.
+    pub cycle: Sought,
+}
+
+/// The cycle whose name is asked for.
+#[derive(Drop)]
+pub enum Sought {
+    /// The one that these edges make.
+    Edges(EdgeList),
+    /// The one that the word at this place names.
+    Named { word: usize },
+}
+
 /// What diyone7 is asked for.
 #[derive(Drop)]
 pub struct DiyOne {

@@ -12,12 +12,16 @@ use crate::usage::{Usage, UsageKind};
 use arrayvec::ArrayVec;
 use relax_edges::{ArchName, ObsMode};
 
-/// What the words of diyone7 have said so far.
+/// What the words have said so far.
 #[derive(Drop)]
 pub struct Said {
     pub arch: Option<ArchName>,
     pub name: Option<TestName>,
     pub mode: ObsMode,
+    /// Where the value of `-from` stands.
+    pub from: Option<usize>,
+    /// Where the first operand stands.
+    pub operand: Option<usize>,
     pub edges: EdgeList,
 }
 
@@ -31,6 +35,8 @@ impl Said {
             arch: None,
             name: None,
             mode: ObsMode::Accept,
+            from: None,
+            operand: None,
             edges: EdgeList::Whole(ArrayVec::new()),
         }
     }
@@ -44,6 +50,10 @@ impl Said {
             OptionName::Arch => self.take_arch(at + 1, value),
             OptionName::Name => self.take_name(at + 1, value),
             OptionName::Obs => self.take_mode(at + 1, value),
+            OptionName::From => {
+                self.from = Some(at + 1);
+                Ok(())
+            }
         }
     }
 
@@ -103,7 +113,10 @@ impl Said {
             });
         }
         match read_operand(text, &mut self.edges) {
-            Ok(()) => Ok(()),
+            Ok(()) => {
+                self.operand = self.operand.or(Some(at));
+                Ok(())
+            }
             Err(_) => Err(Usage {
                 word: at,
                 kind: UsageKind::UnknownEdge,

@@ -23,6 +23,8 @@ pub enum UsageKind {
     BadName,
     /// A word among the operands is no edge.
     UnknownEdge,
+    /// An operand stands beside `-from`.
+    StrayWord,
     /// The tool needs `-arch`, and it isn't there.
     MissingArch,
     /// The tool, option or value isn't built yet.

@@ -4,8 +4,8 @@ use Rattle.diy_words.proofs.read.read_operand_at.Goals as goal
 
 pub returns-in-Ok : goal.returns-in-Ok
 returns-in-Ok c =
-    (omega arith, taken _ _ _ _ _ (operand_first c.args.words.now c.args.at c.get.result.now c.get.ensures (c.requires.operand _ c.get.ensures)) c.in-Ok.ensures)
+    (omega arith, taken _ _ _ _ _ (operand_first c.args.tool c.args.words.now c.args.at c.get.result.now c.get.ensures (c.requires.operand _ c.get.ensures)) c.in-Ok.ensures)
 
 pub returns-in-Err : goal.returns-in-Err
 returns-in-Err c =
-    faulty _ _ _ _ _ (operand_first c.args.words.now c.args.at c.get.result.now c.get.ensures (c.requires.operand _ c.get.ensures)) c.in-Err.ensures
+    faulty _ _ _ _ _ (operand_first c.args.tool c.args.words.now c.args.at c.get.result.now c.get.ensures (c.requires.operand _ c.get.ensures)) c.in-Err.ensures
