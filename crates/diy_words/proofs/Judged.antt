@@ -12,7 +12,8 @@ use Rattle.diy_words.specs.declared.request.EdgeList.{EdgeList}
 use Rattle.diy_words.specs.declared.request.EdgeList.TheVariants.{Whole, TooLong}
 use Rattle.diy_words.specs.declared.request.Request.{Request}
 use Rattle.diy_words.specs.declared.request.Request.TheVariants as requests
-use Rattle.diy_words.specs.declared.request.Norm.{Norm}
+use Rattle.diy_words.specs.declared.request.Sought.{Sought}
+use Rattle.diy_words.specs.declared.request.Sought.TheVariants as sought
 use Rattle.diy_words.specs.declared.usage.Usage.{Usage}
 use Rattle.diy_words.specs.declared.options.OptionName.{OptionName}
 use Rattle.diy_words.specs.Edges.{kept}
@@ -20,8 +21,9 @@ use Rattle.diy_words.specs.Kept.{added, pushed}
 use Rattle.diy_words.specs.Parts.{Operand, Valued, Unvalued, Waits, parts_from, parts_of, option_named, tool_named}
 use Rattle.diy_words.specs.declared.options.Tool.{Tool}
 use Rattle.diy_words.specs.declared.options.Tool.TheVariants as tools
-use Rattle.diy_words.specs.Requests.{Said, SaysArch, SaysName, SaysMode, SaysFrom, SaysEdges, NameAsked, AsksTest, AsksName, said_by, said_first, said_all, or_later, last_given, first_given, arch_in, name_in, mode_in, from_in, operand_in, edges_in, mode_or_accept, edges_given, asks, asked_with, named_with, asked_of, asked_for, tool_asked}
-use Rattle.diy_words.specs.Given.{Held, absorbed, all_absorbed, saying_from, finished, named, keeps, KeepsTest, KeepsName, tool_held, shown, shown_request, nothing_held, AskedHeld, Gives, IsKept, IsSought}
+use Rattle.diy_words.specs.Requests.{Said, SaysArch, SaysName, SaysMode, SaysFrom, SaysEdges, NameAsked, AsksTest, AsksName, OfEdges, OfName, said_by, said_first, said_all, or_later, last_given, first_given, arch_in, name_in, mode_in, from_in, operand_in, edges_in, mode_or_accept, edges_given, asks, asked_with, named_with, asked_of, asked_for, tool_asked}
+use Rattle.diy_words.specs.Given.{Held, absorbed, all_absorbed, saying_from, finished, named, keeps, KeepsTest, KeepsName, tool_held, shown, shown_request, nothing_held, AskedHeld, NameHeld, SoughtHeld, HeldEdges, HeldName, sought_held, Gives, IsKept, IsSought}
+use Rattle.diy_words.specs.Requests as req
 
 drop_get : {X : Type 0} (xs : List X) (i : ℕ) (x : X) → slice_get xs i ≡ Some x → drop i xs ≡ x ∷ drop (i + 1) xs
 drop_get [] i x h = cc h
@@ -127,7 +129,7 @@ absorbed_one : (h : Held) (said : Said) → absorbed h (Ok said) ≡ Ok (held_wi
 absorbed_one h (SaysArch arch) = rw (or_none h.operand) refl
 absorbed_one h (SaysName name) = rw (or_none h.operand) refl
 absorbed_one h (SaysMode mode) = rw (or_none h.operand) refl
-absorbed_one h (SaysFrom at) = rw (or_none h.operand) refl
+absorbed_one h (SaysFrom at name) = rw (or_none h.operand) refl
 absorbed_one h (SaysEdges at edges) = refl
 
 held_one : (h : Held) (said : Said) (rest : List Said) → held_behind (held_with h said) rest ≡ held_behind h (said ∷ rest)
@@ -194,12 +196,25 @@ kept_test (requests.Test request) arch name mode edges h =
     fields : (a b : AskedHeld) → KeepsTest a ≡ KeepsTest b → (a.arch ≡ b.arch) × (a.name ≡ b.name) × (a.mode ≡ b.mode) × (a.edges ≡ b.edges)
     fields a b e = let same : a ≡ b = cc e in (ap (λ (o : AskedHeld). o.arch) same, ap (λ (o : AskedHeld). o.name) same, ap (λ (o : AskedHeld). o.mode) same, ap (λ (o : AskedHeld). o.edges) same)
 
-kept_name : (request : Request) (norm : Norm) (asked : NameAsked) → shown_request request ≡ KeepsName norm → norm.arch ≡ asked.arch → IsSought norm.cycle asked.cycle →
+-- what is held of a cycle that is sought is what is asked for
+abbrev IsHeld : SoughtHeld → req.Sought → Type 0
+IsHeld (HeldEdges list) (OfEdges es) = list ≡ kept es
+IsHeld (HeldEdges list) (OfName at name) = ⊥
+IsHeld (HeldName word text) (OfEdges es) = ⊥
+IsHeld (HeldName word text) (OfName at name) = (word ≡ at) × (text ≡ name)
+
+held_sought : (cycle : Sought) (asked : req.Sought) → IsHeld (sought_held cycle) asked → IsSought cycle asked
+held_sought (sought.Edges list) (OfEdges es) h = h
+held_sought (sought.Edges list) (OfName at name) h = h
+held_sought (sought.Named from) (OfEdges es) h = h
+held_sought (sought.Named from) (OfName at name) h = h
+
+kept_name : (request : Request) (held : NameHeld) (asked : NameAsked) → shown_request request ≡ KeepsName held → held.arch ≡ asked.arch → IsHeld held.cycle asked.cycle →
     IsKept request (AsksName asked)
-kept_name (requests.Test request) norm asked h a s = cc h
-kept_name (requests.Name request) norm asked h a s =
-    let same : norm ≡ request = cc h in
-    subst (λ (n : Norm). (n.arch ≡ asked.arch) × IsSought n.cycle asked.cycle) same (a, s)
+kept_name (requests.Test request) held asked h a s = cc h
+kept_name (requests.Name request) held asked h a s =
+    let same : held ≡ (let shown : NameHeld = record { arch = request.arch; cycle = sought_held request.cycle } in shown) = cc h in
+    (sym (ap (λ (n : NameHeld). n.arch) same) ∙ a, held_sought request.cycle asked.cycle (subst (λ (n : NameHeld). IsHeld n.cycle asked.cycle) same s))
 
 ok_is : {X : Type 0} (x y : X) → (let left : Result X Usage = Ok x in left) ≡ Ok y → x ≡ y
 ok_is x y e = cc e
@@ -214,13 +229,13 @@ gives_test count (Ok request) (Some arch) (Some name) mode edges h =
     let k = kept_test request arch name mode (edges) (ok_is _ _ h) in k
 gives_test count (Err usage) (Some arch) (Some name) mode edges h = cc h
 
-gives_name : (count : ℕ) (request : Result Request Usage) (arch : Option ArchName) (from operand : Option ℕ) (edges : List Edge) →
+gives_name : (count : ℕ) (request : Result Request Usage) (arch : Option ArchName) (from : Option (ℕ × List ℕ)) (operand : Option ℕ) (edges : List Edge) →
     shown request ≡ keeps KeepsName (named count arch from operand (added (Whole (record { items = [] })) edges)) → Gives request (asks AsksName (named_with count arch from operand edges))
 gives_name count (Ok request) None from operand edges h = cc h
 gives_name count (Err usage) None from operand edges h = cc h
 gives_name count (Ok request) (Some arch) None None edges h = cc h
 gives_name count (Err usage) (Some arch) None None edges h = cc h
-gives_name count (Ok request) (Some arch) (Some from) None edges h = kept_name request _ _ (ok_is _ _ h) refl refl
+gives_name count (Ok request) (Some arch) (Some from) None edges h = kept_name request _ _ (ok_is _ _ h) refl (refl, refl)
 gives_name count (Err usage) (Some arch) (Some from) None edges h = cc h
 gives_name count (Ok request) (Some arch) None (Some operand) edges h = kept_name request _ _ (ok_is _ _ h) refl (added_whole [] edges (lit≤ tt))
 gives_name count (Err usage) (Some arch) None (Some operand) edges h = cc h

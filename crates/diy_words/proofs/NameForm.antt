@@ -23,7 +23,7 @@ abbrev HasForm : Said → Type 0
 HasForm (SaysArch _) = Unit {0}
 HasForm (SaysName name) = is_name name ≡ true
 HasForm (SaysMode _) = Unit {0}
-HasForm (SaysFrom _) = Unit {0}
+HasForm (SaysFrom _ _) = Unit {0}
 HasForm (SaysEdges _ _) = Unit {0}
 
 abbrev SaysForm : Result Said Usage → Type 0
@@ -84,7 +84,7 @@ given_form (said ∷ rest) name h e = of_later said h.0 (last_given name_in rest
     own_form : (said : Said) → HasForm said → name_in said ≡ Some name → is_name name ≡ true
     own_form (SaysArch _) h e = cc
     own_form (SaysMode _) h e = cc
-    own_form (SaysFrom _) h e = cc
+    own_form (SaysFrom _ _) h e = cc
     own_form (SaysEdges _ _) h e = cc
     own_form (SaysName own) h e = let same : own ≡ name = cc in subst (λ x. is_name x ≡ true) same h
 

@@ -9,7 +9,6 @@ use Rattle.diy_words.specs.declared.options.OptionName.{OptionName}
 use Rattle.diy_words.specs.declared.request.EdgeList.TheVariants.{Whole}
 use Rattle.diy_words.specs.declared.request.Request.{Request}
 use Rattle.diy_words.specs.declared.request.Request.TheVariants as requests
-use Rattle.diy_words.specs.declared.request.Norm.{Norm}
 use Rattle.diy_words.specs.declared.request.Sought.{Sought}
 use Rattle.diy_words.specs.declared.request.Sought.TheVariants as sought
 use Rattle.diy_words.specs.declared.options.Tool.{Tool}
@@ -30,13 +29,13 @@ pub record Held : Type 0 where
   pub arch : Option ArchName
   pub name : Option (List ℕ)
   pub mode : ObsMode
-  pub from : Option ℕ
+  pub from : Option (ℕ × List ℕ)
   pub operand : Option ℕ
   pub edges : EdgeList
 
 -- what the code holds
 abbrev pub held : Said → Held
-held said = record { arch = said.arch; name = option_map (λ name. name.bytes) said.name; mode = said.mode; from = said.from; operand = said.operand; edges = said.edges }
+held said = record { arch = said.arch; name = option_map (λ name. name.bytes) said.name; mode = said.mode; from = option_map (λ from. (from.word, from.name.now)) said.from; operand = said.operand; edges = said.edges }
 
 -- nothing yet
 abbrev pub nothing_held : Held
@@ -47,7 +46,7 @@ abbrev pub absorbed : Held → Result req.Said Usage → Result Held Usage
 absorbed h (Ok (SaysArch arch)) = Ok (record h { arch = Some arch })
 absorbed h (Ok (SaysName name)) = Ok (record h { name = Some name })
 absorbed h (Ok (SaysMode mode)) = Ok (record h { mode = mode })
-absorbed h (Ok (SaysFrom at)) = Ok (record h { from = Some at })
+absorbed h (Ok (SaysFrom at name)) = Ok (record h { from = Some (at, name) })
 absorbed h (Ok (SaysEdges at edges)) = Ok (record h { operand = option_or h.operand (Some at); edges = added h.edges edges })
 absorbed h (Err usage) = Err usage
 
@@ -69,9 +68,9 @@ saying_from tool words at = map said_by (parts_of tool at (drop at words))
 -- the cycle that is sought, as it is kept
 abbrev pub IsSought : Sought → req.Sought → Type 0
 IsSought (sought.Edges list) (OfEdges es) = list ≡ kept es
-IsSought (sought.Edges list) (OfName at) = ⊥
-IsSought (sought.Named word) (OfEdges es) = ⊥
-IsSought (sought.Named word) (OfName at) = word ≡ at
+IsSought (sought.Edges list) (OfName at name) = ⊥
+IsSought (sought.Named from) (OfEdges es) = ⊥
+IsSought (sought.Named from) (OfName at name) = (from.word ≡ at) × (from.name.now ≡ name)
 
 -- the request as it is kept
 abbrev pub IsKept : Request → Asked → Type 0
@@ -113,17 +112,29 @@ finished count (Some _) None _ _ = Err (record { word = count; kind = NotBuilt }
 finished count (Some arch) (Some name) mode edges = Ok (record { arch = arch; name = name; mode = mode; edges = edges })
 
 -- the request of norm7 as it is kept, from what is held at the end
-abbrev pub named : ℕ → Option ArchName → Option ℕ → Option ℕ → EdgeList → Result Norm Usage
+pub data SoughtHeld : Type 0 where
+  HeldEdges : EdgeList → SoughtHeld
+  HeldName : ℕ → List ℕ → SoughtHeld
+
+pub record NameHeld : Type 0 where
+  pub arch : ArchName
+  pub cycle : SoughtHeld
+
+abbrev pub sought_held : Sought → SoughtHeld
+sought_held (sought.Edges list) = HeldEdges list
+sought_held (sought.Named from) = HeldName from.word from.name.now
+
+abbrev pub named : ℕ → Option ArchName → Option (ℕ × List ℕ) → Option ℕ → EdgeList → Result NameHeld Usage
 named count None _ _ edges = Err (record { word = count; kind = MissingArch })
 named count (Some arch) None None edges = Err (record { word = count; kind = NotBuilt })
-named count (Some arch) (Some from) None edges = Ok (record { arch = arch; cycle = sought.Named from })
-named count (Some arch) None (Some operand) edges = Ok (record { arch = arch; cycle = sought.Edges edges })
+named count (Some arch) (Some from) None edges = Ok (record { arch = arch; cycle = HeldName from.0 from.1 })
+named count (Some arch) None (Some operand) edges = Ok (record { arch = arch; cycle = HeldEdges edges })
 named count (Some arch) (Some from) (Some operand) edges = Err (record { word = operand; kind = StrayWord })
 
 -- a request as it is kept
 pub data Kept : Type 0 where
   KeepsTest : AskedHeld → Kept
-  KeepsName : Norm → Kept
+  KeepsName : NameHeld → Kept
 
 abbrev pub keeps : {X : Type 0} → (X → Kept) → Result X Usage → Result Kept Usage
 keeps request (Ok asked) = Ok (request asked)
@@ -133,7 +144,7 @@ keeps request (Err usage) = Err usage
 abbrev pub test_held : ℕ → Held → Result AskedHeld Usage
 test_held count h = finished count h.arch h.name h.mode h.edges
 
-abbrev pub name_held : ℕ → Held → Result Norm Usage
+abbrev pub name_held : ℕ → Held → Result NameHeld Usage
 name_held count h = named count h.arch h.from h.operand h.edges
 
 -- the request of a tool from what is held after all words
@@ -147,7 +158,7 @@ tool_held tools.Later count (Ok h) = Err (record { word = 0; kind = NotBuilt })
 abbrev pub shown_request : Request → Kept
 shown_request (requests.Test request) =
     KeepsTest (record { arch = request.arch; name = request.name.bytes; mode = request.mode; edges = request.edges })
-shown_request (requests.Name request) = KeepsName request
+shown_request (requests.Name request) = KeepsName (record { arch = request.arch; cycle = sought_held request.cycle })
 
 -- what a call gives
 abbrev pub shown : Result Request Usage → Result Kept Usage

@@ -21,7 +21,7 @@ pub data Said : Type 0 where
   SaysArch : ArchName → Said
   SaysName : List ℕ → Said
   SaysMode : ObsMode → Said
-  SaysFrom : ℕ → Said
+  SaysFrom : ℕ → List ℕ → Said
   SaysEdges : ℕ → List Edge → Said
 
 -- what diyone7 is asked for: a test
@@ -31,10 +31,10 @@ pub record TestAsked : Type 0 where
   pub mode : ObsMode
   pub edges : List Edge
 
--- of which cycle norm7 is asked for the name: of the one that edges make, or of the one that the word at a place names
+-- of which cycle norm7 is asked for the name: of the one that edges make, or of the one that has a name, the word at a place
 pub data Sought : Type 0 where
   OfEdges : List Edge → Sought
-  OfName : ℕ → Sought
+  OfName : ℕ → List ℕ → Sought
 
 -- what norm7 is asked for: the name and the edges of a cycle
 pub record NameAsked : Type 0 where
@@ -80,7 +80,7 @@ said_by (Operand at text) = if begins_option text then fault at UnknownOption el
 said_by (Valued opts.Arch at value) = arch_said (at + 1) (arch_named value)
 said_by (Valued opts.Name at value) = name_said (at + 1) value
 said_by (Valued opts.Obs at value) = mode_said (at + 1) (mode_named value)
-said_by (Valued opts.From at value) = Ok (SaysFrom (at + 1))
+said_by (Valued opts.From at value) = Ok (SaysFrom (at + 1) value)
 said_by (Unvalued _ at) = fault at MissingValue
 
 -- something said before the rest, where the rest has no fault
@@ -111,9 +111,9 @@ abbrev pub edges_in : Said → List Edge
 edges_in (SaysEdges _ edges) = edges
 edges_in _ = []
 
--- where a word stands that is the value of `-from`, or an operand
-abbrev pub from_in : Said → Option ℕ
-from_in (SaysFrom at) = Some at
+-- the value of `-from` with its place, and where an operand stands
+abbrev pub from_in : Said → Option (ℕ × List ℕ)
+from_in (SaysFrom at name) = Some (at, name)
 from_in _ = None
 
 abbrev pub operand_in : Said → Option ℕ
@@ -152,10 +152,10 @@ asked_with count (Some _) None mode edges = Err (record { word = count; kind = N
 asked_with count (Some arch) (Some name) mode edges = Ok (record { arch = arch; name = name; mode = mode; edges = edges })
 
 -- the request of norm7 from what was given: `-from` or operands, and not both
-abbrev pub named_with : ℕ → Option ArchName → Option ℕ → Option ℕ → List Edge → Result NameAsked Usage
+abbrev pub named_with : ℕ → Option ArchName → Option (ℕ × List ℕ) → Option ℕ → List Edge → Result NameAsked Usage
 named_with count None _ _ edges = Err (record { word = count; kind = MissingArch })
 named_with count (Some arch) None None edges = Err (record { word = count; kind = NotBuilt })
-named_with count (Some arch) (Some from) None edges = Ok (record { arch = arch; cycle = OfName from })
+named_with count (Some arch) (Some from) None edges = Ok (record { arch = arch; cycle = OfName from.0 from.1 })
 named_with count (Some arch) None (Some operand) edges = Ok (record { arch = arch; cycle = OfEdges edges })
 named_with count (Some arch) (Some from) (Some operand) edges = Err (record { word = operand; kind = StrayWord })
 

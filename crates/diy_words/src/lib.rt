@@ -10,5 +10,5 @@ mod said;
 mod usage;
 
 pub use read::read_request;
-pub use request::{DiyOne, EdgeList, MAX_NAME, Norm, Request, Sought, TestName};
+pub use request::{DiyOne, EdgeList, MAX_NAME, Norm, Request, Sought, Source, TestName};
 pub use usage::{Usage, UsageKind};

@@ -11,7 +11,7 @@ use diy_io::Words;
 
 /// The request that the words make, or the first fault among them: words are judged from left to
 /// right, an option with its value, and then all of them.
-pub fn read_request(words: &Words) -> Result<Request, Usage>
+pub fn read_request(words: &Words) -> Result<Request<'_>, Usage>
     ensures given { Gives result (asked_of words.now) }
 
     // The name of a test has its form.
@@ -37,7 +37,7 @@ pub fn read_request(words: &Words) -> Result<Request, Usage>
     }
 }
 
-fn read_words(tool: Tool, words: &Words) -> Result<Request, Usage>
+fn read_words(tool: Tool, words: &Words) -> Result<Request<'_>, Usage>
     requires { 0 < length words.now }
     ensures { shown result ≡ tool_held tool (length words.now) (all_absorbed (Ok nothing_held) (saying_from tool words.now 1)) }
 {
@@ -50,7 +50,12 @@ fn read_words(tool: Tool, words: &Words) -> Result<Request, Usage>
 }
 
 /// Takes in the part of the words that begins at place `at`, and gives the place behind it.
-fn read_part(tool: Tool, words: &Words, at: usize, said: &mut Said) -> Result<usize, Usage>
+fn read_part<'a>(
+    tool: Tool,
+    words: &'a Words,
+    at: usize,
+    said: &mut Said<'a>,
+) -> Result<usize, Usage>
     requires { at < length words.now }
     ensures { Steps tool words.now at (held said.old) (held said.new) result }
 {
@@ -72,12 +77,12 @@ fn read_operand_at(tool: Tool, words: &Words, at: usize, said: &mut Said) -> Res
     }
 }
 
-fn read_option_at(
+fn read_option_at<'a>(
     tool: Tool,
-    words: &Words,
+    words: &'a Words,
     at: usize,
     option: OptionName,
-    said: &mut Said,
+    said: &mut Said<'a>,
 ) -> Result<usize, Usage>
     requires within { at < length words.now }
     requires named { IsOption tool words.now at option }
@@ -95,8 +100,8 @@ fn read_option_at(
 }
 
 /// The request of a tool that was held at the end of `count` words.
-fn finish(tool: Tool, count: usize, said: Said) -> Result<Request, Usage>
-    ensures { shown result ≡ tool_held tool count (Ok (held said)) }
+fn finish(tool: Tool, count: usize, said: Said<'_>) -> Result<Request<'_>, Usage>
+    ensures { shown result ≡ tool_held tool count (Ok (held said.entry)) }
 {
     match tool {
         Tool::DiyOne => finish_test(count, said),
@@ -108,8 +113,8 @@ fn finish(tool: Tool, count: usize, said: Said) -> Result<Request, Usage>
     }
 }
 
-fn finish_test(count: usize, said: Said) -> Result<Request, Usage>
-    ensures { shown result ≡ keeps KeepsTest (test_held count (held said)) }
+fn finish_test(count: usize, said: Said<'_>) -> Result<Request<'_>, Usage>
+    ensures { shown result ≡ keeps KeepsTest (test_held count (held said.entry)) }
 {
     let Some(arch) = said.arch else {
         return Err(missing_arch(count));
@@ -125,15 +130,15 @@ fn finish_test(count: usize, said: Said) -> Result<Request, Usage>
     }))
 }
 
-fn finish_name(count: usize, said: Said) -> Result<Request, Usage>
-    ensures { shown result ≡ keeps KeepsName (name_held count (held said)) }
+fn finish_name(count: usize, said: Said<'_>) -> Result<Request<'_>, Usage>
+    ensures { shown result ≡ keeps KeepsName (name_held count (held said.entry)) }
 {
     let Some(arch) = said.arch else {
         return Err(missing_arch(count));
     };
     let cycle = match (said.from, said.operand) {
         (None, None) => return Err(not_built(count)),
-        (Some(word), None) => Sought::Named { word },
+        (Some(source), None) => Sought::Named(source),
         (None, Some(_)) => Sought::Edges(said.edges),
         (Some(_), Some(word)) => {
             return Err(Usage {

@@ -37,29 +37,38 @@ impl EdgeList {
 
 /// What words ask for.
 #[derive(Drop)]
-pub enum Request {
+pub enum Request<'a> {
     /// A test, of diyone7.
     Test(DiyOne),
     /// The name of a cycle, of norm7.
-    Name(Norm),
+    Name(Norm<'a>),
 }
 
 /// What norm7 is asked for.
 #[derive(Drop)]
-pub struct Norm {
+pub struct Norm<'a> {
     /// The architecture of the cycle.
     pub arch: ArchName,
     /// The cycle.
-    pub cycle: Sought,
+    pub cycle: Sought<'a>,
 }
 
 /// The cycle whose name is asked for.
 #[derive(Drop)]
-pub enum Sought {
+pub enum Sought<'a> {
     /// The one that these edges make.
     Edges(EdgeList),
-    /// The one that the word at this place names.
-    Named { word: usize },
+    /// The one that has this name.
+    Named(Source<'a>),
+}
+
+/// The value of `-from`.
+#[derive(Clone, Copy)]
+pub struct Source<'a> {
+    /// Which word it is.
+    pub word: usize,
+    /// The name.
+    pub name: &'a str,
 }
 
 /// What diyone7 is asked for.

@@ -7,28 +7,28 @@ ghost use Rattle.diy_words.specs.Requests.{said_by, arch_said, name_said, mode_s
 use crate::name::name_of;
 use crate::operand::read_operand;
 use crate::options::{OptionName, arch_named, mode_named};
-use crate::request::{EdgeList, TestName};
+use crate::request::{EdgeList, Source, TestName};
 use crate::usage::{Usage, UsageKind};
 use arrayvec::ArrayVec;
 use relax_edges::{ArchName, ObsMode};
 
 /// What the words have said so far.
 #[derive(Drop)]
-pub struct Said {
+pub struct Said<'a> {
     pub arch: Option<ArchName>,
     pub name: Option<TestName>,
     pub mode: ObsMode,
-    /// Where the value of `-from` stands.
-    pub from: Option<usize>,
+    /// The value of `-from`.
+    pub from: Option<Source<'a>>,
     /// Where the first operand stands.
     pub operand: Option<usize>,
     pub edges: EdgeList,
 }
 
-impl Said {
+impl<'a> Said<'a> {
     ghost use Rattle.diy_words.specs.Given.{held, nothing_held, absorbed, left_by};
 
-    pub fn new() -> Said
+    pub fn new() -> Said<'a>
         ensures { held result ≡ nothing_held }
     {
         Said {
@@ -42,7 +42,12 @@ impl Said {
     }
 
     /// Takes in an option at place `at` with its value, which stands behind it.
-    pub fn take_value(&mut self, option: OptionName, at: usize, value: &str) -> Result<(), Usage>
+    pub fn take_value(
+        &mut self,
+        option: OptionName,
+        at: usize,
+        value: &'a str,
+    ) -> Result<(), Usage>
         requires { at + 1 < 2 ^ 64 }
         ensures { left_by result (held self.new) ≡ absorbed (held self.old) (said_by (Valued option at value.now)) }
     {
@@ -51,7 +56,10 @@ impl Said {
             OptionName::Name => self.take_name(at + 1, value),
             OptionName::Obs => self.take_mode(at + 1, value),
             OptionName::From => {
-                self.from = Some(at + 1);
+                self.from = Some(Source {
+                    word: at + 1,
+                    name: value,
+                });
                 Ok(())
             }
         }
