@@ -1,0 +1,6 @@
+//! The name of a cycle, and the cycle of a name.
+#![tactic(auto)]
+
+mod family;
+
+pub use family::Family;
