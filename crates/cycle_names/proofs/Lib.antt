@@ -1,1 +1,7 @@
 mod NameExamples
+pub mod Tables
+pub mod Members
+pub mod Below
+pub mod Outlines
+pub mod Families
+pub mod Chosen

@@ -44,7 +44,7 @@ abbrev pub edges_below : List Edge → List Edge → Bool
 edges_below v w = ranks_below (map rank_of v) (map rank_of w)
 
 -- the first of some lists before which none of them comes
-abbrev pub least_of : (List Edge → List Edge → Bool) → List (List Edge) → Option (List Edge)
+abbrev pub least_of : {A : Type 0} → (A → A → Bool) → List A → Option A
 least_of below lists = find (λ v. not (list_any (λ w. below w v) lists)) lists
 
 -- a cycle of a family is named from the rotation whose words come first, of those that fit; every other cycle from its normal form
