@@ -5,3 +5,4 @@ pub mod Below
 pub mod Outlines
 pub mod Families
 pub mod Chosen
+pub mod ReadBack
