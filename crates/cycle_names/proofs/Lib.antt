@@ -6,3 +6,4 @@ pub mod Outlines
 pub mod Families
 pub mod Chosen
 pub mod ReadBack
+pub mod NameLaws
