@@ -101,6 +101,7 @@ ranks_same (x ∷ u) (y ∷ v) e =
   where
     head_of : (a b : ℕ) (c d : List ℕ) → a ∷ c ≡ b ∷ d → a ≡ b
     head_of a b c d e = cc
+
     tail_of : (a b : ℕ) (c d : List ℕ) → a ∷ c ≡ b ∷ d → c ≡ d
     tail_of a b c d e = cc
 
@@ -167,15 +168,15 @@ named_turned u v some r =
     let same : found_family u ≡ found_family v = family_turned u v some r in
     by_option (found_family u)
     (λ h.
-        let w = has_named_in_none u some in
-        named_in_none u w.one h w.is
-        ∙ sym (named_in_none v w.one (sym same ∙ h)
-        (same_first edges_below (rotations u) (rotations v) w.one (λ x. rotations_same u v x some r) (λ x. rotations_same v u x more back) w.is)))
+    let w = has_named_in_none u some in
+    named_in_none u w.one h w.is
+    ∙ sym (named_in_none v w.one (sym same ∙ h)
+    (same_first edges_below (rotations u) (rotations v) w.one (λ x. rotations_same u v x some r) (λ x. rotations_same v u x more back) w.is)))
     (λ f h.
-        let w = has_named_in_family f u h in
-        named_in_family f u w.one h w.is
-        ∙ sym (named_in_family f v w.one (sym same ∙ h)
-        (same_first words_below (candidates f u) (candidates f v) w.one (λ x. candidates_turned f u v x some r) (λ x. candidates_turned f v u x more back) w.is)))
+    let w = has_named_in_family f u h in
+    named_in_family f u w.one h w.is
+    ∙ sym (named_in_family f v w.one (sym same ∙ h)
+    (same_first words_below (candidates f u) (candidates f v) w.one (λ x. candidates_turned f u v x some r) (λ x. candidates_turned f v u x more back) w.is)))
 
 -- the rotation that a cycle is named from is a rotation of it
 pub named_rotates : (u : List Edge) → 0 < length u → IsRotation u (named_rotation u)
@@ -183,11 +184,11 @@ named_rotates u some =
     let P : List Edge → Type 0 = λ v. IsRotation u v in
     by_option (found_family u)
     (λ h.
-        let w = has_named_in_none u some in
-        subst P (sym (named_in_none u w.one h w.is)) (rotation_of_member u w.one w.is.member))
+    let w = has_named_in_none u some in
+    subst P (sym (named_in_none u w.one h w.is)) (rotation_of_member u w.one w.is.member))
     (λ f h.
-        let w = has_named_in_family f u h in
-        subst P (sym (named_in_family f u w.one h w.is)) (rotation_of_member u w.one (filter_among (fits f) (rotations u) w.one w.is.member)))
+    let w = has_named_in_family f u h in
+    subst P (sym (named_in_family f u w.one h w.is)) (rotation_of_member u w.one (filter_among (fits f) (rotations u) w.one w.is.member)))
 
 -- and fits the family that the cycle is of
 pub named_joins : (u : List Edge) (f : Family) → found_family u ≡ Some f → outline (named_rotation u) ≡ family_edges f

@@ -7,3 +7,5 @@ pub mod Families
 pub mod Chosen
 pub mod ReadBack
 pub mod NameLaws
+pub mod Texts
+pub mod Places

@@ -47,8 +47,8 @@ one_name u v c r =
 pub decide_names : NamesDecide
 decide_names u v c d =
     let same : name_of u ≡ name_of v → IsRotation u v = λ e.
-        let P : List Edge → Type 0 = λ w. IsRotation u w in
-        rotation_on u (named_rotation v) v (subst P (one_rotation u v c d e) (named_rotates u c.some)) (rotation_back v (named_rotation v) (named_rotates v d.some)) in
+    let P : List Edge → Type 0 = λ w. IsRotation u w in
+    rotation_on u (named_rotation v) v (subst P (one_rotation u v c d e) (named_rotates u c.some)) (rotation_back v (named_rotation v) (named_rotates v d.some)) in
     (same, one_name u v c)
 
 and_swaps : (a b : Bool) → (a && b) ≡ (b && a)

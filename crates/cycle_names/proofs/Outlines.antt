@@ -110,6 +110,7 @@ same_lists (x ∷ u) (y ∷ v) e r =
   where
     number_same : (a b : ℕ) (c d : List ℕ) → a ∷ c ≡ b ∷ d → a ≡ b
     number_same a b c d e = cc
+
     numbers_same : (a b : ℕ) (c d : List ℕ) → a ∷ c ≡ b ∷ d → c ≡ d
     numbers_same a b c d e = cc
 
@@ -148,12 +149,12 @@ words_by_ranks (x ∷ u) (y ∷ v) e =
     let behind : words_before (link_words u) (link_words v) ≡ ranks_below (map link_rank u) (map link_rank v) = words_by_ranks u v (tails x y u v e) in
     by_test (is_diff x)
     (λ t.
-        ap (λ a. words_before a (link_words (y ∷ v))) (words_of_link x u t)
-        ∙ ap (words_before (link_word x ∷ link_words u)) (words_of_link y v (sym both ∙ t))
-        ∙ ap (λ o. is_lt (ordering_then o (slice_cmp (slice_cmp nat_cmp) (link_words u) (link_words v)))) (link_words_order x y)
-        ∙ one_more (nat_lt (link_rank x) (link_rank y)) (nat_eq (link_rank x) (link_rank y)) _ _ behind)
+    ap (λ a. words_before a (link_words (y ∷ v))) (words_of_link x u t)
+    ∙ ap (words_before (link_word x ∷ link_words u)) (words_of_link y v (sym both ∙ t))
+    ∙ ap (λ o. is_lt (ordering_then o (slice_cmp (slice_cmp nat_cmp) (link_words u) (link_words v)))) (link_words_order x y)
+    ∙ one_more (nat_lt (link_rank x) (link_rank y)) (nat_eq (link_rank x) (link_rank y)) _ _ behind)
     (λ f.
-        ap (λ a. words_before a (link_words (y ∷ v))) (words_of_plain x u f)
-        ∙ ap (words_before (link_words u)) (words_of_plain y v (sym both ∙ f))
-        ∙ behind
-        ∙ sym (equal_first (link_rank x) (link_rank y) _ (ap link_rank (plain_alike x y slots f))))
+    ap (λ a. words_before a (link_words (y ∷ v))) (words_of_plain x u f)
+    ∙ ap (words_before (link_words u)) (words_of_plain y v (sym both ∙ f))
+    ∙ behind
+    ∙ sym (equal_first (link_rank x) (link_rank y) _ (ap link_rank (plain_alike x y slots f))))

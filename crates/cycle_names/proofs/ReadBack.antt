@@ -61,12 +61,12 @@ alike_back [] word h = refl
 alike_back (e ∷ v) word h =
     both_there (slot_with (slot_of e) word) (filled_alike (outline v) word) e v
     (slot_back e word (λ t.
-        let a : list_all (bytes_eq word) (link_word e ∷ link_words v) ≡ true = sym (ap (list_all (bytes_eq word)) (words_of_link e v t)) ∙ h in
-        (bytes_decides word (link_word e)).0 (and_parts (bytes_eq word (link_word e)) (list_all (bytes_eq word) (link_words v)) a).0))
+    let a : list_all (bytes_eq word) (link_word e ∷ link_words v) ≡ true = sym (ap (list_all (bytes_eq word)) (words_of_link e v t)) ∙ h in
+    (bytes_decides word (link_word e)).0 (and_parts (bytes_eq word (link_word e)) (list_all (bytes_eq word) (link_words v)) a).0))
     (alike_back v word (by_test (is_diff e)
     (λ t.
-        let a : list_all (bytes_eq word) (link_word e ∷ link_words v) ≡ true = sym (ap (list_all (bytes_eq word)) (words_of_link e v t)) ∙ h in
-        (and_parts (bytes_eq word (link_word e)) (list_all (bytes_eq word) (link_words v)) a).1)
+    let a : list_all (bytes_eq word) (link_word e ∷ link_words v) ≡ true = sym (ap (list_all (bytes_eq word)) (words_of_link e v t)) ∙ h in
+    (and_parts (bytes_eq word (link_word e)) (list_all (bytes_eq word) (link_words v)) a).1)
     (λ f. sym (ap (list_all (bytes_eq word)) (words_of_plain e v f)) ∙ h)))
 
 -- the first of words that stand each behind a `+`
@@ -83,17 +83,17 @@ each_back [] = refl
 each_back (e ∷ v) =
     by_test (is_diff e)
     (λ t.
-        let text : List ℕ = 43 ∷ (link_word e ++ flat_map added (link_words v)) in
-        ap (filled_each (slot_of e ∷ outline v)) (ap (flat_map added) (words_of_link e v t))
-        ∙ cond-true (is_diff (slot_of e)) (before (link_with (slot_of e) (first_word text)) (filled_each (outline v) (behind_word text))) (before (Some (slot_of e)) (filled_each (outline v) text)) (slot_is_diff e ∙ t)
-        ∙ both_there (link_with (slot_of e) (first_word text)) (filled_each (outline v) (behind_word text)) e v
-        (ap (link_with (slot_of e)) (first_word_is (link_word e) (link_words v) (link_word_whole e)) ∙ link_back e t)
-        (ap (filled_each (outline v)) (behind_word_is (link_word e) (link_words v) (link_word_whole e)) ∙ each_back v))
+    let text : List ℕ = 43 ∷ (link_word e ++ flat_map added (link_words v)) in
+    ap (filled_each (slot_of e ∷ outline v)) (ap (flat_map added) (words_of_link e v t))
+    ∙ cond-true (is_diff (slot_of e)) (before (link_with (slot_of e) (first_word text)) (filled_each (outline v) (behind_word text))) (before (Some (slot_of e)) (filled_each (outline v) text)) (slot_is_diff e ∙ t)
+    ∙ both_there (link_with (slot_of e) (first_word text)) (filled_each (outline v) (behind_word text)) e v
+    (ap (link_with (slot_of e)) (first_word_is (link_word e) (link_words v) (link_word_whole e)) ∙ link_back e t)
+    (ap (filled_each (outline v)) (behind_word_is (link_word e) (link_words v) (link_word_whole e)) ∙ each_back v))
     (λ f.
-        let text : List ℕ = flat_map added (link_words v) in
-        ap (filled_each (slot_of e ∷ outline v)) (ap (flat_map added) (words_of_plain e v f))
-        ∙ cond-false (is_diff (slot_of e)) (before (link_with (slot_of e) (first_word text)) (filled_each (outline v) (behind_word text))) (before (Some (slot_of e)) (filled_each (outline v) text)) (slot_is_diff e ∙ f)
-        ∙ both_there (Some (slot_of e)) (filled_each (outline v) text) e v (ap Some (slot_not_diff e f)) (each_back v))
+    let text : List ℕ = flat_map added (link_words v) in
+    ap (filled_each (slot_of e ∷ outline v)) (ap (flat_map added) (words_of_plain e v f))
+    ∙ cond-false (is_diff (slot_of e)) (before (link_with (slot_of e) (first_word text)) (filled_each (outline v) (behind_word text))) (before (Some (slot_of e)) (filled_each (outline v) text)) (slot_is_diff e ∙ f)
+    ∙ both_there (Some (slot_of e)) (filled_each (outline v) text) e v (ap Some (slot_not_diff e f)) (each_back v))
 
 -- no word of a link has a `+`
 words_whole : (v : List Edge) → list_all (list_all (λ b. not (is_plus b))) (link_words v) ≡ true
@@ -144,10 +144,10 @@ links_back v l =
     by_test (list_all (bytes_eq (codes "po")) words)
     (λ t. ap (filled (outline v)) (cond-true (list_all (bytes_eq (codes "po")) words) [] rest t) ∙ alike_back v (codes "po") t)
     (λ f.
-        ap (filled (outline v)) (cond-false (list_all (bytes_eq (codes "po")) words) [] rest f)
-        ∙ by_test (all_equal words)
-        (λ t. ap (filled (outline v)) (cond-true (all_equal words) (plural words) (flat_map added words) t) ∙ plural_back v words refl (omega (arith, l)) t)
-        (λ f. ap (filled (outline v)) (cond-false (all_equal words) (plural words) (flat_map added words) f) ∙ words_back v words refl l))
+    ap (filled (outline v)) (cond-false (list_all (bytes_eq (codes "po")) words) [] rest f)
+    ∙ by_test (all_equal words)
+    (λ t. ap (filled (outline v)) (cond-true (all_equal words) (plural words) (flat_map added words) t) ∙ plural_back v words refl (omega (arith, l)) t)
+    (λ f. ap (filled (outline v)) (cond-false (all_equal words) (plural words) (flat_map added words) f) ∙ words_back v words refl l))
 
 -- nothing, or a text that begins with `+`
 data StartsPlus (text : List ℕ) : Type 0 where
@@ -184,13 +184,14 @@ count_links [] = refl
 count_links (e ∷ v) =
     by_test (is_diff e)
     (λ t.
-        let a : length (link_words (e ∷ v)) ≡ suc (length (link_words v)) = ap length (words_of_link e v t) in
-        let b : length (filter is_diff (outline (e ∷ v))) ≡ suc (length (filter is_diff (outline v))) = one_more (slot_of e) (outline v) (slot_is_diff e ∙ t) in
-        omega (arith, a, b, count_links v))
+    let a : length (link_words (e ∷ v)) ≡ suc (length (link_words v)) = ap length (words_of_link e v t) in
+    let b : length (filter is_diff (outline (e ∷ v))) ≡ suc (length (filter is_diff (outline v))) = one_more (slot_of e) (outline v) (slot_is_diff e ∙ t) in
+    omega (arith, a, b, count_links v))
     (λ f. ap length (words_of_plain e v f) ∙ count_links v ∙ sym (no_more (slot_of e) (outline v) (slot_is_diff e ∙ f)))
   where
     one_more : (s : Edge) (u : List Edge) → is_diff s ≡ true → length (filter is_diff (s ∷ u)) ≡ suc (length (filter is_diff u))
     one_more s u t = rw t refl
+
     no_more : (s : Edge) (u : List Edge) → is_diff s ≡ false → length (filter is_diff (s ∷ u)) ≡ length (filter is_diff u)
     no_more s u f = rw f refl
 
@@ -240,8 +241,8 @@ unfolding name_of
 name_back u some =
     by_option (found_family u)
     (λ h.
-        ap (λ o. edges_read (name_from o (named_rotation u))) h
-        ∙ other_back (named_rotation u) (omega (arith, rotation_length u (named_rotation u) (named_rotates u some))))
+    ap (λ o. edges_read (name_from o (named_rotation u))) h
+    ∙ other_back (named_rotation u) (omega (arith, rotation_length u (named_rotation u) (named_rotates u some))))
     (λ f h.
-        ap (λ o. edges_read (name_from o (named_rotation u))) h
-        ∙ family_back f (named_rotation u) (never_other u f (found_is_of u f h)) (named_joins u f h))
+    ap (λ o. edges_read (name_from o (named_rotation u))) h
+    ∙ family_back f (named_rotation u) (never_other u f (found_is_of u f h)) (named_joins u f h))
