@@ -9,3 +9,4 @@ pub mod ReadBack
 pub mod NameLaws
 pub mod Texts
 pub mod Places
+pub mod Steps

@@ -110,10 +110,10 @@ named_kept u f first k named w h t = record {
   joins = h.joins;
   none = below_more (λ j. outline (rotated j u) ≡ family_edges f → links_below (rotated j u) (rotated named u) ≡ true → ⊥) k h.none
       (λ e b.
-          let a : (bytes_eq (rotated k (map slot_rank u)) (rotated first (map slot_rank u)) && ranks_below (rotated k (map link_rank u)) (rotated named (map link_rank u))) ≡ true =
-          rw (same_slots u f k first (first_joins u f first w) e) (sym (links_told u k named) ∙ b) in
-          let z : true ≡ false = sym a ∙ t in
-          cc);
+      let a : (bytes_eq (rotated k (map slot_rank u)) (rotated first (map slot_rank u)) && ranks_below (rotated k (map link_rank u)) (rotated named (map link_rank u))) ≡ true =
+      rw (same_slots u f k first (first_joins u f first w) e) (sym (links_told u k named) ∙ b) in
+      let z : true ≡ false = sym a ∙ t in
+      cc);
 }
 
 pub named_replaced : (u : List Edge) (f : Family) (first k named : ℕ) → FitsFirst u f first → NamedUpTo u f k named → k < length u →
@@ -130,8 +130,8 @@ named_replaced u f first k named w h l t =
     }
 
 -- what is found is the rotation that the cycle is named from
-pub named_at : (u : List Edge) (f : Family) (first named : ℕ) → FitsFirst u f first → NamedUpTo u f (length u) named → IsNamedAt u f named
-named_at u f first named w h =
+pub named_at : (u : List Edge) (f : Family) (first k named : ℕ) → FitsFirst u f first → length u ≤ k → NamedUpTo u f k named → IsNamedAt u f named
+named_at u f first k named w l h =
     let found : found_family u ≡ Some f = fits_found u f first w in
     record {
       within = h.within;
@@ -141,6 +141,6 @@ named_at u f first named w h =
         none = λ v m b.
             let n = upto_member (λ k. rotated k u) (length u) v (filter_among (fits f) (rotations u) v m) in
             let e : outline v ≡ family_edges f = outline_of_fits f v (filter_passes (fits f) (rotations u) v m) in
-            h.none n.number n.below (ap outline (sym n.is) ∙ e) (ap (λ x. links_below x (rotated named u)) (sym n.is) ∙ b);
+            h.none n.number (omega (arith, n.below)) (ap outline (sym n.is) ∙ e) (ap (λ x. links_below x (rotated named u)) (sym n.is) ∙ b);
       }));
     }

@@ -39,12 +39,12 @@ first_words [] e h = cc
 first_words (d ∷ v) e h =
     by_test (is_diff d)
     (λ t.
-        let a : Some d ≡ Some e = sym (cond-true (is_diff d) (Some d) (find is_diff v) t) ∙ h in
-        let same : d ≡ e = cc in
-        record { behind = link_words v; words = words_of_link d v t ∙ ap (λ x. link_word x ∷ link_words v) same; links = rw (← same) t })
+    let a : Some d ≡ Some e = sym (cond-true (is_diff d) (Some d) (find is_diff v) t) ∙ h in
+    let same : d ≡ e = cc in
+    record { behind = link_words v; words = words_of_link d v t ∙ ap (λ x. link_word x ∷ link_words v) same; links = rw (← same) t })
     (λ f.
-        let r = first_words v e (sym (cond-false (is_diff d) (Some d) (find is_diff v) f) ∙ h) in
-        record { behind = r.behind; words = words_of_plain d v f ∙ r.words; links = r.links })
+    let r = first_words v e (sym (cond-false (is_diff d) (Some d) (find is_diff v) f) ∙ h) in
+    record { behind = r.behind; words = words_of_plain d v f ∙ r.words; links = r.links })
 
 -- nothing is written where there is no link
 pub text_of_none : (v : List Edge) → find is_diff v ≡ None → links_text (link_words v) ≡ []

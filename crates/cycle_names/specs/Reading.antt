@@ -34,7 +34,7 @@ named_family families text = find (λ family. begins_with (family_word family) t
 
 -- whether an edge is a link that joins what a slot joins, with this word
 abbrev pub is_link : Edge → List ℕ → Edge → Bool
-is_link slot word edge = is_diff edge && (rank_of (slot_of edge) == rank_of slot) && bytes_eq (link_word edge) word
+is_link slot word edge = is_diff edge && ((rank_of (slot_of edge) == rank_of slot) && bytes_eq (link_word edge) word)
 
 -- the link that joins what a slot joins, with this word
 unfoldable pub link_with : Edge → List ℕ → Option Edge

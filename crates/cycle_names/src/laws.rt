@@ -7,11 +7,13 @@ pub fn names_decide()
 
 /// The name of a cycle is read back as the rotation that the cycle is named from, and as no other,
 /// on each architecture that has its edges.
+#[tactic(auto, using(crate::proofs::NameLaws::read_names_back))]
 pub fn names_read_back()
     ensures { NamesReadBack }
 {}
 
 /// No cycle is of two families.
+#[tactic(auto, using(crate::proofs::NameLaws::keep_families_apart))]
 pub fn families_apart()
     ensures { FamiliesApart }
 {}

@@ -1,11 +1,12 @@
 ghost use Rattle.std.specs.Prelude.{◌≡◌, ◌+◌, ◌-◌, ◌≤◌, ◌&&◌, ◌==◌, [], codes, length, take, drop, MatchResult, cond};
+ghost use Rattle.std.specs.List.{position_or_len, slice_split};
 ghost use Rattle.std.specs.Str.{bytes_eq};
 ghost use Rattle.std.specs.Result.{result_ok};
 ghost use Rattle.relax_edges.specs.Relaxations.{is_same};
 ghost use Rattle.cycle_names.specs.Families.{family_edges};
 ghost use Rattle.cycle_names.specs.Rotations.{named_rotation};
 ghost use Rattle.cycle_names.specs.Names.{name_of};
-ghost use Rattle.cycle_names.specs.Reading.{begins_with, named_family, is_link, link_with, slot_with, first_word, behind_word, but_last, filled_alike, filled_each, filled, words_read, edges_read, Adds};
+ghost use Rattle.cycle_names.specs.Reading.{begins_with, named_family, is_link, link_with, slot_with, first_word, behind_word, but_last, filled_alike, filled_each, filled, is_dash, edges_spelled, words_read, edges_read, Adds};
 ghost use Rattle.cycle_names.specs.Laws.{are_of_arch, IsNamed, NamesNone};
 
 use crate::family::{FAMILIES, Family};
@@ -71,7 +72,7 @@ fn read_edges(text: &[u8], edges: &mut Edges) -> Result<(), NotAName>
             let slots = slots_of(family);
             fill(slots.as_slice(), &text[family.word().len()..], edges)
         }
-        None => read_words(text, edges),
+        None => read_other(text, edges),
     }
 }
 
@@ -185,12 +186,23 @@ fn split_word(text: &[u8]) -> (&[u8], &[u8])
 {
     match text {
         [] => (text, text),
-        [_, words @ ..] => {
-            let len = words
-                .iter()
-                .position(|byte| *byte == b'+')
-                .unwrap_or(words.len());
-            words.split_at(len)
+        [_, words @ ..] => words.split_at(len_before(b'+', words)),
+    }
+}
+
+/// How many bytes a text has before the first of this value, or all where there is none.
+fn len_before(byte: u8, text: &[u8]) -> usize
+    ensures value { result ≡ position_or_len (λ b. b == byte) text.now }
+    ensures within { result ≤ length text.now }
+{
+    match text {
+        [] => 0,
+        [first, rest @ ..] => {
+            if *first == byte {
+                0
+            } else {
+                1 + len_before(byte, rest)
+            }
         }
     }
 }
@@ -226,14 +238,30 @@ fn is_link(slot: Edge, word: &[u8], edge: Edge) -> bool
 }
 
 /// Adds the edges whose words a text has behind `C+`, joined by `-`.
-fn read_words(text: &[u8], edges: &mut Edges) -> Result<(), NotAName>
+fn read_other(text: &[u8], edges: &mut Edges) -> Result<(), NotAName>
     requires { edges.old.items ≡ [] }
     ensures { Adds (words_read text.now) edges.old.items edges.new.items result }
 {
-    let words = text.strip_prefix(b"C+").ok_or(NotAName)?;
-    for word in words.split(|byte| *byte == b'-') {
-        let edge = read_edge_bytes(word).map_err(|_| NotAName)?;
-        edges.try_push(edge).map_err(|_| NotAName)?;
+    match text {
+        [b'C', b'+', words @ ..] => read_words(words, edges),
+        _ => Err(NotAName),
     }
-    Ok(())
+}
+
+/// Adds the edges whose words a text has, joined by `-`.
+fn read_words(text: &[u8], edges: &mut Edges) -> Result<(), NotAName>
+    ensures { Adds (edges_spelled (slice_split is_dash text.now)) edges.old.items edges.new.items result }
+{
+    let (word, behind) = text.split_at(len_before(b'-', text));
+    let Ok(edge) = read_edge_bytes(word) else {
+        return Err(NotAName);
+    };
+    if edges.is_full() {
+        return Err(NotAName);
+    }
+    edges.push(edge);
+    match behind {
+        [] => Ok(()),
+        [_, words @ ..] => read_words(words, edges),
+    }
 }

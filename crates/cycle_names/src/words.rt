@@ -1,4 +1,4 @@
-ghost use Rattle.std.specs.Prelude.{◌≡◌, ◌+◌, ◌*◌, ◌≤◌, ◌++◌, length, codes};
+ghost use Rattle.std.specs.Prelude.{◌≡◌, ◌+◌, ◌*◌, ◌≤◌, ◌++◌, ◌||◌, not, length, codes};
 ghost use Rattle.std.specs.List.{find, flat_map, list_all, join_by};
 ghost use Rattle.std.specs.Str.{bytes_eq};
 ghost use Rattle.relax_edges.specs.EdgeTable.{is_diff};
@@ -58,18 +58,22 @@ fn first_link(edges: &[Edge]) -> Option<Edge>
 }
 
 /// Whether the links of a list of edges all have the word of this one.
+#[tactic(auto, using(crate::proofs::Texts::all_links_cons))]
 fn are_alike(link: Edge, edges: &[Edge]) -> bool
     ensures { result ≡ list_all (bytes_eq (link_word link)) (link_words edges.now) }
 {
     match edges {
         [] => true,
-        [edge, rest @ ..] => {
-            if edge.is_diff() && link_rank(link) != link_rank(*edge) {
-                return false;
-            }
-            are_alike(link, rest)
-        }
+        [edge, rest @ ..] => is_alike(link, *edge) && are_alike(link, rest),
     }
+}
+
+/// Whether an edge is no link, or has the word of this one.
+#[tactic(auto, using(crate::proofs::Tables::link_words_equal))]
+fn is_alike(link: Edge, edge: Edge) -> bool
+    ensures { result ≡ (not (is_diff edge) || bytes_eq (link_word link) (link_word edge)) }
+{
+    !edge.is_diff() || link_rank(link) == link_rank(edge)
 }
 
 /// Adds the word of an edge behind a `+`, if the edge is a link.
