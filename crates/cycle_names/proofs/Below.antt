@@ -1,12 +1,12 @@
 -- The order of lists of edges by numbers of the edges: strict, and total on lists of one length.
-use Rattle.std.specs.Prelude.{◌≡◌, ◌<◌, ◌⊎◌, ℕ, Bool, true, false, not, ◌&&◌, ◌||◌, nat_lt, nat_eq, Option, Some, None, List, [], ◌∷◌, length, map, filter}
-use Rattle.std.specs.List.{find, list_any}
-use Rattle.std.proofs.Common.{refl, sym, ◌∙◌, ap, inl, inr, arith}
+use Rattle.std.specs.Prelude.{◌≡◌, ◌<◌, ℕ, Bool, true, false, not, ◌&&◌, nat_lt, nat_eq, Some, List, [], ◌∷◌, length}
+use Rattle.std.specs.List.{list_any}
+use Rattle.std.proofs.Common.{refl, sym, ◌∙◌, inl, inr, arith}
 use Rattle.std.proofs.lemmas.Bool.{cases_order, or_cases, and_parts, or_left, or_right, ltb-true, lt-ltb, eqb-true, eq-eqb}
-use Rattle.list_laws.proofs.Cases.{by_test, by_option}
+use Rattle.list_laws.proofs.Cases.{by_test}
 use Rattle.walk_laws.specs.Order.{ranks_below}
 use Rattle.cycle_names.specs.Rotations.{least_of}
-use Rattle.cycle_names.proofs.Members.{Member, any_of_member, any_none, found_passes, found_among, found_none, find_only}
+use Rattle.cycle_names.proofs.Members.{Member, any_of_member, any_none, found_passes, found_among, find_only}
 
 -- the ranks of two lists, at the first place where they differ
 data Below (x y : ℕ) (u v : List ℕ) : Type 0 where

@@ -1,24 +1,23 @@
 -- The rotation that a cycle is named from: there is one, and it is the same for all rotations of the cycle.
-use Rattle.std.specs.Prelude.{◌≡◌, ◌<◌, ◌≤◌, ◌+◌, ℕ, Bool, true, false, Option, Some, None, List, [], ◌∷◌, length, map, filter, unwrap_or}
-use Rattle.std.proofs.Common.{refl, sym, ◌∙◌, ap, subst, arith, inl, inr}
+use Rattle.std.specs.Prelude.{◌≡◌, ◌<◌, ℕ, Bool, true, false, Some, None, List, [], ◌∷◌, length, map, filter, unwrap_or}
+use Rattle.std.proofs.Common.{refl, sym, ◌∙◌, ap, subst, arith}
 use Rattle.std.proofs.lemmas.List.{length-map}
-use Rattle.list_laws.proofs.Cases.{by_test, by_option}
+use Rattle.list_laws.proofs.Cases.{by_option}
 use Rattle.relax_edges.specs.declared.edge.Edge.{Edge}
 use Rattle.relax_edges.specs.Order.{rank_of}
 use Rattle.relax_edges.proofs.Ranks.{rank_injective}
 use Rattle.walk_laws.specs.Rotation.{IsRotation, rotated}
-use Rattle.walk_laws.specs.Laws.{Place}
-use Rattle.walk_laws.specs.Order.{ranks_below, Above, IsNormal, IsLeast}
+use Rattle.walk_laws.specs.Order.{ranks_below, IsLeast}
 use Rattle.walk_laws.proofs.Rotating.{rotation_same, rotation_back, rotation_on, rotation_length, place_of_rotation, rotation_of_place}
 use Rattle.walk_laws.proofs.Ordering.{above_of_ranks}
 use Rattle.cycle_names.specs.declared.family.Family.{Family}
 use Rattle.cycle_names.specs.Families.{family_edges, all_families}
 use Rattle.cycle_names.specs.Links.{slot_of, outline, link_rank}
-use Rattle.cycle_names.specs.Rotations.{rotations, fits, is_of_family, found_family, words_below, edges_below, least_of, rotation_in, named_rotation}
+use Rattle.cycle_names.specs.Rotations.{rotations, fits, is_of_family, found_family, words_below, edges_below, rotation_in, named_rotation}
 use Rattle.cycle_names.proofs.Members.{Member, any_of_member, member_of_any, member_upto, upto_member, find_same, filter_among, filter_passes, filter_member}
-use Rattle.cycle_names.proofs.Below.{below_irreflexive, below_transitive, neither_below, IsFirst, HasFirst, has_first, first_is_least, least_is_first}
+use Rattle.cycle_names.proofs.Below.{below_irreflexive, below_transitive, neither_below, IsFirst, HasFirst, has_first, first_is_least}
 use Rattle.cycle_names.proofs.Outlines.{outline_of_fits, fits_of_outline, words_by_ranks, same_lists}
-use Rattle.cycle_names.proofs.Families.{Fitting, fitting, found_is_of}
+use Rattle.cycle_names.proofs.Families.{fitting, found_is_of}
 
 -- the members of the list of rotations are the rotations
 pub rotation_of_member : (u v : List Edge) → Member v (rotations u) → IsRotation u v

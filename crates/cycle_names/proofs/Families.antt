@@ -1,17 +1,14 @@
 -- The table of families: no rotation of one is another, each has two links or more and at most six edges, and no name begins another.
-use Rattle.std.specs.Prelude.{◌≡◌, ◌<◌, ◌≤◌, ◌==◌, ◌&&◌, ◌||◌, ℕ, suc, Bool, true, false, not, cond, Option, Some, None, List, [], ◌∷◌, ◌++◌, length, map, filter, nat_le, slice_get}
-use Rattle.std.specs.List.{find, list_any, list_all}
-use Rattle.std.proofs.Common.{refl, sym, ◌∙◌, ap, subst, arith, inl, inr}
-use Rattle.std.proofs.lemmas.Bool.{eqb-true, eq-eqb, leb-true, and_parts, or_cases}
+use Rattle.std.specs.Prelude.{◌≡◌, ◌<◌, ◌≤◌, ◌==◌, ◌&&◌, ◌||◌, ℕ, Bool, true, false, not, Some, None, List, [], ◌∷◌, ◌++◌, length, filter, nat_le, slice_get}
+use Rattle.std.specs.List.{list_any, list_all}
+use Rattle.std.proofs.Common.{refl, ◌∙◌, ap, subst, arith, inl, inr}
+use Rattle.std.proofs.lemmas.Bool.{eqb-true, leb-true, and_parts, or_cases}
 use Rattle.std.proofs.lemmas.List.{length-map}
-use Rattle.list_laws.specs.Numbers.{upto}
-use Rattle.list_laws.proofs.Cases.{by_test}
 use Rattle.relax_edges.specs.declared.edge.Edge.{Edge}
 use Rattle.relax_edges.specs.EdgeTable.{is_diff}
 use Rattle.relax_edges.specs.Order.{rank_of}
 use Rattle.relax_edges.specs.Relaxations.{is_same}
 use Rattle.walk_laws.specs.Rotation.{IsRotation, rotated}
-use Rattle.walk_laws.specs.Laws.{Place}
 use Rattle.walk_laws.proofs.Rotating.{rotation_back, rotation_on, rotation_length, place_of_rotation, rotation_of_place}
 use Rattle.cycle_names.specs.declared.family.Family.{Family}
 use Rattle.cycle_names.specs.declared.family.Family.TheVariants as families
@@ -21,7 +18,7 @@ use Rattle.cycle_names.specs.Rotations.{rotations, fits, is_of_family, found_fam
 use Rattle.cycle_names.specs.Names.{is_name_byte}
 use Rattle.cycle_names.specs.Reading.{named_family}
 use Rattle.cycle_names.proofs.Members.{Member, any_of_member, member_of_any, member_upto, upto_member, find_none, find_only, found_passes, map_rotated}
-use Rattle.cycle_names.proofs.Outlines.{same_edges, edges_told, outline_of_fits}
+use Rattle.cycle_names.proofs.Outlines.{edges_told, outline_of_fits}
 
 -- the place of a family in the table
 family_place : Family → ℕ

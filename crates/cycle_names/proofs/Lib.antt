@@ -10,3 +10,4 @@ pub mod NameLaws
 pub mod Texts
 pub mod Places
 pub mod Steps
+pub mod CycleOf

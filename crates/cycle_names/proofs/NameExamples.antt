@@ -1,9 +1,9 @@
 -- Names of cycles, computed from the definition.
-use Rattle.std.proofs.Common.{◌≡◌, List, [], ◌∷◌, refl}
+use Rattle.std.proofs.Common.{◌≡◌, [], ◌∷◌, refl}
 use Rattle.std.specs.Prelude.{codes}
 use Rattle.relax_edges.specs.declared.kinds.Dir.TheVariants.{R, W}
-use Rattle.relax_edges.specs.declared.kinds.Sd.TheVariants.{Diff, Same}
-use Rattle.relax_edges.specs.declared.kinds.Reach.TheVariants.{External, Internal}
+use Rattle.relax_edges.specs.declared.kinds.Sd.TheVariants.{Diff}
+use Rattle.relax_edges.specs.declared.kinds.Reach.TheVariants.{Internal}
 use Rattle.relax_edges.specs.declared.kinds.FenceKind.TheVariants as fences
 use Rattle.relax_edges.specs.declared.kinds.DepKind.TheVariants as deps
 use Rattle.relax_edges.specs.declared.kinds.Com.TheVariants as coms

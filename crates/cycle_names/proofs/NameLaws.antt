@@ -1,17 +1,15 @@
 -- The laws of names, each from its lemmas.
-use Rattle.std.specs.Prelude.{◌≡◌, ◌<◌, ◌≤◌, ◌+◌, ◌*◌, ◌↔◌, ◌&&◌, ℕ, suc, Bool, true, false, cond, Option, Some, None, Result, Ok, Err, IsOk, List, [], ◌∷◌, ◌++◌, length, map, filter, codes, nat_le}
+use Rattle.std.specs.Prelude.{◌≡◌, ◌≤◌, ◌+◌, ◌*◌, ◌&&◌, ℕ, Bool, true, false, cond, Option, Some, None, List, [], ◌∷◌, ◌++◌, length, codes, nat_le}
 use Rattle.std.specs.List.{list_all, flat_map, join_by}
 use Rattle.std.specs.Str.{bytes_eq}
-use Rattle.std.specs.Cmp.Lexicographic.{bytes_decides}
-use Rattle.std.proofs.Common.{refl, sym, ◌∙◌, ap, subst, arith, inl, inr, length-append}
-use Rattle.std.proofs.lemmas.Bool.{and_parts, leb-true, le-leb, cond-true, cond-false}
+use Rattle.std.proofs.Common.{refl, sym, ◌∙◌, ap, subst, arith, length-append}
+use Rattle.std.proofs.lemmas.Bool.{and_parts, leb-true, le-leb}
 use Rattle.std.proofs.lemmas.List.Folds.{list_all-append}
-use Rattle.list_laws.proofs.Cases.{by_test, by_option}
+use Rattle.list_laws.proofs.Cases.{by_test}
 use Rattle.relax_edges.specs.declared.TheConstants.{MAX_EDGES}
 use Rattle.relax_edges.specs.declared.kinds.ArchName.{ArchName}
 use Rattle.relax_edges.specs.declared.edge.Edge.{Edge}
 use Rattle.relax_edges.specs.EdgeTable.{is_diff, is_of_arch}
-use Rattle.relax_edges.specs.Relaxations.{is_same}
 use Rattle.relax_edges.specs.Words.{word_of}
 use Rattle.relax_edges.proofs.WordBounds.{word_short}
 use Rattle.walk_laws.specs.Composable.{IsCycle}
@@ -23,10 +21,10 @@ use Rattle.cycle_names.specs.Families.{family_word}
 use Rattle.cycle_names.specs.Links.{link_word, link_words}
 use Rattle.cycle_names.specs.Rotations.{found_family, named_rotation}
 use Rattle.cycle_names.specs.Names.{added, all_equal, plural, links_text, name_from, name_of, is_name_byte}
-use Rattle.cycle_names.specs.Reading.{edges_read, Adds}
-use Rattle.cycle_names.specs.Laws.{are_of_arch, IsNamed, NamesNone, NamesDecide, NamesReadBack, FamiliesApart, IsName, NamesAreNames}
+use Rattle.cycle_names.specs.Reading.{edges_read}
+use Rattle.cycle_names.specs.Laws.{are_of_arch, NamesDecide, NamesReadBack, FamiliesApart, IsName, NamesAreNames}
 use Rattle.cycle_names.proofs.Tables.{link_word_short, link_word_bytes, word_bytes}
-use Rattle.cycle_names.proofs.Outlines.{words_of_link, words_of_plain, edges_told, same_edges}
+use Rattle.cycle_names.proofs.Outlines.{words_of_link, words_of_plain}
 use Rattle.cycle_names.proofs.Families.{one_family, family_word_short, family_word_some, family_word_bytes}
 use Rattle.cycle_names.proofs.Chosen.{family_turned, named_turned, named_rotates}
 use Rattle.cycle_names.proofs.ReadBack.{name_back}

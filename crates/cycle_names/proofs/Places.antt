@@ -1,27 +1,25 @@
 -- The parts of lists written twice that the code compares, and the rotation that it finds.
-use Rattle.std.specs.Prelude.{◌≡◌, ◌<◌, ◌≤◌, ◌+◌, ◌-◌, ◌&&◌, ℕ, Bool, true, false, Option, Some, None, List, ◌++◌, length, map, take, drop}
-use Rattle.std.specs.List.{find}
+use Rattle.std.specs.Prelude.{◌≡◌, ◌<◌, ◌≤◌, ◌+◌, ◌-◌, ◌&&◌, ℕ, true, false, Some, None, List, length, map, take, drop}
 use Rattle.std.specs.Str.{bytes_eq}
 use Rattle.std.specs.Cmp.Lexicographic.{bytes_decides}
-use Rattle.std.proofs.Common.{refl, sym, ◌∙◌, ap, subst, arith, below_more}
+use Rattle.std.proofs.Common.{refl, sym, ◌∙◌, ap, arith, below_more}
 use Rattle.std.proofs.lemmas.Bool.{and_parts}
 use Rattle.std.proofs.lemmas.List.{length-map}
 use Rattle.relax_edges.specs.declared.edge.Edge.{Edge}
 use Rattle.relax_edges.specs.Order.{rank_of}
-use Rattle.relax_edges.specs.Relaxations.{is_same}
 use Rattle.walk_laws.specs.Rotation.{rotated}
 use Rattle.walk_laws.specs.Order.{ranks_below}
 use Rattle.edge_algebra.proofs.Windows.{window}
 use Rattle.cycle_names.specs.declared.family.Family.{Family}
 use Rattle.cycle_names.specs.Families.{family_edges, all_families}
-use Rattle.cycle_names.specs.Links.{slot_of, outline, link_rank}
-use Rattle.cycle_names.specs.Rotations.{rotations, fits, is_of_family, found_family, named_rotation}
+use Rattle.cycle_names.specs.Links.{outline, link_rank}
+use Rattle.cycle_names.specs.Rotations.{rotations, fits, is_of_family, found_family}
 use Rattle.cycle_names.specs.Fitting.{slot_rank, twice, family_of_ranks, family_at, FitsNone, FitsFirst, IsNamedAt}
 use Rattle.cycle_names.proofs.Members.{Member, found_passes, found_among, found_none, find_none, filter_among, filter_passes, filter_member, member_upto, upto_member, map_rotated}
-use Rattle.cycle_names.proofs.Below.{below_irreflexive, below_transitive, IsFirst}
-use Rattle.cycle_names.proofs.Outlines.{same_edges, edges_told, slots_told, outline_of_fits, fits_of_outline}
-use Rattle.cycle_names.proofs.Families.{Fitting, fitting, family_found, is_of_fitting}
-use Rattle.cycle_names.proofs.Chosen.{candidates, links_below, first_by_words, named_in_family}
+use Rattle.cycle_names.proofs.Below.{below_irreflexive, below_transitive}
+use Rattle.cycle_names.proofs.Outlines.{slots_told, outline_of_fits, fits_of_outline}
+use Rattle.cycle_names.proofs.Families.{fitting, family_found, is_of_fitting}
+use Rattle.cycle_names.proofs.Chosen.{links_below, first_by_words, named_in_family}
 
 -- a part of a list written twice
 pub part_is : (xs list : List ℕ) (k n : ℕ) → list ≡ twice xs → n ≡ length xs → k ≤ n → take ((k + n) - k) (drop k list) ≡ rotated k xs
@@ -144,3 +142,10 @@ named_at u f first k named w l h =
             h.none n.number (omega (arith, n.below)) (ap outline (sym n.is) ∙ e) (ap (λ x. links_below x (rotated named u)) (sym n.is) ∙ b);
       }));
     }
+
+-- the family that the code finds at a place
+pub family_seen : (u : List Edge) (slots : List ℕ) (families : List Family) (k : ℕ) → families ≡ all_families → slots ≡ twice (map slot_rank u) → k ≤ length u →
+    family_of_ranks families (take ((k + length u) - k) (drop k slots)) ≡ family_at u k
+family_seen u slots families k e s h =
+    ap (λ fs. family_of_ranks fs (take ((k + length u) - k) (drop k slots))) e
+    ∙ ap (family_of_ranks all_families) (part_is (map slot_rank u) slots k (length u) s (sym (length-map u slot_rank)) h)

@@ -1,9 +1,9 @@
 -- Reading a name gives the edges of the rotation that it was made from.
-use Rattle.std.specs.Prelude.{◌≡◌, ◌<◌, ◌≤◌, ◌+◌, ◌-◌, ◌==◌, ◌&&◌, ◌||◌, ℕ, suc, zero, Bool, true, false, not, cond, Option, Some, None, List, [], ◌∷◌, ◌++◌, length, map, filter, take, drop, codes, nat_eq}
-use Rattle.std.specs.List.{find, list_any, list_all, flat_map, join_by, before_first, slice_split, starts_with, position_or_len, onto_first}
+use Rattle.std.specs.Prelude.{◌≡◌, ◌<◌, ◌≤◌, ◌-◌, ◌||◌, ℕ, suc, Bool, true, false, not, cond, Option, Some, None, List, [], ◌∷◌, ◌++◌, length, map, filter, drop, codes}
+use Rattle.std.specs.List.{list_any, list_all, flat_map, join_by, before_first, slice_split, onto_first}
 use Rattle.std.specs.Str.{bytes_eq}
 use Rattle.std.specs.Cmp.Lexicographic.{bytes_decides}
-use Rattle.std.proofs.Common.{refl, sym, ◌∙◌, ap, subst, arith, inl, inr, append_assoc, length-append}
+use Rattle.std.proofs.Common.{refl, sym, ◌∙◌, ap, arith, length-append}
 use Rattle.std.proofs.Math.Seq.{drop-append_seam}
 use Rattle.std.proofs.lemmas.Bool.{and_parts, or_right, cond-true, cond-false}
 use Rattle.std.proofs.lemmas.List.Folds.{list_any-append}
@@ -22,7 +22,7 @@ use Rattle.cycle_names.specs.Families.{family_word, family_edges, all_families}
 use Rattle.cycle_names.specs.Links.{slot_of, outline, link_word, link_words}
 use Rattle.cycle_names.specs.Rotations.{found_family, named_rotation}
 use Rattle.cycle_names.specs.Names.{added, all_equal, plural, links_text, name_from, name_of}
-use Rattle.cycle_names.specs.Reading.{is_plus, is_dash, named_family, link_with, slot_with, before, filled_alike, first_word, behind_word, filled_each, but_last, filled, edges_spelled, words_read, read_in, edges_read}
+use Rattle.cycle_names.specs.Reading.{is_plus, is_dash, named_family, link_with, slot_with, before, filled_alike, first_word, behind_word, filled_each, but_last, filled, edges_spelled, read_in, edges_read}
 use Rattle.cycle_names.proofs.Tables.{slot_is_diff, slot_not_diff, link_back, link_word_whole, word_whole}
 use Rattle.cycle_names.proofs.Outlines.{words_of_link, words_of_plain}
 use Rattle.cycle_names.proofs.Families.{never_other, found_is_of, family_links, word_alone, word_before}

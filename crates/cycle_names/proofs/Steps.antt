@@ -1,11 +1,10 @@
 -- Steps of reading a name and of looking at its links: what one edge more means.
-use Rattle.std.specs.Prelude.{◌≡◌, ◌<◌, ◌≤◌, ◌+◌, ◌-◌, ◌&&◌, ◌||◌, ◌==◌, ℕ, suc, zero, Bool, true, false, not, cond, Option, Some, None, Result, Ok, Err, IsOk, List, [], ◌∷◌, ◌++◌, length, map, take, drop}
-use Rattle.std.specs.List.{find, list_all, slice_split, position_or_len, onto_first, before_first, after_first}
-use Rattle.std.proofs.Common.{refl, sym, ◌∙◌, ap, subst, arith, get_or, append_assoc, length-append}
+use Rattle.std.specs.Prelude.{◌≡◌, ◌<◌, ◌≤◌, ◌+◌, ◌-◌, ◌&&◌, ◌||◌, ◌==◌, ℕ, suc, zero, Bool, true, false, not, Option, Some, None, Result, IsOk, List, [], ◌∷◌, ◌++◌, length, map, take, drop}
+use Rattle.std.specs.List.{list_all, slice_split, position_or_len, onto_first}
+use Rattle.std.proofs.Common.{refl, sym, ◌∙◌, ap, arith, get_or, append_assoc, length-append}
 use Rattle.std.proofs.lemmas.Bool.{and_parts, cond-true, cond-false, eqb-true}
-use Rattle.std.proofs.lemmas.List.{take_all, length-map, append-nil}
-use Rattle.std.proofs.lemmas.List.Splits.{slice_split_first}
-use Rattle.std.proofs.Math.Seq.{drop-drop}
+use Rattle.std.proofs.lemmas.List.{take_all, append-nil}
+use Rattle.std.proofs.Math.ListN.{drop_of_length-le}
 use Rattle.std.specs.Str.{bytes_eq}
 use Rattle.std.specs.Cmp.Lexicographic.{bytes_decides}
 use Rattle.list_laws.proofs.Cases.{by_test, by_option, by_less}
@@ -20,7 +19,7 @@ use Rattle.relax_edges.proofs.RelaxWords.{position_or_len-no}
 use Rattle.cycle_names.specs.Links.{slot_of, link_word, link_words}
 use Rattle.cycle_names.specs.Reading.{is_dash, is_link, link_with, before, first_word, behind_word, filled_each, edges_spelled, Adds}
 use Rattle.cycle_names.proofs.Tables.{link_back}
-use Rattle.cycle_names.proofs.Members.{Member, find_none}
+use Rattle.cycle_names.proofs.Members.{find_none}
 use Rattle.cycle_names.proofs.Texts.{all_links_cons}
 
 -- a list without its first element, as slice patterns give it
@@ -57,9 +56,9 @@ split_is (b ∷ text) =
     by_test (is_dash b)
     (λ t. rw t refl)
     (λ f.
-        cond-false (is_dash b) ([] ∷ slice_split is_dash text) (onto_first b (slice_split is_dash text)) f
-        ∙ ap (onto_first b) (split_is text)
-        ∙ sym (ap (λ n. take n (b ∷ text) ∷ parts_behind (drop n (b ∷ text))) (position_or_len-no is_dash b text f)))
+    cond-false (is_dash b) ([] ∷ slice_split is_dash text) (onto_first b (slice_split is_dash text)) f
+    ∙ ap (onto_first b) (split_is text)
+    ∙ sym (ap (λ n. take n (b ∷ text) ∷ parts_behind (drop n (b ∷ text))) (position_or_len-no is_dash b text f)))
 
 spelled_parts : (text word behind : List ℕ) (n : ℕ) → n ≡ position_or_len is_dash text → word ≡ take n text → behind ≡ drop n text →
     edges_spelled (slice_split is_dash text) ≡ before (edge_of word) (edges_spelled (parts_behind behind))
@@ -87,11 +86,11 @@ module _ {E : Type 0} where
       by_option p
       (λ n. let z : None ≡ Some edges = sym (rw (h, n) refl) ∙ found in cc)
       (λ rest s.
-          let z : Some (e ∷ rest) ≡ Some edges = sym (rw (h, s) refl) ∙ found in
-          let same : e ∷ rest ≡ edges = some_lists (e ∷ rest) edges z in
-          let long : suc (length rest) ≡ length edges = ap length same in
-          let r = a rest s (omega (arith, ap length k, length-append old (e ∷ []), long)) in
-          (r.0, r.1 ∙ ap (λ w. w ++ rest) k ∙ append_assoc old (e ∷ []) rest ∙ ap (λ w. old ++ w) same))
+      let z : Some (e ∷ rest) ≡ Some edges = sym (rw (h, s) refl) ∙ found in
+      let same : e ∷ rest ≡ edges = some_lists (e ∷ rest) edges z in
+      let long : suc (length rest) ≡ length edges = ap length same in
+      let r = a rest s (omega (arith, ap length k, length-append old (e ∷ []), long)) in
+      (r.0, r.1 ∙ ap (λ w. w ++ rest) k ∙ append_assoc old (e ∷ []) rest ∙ ap (λ w. old ++ w) same))
     where
       some_lists : (u v : List Edge) → Some u ≡ Some v → u ≡ v
       some_lists u v z = cc
@@ -107,10 +106,10 @@ module _ {E : Type 0} where
       by_option p
       (λ n. let z : None ≡ Some edges = sym (rw n refl) ∙ found in cc)
       (λ rest s.
-          let z : Some (e ∷ rest) ≡ Some edges = sym (rw s refl) ∙ found in
-          let same : e ∷ rest ≡ edges = some_lists (e ∷ rest) edges z in
-          let long : suc (length rest) ≡ length edges = ap length same in
-          absurd (omega (arith, long)))
+      let z : Some (e ∷ rest) ≡ Some edges = sym (rw s refl) ∙ found in
+      let same : e ∷ rest ≡ edges = some_lists (e ∷ rest) edges z in
+      let long : suc (length rest) ≡ length edges = ap length same in
+      absurd (omega (arith, long)))
     where
       some_lists : (u v : List Edge) → Some u ≡ Some v → u ≡ v
       some_lists u v z = cc
@@ -204,6 +203,7 @@ ranks_told (x ∷ u) (y ∷ v) e =
   where
     head_of : (a b : ℕ) (c d : List ℕ) → a ∷ c ≡ b ∷ d → a ≡ b
     head_of a b c d e = cc
+
     tail_of : (a b : ℕ) (c d : List ℕ) → a ∷ c ≡ b ∷ d → c ≡ d
     tail_of a b c d e = cc
 
@@ -211,3 +211,6 @@ pub rank_small : (u : List Edge) (i d : ℕ) → i < length (map rank_of u) → 
 rank_small [] i d h = absurd (omega arith)
 rank_small (x ∷ u) zero d h = rank_below x
 rank_small (x ∷ u) (suc i) d h = rank_small u i d (omega arith)
+
+pub pushed_all : (a b ranks : List ℕ) (i : ℕ) → a ++ drop i ranks ≡ b → length ranks ≤ i → a ≡ b
+pushed_all a b ranks i e h = sym (append-nil a) ∙ ap (λ w. a ++ w) (sym (drop_of_length-le ranks h)) ∙ e

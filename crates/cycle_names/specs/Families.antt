@@ -1,6 +1,6 @@
 -- The table of the families: the name of each, and its cycle, in which each `PodXY` stands for a link from X to Y.
 -- Source: the names of litmus tests in the diy part of the herdtools manual.
-use Rattle.std.specs.Prelude.{ℕ, List, [], ◌∷◌, ◌++◌, codes}
+use Rattle.std.specs.Prelude.{ℕ, List, [], ◌∷◌, codes}
 use Rattle.relax_edges.specs.declared.kinds.Dir.{Dir}
 use Rattle.relax_edges.specs.declared.kinds.Dir.TheVariants.{R, W}
 use Rattle.relax_edges.specs.declared.kinds.Sd.TheVariants.{Diff}

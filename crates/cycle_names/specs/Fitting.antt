@@ -1,6 +1,6 @@
 -- How the rotations of a cycle are compared with the table: by the ranks of their slots.
 -- Source: own.
-use Rattle.std.specs.Prelude.{◌≡◌, ◌<◌, ℕ, ◌+◌, cond, Option, Some, None, List, [], ◌++◌, length, map}
+use Rattle.std.specs.Prelude.{◌≡◌, ◌<◌, ℕ, cond, Option, Some, None, List, [], ◌++◌, length, map}
 use Rattle.std.specs.List.{find}
 use Rattle.std.specs.Str.{bytes_eq}
 use Rattle.relax_edges.specs.declared.edge.Edge.{Edge}
@@ -9,7 +9,7 @@ use Rattle.relax_edges.specs.Order.{rank_of}
 use Rattle.walk_laws.specs.Rotation.{rotated}
 use Rattle.cycle_names.specs.declared.family.Family.{Family}
 use Rattle.cycle_names.specs.Families.{family_edges, all_families}
-use Rattle.cycle_names.specs.Links.{slot_of, link_word, link_rank}
+use Rattle.cycle_names.specs.Links.{slot_of, link_word}
 use Rattle.cycle_names.specs.Rotations.{found_family, named_rotation}
 use Rattle.cycle_names.specs.Names.{added}
 

@@ -1,6 +1,6 @@
 -- The links of a cycle, its edges to another location: what each joins, and its word in a name.
 -- Source: the names of litmus tests in the diy part of the herdtools manual.
-use Rattle.std.specs.Prelude.{ℕ, ◌+◌, ◌*◌, cond, List, [], ◌∷◌, ◌++◌, map, filter, codes}
+use Rattle.std.specs.Prelude.{ℕ, ◌+◌, ◌*◌, cond, List, [], ◌++◌, map, filter, codes}
 use Rattle.relax_edges.specs.declared.kinds.Sd.TheVariants.{Diff}
 use Rattle.relax_edges.specs.declared.kinds.FenceKind.{FenceKind}
 use Rattle.relax_edges.specs.declared.kinds.FenceKind.TheVariants as fences

@@ -1,6 +1,6 @@
 -- The family of a cycle, and the rotation of a cycle from which it is named.
 -- Source: own, after the names of litmus tests in the diy part of the herdtools manual.
-use Rattle.std.specs.Prelude.{ℕ, Bool, not, Option, Some, None, List, map, filter, length, unwrap_or}
+use Rattle.std.specs.Prelude.{Bool, not, Option, Some, None, List, map, filter, length, unwrap_or}
 use Rattle.std.specs.List.{find, list_any}
 use Rattle.std.specs.Cmp.Lexicographic.{slice_cmp}
 use Rattle.std.specs.Ordering.{nat_cmp, is_lt}

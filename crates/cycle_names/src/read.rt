@@ -70,7 +70,8 @@ fn read_edges(text: &[u8], edges: &mut Edges) -> Result<(), NotAName>
     match named_family(FAMILIES.as_slice(), text) {
         Some(family) => {
             let slots = slots_of(family);
-            fill(slots.as_slice(), &text[family.word().len()..], edges)
+            let (_, links) = text.split_at(family.word().len());
+            fill(slots.as_slice(), links, edges)
         }
         None => read_other(text, edges),
     }

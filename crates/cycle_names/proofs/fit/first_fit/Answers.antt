@@ -1,15 +1,13 @@
-use Rattle.std.proofs.Common.{rules, ◌≡◌, ◌+◌, ◌≤◌, ◌++◌, ◌&&◌, length, map, None, MatchOption, ℕ, ◌-◌, ◌*◌, ◌<◌, ◌/◌, ◌%◌, Bool, true, false, nat_eq, nat_lt, List, [], ◌∷◌, slice_index_or, slice_set, bit_and, bit_or, Fits, w8, w32, w64, Bor, MutBor}
-use Rattle.std.specs.Str.{bytes_eq}
-use Rattle.walk_laws.specs.Order.{ranks_below}
-use Rattle.cycle_names.specs.Links.{link_rank}
-use Rattle.cycle_names.specs.Rotations.{found_family}
-use Rattle.cycle_names.specs.Fitting.{slot_rank, twice, family_of_ranks, FitsNone, FitsFirst, IsNamedAt}
+use Rattle.std.proofs.Common.{sym, ◌∙◌, arith}
+use Rattle.cycle_names.proofs.Places.{family_seen, none_more}
 use Rattle.cycle_names.proofs.fit.first_fit.Goals as goal
 
--- src/fit.rt:119:29
 pub returns-in-Some : goal.returns-in-Some
-returns-in-Some c = ?
+returns-in-Some c =
+    let seen = c.family_of_ranks.ensures ∙ family_seen c.args.edges.now c.args.slots.now c.as_slice.result.now c.loop-place.place c.as_slice.ensures c.requires (omega arith) in
+    record { within = c.loop-place-test.true; fits = sym seen ∙ c.in-Some.is; before = c.loop-place.invariant }
 
--- src/fit.rt:117:5
 pub loop-place-preserved : goal.loop-place-preserved
-loop-place-preserved c = ?
+loop-place-preserved c =
+    let seen = c.family_of_ranks.ensures ∙ family_seen c.args.edges.now c.args.slots.now c.as_slice.result.now c.loop-place.place c.as_slice.ensures c.requires (omega arith) in
+    none_more c.args.edges.now c.loop-place.place c.loop-place.invariant (sym seen ∙ c.in-None.is)

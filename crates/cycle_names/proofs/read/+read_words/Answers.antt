@@ -1,4 +1,4 @@
-use Rattle.std.proofs.Common.{refl, sym, ◌∙◌, arith, eqb-true}
+use Rattle.std.proofs.Common.{refl, sym, arith, eqb-true}
 use Rattle.std.specs.Prelude.{Ok, Err}
 use Rattle.cycle_names.specs.declared.read.NotAName.{NotAName}
 use Rattle.cycle_names.proofs.Steps.{spell_none, spell_full, spell_last, spell_more}

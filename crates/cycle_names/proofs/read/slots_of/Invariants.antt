@@ -1,4 +1,4 @@
-use Rattle.std.proofs.Common.{◌≡◌, ◌+◌, ◌++◌, length, map, drop}
+use Rattle.std.proofs.Common.{◌≡◌, ◌++◌, length, map, drop}
 use Rattle.relax_edges.specs.Order.{rank_of}
 use Rattle.cycle_names.specs.Families.{family_edges}
 use Rattle.cycle_names.proofs.read.slots_of.Given as goal
