@@ -1,0 +1,196 @@
+-- The rotation that a cycle is named from: there is one, and it is the same for all rotations of the cycle.
+use Rattle.std.specs.Prelude.{◌≡◌, ◌<◌, ℕ, Bool, true, false, Some, None, List, [], ◌∷◌, length, map, filter, unwrap_or}
+use Rattle.std.proofs.Common.{refl, sym, ◌∙◌, ap, subst, arith}
+use Rattle.std.proofs.lemmas.List.{length-map}
+use Rattle.list_laws.proofs.Cases.{by_option}
+use Rattle.relax_edges.specs.declared.edge.Edge.{Edge}
+use Rattle.relax_edges.specs.Order.{rank_of}
+use Rattle.relax_edges.proofs.Ranks.{rank_injective}
+use Rattle.walk_laws.specs.Rotation.{IsRotation, rotated}
+use Rattle.walk_laws.specs.Order.{ranks_below, IsLeast}
+use Rattle.walk_laws.proofs.Rotating.{rotation_same, rotation_back, rotation_on, rotation_length, place_of_rotation, rotation_of_place}
+use Rattle.walk_laws.proofs.Ordering.{above_of_ranks}
+use Rattle.cycle_names.specs.declared.family.Family.{Family}
+use Rattle.cycle_names.specs.Families.{family_edges, all_families}
+use Rattle.cycle_names.specs.Links.{slot_of, outline, link_rank}
+use Rattle.cycle_names.specs.Rotations.{rotations, fits, is_of_family, found_family, words_below, edges_below, rotation_in, named_rotation}
+use Rattle.cycle_names.proofs.Members.{Member, any_of_member, member_of_any, member_upto, upto_member, find_same, filter_among, filter_passes, filter_member}
+use Rattle.cycle_names.proofs.Below.{below_irreflexive, below_transitive, neither_below, IsFirst, HasFirst, has_first, first_is_least}
+use Rattle.cycle_names.proofs.Outlines.{outline_of_fits, fits_of_outline, words_by_ranks, same_lists}
+use Rattle.cycle_names.proofs.Families.{fitting, found_is_of}
+
+-- the members of the list of rotations are the rotations
+pub rotation_of_member : (u v : List Edge) → Member v (rotations u) → IsRotation u v
+rotation_of_member u v m =
+    let n = upto_member (λ k. rotated k u) (length u) v m in
+    let P : List Edge → Type 0 = λ w. IsRotation u w in
+    subst P (sym n.is) (rotation_of_place n.number u)
+
+pub member_of_rotation : (u v : List Edge) → 0 < length u → IsRotation u v → Member v (rotations u)
+member_of_rotation u v some r =
+    let p = place_of_rotation u v some r in
+    let P : List Edge → Type 0 = λ w. Member w (rotations u) in
+    subst P (sym p.is) (member_upto (λ k. rotated k u) (length u) p.place p.within)
+
+rotation_some : (u v : List Edge) → 0 < length u → IsRotation u v → 0 < length v
+rotation_some u v some r = omega (arith, rotation_length u v r)
+
+pub rotations_same : (u v x : List Edge) → 0 < length u → IsRotation u v → Member x (rotations u) → Member x (rotations v)
+rotations_same u v x some r m =
+    member_of_rotation v x (rotation_some u v some r) (rotation_on v u x (rotation_back u v r) (rotation_of_member u x m))
+
+-- the rotations of a cycle that fit a family
+abbrev pub candidates : Family → List Edge → List (List Edge)
+candidates f u = filter (fits f) (rotations u)
+
+-- the order of the ranks of words
+abbrev pub links_below : List Edge → List Edge → Bool
+links_below v w = ranks_below (map link_rank v) (map link_rank w)
+
+pub candidate_joins : (f : Family) (u v : List Edge) → Member v (candidates f u) → outline v ≡ family_edges f
+candidate_joins f u v m = outline_of_fits f v (filter_passes (fits f) (rotations u) v m)
+
+by_words : (f : Family) (u v w : List Edge) → Member v (candidates f u) → Member w (candidates f u) → words_below v w ≡ links_below v w
+by_words f u v w m n = words_by_ranks v w (candidate_joins f u v m ∙ sym (candidate_joins f u w n))
+
+-- of rotations that fit, the first by words and the first by ranks are one
+pub first_by_words : (f : Family) (u v : List Edge) → IsFirst links_below (candidates f u) v → IsFirst words_below (candidates f u) v
+first_by_words f u v h = record { member = h.member; none = λ w m b. h.none w m (sym (by_words f u w v m h.member) ∙ b) }
+
+first_by_ranks : (f : Family) (u v : List Edge) → IsFirst words_below (candidates f u) v → IsFirst links_below (candidates f u) v
+first_by_ranks f u v h = record { member = h.member; none = λ w m b. h.none w m (by_words f u w v m h.member ∙ b) }
+
+only_by_words : (f : Family) (u v w : List Edge) → IsFirst words_below (candidates f u) v → IsFirst words_below (candidates f u) w → w ≡ v
+only_by_words f u v w h k =
+    let a = first_by_ranks f u v h in
+    let b = first_by_ranks f u w k in
+    let joins : outline w ≡ outline v = candidate_joins f u w k.member ∙ sym (candidate_joins f u v h.member) in
+    let long : length (map link_rank w) ≡ length (map link_rank v) =
+    omega (arith, length-map w link_rank, length-map v link_rank, ap length joins, length-map w slot_of, length-map v slot_of) in
+    same_lists w v joins (neither_below (map link_rank w) (map link_rank v) long (a.none w b.member) (b.none v a.member))
+
+-- the rotation that a cycle of a family is named from
+pub named_in_family : (f : Family) (u v : List Edge) → found_family u ≡ Some f → IsFirst words_below (candidates f u) v → named_rotation u ≡ v
+unfolding named_rotation
+named_in_family f u v h k =
+    ap (λ o. unwrap_or (rotation_in o u) u) h
+    ∙ ap (λ o. unwrap_or o u) (first_is_least words_below (candidates f u) v k (λ w i. only_by_words f u v w k i))
+
+some_first : (xs : List (List Edge)) (x : List Edge) → Member x xs → HasFirst links_below xs
+some_first [] x m = absurd m
+some_first (y ∷ ys) x m = has_first links_below (λ u. below_irreflexive (map link_rank u)) (λ u v w. below_transitive (map link_rank u) (map link_rank v) (map link_rank w)) y ys
+
+pub has_named_in_family : (f : Family) (u : List Edge) → found_family u ≡ Some f → HasFirst words_below (candidates f u)
+has_named_in_family f u h =
+    let w = fitting u f (found_is_of u f h) in
+    let v : List Edge = rotated w.place u in
+    let m : Member v (candidates f u) = filter_member (fits f) (rotations u) v (member_upto (λ k. rotated k u) (length u) w.place w.within) (fits_of_outline f v w.joins) in
+    let r = some_first (candidates f u) v m in
+    record { one = r.one; is = first_by_words f u r.one r.is }
+
+-- lists of edges are told apart by their ranks
+ranks_same : (u v : List Edge) → map rank_of u ≡ map rank_of v → u ≡ v
+ranks_same [] [] e = refl
+ranks_same [] (y ∷ v) e = cc
+ranks_same (x ∷ u) [] e = cc
+ranks_same (x ∷ u) (y ∷ v) e =
+    let one : x ≡ y = rank_injective x y (head_of (rank_of x) (rank_of y) (map rank_of u) (map rank_of v) e) in
+    let rest : u ≡ v = ranks_same u v (tail_of (rank_of x) (rank_of y) (map rank_of u) (map rank_of v) e) in
+    rw (one, rest) refl
+  where
+    head_of : (a b : ℕ) (c d : List ℕ) → a ∷ c ≡ b ∷ d → a ≡ b
+    head_of a b c d e = cc
+
+    tail_of : (a b : ℕ) (c d : List ℕ) → a ∷ c ≡ b ∷ d → c ≡ d
+    tail_of a b c d e = cc
+
+only_normal : (u v w : List Edge) → IsFirst edges_below (rotations u) v → IsFirst edges_below (rotations u) w → w ≡ v
+only_normal u v w h k =
+    let long : length (map rank_of w) ≡ length (map rank_of v) =
+    omega (arith, length-map w rank_of, length-map v rank_of, rotation_length u w (rotation_of_member u w k.member), rotation_length u v (rotation_of_member u v h.member)) in
+    ranks_same w v (neither_below (map rank_of w) (map rank_of v) long (h.none w k.member) (k.none v h.member))
+
+-- the rotation that another cycle is named from
+pub named_in_none : (u v : List Edge) → found_family u ≡ None → IsFirst edges_below (rotations u) v → named_rotation u ≡ v
+unfolding named_rotation
+named_in_none u v h k =
+    ap (λ o. unwrap_or (rotation_in o u) u) h
+    ∙ ap (λ o. unwrap_or o u) (first_is_least edges_below (rotations u) v k (λ w i. only_normal u v w k i))
+
+-- the normal form is that rotation
+pub least_named : (u v : List Edge) → 0 < length u → found_family u ≡ None → IsLeast u v → named_rotation u ≡ v
+least_named u v some h k =
+    named_in_none u v h (record {
+      member = member_of_rotation u v some k.rotation;
+      none = λ w m b. k.normal w (rotation_on v u w (rotation_back u v k.rotation) (rotation_of_member u w m)) (above_of_ranks w v b);
+    })
+
+some_normal : (xs : List (List Edge)) (x : List Edge) → Member x xs → HasFirst edges_below xs
+some_normal [] x m = absurd m
+some_normal (y ∷ ys) x m = has_first edges_below (λ u. below_irreflexive (map rank_of u)) (λ u v w. below_transitive (map rank_of u) (map rank_of v) (map rank_of w)) y ys
+
+pub has_named_in_none : (u : List Edge) → 0 < length u → HasFirst edges_below (rotations u)
+has_named_in_none u some = some_normal (rotations u) u (member_of_rotation u u some (rotation_same u))
+
+-- rotations of one cycle are of one family
+is_of_turned : (u v : List Edge) (f : Family) → 0 < length u → IsRotation u v → is_of_family u f ≡ true → is_of_family v f ≡ true
+is_of_turned u v f some r h =
+    let p = member_of_any (fits f) (rotations u) h in
+    any_of_member (fits f) (rotations v) p.member (rotations_same u v p.member some r p.among) p.passes
+
+both_tests : (a b : Bool) → (a ≡ true → b ≡ true) → (b ≡ true → a ≡ true) → a ≡ b
+both_tests true b f g = sym (f refl)
+both_tests false true f g = g refl
+both_tests false false f g = refl
+
+pub family_turned : (u v : List Edge) → 0 < length u → IsRotation u v → found_family u ≡ found_family v
+unfolding found_family
+family_turned u v some r =
+    find_same (is_of_family u) (is_of_family v) all_families
+    (λ f. both_tests (is_of_family u f) (is_of_family v f) (is_of_turned u v f some r)
+    (is_of_turned v u f (rotation_some u v some r) (rotation_back u v r)))
+
+-- a member before which none comes, in a list with the same members
+same_first : (below : List Edge → List Edge → Bool) (xs ys : List (List Edge)) (v : List Edge) →
+    ((x : List Edge) → Member x xs → Member x ys) → ((x : List Edge) → Member x ys → Member x xs) → IsFirst below xs v → IsFirst below ys v
+same_first below xs ys v to from h = record { member = to v h.member; none = λ w m b. h.none w (from w m) b }
+
+candidates_turned : (f : Family) (u v x : List Edge) → 0 < length u → IsRotation u v → Member x (candidates f u) → Member x (candidates f v)
+candidates_turned f u v x some r m =
+    filter_member (fits f) (rotations v) x (rotations_same u v x some r (filter_among (fits f) (rotations u) x m)) (filter_passes (fits f) (rotations u) x m)
+
+-- rotations of one cycle are named from one rotation
+pub named_turned : (u v : List Edge) → 0 < length u → IsRotation u v → named_rotation u ≡ named_rotation v
+named_turned u v some r =
+    let back : IsRotation v u = rotation_back u v r in
+    let more : 0 < length v = rotation_some u v some r in
+    let same : found_family u ≡ found_family v = family_turned u v some r in
+    by_option (found_family u)
+    (λ h.
+    let w = has_named_in_none u some in
+    named_in_none u w.one h w.is
+    ∙ sym (named_in_none v w.one (sym same ∙ h)
+    (same_first edges_below (rotations u) (rotations v) w.one (λ x. rotations_same u v x some r) (λ x. rotations_same v u x more back) w.is)))
+    (λ f h.
+    let w = has_named_in_family f u h in
+    named_in_family f u w.one h w.is
+    ∙ sym (named_in_family f v w.one (sym same ∙ h)
+    (same_first words_below (candidates f u) (candidates f v) w.one (λ x. candidates_turned f u v x some r) (λ x. candidates_turned f v u x more back) w.is)))
+
+-- the rotation that a cycle is named from is a rotation of it
+pub named_rotates : (u : List Edge) → 0 < length u → IsRotation u (named_rotation u)
+named_rotates u some =
+    let P : List Edge → Type 0 = λ v. IsRotation u v in
+    by_option (found_family u)
+    (λ h.
+    let w = has_named_in_none u some in
+    subst P (sym (named_in_none u w.one h w.is)) (rotation_of_member u w.one w.is.member))
+    (λ f h.
+    let w = has_named_in_family f u h in
+    subst P (sym (named_in_family f u w.one h w.is)) (rotation_of_member u w.one (filter_among (fits f) (rotations u) w.one w.is.member)))
+
+-- and fits the family that the cycle is of
+pub named_joins : (u : List Edge) (f : Family) → found_family u ≡ Some f → outline (named_rotation u) ≡ family_edges f
+named_joins u f h =
+    let w = has_named_in_family f u h in
+    ap outline (named_in_family f u w.one h w.is) ∙ candidate_joins f u w.one w.is.member

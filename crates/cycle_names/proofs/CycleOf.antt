@@ -1,0 +1,141 @@
+-- What is read is the cycle of the name, and what is refused is no name.
+use Rattle.std.specs.Prelude.{◌≡◌, ◌≤◌, ◌&&◌, ℕ, true, false, Option, Some, None, nat_lt, Result, Ok, Err, IsOk, List, [], ◌∷◌, ◌++◌, length, drop, codes}
+use Rattle.std.specs.Str.{bytes_eq}
+use Rattle.std.specs.Cmp.Lexicographic.{bytes_decides}
+use Rattle.std.proofs.Common.{refl, sym, ◌∙◌, ap, arith}
+use Rattle.std.proofs.lemmas.Bool.{and_parts, cond-true, cond-false}
+use Rattle.list_laws.proofs.Cases.{by_test}
+use Rattle.relax_edges.specs.declared.TheConstants.{MAX_EDGES}
+use Rattle.relax_edges.specs.declared.kinds.ArchName.{ArchName}
+use Rattle.relax_edges.specs.declared.edge.Edge.{Edge}
+use Rattle.relax_edges.specs.Relaxations.{is_same}
+use Rattle.relax_edges.specs.Words.{word_of}
+use Rattle.std.specs.List.{join_by}
+use Rattle.walk_laws.specs.Composable.{IsCycle, first_break}
+use Rattle.walk_laws.specs.Order.{IsLeast}
+use Rattle.walk_laws.specs.Rotation.{rotated}
+use Rattle.walk_laws.proofs.Rotating.{rotation_length}
+use Rattle.edge_algebra.specs.declared.errors.CycleError.{CycleError}
+use Rattle.edge_algebra.specs.declared.errors.CycleError.TheVariants.{TooLong}
+use Rattle.edge_algebra.specs.Compose.{composed, unbroken}
+use Rattle.edge_algebra.proofs.Composed.{composes_exactly}
+use Rattle.cycle_names.specs.declared.family.Family.{Family}
+use Rattle.cycle_names.specs.Families.{family_word, family_edges, all_families}
+use Rattle.cycle_names.specs.Links.{link_words}
+use Rattle.cycle_names.specs.Rotations.{found_family, named_rotation}
+use Rattle.cycle_names.specs.Names.{links_text, name_from, name_of}
+use Rattle.cycle_names.specs.Fitting.{IsNamedAt}
+use Rattle.cycle_names.specs.Reading.{begins_with, named_family, filled, words_read, read_in, edges_read, Adds}
+use Rattle.cycle_names.specs.Laws.{are_of_arch, IsNamed, NamesNone}
+use Rattle.cycle_names.proofs.Members.{found_passes}
+use Rattle.cycle_names.proofs.Outlines.{same_edges, edges_told}
+use Rattle.cycle_names.proofs.Chosen.{named_rotates, least_named}
+use Rattle.cycle_names.proofs.ReadBack.{name_back}
+use Rattle.cycle_names.proofs.NameLaws.{named, arch_turned}
+
+-- the name that is written of a cycle of a family
+pub name_in_family : (u : List Edge) (f : Family) (place : ℕ) → IsNamedAt u f place → name_of u ≡ family_word f ++ links_text (link_words (rotated place u))
+unfolding name_of name_from
+name_in_family u f place h =
+    ap (λ o. name_from o (named_rotation u)) h.found ∙ ap (λ v. family_word f ++ links_text (link_words v)) h.named
+
+-- the name that is written of another cycle
+pub name_in_none : (u v : List Edge) → IsCycle u → found_family u ≡ None → IsLeast u v → name_of u ≡ codes "C+" ++ join_by word_of (codes "-") v
+unfolding name_of name_from
+name_in_none u v c h l =
+    ap (λ o. name_from o (named_rotation u)) h ∙ ap (λ w. codes "C+" ++ join_by word_of (codes "-") w) (least_named u v c.some h l)
+
+-- what is read of a name
+pub record ReadAs (u edges : List Edge) (E : Type 0) (result : Result (Unit {0}) E) : Type 0 where
+  pub done : IsOk result
+  pub edges_are : edges ≡ named_rotation u
+
+pub read_as : {E : Type 0} (name text : List ℕ) (old edges : List Edge) (result : Result (Unit {0}) E) → text ≡ name → old ≡ [] → Adds (edges_read text) old edges result
+    → (u : List Edge) → IsCycle u → name_of u ≡ name → ReadAs u edges E result
+read_as name text old edges result i e a u c h =
+    let found : edges_read text ≡ Some (named_rotation u) = ap edges_read (i ∙ sym h) ∙ name_back u c.some in
+    let r = a (named_rotation u) found (omega (arith, ap length e, c.few, rotation_length u (named_rotation u) (named_rotates u c.some))) in
+    record { done = r.0; edges_are = r.1 ∙ ap (λ w. w ++ named_rotation u) e }
+
+-- nothing is read: no name
+pub none_read : {E : Type 0} (name text : List ℕ) (arch : ArchName) (old edges : List Edge) (error : E) → text ≡ name → old ≡ [] → Adds (edges_read text) old edges (Err error) → NamesNone name arch
+none_read {E} name text arch old edges error i e a u c o h = not_ok (read_as {E = E} name text old edges (Err error) i e a u c h).done
+  where
+    not_ok : false ≡ true → ⊥
+    not_ok z = cc
+
+-- the edges don't compose: no name
+pub none_composed : {E : Type 0} (name text : List ℕ) (arch : ArchName) (old edges : List Edge) (result : Result (Unit {0}) E) (error : CycleError) → text ≡ name → old ≡ [] → Adds (edges_read text) old edges result
+    → Err error ≡ composed edges → NamesNone name arch
+none_composed name text arch old edges result error i e a k u c o h =
+    let r = read_as name text old edges result i e a u c h in
+    let n = named u c in
+    let made : composed edges ≡ Ok edges = ap composed r.edges_are ∙ (composes_exactly.cycle (named_rotation u)).1 n.composable ∙ ap Ok (sym r.edges_are) in
+    not_both (k ∙ made)
+  where
+    not_both : {v : List Edge} {x : CycleError} → ◌≡◌ {A = Result (List Edge) CycleError} (Err x) (Ok v) → ⊥
+    not_both z = cc
+
+-- the edges have another name, or another rotation: no name
+pub none_named : {E : Type 0} (name text : List ℕ) (arch : ArchName) (old edges : List Edge) (result : Result (Unit {0}) E) → text ≡ name → old ≡ [] → Adds (edges_read text) old edges result
+    → (bytes_eq (name_of edges) name && is_same (named_rotation edges) edges) ≡ false → NamesNone name arch
+none_named name text arch old edges result i e a k u c o h =
+    let r = read_as name text old edges result i e a u c h in
+    let n = named u c in
+    let one : bytes_eq (name_of edges) name ≡ true = (bytes_decides _ _).1 (ap name_of r.edges_are ∙ n.has_name ∙ h) in
+    let two : is_same (named_rotation edges) edges ≡ true = edges_told _ _ (ap named_rotation r.edges_are ∙ n.rotation ∙ sym r.edges_are) in
+    let both : (bytes_eq (name_of edges) name && is_same (named_rotation edges) edges) ≡ true = rw (one, two) refl in
+    let z : true ≡ false = sym both ∙ k in
+    cc
+
+-- the edges are not of the architecture: no name
+pub none_of_arch : {E : Type 0} (name text : List ℕ) (arch : ArchName) (old edges : List Edge) (result : Result (Unit {0}) E) → text ≡ name → old ≡ [] → Adds (edges_read text) old edges result
+    → are_of_arch arch edges ≡ false → NamesNone name arch
+none_of_arch name text arch old edges result i e a k u c o h =
+    let r = read_as name text old edges result i e a u c h in
+    let t : are_of_arch arch edges ≡ true = ap (are_of_arch arch) r.edges_are ∙ sym (arch_turned arch u (named_rotation u) (named_rotates u c.some)) ∙ o in
+    let z : true ≡ false = sym t ∙ k in
+    cc
+
+-- what passes is the cycle of the name
+pub is_named : (name : List ℕ) (arch : ArchName) (edges : List Edge) → IsCycle edges → (bytes_eq (name_of edges) name && is_same (named_rotation edges) edges) ≡ true → are_of_arch arch edges ≡ true → IsNamed name arch edges
+is_named name arch edges c k o =
+    let both = and_parts (bytes_eq (name_of edges) name) (is_same (named_rotation edges) edges) k in
+    record { composable = c; of_arch = o; has_name = (bytes_decides _ _).0 both.0; rotation = same_edges _ _ both.1 }
+
+-- a text that begins with a word is no shorter
+begins_long : (word text : List ℕ) → begins_with word text ≡ true → length word ≤ length text
+begins_long [] text h = omega arith
+begins_long (b ∷ word) [] h = cc
+begins_long (b ∷ word) (c ∷ text) h = omega (arith, begins_long word text (and_parts _ (begins_with word text) h).1)
+
+pub word_fits : (families : List Family) (text word : List ℕ) (f : Family) → Some f ≡ named_family families text → word ≡ family_word f → length word ≤ length text
+word_fits families text word f h w = rw w (begins_long (family_word f) text (found_passes (λ f. begins_with (family_word f) text) families f (sym h)))
+
+-- what is read where the text begins with a family's name, and where it doesn't
+pub read_family : {E : Type 0} (families : List Family) (text word behind : List ℕ) (f : Family) (slots old new : List Edge) (result : Result (Unit {0}) E) → families ≡ all_families → Some f ≡ named_family families text
+    → word ≡ family_word f → slots ≡ family_edges f → behind ≡ drop (length word) text → Adds (filled slots behind) old new result → Adds (edges_read text) old new result
+unfolding edges_read
+read_family families text word behind f slots old new result e h w s b a edges found fits =
+    let same : edges_read text ≡ filled slots behind =
+    ap (λ fs. read_in (named_family fs text) text) (sym e) ∙ ap (λ o. read_in o text) (sym h) ∙ ap (λ x. filled (family_edges f) (drop (length x) text)) (sym w) ∙ ap (filled (family_edges f)) (sym b) ∙ ap (λ u. filled u behind) (sym s) in
+    a edges (sym same ∙ found) fits
+
+pub read_none : {E : Type 0} (families : List Family) (text : List ℕ) (old new : List Edge) (result : Result (Unit {0}) E) → families ≡ all_families → None ≡ named_family families text
+    → Adds (words_read text) old new result → Adds (edges_read text) old new result
+unfolding edges_read
+read_none families text old new result e h a edges found fits =
+    let same : edges_read text ≡ words_read text = ap (λ fs. read_in (named_family fs text) text) (sym e) ∙ ap (λ o. read_in o text) (sym h) in
+    a edges (sym same ∙ found) fits
+
+-- the edges of the cycle that is made are those given
+pub made_of : (u v : List Edge) → Ok v ≡ composed u → v ≡ u
+made_of [] v h = cc
+made_of (e ∷ u) v h =
+    by_test (nat_lt MAX_EDGES (length (e ∷ u)))
+    (λ t. let a : ◌≡◌ {A = Result (List Edge) CycleError} (Ok v) (Err TooLong) = h ∙ cond-true (nat_lt MAX_EDGES (length (e ∷ u))) (Err TooLong) _ t in cc)
+    (λ f. unbroken_same (e ∷ u) (first_break ((e ∷ u) ++ e ∷ [])) v (h ∙ cond-false (nat_lt MAX_EDGES (length (e ∷ u))) (Err TooLong) _ f))
+  where
+    unbroken_same : (u : List Edge) (at_place : Option ℕ) (v : List Edge) → Ok v ≡ unbroken u at_place → v ≡ u
+    unbroken_same u None v h = cc
+    unbroken_same u (Some k) v h = cc

@@ -1,0 +1,272 @@
+-- The table of families: no rotation of one is another, each has two links or more and at most six edges, and no name begins another.
+use Rattle.std.specs.Prelude.{◌≡◌, ◌<◌, ◌≤◌, ◌==◌, ◌&&◌, ◌||◌, ℕ, Bool, true, false, not, Some, None, List, [], ◌∷◌, ◌++◌, length, filter, nat_le, slice_get}
+use Rattle.std.specs.List.{list_any, list_all}
+use Rattle.std.proofs.Common.{refl, ◌∙◌, ap, subst, arith, inl, inr}
+use Rattle.std.proofs.lemmas.Bool.{eqb-true, leb-true, and_parts, or_cases}
+use Rattle.std.proofs.lemmas.List.{length-map}
+use Rattle.relax_edges.specs.declared.edge.Edge.{Edge}
+use Rattle.relax_edges.specs.EdgeTable.{is_diff}
+use Rattle.relax_edges.specs.Order.{rank_of}
+use Rattle.relax_edges.specs.Relaxations.{is_same}
+use Rattle.walk_laws.specs.Rotation.{IsRotation, rotated}
+use Rattle.walk_laws.proofs.Rotating.{rotation_back, rotation_on, rotation_length, place_of_rotation, rotation_of_place}
+use Rattle.cycle_names.specs.declared.family.Family.{Family}
+use Rattle.cycle_names.specs.declared.family.Family.TheVariants as families
+use Rattle.cycle_names.specs.Families.{family_edges, family_word, all_families}
+use Rattle.cycle_names.specs.Links.{slot_of, outline}
+use Rattle.cycle_names.specs.Rotations.{rotations, fits, is_of_family, found_family}
+use Rattle.cycle_names.specs.Names.{is_name_byte}
+use Rattle.cycle_names.specs.Reading.{named_family}
+use Rattle.cycle_names.proofs.Members.{Member, any_of_member, member_of_any, member_upto, upto_member, find_none, find_only, found_passes, map_rotated}
+use Rattle.cycle_names.proofs.Outlines.{edges_told, outline_of_fits}
+
+-- the place of a family in the table
+family_place : Family → ℕ
+family_place families.SB = 0
+family_place families.MP = 1
+family_place families.LB = 2
+family_place families.R = 3
+family_place families.S = 4
+family_place families.W2 = 5
+family_place families.WRC = 6
+family_place families.RWC = 7
+family_place families.ISA2 = 8
+family_place families.IRIW = 9
+family_place families.WRWC = 10
+family_place families.SB3 = 11
+family_place families.LB3 = 12
+family_place families.W3 = 13
+family_place families.Other = 14
+
+-- all families, with the one that stands for none
+abbrev every_family : List Family
+every_family = all_families ++ families.Other ∷ []
+
+family_placed : (f : Family) → slice_get every_family (family_place f) ≡ Some f
+unfolding family_place
+family_placed families.SB = refl
+family_placed families.MP = refl
+family_placed families.LB = refl
+family_placed families.R = refl
+family_placed families.S = refl
+family_placed families.W2 = refl
+family_placed families.WRC = refl
+family_placed families.RWC = refl
+family_placed families.ISA2 = refl
+family_placed families.IRIW = refl
+family_placed families.WRWC = refl
+family_placed families.SB3 = refl
+family_placed families.LB3 = refl
+family_placed families.W3 = refl
+family_placed families.Other = refl
+
+family_same : (f g : Family) → family_place f ≡ family_place g → f ≡ g
+family_same f g e = cc (family_placed f, family_placed g, ap (slice_get every_family) e)
+
+-- each family is a member of the list of all
+families_all : (f : Family) → Member f every_family
+families_all families.SB = inl refl
+families_all families.MP = inr (inl refl)
+families_all families.LB = inr (inr (inl refl))
+families_all families.R = inr (inr (inr (inl refl)))
+families_all families.S = inr (inr (inr (inr (inl refl))))
+families_all families.W2 = inr (inr (inr (inr (inr (inl refl)))))
+families_all families.WRC = inr (inr (inr (inr (inr (inr (inl refl))))))
+families_all families.RWC = inr (inr (inr (inr (inr (inr (inr (inl refl)))))))
+families_all families.ISA2 = inr (inr (inr (inr (inr (inr (inr (inr (inl refl))))))))
+families_all families.IRIW = inr (inr (inr (inr (inr (inr (inr (inr (inr (inl refl)))))))))
+families_all families.WRWC = inr (inr (inr (inr (inr (inr (inr (inr (inr (inr (inl refl))))))))))
+families_all families.SB3 = inr (inr (inr (inr (inr (inr (inr (inr (inr (inr (inr (inl refl)))))))))))
+families_all families.LB3 = inr (inr (inr (inr (inr (inr (inr (inr (inr (inr (inr (inr (inl refl))))))))))))
+families_all families.W3 = inr (inr (inr (inr (inr (inr (inr (inr (inr (inr (inr (inr (inr (inl refl)))))))))))))
+families_all families.Other = inr (inr (inr (inr (inr (inr (inr (inr (inr (inr (inr (inr (inr (inr (inl refl))))))))))))))
+
+-- what a test says of all families, it says of each
+each_family : (test : Family → Bool) → list_all test every_family ≡ true → (f : Family) → test f ≡ true
+each_family test all f = all_members test every_family all f (families_all f)
+  where
+    all_members : (test : Family → Bool) (fs : List Family) → list_all test fs ≡ true → (f : Family) → Member f fs → test f ≡ true
+    all_members test [] h f m = absurd m
+    all_members test (g ∷ fs) h f m =
+        let both = and_parts (test g) (list_all test fs) h in
+        elim m [ inl e ↦ rw e both.0 | inr r ↦ all_members test fs both.1 f r ]
+
+-- each but the last is a member of the table
+pub listed : (f : Family) → (f ≡ families.Other → ⊥) → Member f all_families
+listed families.SB n = inl refl
+listed families.MP n = inr (inl refl)
+listed families.LB n = inr (inr (inl refl))
+listed families.R n = inr (inr (inr (inl refl)))
+listed families.S n = inr (inr (inr (inr (inl refl))))
+listed families.W2 n = inr (inr (inr (inr (inr (inl refl)))))
+listed families.WRC n = inr (inr (inr (inr (inr (inr (inl refl))))))
+listed families.RWC n = inr (inr (inr (inr (inr (inr (inr (inl refl)))))))
+listed families.ISA2 n = inr (inr (inr (inr (inr (inr (inr (inr (inl refl))))))))
+listed families.IRIW n = inr (inr (inr (inr (inr (inr (inr (inr (inr (inl refl)))))))))
+listed families.WRWC n = inr (inr (inr (inr (inr (inr (inr (inr (inr (inr (inl refl))))))))))
+listed families.SB3 n = inr (inr (inr (inr (inr (inr (inr (inr (inr (inr (inr (inl refl)))))))))))
+listed families.LB3 n = inr (inr (inr (inr (inr (inr (inr (inr (inr (inr (inr (inr (inl refl))))))))))))
+listed families.W3 n = inr (inr (inr (inr (inr (inr (inr (inr (inr (inr (inr (inr (inr (inl refl)))))))))))))
+listed families.Other n = absurd (n refl)
+
+-- no rotation of the cycle of one family is the cycle of another
+apart : Family → Family → Bool
+apart f g = (family_place f == family_place g) || not (list_any (is_same (family_edges g)) (rotations (family_edges f)))
+
+all_apart : list_all (λ f. list_all (apart f) every_family) every_family ≡ true
+unfolding apart family_place rank_of
+all_apart = refl
+
+-- families of which one is a rotation of the other are one
+same_cycle_family : (f g : Family) → 0 < length (family_edges f) → IsRotation (family_edges f) (family_edges g) → f ≡ g
+unfolding apart
+same_cycle_family f g some r =
+    let p = place_of_rotation (family_edges f) (family_edges g) some r in
+    let m : Member (rotated p.place (family_edges f)) (rotations (family_edges f)) =
+    member_upto (λ k. rotated k (family_edges f)) (length (family_edges f)) p.place p.within in
+    let a : list_any (is_same (family_edges g)) (rotations (family_edges f)) ≡ true =
+    any_of_member (is_same (family_edges g)) (rotations (family_edges f)) (rotated p.place (family_edges f)) m (edges_told (family_edges g) (rotated p.place (family_edges f)) p.is) in
+    let t : apart f g ≡ true = each_family (apart f) (each_family (λ f. list_all (apart f) every_family) all_apart f) g in
+    family_same f g (eqb-true (family_place f) (family_place g) (first_of (family_place f == family_place g) (list_any (is_same (family_edges g)) (rotations (family_edges f))) t a))
+  where
+    first_of : (b c : Bool) → (b || not c) ≡ true → c ≡ true → b ≡ true
+    first_of true c t a = refl
+    first_of false true t a = cc
+    first_of false false t a = cc
+
+-- the rotation that makes a cycle one of a family
+pub record Fitting (u : List Edge) (f : Family) : Type 0 where
+  pub place : ℕ
+  pub within : place < length u
+  pub joins : outline (rotated place u) ≡ family_edges f
+
+pub fitting : (u : List Edge) (f : Family) → is_of_family u f ≡ true → Fitting u f
+fitting u f h =
+    let r = member_of_any (fits f) (rotations u) h in
+    let n = upto_member (λ k. rotated k u) (length u) r.member r.among in
+    record { place = n.number; within = n.below; joins = outline_of_fits f (rotated n.number u) (let P : List Edge → Type 0 = λ v. fits f v ≡ true in subst P n.is r.passes) }
+
+pub is_of_fitting : (u : List Edge) (f : Family) (k : ℕ) → k < length u → fits f (rotated k u) ≡ true → is_of_family u f ≡ true
+is_of_fitting u f k l h = any_of_member (fits f) (rotations u) (rotated k u) (member_upto (λ k. rotated k u) (length u) k l) h
+
+-- a cycle of a family joins what the family's cycle does
+pub outline_rotates : (u : List Edge) (f : Family) → Fitting u f → IsRotation (outline u) (family_edges f)
+outline_rotates u f w = rw (← w.joins, map_rotated slot_of w.place u) (rotation_of_place w.place (outline u))
+
+pub family_long : (u : List Edge) (f : Family) → Fitting u f → length (family_edges f) ≡ length u
+family_long u f w = rotation_length (outline u) (family_edges f) (outline_rotates u f w) ∙ length-map u slot_of
+
+-- no cycle is of two families
+pub one_family : (u : List Edge) (f g : Family) → is_of_family u f ≡ true → is_of_family u g ≡ true → f ≡ g
+one_family u f g h k =
+    let a = fitting u f h in
+    let b = fitting u g k in
+    same_cycle_family f g (omega (arith, family_long u f a, a.within))
+    (rotation_on (family_edges f) (outline u) (family_edges g) (rotation_back (outline u) (family_edges f) (outline_rotates u f a)) (outline_rotates u g b))
+
+-- a cycle is of no family that stands for none
+pub never_other : (u : List Edge) (f : Family) → is_of_family u f ≡ true → f ≡ families.Other → ⊥
+never_other u f h e =
+    let w = fitting u f h in
+    let none : length (family_edges f) ≡ 0 = rw e refl in
+    omega (arith, family_long u f w, w.within, none)
+
+-- a family's cycle has at most six edges
+is_small : Family → Bool
+is_small f = nat_le (length (family_edges f)) 6
+
+all_small : list_all is_small every_family ≡ true
+unfolding is_small
+all_small = refl
+
+pub family_small : (f : Family) → length (family_edges f) ≤ 6
+unfolding is_small
+family_small f = leb-true (length (family_edges f)) 6 (each_family is_small all_small f)
+
+-- a longer cycle is of none
+pub too_long : (u : List Edge) → 6 < length u → found_family u ≡ None
+unfolding found_family
+too_long u l = find_none (is_of_family u) all_families (λ f m t. omega (arith, family_long u f (fitting u f t), family_small f))
+
+-- the family that a rotation fits is the cycle's
+pub family_found : (u : List Edge) (f : Family) → is_of_family u f ≡ true → found_family u ≡ Some f
+unfolding found_family
+family_found u f h = find_only (is_of_family u) all_families f (listed f (never_other u f h)) h (λ g m t. one_family u g f t h)
+
+pub found_is_of : (u : List Edge) (f : Family) → found_family u ≡ Some f → is_of_family u f ≡ true
+unfolding found_family
+found_is_of u f h = found_passes (is_of_family u) all_families f h
+
+-- a family's cycle has two links or more
+has_links : Family → Bool
+has_links f = (family_place f == 14) || nat_le 2 (length (filter is_diff (family_edges f)))
+
+all_have_links : list_all has_links every_family ≡ true
+unfolding has_links family_place
+all_have_links = refl
+
+pub family_links : (f : Family) → (f ≡ families.Other → ⊥) → 2 ≤ length (filter is_diff (family_edges f))
+unfolding has_links family_place
+family_links f n =
+    elim (or_cases (family_place f == 14) (nat_le 2 (length (filter is_diff (family_edges f)))) (each_family has_links all_have_links f)) [
+      | inl e ↦ absurd (n (family_same f families.Other (eqb-true (family_place f) 14 e ∙ last)))
+      | inr l ↦ leb-true 2 (length (filter is_diff (family_edges f))) l
+    ]
+  where
+    last : 14 ≡ family_place families.Other
+    last = refl
+
+-- the family's word has at most five bytes, all of them bytes of names
+is_word : Family → Bool
+is_word f = nat_le (length (family_word f)) 5 && (nat_le 1 (length (family_word f)) && list_all is_name_byte (family_word f))
+
+all_words : list_all is_word every_family ≡ true
+unfolding is_word
+all_words = refl
+
+pub family_word_short : (f : Family) → length (family_word f) ≤ 5
+unfolding is_word
+family_word_short f = leb-true (length (family_word f)) 5 (and_parts _ _ (each_family is_word all_words f)).0
+
+pub family_word_some : (f : Family) → 1 ≤ length (family_word f)
+unfolding is_word
+family_word_some f = leb-true 1 (length (family_word f)) (and_parts _ _ (and_parts _ _ (each_family is_word all_words f)).1).0
+
+pub family_word_bytes : (f : Family) → list_all is_name_byte (family_word f) ≡ true
+unfolding is_word
+family_word_bytes f = (and_parts _ _ (and_parts _ _ (each_family is_word all_words f)).1).1
+
+-- what is read of a family's word, alone or with `+` behind it
+pub word_alone : (f : Family) → (f ≡ families.Other → ⊥) → named_family all_families (family_word f ++ []) ≡ Some f
+word_alone families.SB n = refl
+word_alone families.MP n = refl
+word_alone families.LB n = refl
+word_alone families.R n = refl
+word_alone families.S n = refl
+word_alone families.W2 n = refl
+word_alone families.WRC n = refl
+word_alone families.RWC n = refl
+word_alone families.ISA2 n = refl
+word_alone families.IRIW n = refl
+word_alone families.WRWC n = refl
+word_alone families.SB3 n = refl
+word_alone families.LB3 n = refl
+word_alone families.W3 n = refl
+word_alone families.Other n = absurd (n refl)
+
+pub word_before : (f : Family) (text : List ℕ) → (f ≡ families.Other → ⊥) → named_family all_families (family_word f ++ 43 ∷ text) ≡ Some f
+word_before families.SB text n = refl
+word_before families.MP text n = refl
+word_before families.LB text n = refl
+word_before families.R text n = refl
+word_before families.S text n = refl
+word_before families.W2 text n = refl
+word_before families.WRC text n = refl
+word_before families.RWC text n = refl
+word_before families.ISA2 text n = refl
+word_before families.IRIW text n = refl
+word_before families.WRWC text n = refl
+word_before families.SB3 text n = refl
+word_before families.LB3 text n = refl
+word_before families.W3 text n = refl
+word_before families.Other text n = absurd (n refl)

@@ -1,0 +1,13 @@
+mod NameExamples
+pub mod Tables
+pub mod Members
+pub mod Below
+pub mod Outlines
+pub mod Families
+pub mod Chosen
+pub mod ReadBack
+pub mod NameLaws
+pub mod Texts
+pub mod Places
+pub mod Steps
+pub mod CycleOf

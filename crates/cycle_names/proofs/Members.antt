@@ -1,0 +1,140 @@
+-- Members of lists, those that pass a test, and the one before which none comes.
+use Rattle.std.specs.Prelude.{◌≡◌, ◌<◌, ◌⊎◌, ℕ, zero, suc, Bool, true, false, Some, None, List, [], ◌∷◌, ◌++◌, map, filter, take, drop}
+use Rattle.std.specs.List.{find, list_any}
+use Rattle.std.proofs.Common.{refl, sym, ◌∙◌, ap, inl, inr, arith}
+use Rattle.std.proofs.lemmas.List.{map_push, map-append, drop-map, take-map}
+use Rattle.list_laws.specs.Numbers.{upto}
+use Rattle.list_laws.proofs.Cases.{by_test, by_option, by_less}
+use Rattle.walk_laws.specs.Rotation.{rotated}
+
+module _ {A : Type 0} where
+  -- x is a member of a list
+  abbrev pub Member : A → List A → Type 0
+  Member x [] = ⊥
+  Member x (y ∷ ys) = (x ≡ y) ⊎ Member x ys
+
+  pub member_front : (x : A) (xs ys : List A) → Member x xs → Member x (xs ++ ys)
+  member_front x [] ys m = absurd m
+  member_front x (z ∷ xs) ys m = elim m [ inl e ↦ inl e | inr r ↦ inr (member_front x xs ys r) ]
+
+  pub member_back : (x : A) (xs ys : List A) → Member x ys → Member x (xs ++ ys)
+  member_back x [] ys m = m
+  member_back x (z ∷ xs) ys m = inr (member_back x xs ys m)
+
+  pub member_either : (x : A) (xs ys : List A) → Member x (xs ++ ys) → (Member x xs) ⊎ (Member x ys)
+  member_either x [] ys m = inr m
+  member_either x (z ∷ xs) ys m =
+      elim m [ inl e ↦ inl (inl e) | inr r ↦ elim (member_either x xs ys r) [ inl a ↦ inl (inr a) | inr b ↦ inr b ] ]
+
+  -- a member that passes a test
+  pub record Passes (p : A → Bool) (xs : List A) : Type 0 where
+    pub member : A
+    pub among : Member member xs
+    pub passes : p member ≡ true
+
+  pub any_of_member : (p : A → Bool) (xs : List A) (x : A) → Member x xs → p x ≡ true → list_any p xs ≡ true
+  any_of_member p [] x m t = absurd m
+  any_of_member p (y ∷ ys) x m t =
+      elim m [
+        | inl e ↦ let h : p y ≡ true = rw (← e) t in rw h refl
+        | inr r ↦ by_test (p y) (λ h. rw h refl) (λ h. rw h (any_of_member p ys x r t))
+      ]
+
+  pub member_of_any : (p : A → Bool) (xs : List A) → list_any p xs ≡ true → Passes p xs
+  member_of_any p [] h = cc
+  member_of_any p (y ∷ ys) h =
+      by_test (p y)
+      (λ t. record { member = y; among = inl refl; passes = t })
+      (λ f. let r = member_of_any p ys (rw f at h) in record { member = r.member; among = inr r.among; passes = r.passes })
+
+  pub any_none : (p : A → Bool) (xs : List A) → ((x : A) → Member x xs → p x ≡ true → ⊥) → list_any p xs ≡ false
+  any_none p xs none =
+      by_test (list_any p xs) (λ t. let r = member_of_any p xs t in absurd (none r.member r.among r.passes)) (λ f. f)
+
+  -- what is found is a member that passes
+  pub found_passes : (p : A → Bool) (xs : List A) (x : A) → find p xs ≡ Some x → p x ≡ true
+  found_passes p [] x h = cc
+  found_passes p (y ∷ ys) x h =
+      by_test (p y)
+      (λ t. let a : Some y ≡ Some x = rw t at h in let e : y ≡ x = cc in rw (← e) t)
+      (λ f. found_passes p ys x (rw f at h))
+
+  pub found_among : (p : A → Bool) (xs : List A) (x : A) → find p xs ≡ Some x → Member x xs
+  found_among p [] x h = cc
+  found_among p (y ∷ ys) x h =
+      by_test (p y)
+      (λ t. let a : Some y ≡ Some x = rw t at h in let e : x ≡ y = cc in inl e)
+      (λ f. inr (found_among p ys x (rw f at h)))
+
+  pub found_none : (p : A → Bool) (xs : List A) (x : A) → find p xs ≡ None → Member x xs → p x ≡ true → ⊥
+  found_none p [] x h m t = m
+  found_none p (y ∷ ys) x h m t =
+      by_test (p y)
+      (λ k. let a : Some y ≡ None = rw k at h in cc)
+      (λ f. elim m [ inl e ↦ let a : p y ≡ true = rw (← e) t in (let b : true ≡ false = sym a ∙ f in cc) | inr r ↦ found_none p ys x (rw f at h) r t ])
+
+  pub find_none : (p : A → Bool) (xs : List A) → ((x : A) → Member x xs → p x ≡ true → ⊥) → find p xs ≡ None
+  find_none p xs none =
+      by_option (find p xs) (λ e. e) (λ x e. absurd (none x (found_among p xs x e) (found_passes p xs x e)))
+
+  -- the only member that passes is found
+  pub find_only : (p : A → Bool) (xs : List A) (x : A) → Member x xs → p x ≡ true → ((y : A) → Member y xs → p y ≡ true → y ≡ x) → find p xs ≡ Some x
+  find_only p xs x m t only =
+      by_option (find p xs)
+      (λ e. absurd (found_none p xs x e m t))
+      (λ y e. e ∙ ap Some (only y (found_among p xs y e) (found_passes p xs y e)))
+
+  pub find_same : (p q : A → Bool) (xs : List A) → ((x : A) → p x ≡ q x) → find p xs ≡ find q xs
+  find_same p q [] h = refl
+  find_same p q (x ∷ xs) h = rw (h x, find_same p q xs h) refl
+
+  pub filter_among : (p : A → Bool) (xs : List A) (x : A) → Member x (filter p xs) → Member x xs
+  filter_among p [] x m = m
+  filter_among p (y ∷ ys) x m =
+      by_test (p y)
+      (λ t. let k : Member x (y ∷ filter p ys) = rw t at m in elim k [ inl e ↦ inl e | inr r ↦ inr (filter_among p ys x r) ])
+      (λ f. inr (filter_among p ys x (rw f at m)))
+
+  pub filter_passes : (p : A → Bool) (xs : List A) (x : A) → Member x (filter p xs) → p x ≡ true
+  filter_passes p [] x m = absurd m
+  filter_passes p (y ∷ ys) x m =
+      by_test (p y)
+      (λ t. let k : Member x (y ∷ filter p ys) = rw t at m in elim k [ inl e ↦ rw e t | inr r ↦ filter_passes p ys x r ])
+      (λ f. filter_passes p ys x (rw f at m))
+
+  pub filter_member : (p : A → Bool) (xs : List A) (x : A) → Member x xs → p x ≡ true → Member x (filter p xs)
+  filter_member p [] x m t = m
+  filter_member p (y ∷ ys) x m t =
+      elim m [
+        | inl e ↦ let h : p y ≡ true = rw (← e) t in rw h (inl e)
+        | inr r ↦ by_test (p y) (λ h. rw h (inr (filter_member p ys x r t))) (λ h. rw h (filter_member p ys x r t))
+      ]
+
+  -- what a function makes of the numbers below n
+  pub member_upto : (f : ℕ → A) (n k : ℕ) → k < n → Member (f k) (map f (upto n))
+  member_upto f zero k h = absurd (omega arith)
+  member_upto f (suc n) k h =
+      rw (map_upto f n)
+      (by_less k n
+      (λ l. member_front (f k) (map f (upto n)) (f n ∷ []) (member_upto f n k l))
+      (λ g. member_back (f k) (map f (upto n)) (f n ∷ []) (let e : k ≡ n = omega arith in inl (ap f e))))
+    where
+      map_upto : (f : ℕ → A) (n : ℕ) → map f (upto (suc n)) ≡ map f (upto n) ++ f n ∷ []
+      map_upto f n = map_push f (upto n) n
+
+  pub record Numbered (f : ℕ → A) (n : ℕ) (x : A) : Type 0 where
+    pub number : ℕ
+    pub below : number < n
+    pub is : x ≡ f number
+
+  pub upto_member : (f : ℕ → A) (n : ℕ) (x : A) → Member x (map f (upto n)) → Numbered f n x
+  upto_member f zero x m = absurd m
+  upto_member f (suc n) x m =
+      elim (member_either x (map f (upto n)) (f n ∷ []) (rw (map_push f (upto n) n) at m)) [
+        | inl a ↦ let r = upto_member f n x a in record { number = r.number; below = omega (arith, r.below); is = r.is }
+        | inr b ↦ elim b [ inl e ↦ record { number = n; below = omega arith; is = e } | inr no_more ↦ absurd no_more ]
+      ]
+
+-- what a function makes of a rotation
+pub map_rotated : {A B : Type 0} (f : A → B) (k : ℕ) (u : List A) → map f (rotated k u) ≡ rotated k (map f u)
+map_rotated f k u = map-append f (drop k u) (take k u) ∙ ap (λ w. w ++ map f (take k u)) (sym (drop-map f k u)) ∙ ap (λ w. drop k (map f u) ++ w) (sym (take-map f k u))

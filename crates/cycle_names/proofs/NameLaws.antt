@@ -1,0 +1,195 @@
+-- The laws of names, each from its lemmas.
+use Rattle.std.specs.Prelude.{◌≡◌, ◌≤◌, ◌+◌, ◌*◌, ◌&&◌, ℕ, Bool, true, false, cond, Option, Some, None, List, [], ◌∷◌, ◌++◌, length, codes, nat_le}
+use Rattle.std.specs.List.{list_all, flat_map, join_by}
+use Rattle.std.specs.Str.{bytes_eq}
+use Rattle.std.proofs.Common.{refl, sym, ◌∙◌, ap, subst, arith, length-append}
+use Rattle.std.proofs.lemmas.Bool.{and_parts, leb-true, le-leb}
+use Rattle.std.proofs.lemmas.List.Folds.{list_all-append}
+use Rattle.list_laws.proofs.Cases.{by_test}
+use Rattle.relax_edges.specs.declared.TheConstants.{MAX_EDGES}
+use Rattle.relax_edges.specs.declared.kinds.ArchName.{ArchName}
+use Rattle.relax_edges.specs.declared.edge.Edge.{Edge}
+use Rattle.relax_edges.specs.EdgeTable.{is_diff, is_of_arch}
+use Rattle.relax_edges.specs.Words.{word_of}
+use Rattle.relax_edges.proofs.WordBounds.{word_short}
+use Rattle.walk_laws.specs.Composable.{IsCycle}
+use Rattle.walk_laws.specs.Rotation.{IsRotation}
+use Rattle.walk_laws.proofs.Laws.{cycle_of_rotation}
+use Rattle.walk_laws.proofs.Rotating.{rotation_back, rotation_on, rotation_length}
+use Rattle.cycle_names.specs.declared.family.Family.{Family}
+use Rattle.cycle_names.specs.Families.{family_word}
+use Rattle.cycle_names.specs.Links.{link_word, link_words}
+use Rattle.cycle_names.specs.Rotations.{found_family, named_rotation}
+use Rattle.cycle_names.specs.Names.{added, all_equal, plural, links_text, name_from, name_of, is_name_byte}
+use Rattle.cycle_names.specs.Reading.{edges_read}
+use Rattle.cycle_names.specs.Laws.{are_of_arch, NamesDecide, NamesReadBack, FamiliesApart, IsName, NamesAreNames}
+use Rattle.cycle_names.proofs.Tables.{link_word_short, link_word_bytes, word_bytes}
+use Rattle.cycle_names.proofs.Outlines.{words_of_link, words_of_plain}
+use Rattle.cycle_names.proofs.Families.{one_family, family_word_short, family_word_some, family_word_bytes}
+use Rattle.cycle_names.proofs.Chosen.{family_turned, named_turned, named_rotates}
+use Rattle.cycle_names.proofs.ReadBack.{name_back}
+
+some_same : (u v : List Edge) → Some u ≡ Some v → u ≡ v
+some_same u v e = cc
+
+-- cycles with one name are named from one rotation
+pub one_rotation : (u v : List Edge) → IsCycle u → IsCycle v → name_of u ≡ name_of v → named_rotation u ≡ named_rotation v
+one_rotation u v c d e = some_same _ _ (sym (name_back u c.some) ∙ ap edges_read e ∙ name_back v d.some)
+
+-- rotations of a cycle have one name
+pub one_name : (u v : List Edge) → IsCycle u → IsRotation u v → name_of u ≡ name_of v
+unfolding name_of
+one_name u v c r =
+    ap (λ o. name_from o (named_rotation u)) (family_turned u v c.some r) ∙ ap (name_from (found_family v)) (named_turned u v c.some r)
+
+pub decide_names : NamesDecide
+decide_names u v c d =
+    let same : name_of u ≡ name_of v → IsRotation u v = λ e.
+    let P : List Edge → Type 0 = λ w. IsRotation u w in
+    rotation_on u (named_rotation v) v (subst P (one_rotation u v c d e) (named_rotates u c.some)) (rotation_back v (named_rotation v) (named_rotates v d.some)) in
+    (same, one_name u v c)
+
+and_swaps : (a b : Bool) → (a && b) ≡ (b && a)
+and_swaps true true = refl
+and_swaps true false = refl
+and_swaps false true = refl
+and_swaps false false = refl
+
+-- the edges of a rotation are those of the cycle
+pub arch_turned : (arch : ArchName) (u v : List Edge) → IsRotation u v → are_of_arch arch u ≡ are_of_arch arch v
+arch_turned arch u v r =
+    let p : Edge → Bool = λ edge. is_of_arch edge arch in
+    ap (list_all p) r.from
+    ∙ list_all-append p r.front r.back
+    ∙ and_swaps (list_all p r.front) (list_all p r.back)
+    ∙ sym (list_all-append p r.back r.front)
+    ∙ sym (ap (list_all p) r.to)
+
+-- the rotation that a cycle is named from
+pub record Named (u : List Edge) : Type 0 where
+  pub composable : IsCycle (named_rotation u)
+  pub has_name : name_of (named_rotation u) ≡ name_of u
+  pub rotation : named_rotation (named_rotation u) ≡ named_rotation u
+
+pub named : (u : List Edge) → IsCycle u → Named u
+named u c =
+    let r = named_rotates u c.some in
+    record {
+      composable = cycle_of_rotation u (named_rotation u) r c;
+      has_name = sym (one_name u (named_rotation u) c r);
+      rotation = sym (named_turned u (named_rotation u) c.some r);
+    }
+
+pub read_names_back : NamesReadBack
+read_names_back = record {
+  rotation = λ u c. named_rotates u c.some;
+  back = λ u arch c a.
+      let n = named u c in
+      record { composable = n.composable; of_arch = sym (arch_turned arch u (named_rotation u) (named_rotates u c.some)) ∙ a; has_name = n.has_name; rotation = n.rotation };
+  alone = λ u v arch c n. sym n.rotation ∙ one_rotation v u n.composable c n.has_name;
+}
+
+pub keep_families_apart : FamiliesApart
+keep_families_apart = one_family
+
+-- what is true of each word of a link is true of the words of the links of a cycle
+each_word : (p : List ℕ → Bool) → ((e : Edge) → p (link_word e) ≡ true) → (v : List Edge) → list_all p (link_words v) ≡ true
+each_word p h [] = refl
+each_word p h (e ∷ v) =
+    by_test (is_diff e)
+    (λ t. ap (list_all p) (words_of_link e v t) ∙ rw (h e) (each_word p h v))
+    (λ f. ap (list_all p) (words_of_plain e v f) ∙ each_word p h v)
+
+few_words : (v : List Edge) → length (link_words v) ≤ length v
+few_words [] = omega arith
+few_words (e ∷ v) =
+    by_test (is_diff e)
+    (λ t. omega (arith, ap length (words_of_link e v t), few_words v))
+    (λ f. omega (arith, ap length (words_of_plain e v f), few_words v))
+
+abbrev short_word : List ℕ → Bool
+short_word word = nat_le (length word) 11
+
+words_long : (words : List (List ℕ)) → list_all short_word words ≡ true → length (flat_map added words) ≤ 12 * length words
+words_long [] h = omega arith
+words_long (word ∷ words) h =
+    let both = and_parts (short_word word) (list_all short_word words) h in
+    omega (arith, leb-true (length word) 11 both.0, words_long words both.1, length-append word (flat_map added words))
+
+plural_long : (words : List (List ℕ)) → list_all short_word words ≡ true → length (plural words) ≤ 13
+plural_long [] h = omega arith
+plural_long (word ∷ words) h =
+    let both = and_parts (short_word word) (list_all short_word words) h in
+    omega (arith, leb-true (length word) 11 both.0, length-append word (115 ∷ []))
+
+cond_long : (b : Bool) (s t : List ℕ) (n : ℕ) → length s ≤ n → length t ≤ n → length (cond b s t) ≤ n
+cond_long true s t n x y = x
+cond_long false s t n x y = y
+
+pub links_long : (v : List Edge) → length (links_text (link_words v)) ≤ 13 + 12 * length v
+unfolding links_text
+links_long v =
+    let short : list_all short_word (link_words v) ≡ true = each_word short_word (λ e. le-leb (length (link_word e)) 11 (link_word_short e)) v in
+    cond_long (list_all (bytes_eq (codes "po")) (link_words v)) [] _ (13 + 12 * length v) (omega arith)
+    (cond_long (all_equal (link_words v)) _ _ (13 + 12 * length v) (omega (arith, plural_long (link_words v) short)) (omega (arith, words_long (link_words v) short, few_words v)))
+
+dashed_long : (v : List Edge) → length (flat_map (λ e. codes "-" ++ word_of e) v) ≤ 15 * length v
+dashed_long [] = omega arith
+dashed_long (e ∷ v) = omega (arith, word_short e, dashed_long v, length-append (word_of e) (flat_map (λ e. codes "-" ++ word_of e) v))
+
+joined_long : (v : List Edge) → length (join_by word_of (codes "-") v) ≤ 15 * length v
+joined_long [] = omega arith
+joined_long (e ∷ v) = omega (arith, word_short e, dashed_long v, length-append (word_of e) (flat_map (λ e. codes "-" ++ word_of e) v))
+
+abbrev named_bytes : List ℕ → Bool
+named_bytes = list_all is_name_byte
+
+bytes_both : (s t : List ℕ) → named_bytes s ≡ true → named_bytes t ≡ true → named_bytes (s ++ t) ≡ true
+bytes_both s t x y = list_all-append is_name_byte s t ∙ rw (x, y) refl
+
+words_bytes : (words : List (List ℕ)) → list_all named_bytes words ≡ true → named_bytes (flat_map added words) ≡ true
+words_bytes [] h = refl
+words_bytes (word ∷ words) h =
+    let both = and_parts (named_bytes word) (list_all named_bytes words) h in
+    bytes_both word (flat_map added words) both.0 (words_bytes words both.1)
+
+plural_bytes : (words : List (List ℕ)) → list_all named_bytes words ≡ true → named_bytes (plural words) ≡ true
+plural_bytes [] h = refl
+plural_bytes (word ∷ words) h = bytes_both word (115 ∷ []) (and_parts (named_bytes word) (list_all named_bytes words) h).0 refl
+
+cond_bytes : (b : Bool) (s t : List ℕ) → named_bytes s ≡ true → named_bytes t ≡ true → named_bytes (cond b s t) ≡ true
+cond_bytes true s t x y = x
+cond_bytes false s t x y = y
+
+links_bytes : (v : List Edge) → named_bytes (links_text (link_words v)) ≡ true
+unfolding links_text
+links_bytes v =
+    let each : list_all named_bytes (link_words v) ≡ true = each_word named_bytes link_word_bytes v in
+    cond_bytes (list_all (bytes_eq (codes "po")) (link_words v)) [] _ refl
+    (cond_bytes (all_equal (link_words v)) _ _ (plural_bytes (link_words v) each) (words_bytes (link_words v) each))
+
+dashed_bytes : (v : List Edge) → named_bytes (flat_map (λ e. codes "-" ++ word_of e) v) ≡ true
+dashed_bytes [] = refl
+dashed_bytes (e ∷ v) = bytes_both (word_of e) (flat_map (λ e. codes "-" ++ word_of e) v) (word_bytes e) (dashed_bytes v)
+
+joined_bytes : (v : List Edge) → named_bytes (join_by word_of (codes "-") v) ≡ true
+joined_bytes [] = refl
+joined_bytes (e ∷ v) = bytes_both (word_of e) (flat_map (λ e. codes "-" ++ word_of e) v) (word_bytes e) (dashed_bytes v)
+
+name_from_is : (o : Option Family) (v : List Edge) → length v ≤ MAX_EDGES → IsName (name_from o v)
+unfolding name_from
+name_from_is None v few = record {
+  some = omega arith;
+  short = omega (arith, joined_long v);
+  bytes = joined_bytes v;
+}
+name_from_is (Some f) v few = record {
+  some = omega (arith, family_word_some f, length-append (family_word f) (links_text (link_words v)));
+  short = omega (arith, family_word_short f, links_long v, length-append (family_word f) (links_text (link_words v)));
+  bytes = bytes_both (family_word f) (links_text (link_words v)) (family_word_bytes f) (links_bytes v);
+}
+
+pub names_of_cycles : NamesAreNames
+unfolding name_of
+names_of_cycles u c =
+    name_from_is (found_family u) (named_rotation u) (omega (arith, c.few, rotation_length u (named_rotation u) (named_rotates u c.some)))

@@ -1,0 +1,159 @@
+-- Rotations that fit: their slots, and that slots and words of links make a list.
+use Rattle.std.specs.Prelude.{◌≡◌, ◌==◌, ◌&&◌, ℕ, Bool, true, false, cond, Some, List, [], ◌∷◌, length, map, nat_eq, nat_lt, ◌||◌}
+use Rattle.std.specs.Str.{bytes_eq}
+use Rattle.std.specs.declared.cmp.Ordering.{Ordering}
+use Rattle.std.specs.declared.cmp.Ordering.TheVariants.{Less, Equal, Greater}
+use Rattle.std.specs.Ordering.{nat_cmp, is_lt, ordering_then}
+use Rattle.std.specs.Cmp.Lexicographic.{slice_cmp, bytes_decides}
+use Rattle.std.proofs.Common.{refl, sym, ◌∙◌, ap, arith}
+use Rattle.std.proofs.lemmas.Bool.{eqb-true, eq-eqb, and_parts, ltb-true}
+use Rattle.std.proofs.lemmas.List.{length-map}
+use Rattle.list_laws.proofs.Cases.{by_test}
+use Rattle.relax_edges.specs.declared.edge.Edge.{Edge}
+use Rattle.relax_edges.specs.EdgeTable.{is_diff}
+use Rattle.relax_edges.specs.Order.{rank_of}
+use Rattle.relax_edges.specs.Relaxations.{is_same}
+use Rattle.relax_edges.proofs.Ranks.{rank_injective}
+use Rattle.walk_laws.specs.Order.{ranks_below}
+use Rattle.cycle_names.specs.declared.family.Family.{Family}
+use Rattle.cycle_names.specs.Families.{family_edges}
+use Rattle.cycle_names.specs.Links.{slot_of, outline, link_word, link_words, link_rank}
+use Rattle.cycle_names.specs.Rotations.{fits, words_below}
+use Rattle.cycle_names.specs.Fitting.{slot_rank}
+use Rattle.cycle_names.specs.Reading.{link_with}
+use Rattle.cycle_names.proofs.Tables.{link_words_order, link_words_equal, link_back, slot_is_diff, slot_not_diff}
+
+-- two lists of edges are told to be one exactly where they are
+pub same_edges : (u v : List Edge) → is_same u v ≡ true → u ≡ v
+same_edges [] [] h = refl
+same_edges [] (y ∷ v) h = cc
+same_edges (x ∷ u) [] h = cc
+same_edges (x ∷ u) (y ∷ v) h =
+    let both = and_parts (rank_of x == rank_of y) (is_same u v) h in
+    let heads : x ≡ y = rank_injective x y (eqb-true _ _ both.0) in
+    let tails : u ≡ v = same_edges u v both.1 in
+    cc
+
+pub edges_same : (u : List Edge) → is_same u u ≡ true
+edges_same [] = refl
+edges_same (x ∷ u) = rw (eq-eqb (rank_of x) (rank_of x) refl) (edges_same u)
+
+pub edges_told : (u v : List Edge) → u ≡ v → is_same u v ≡ true
+edges_told u v e = rw e (edges_same v)
+
+-- the code compares the ranks of slots
+pub slots_told : (u v : List Edge) → is_same (outline u) v ≡ bytes_eq (map slot_rank u) (map rank_of v)
+slots_told [] [] = refl
+slots_told [] (y ∷ v) = refl
+slots_told (x ∷ u) [] = refl
+slots_told (x ∷ u) (y ∷ v) = ap (λ b. (rank_of (slot_of x) == rank_of y) && b) (slots_told u v)
+
+-- what a rotation that fits joins
+pub outline_of_fits : (f : Family) (v : List Edge) → fits f v ≡ true → outline v ≡ family_edges f
+outline_of_fits f v h = same_edges (outline v) (family_edges f) h
+
+pub fits_of_outline : (f : Family) (v : List Edge) → outline v ≡ family_edges f → fits f v ≡ true
+fits_of_outline f v e = edges_told (outline v) (family_edges f) e
+
+-- edges that join the same lead to another location alike
+pub diff_alike : (a b : Edge) → slot_of a ≡ slot_of b → is_diff a ≡ is_diff b
+diff_alike a b e = sym (slot_is_diff a) ∙ ap is_diff e ∙ slot_is_diff b
+
+-- edges that are no links and join the same are one
+plain_alike : (a b : Edge) → slot_of a ≡ slot_of b → is_diff a ≡ false → a ≡ b
+plain_alike a b e f =
+    sym (slot_not_diff a f) ∙ e ∙ slot_not_diff b (sym (diff_alike a b e) ∙ f)
+
+-- links of one rank have one word
+words_same : (a b : Edge) → link_rank a ≡ link_rank b → link_word a ≡ link_word b
+words_same a b r = (bytes_decides (link_word a) (link_word b)).0 (link_words_equal a b ∙ eq-eqb _ _ r)
+
+-- the link of a slot and a word depends on these alone
+link_depends : (s t : Edge) (u v : List ℕ) → s ≡ t → u ≡ v → link_with s u ≡ link_with t v
+link_depends s t u v d e = rw (d, e) refl
+
+some_same : (a b : Edge) → Some a ≡ Some b → a ≡ b
+some_same a b h = cc
+
+-- edges that join the same, with the same word, are one
+same_links : (a b : Edge) → slot_of a ≡ slot_of b → link_rank a ≡ link_rank b → a ≡ b
+same_links a b e r =
+    by_test (is_diff a)
+    (λ t. some_same a b (sym (link_back a t) ∙ link_depends (slot_of a) (slot_of b) (link_word a) (link_word b) e (words_same a b r) ∙ link_back b (sym (diff_alike a b e) ∙ t)))
+    (λ f. plain_alike a b e f)
+
+heads : (x y : Edge) (u v : List Edge) → outline (x ∷ u) ≡ outline (y ∷ v) → slot_of x ≡ slot_of y
+heads x y u v e = head_same (slot_of x) (slot_of y) (outline u) (outline v) e
+  where
+    head_same : (a b : Edge) (c d : List Edge) → a ∷ c ≡ b ∷ d → a ≡ b
+    head_same a b c d e = cc
+
+tails : (x y : Edge) (u v : List Edge) → outline (x ∷ u) ≡ outline (y ∷ v) → outline u ≡ outline v
+tails x y u v e = tail_same (slot_of x) (slot_of y) (outline u) (outline v) e
+  where
+    tail_same : (a b : Edge) (c d : List Edge) → a ∷ c ≡ b ∷ d → c ≡ d
+    tail_same a b c d e = cc
+
+outline_long : (u v : List Edge) → outline u ≡ outline v → length u ≡ length v
+outline_long u v e = sym (length-map u slot_of) ∙ ap length e ∙ length-map v slot_of
+
+-- lists that join the same, with the same words, are one
+pub same_lists : (u v : List Edge) → outline u ≡ outline v → map link_rank u ≡ map link_rank v → u ≡ v
+same_lists [] [] e r = refl
+same_lists [] (y ∷ v) e r = absurd (omega (arith, outline_long [] (y ∷ v) e))
+same_lists (x ∷ u) [] e r = absurd (omega (arith, outline_long (x ∷ u) [] e))
+same_lists (x ∷ u) (y ∷ v) e r =
+    let one : x ≡ y = same_links x y (heads x y u v e) (number_same (link_rank x) (link_rank y) (map link_rank u) (map link_rank v) r) in
+    let rest : u ≡ v = same_lists u v (tails x y u v e) (numbers_same (link_rank x) (link_rank y) (map link_rank u) (map link_rank v) r) in
+    rw (one, rest) refl
+  where
+    number_same : (a b : ℕ) (c d : List ℕ) → a ∷ c ≡ b ∷ d → a ≡ b
+    number_same a b c d e = cc
+
+    numbers_same : (a b : ℕ) (c d : List ℕ) → a ∷ c ≡ b ∷ d → c ≡ d
+    numbers_same a b c d e = cc
+
+-- the order by words, on one more link
+one_more : (l q b : Bool) (o : Ordering) → is_lt o ≡ b → is_lt (ordering_then (cond l Less (cond q Equal Greater)) o) ≡ (l || q && b)
+one_more true q b o e = refl
+one_more false true b o e = e
+one_more false false b o e = refl
+
+-- equal numbers leave the rest to decide
+equal_first : (a b : ℕ) (c : Bool) → a ≡ b → (nat_lt a b || nat_eq a b && c) ≡ c
+equal_first a b c e = rw (e, not_below b, eq-eqb b b refl) refl
+  where
+    not_below : (b : ℕ) → nat_lt b b ≡ false
+    not_below b = by_test (nat_lt b b) (λ t. absurd (omega (arith, ltb-true b b t))) (λ f. f)
+
+-- the words of a list by its first edge
+pub words_of_link : (x : Edge) (u : List Edge) → is_diff x ≡ true → link_words (x ∷ u) ≡ link_word x ∷ link_words u
+words_of_link x u t = rw t refl
+
+pub words_of_plain : (x : Edge) (u : List Edge) → is_diff x ≡ false → link_words (x ∷ u) ≡ link_words u
+words_of_plain x u f = rw f refl
+
+-- the order of lists of words
+abbrev words_before : List (List ℕ) → List (List ℕ) → Bool
+words_before a b = is_lt (slice_cmp (slice_cmp nat_cmp) a b)
+
+-- of rotations that join the same, the words of one come before those of the other where the ranks of their words are below
+pub words_by_ranks : (u v : List Edge) → outline u ≡ outline v → words_below u v ≡ ranks_below (map link_rank u) (map link_rank v)
+words_by_ranks [] [] e = refl
+words_by_ranks [] (y ∷ v) e = absurd (omega (arith, outline_long [] (y ∷ v) e))
+words_by_ranks (x ∷ u) [] e = absurd (omega (arith, outline_long (x ∷ u) [] e))
+words_by_ranks (x ∷ u) (y ∷ v) e =
+    let slots : slot_of x ≡ slot_of y = heads x y u v e in
+    let both : is_diff x ≡ is_diff y = diff_alike x y slots in
+    let behind : words_before (link_words u) (link_words v) ≡ ranks_below (map link_rank u) (map link_rank v) = words_by_ranks u v (tails x y u v e) in
+    by_test (is_diff x)
+    (λ t.
+    ap (λ a. words_before a (link_words (y ∷ v))) (words_of_link x u t)
+    ∙ ap (words_before (link_word x ∷ link_words u)) (words_of_link y v (sym both ∙ t))
+    ∙ ap (λ o. is_lt (ordering_then o (slice_cmp (slice_cmp nat_cmp) (link_words u) (link_words v)))) (link_words_order x y)
+    ∙ one_more (nat_lt (link_rank x) (link_rank y)) (nat_eq (link_rank x) (link_rank y)) _ _ behind)
+    (λ f.
+    ap (λ a. words_before a (link_words (y ∷ v))) (words_of_plain x u f)
+    ∙ ap (words_before (link_words u)) (words_of_plain y v (sym both ∙ f))
+    ∙ behind
+    ∙ sym (equal_first (link_rank x) (link_rank y) _ (ap link_rank (plain_alike x y slots f))))

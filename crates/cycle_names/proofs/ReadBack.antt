@@ -1,0 +1,248 @@
+-- Reading a name gives the edges of the rotation that it was made from.
+use Rattle.std.specs.Prelude.{◌≡◌, ◌<◌, ◌≤◌, ◌-◌, ◌||◌, ℕ, suc, Bool, true, false, not, cond, Option, Some, None, List, [], ◌∷◌, ◌++◌, length, map, filter, drop, codes}
+use Rattle.std.specs.List.{list_any, list_all, flat_map, join_by, before_first, slice_split, onto_first}
+use Rattle.std.specs.Str.{bytes_eq}
+use Rattle.std.specs.Cmp.Lexicographic.{bytes_decides}
+use Rattle.std.proofs.Common.{refl, sym, ◌∙◌, ap, arith, length-append}
+use Rattle.std.proofs.Math.Seq.{drop-append_seam}
+use Rattle.std.proofs.lemmas.Bool.{and_parts, or_right, cond-true, cond-false}
+use Rattle.std.proofs.lemmas.List.Folds.{list_any-append}
+use Rattle.std.proofs.lemmas.List.{append-nil, take_at}
+use Rattle.list_laws.proofs.Cases.{by_test, by_option}
+use Rattle.relax_edges.specs.declared.edge.Edge.{Edge}
+use Rattle.relax_edges.specs.EdgeTable.{is_diff}
+use Rattle.relax_edges.specs.Words.{word_of}
+use Rattle.relax_edges.specs.Spelling.{edge_of}
+use Rattle.relax_edges.proofs.Spellings.{edge_of-word_of}
+use Rattle.relax_edges.proofs.RelaxWords.{before_first-no}
+use Rattle.walk_laws.proofs.Rotating.{rotation_length}
+use Rattle.cycle_names.specs.declared.family.Family.{Family}
+use Rattle.cycle_names.specs.declared.family.Family.TheVariants as families
+use Rattle.cycle_names.specs.Families.{family_word, family_edges, all_families}
+use Rattle.cycle_names.specs.Links.{slot_of, outline, link_word, link_words}
+use Rattle.cycle_names.specs.Rotations.{found_family, named_rotation}
+use Rattle.cycle_names.specs.Names.{added, all_equal, plural, links_text, name_from, name_of}
+use Rattle.cycle_names.specs.Reading.{is_plus, is_dash, named_family, link_with, slot_with, before, filled_alike, first_word, behind_word, filled_each, but_last, filled, edges_spelled, read_in, edges_read}
+use Rattle.cycle_names.proofs.Tables.{slot_is_diff, slot_not_diff, link_back, link_word_whole, word_whole}
+use Rattle.cycle_names.proofs.Outlines.{words_of_link, words_of_plain}
+use Rattle.cycle_names.proofs.Families.{never_other, found_is_of, family_links, word_alone, word_before}
+use Rattle.cycle_names.proofs.Chosen.{named_joins, named_rotates}
+
+no_of : (b : Bool) → not b ≡ true → b ≡ false
+no_of true h = cc
+no_of false h = refl
+
+-- a word up to a byte that doesn't stand in it
+until : (p : ℕ → Bool) (word : List ℕ) (byte : ℕ) (rest : List ℕ) → list_all (λ b. not (p b)) word ≡ true → p byte ≡ true → before_first p (word ++ byte ∷ rest) ≡ word
+until p [] byte rest h t = rw t refl
+until p (b ∷ word) byte rest h t =
+    let both = and_parts (not (p b)) (list_all (λ b. not (p b)) word) h in
+    before_first-no p b (word ++ byte ∷ rest) (no_of (p b) both.0) ∙ ap (λ w. b ∷ w) (until p word byte rest both.1 t)
+
+until_end : (p : ℕ → Bool) (word : List ℕ) → list_all (λ b. not (p b)) word ≡ true → before_first p word ≡ word
+until_end p [] h = refl
+until_end p (b ∷ word) h =
+    let both = and_parts (not (p b)) (list_all (λ b. not (p b)) word) h in
+    before_first-no p b word (no_of (p b) both.0) ∙ ap (λ w. b ∷ w) (until_end p word both.1)
+
+-- the edge of a slot, with the word of the edge
+slot_back : (e : Edge) (word : List ℕ) → (is_diff e ≡ true → word ≡ link_word e) → slot_with (slot_of e) word ≡ Some e
+slot_back e word h =
+    by_test (is_diff e)
+    (λ t. cond-true (is_diff (slot_of e)) (link_with (slot_of e) word) (Some (slot_of e)) (slot_is_diff e ∙ t) ∙ ap (link_with (slot_of e)) (h t) ∙ link_back e t)
+    (λ f. cond-false (is_diff (slot_of e)) (link_with (slot_of e) word) (Some (slot_of e)) (slot_is_diff e ∙ f) ∙ ap Some (slot_not_diff e f))
+
+both_there : (o : Option Edge) (p : Option (List Edge)) (e : Edge) (v : List Edge) → o ≡ Some e → p ≡ Some v → before o p ≡ Some (e ∷ v)
+both_there o p e v a b = rw (a, b) refl
+
+-- where all links have one word
+alike_back : (v : List Edge) (word : List ℕ) → list_all (bytes_eq word) (link_words v) ≡ true → filled_alike (outline v) word ≡ Some v
+alike_back [] word h = refl
+alike_back (e ∷ v) word h =
+    both_there (slot_with (slot_of e) word) (filled_alike (outline v) word) e v
+    (slot_back e word (λ t.
+    let a : list_all (bytes_eq word) (link_word e ∷ link_words v) ≡ true = sym (ap (list_all (bytes_eq word)) (words_of_link e v t)) ∙ h in
+    (bytes_decides word (link_word e)).0 (and_parts (bytes_eq word (link_word e)) (list_all (bytes_eq word) (link_words v)) a).0))
+    (alike_back v word (by_test (is_diff e)
+    (λ t.
+    let a : list_all (bytes_eq word) (link_word e ∷ link_words v) ≡ true = sym (ap (list_all (bytes_eq word)) (words_of_link e v t)) ∙ h in
+    (and_parts (bytes_eq word (link_word e)) (list_all (bytes_eq word) (link_words v)) a).1)
+    (λ f. sym (ap (list_all (bytes_eq word)) (words_of_plain e v f)) ∙ h)))
+
+-- the first of words that stand each behind a `+`
+first_word_is : (word : List ℕ) (words : List (List ℕ)) → list_all (λ b. not (is_plus b)) word ≡ true → first_word (43 ∷ (word ++ flat_map added words)) ≡ word
+first_word_is word [] h = ap (before_first is_plus) (append-nil word) ∙ until_end is_plus word h
+first_word_is word (next ∷ words) h = until is_plus word 43 (next ++ flat_map added words) h refl
+
+behind_word_is : (word : List ℕ) (words : List (List ℕ)) → list_all (λ b. not (is_plus b)) word ≡ true → behind_word (43 ∷ (word ++ flat_map added words)) ≡ flat_map added words
+behind_word_is word words h =
+    ap (λ w. drop (length w) (word ++ flat_map added words)) (first_word_is word words h) ∙ drop-append_seam word (flat_map added words)
+
+each_back : (v : List Edge) → filled_each (outline v) (flat_map added (link_words v)) ≡ Some v
+each_back [] = refl
+each_back (e ∷ v) =
+    by_test (is_diff e)
+    (λ t.
+    let text : List ℕ = 43 ∷ (link_word e ++ flat_map added (link_words v)) in
+    ap (filled_each (slot_of e ∷ outline v)) (ap (flat_map added) (words_of_link e v t))
+    ∙ cond-true (is_diff (slot_of e)) (before (link_with (slot_of e) (first_word text)) (filled_each (outline v) (behind_word text))) (before (Some (slot_of e)) (filled_each (outline v) text)) (slot_is_diff e ∙ t)
+    ∙ both_there (link_with (slot_of e) (first_word text)) (filled_each (outline v) (behind_word text)) e v
+    (ap (link_with (slot_of e)) (first_word_is (link_word e) (link_words v) (link_word_whole e)) ∙ link_back e t)
+    (ap (filled_each (outline v)) (behind_word_is (link_word e) (link_words v) (link_word_whole e)) ∙ each_back v))
+    (λ f.
+    let text : List ℕ = flat_map added (link_words v) in
+    ap (filled_each (slot_of e ∷ outline v)) (ap (flat_map added) (words_of_plain e v f))
+    ∙ cond-false (is_diff (slot_of e)) (before (link_with (slot_of e) (first_word text)) (filled_each (outline v) (behind_word text))) (before (Some (slot_of e)) (filled_each (outline v) text)) (slot_is_diff e ∙ f)
+    ∙ both_there (Some (slot_of e)) (filled_each (outline v) text) e v (ap Some (slot_not_diff e f)) (each_back v))
+
+-- no word of a link has a `+`
+words_whole : (v : List Edge) → list_all (list_all (λ b. not (is_plus b))) (link_words v) ≡ true
+words_whole [] = refl
+words_whole (e ∷ v) =
+    by_test (is_diff e)
+    (λ t. ap (list_all (list_all (λ b. not (is_plus b)))) (words_of_link e v t) ∙ rw (link_word_whole e) (words_whole v))
+    (λ f. ap (list_all (list_all (λ b. not (is_plus b)))) (words_of_plain e v f) ∙ words_whole v)
+
+none_of : (p : ℕ → Bool) (xs : List ℕ) → list_all (λ b. not (p b)) xs ≡ true → list_any p xs ≡ false
+none_of p [] h = refl
+none_of p (x ∷ xs) h =
+    let both = and_parts (not (p x)) (list_all (λ b. not (p b)) xs) h in
+    rw (no_of (p x) both.0) (none_of p xs both.1)
+
+-- a text with a byte behind it, without its last byte
+but_last_is : (word : List ℕ) (byte : ℕ) → but_last (word ++ byte ∷ []) ≡ word
+but_last_is word byte = take_at word (byte ∷ []) (length (word ++ byte ∷ []) - 1) (omega (arith, length-append word (byte ∷ [])))
+
+plural_back : (v : List Edge) (words : List (List ℕ)) → words ≡ link_words v → 0 < length words → all_equal words ≡ true → filled (outline v) (plural words) ≡ Some v
+plural_back v [] e l h = absurd (omega arith)
+plural_back v (word ∷ words) e l h =
+    let whole : list_all (λ b. not (is_plus b)) word ≡ true =
+    (and_parts (list_all (λ b. not (is_plus b)) word) (list_all (list_all (λ b. not (is_plus b))) words) (ap (list_all (list_all (λ b. not (is_plus b)))) e ∙ words_whole v)).0 in
+    let itself : bytes_eq word word ≡ true = (bytes_decides word word).1 refl in
+    let alike : list_all (bytes_eq word) (link_words v) ≡ true = sym (ap (list_all (bytes_eq word)) e) ∙ rw itself h in
+    let none : list_any is_plus (word ++ 115 ∷ []) ≡ false = list_any-append is_plus word (115 ∷ []) ∙ ap (λ b. b || false) (none_of is_plus word whole) in
+    cond-false (list_any is_plus (word ++ 115 ∷ [])) (filled_each (outline v) (43 ∷ (word ++ 115 ∷ []))) (filled_alike (outline v) (but_last (word ++ 115 ∷ []))) none
+    ∙ ap (filled_alike (outline v)) (but_last_is word 115)
+    ∙ alike_back v word alike
+
+words_back : (v : List Edge) (words : List (List ℕ)) → words ≡ link_words v → 2 ≤ length words → filled (outline v) (flat_map added words) ≡ Some v
+words_back v [] e l = absurd (omega arith)
+words_back v (word ∷ []) e l = absurd (omega arith)
+words_back v (word ∷ next ∷ words) e l =
+    let text : List ℕ = word ++ 43 ∷ (next ++ flat_map added words) in
+    let some : list_any is_plus text ≡ true =
+    list_any-append is_plus word (43 ∷ (next ++ flat_map added words)) ∙ or_right (list_any is_plus word) true refl in
+    cond-true (list_any is_plus text) (filled_each (outline v) (43 ∷ text)) (filled_alike (outline v) (but_last text)) some
+    ∙ ap (filled_each (outline v)) (ap (flat_map added) e)
+    ∙ each_back v
+
+links_back : (v : List Edge) → 2 ≤ length (link_words v) → filled (outline v) (links_text (link_words v)) ≡ Some v
+unfolding links_text
+links_back v l =
+    let words : List (List ℕ) = link_words v in
+    let rest : List ℕ = cond (all_equal words) (plural words) (flat_map added words) in
+    by_test (list_all (bytes_eq (codes "po")) words)
+    (λ t. ap (filled (outline v)) (cond-true (list_all (bytes_eq (codes "po")) words) [] rest t) ∙ alike_back v (codes "po") t)
+    (λ f.
+    ap (filled (outline v)) (cond-false (list_all (bytes_eq (codes "po")) words) [] rest f)
+    ∙ by_test (all_equal words)
+    (λ t. ap (filled (outline v)) (cond-true (all_equal words) (plural words) (flat_map added words) t) ∙ plural_back v words refl (omega (arith, l)) t)
+    (λ f. ap (filled (outline v)) (cond-false (all_equal words) (plural words) (flat_map added words) f) ∙ words_back v words refl l))
+
+-- nothing, or a text that begins with `+`
+data StartsPlus (text : List ℕ) : Type 0 where
+  ends_here : text ≡ [] → StartsPlus text
+  goes_on : (rest : List ℕ) → text ≡ 43 ∷ rest → StartsPlus text
+
+plural_starts : (words : List (List ℕ)) → StartsPlus (plural words)
+plural_starts [] = ends_here refl
+plural_starts (word ∷ words) = goes_on (word ++ 115 ∷ []) refl
+
+words_start : (words : List (List ℕ)) → StartsPlus (flat_map added words)
+words_start [] = ends_here refl
+words_start (word ∷ words) = goes_on (word ++ flat_map added words) refl
+
+links_start : (words : List (List ℕ)) → StartsPlus (links_text words)
+unfolding links_text
+links_start words =
+    choose (list_all (bytes_eq (codes "po")) words) [] _ (ends_here refl) (choose (all_equal words) _ _ (plural_starts words) (words_start words))
+  where
+    choose : (b : Bool) (s t : List ℕ) → StartsPlus s → StartsPlus t → StartsPlus (cond b s t)
+    choose true s t x y = x
+    choose false s t x y = y
+
+family_named : (f : Family) (text : List ℕ) → (f ≡ families.Other → ⊥) → StartsPlus text → named_family all_families (family_word f ++ text) ≡ Some f
+family_named f text n s =
+    elim s [
+      | ends_here e ↦ ap (λ t. named_family all_families (family_word f ++ t)) e ∙ word_alone f n
+      | goes_on rest e ↦ ap (λ t. named_family all_families (family_word f ++ t)) e ∙ word_before f rest n
+    ]
+
+-- as many words as there are links among the slots
+count_links : (v : List Edge) → length (link_words v) ≡ length (filter is_diff (outline v))
+count_links [] = refl
+count_links (e ∷ v) =
+    by_test (is_diff e)
+    (λ t.
+    let a : length (link_words (e ∷ v)) ≡ suc (length (link_words v)) = ap length (words_of_link e v t) in
+    let b : length (filter is_diff (outline (e ∷ v))) ≡ suc (length (filter is_diff (outline v))) = one_more (slot_of e) (outline v) (slot_is_diff e ∙ t) in
+    omega (arith, a, b, count_links v))
+    (λ f. ap length (words_of_plain e v f) ∙ count_links v ∙ sym (no_more (slot_of e) (outline v) (slot_is_diff e ∙ f)))
+  where
+    one_more : (s : Edge) (u : List Edge) → is_diff s ≡ true → length (filter is_diff (s ∷ u)) ≡ suc (length (filter is_diff u))
+    one_more s u t = rw t refl
+
+    no_more : (s : Edge) (u : List Edge) → is_diff s ≡ false → length (filter is_diff (s ∷ u)) ≡ length (filter is_diff u)
+    no_more s u f = rw f refl
+
+-- the name of a cycle of a family
+family_back : (f : Family) (v : List Edge) → (f ≡ families.Other → ⊥) → outline v ≡ family_edges f → edges_read (name_from (Some f) v) ≡ Some v
+unfolding edges_read name_from
+family_back f v n e =
+    let words : List (List ℕ) = link_words v in
+    let text : List ℕ = family_word f ++ links_text words in
+    let many : 2 ≤ length words = omega (arith, count_links v, ap (λ u. length (filter is_diff u)) e, family_links f n) in
+    ap (λ o. read_in o text) (family_named f (links_text words) n (links_start words))
+    ∙ ap (filled (family_edges f)) (drop-append_seam (family_word f) (links_text words))
+    ∙ ap (λ u. filled u (links_text words)) (sym e)
+    ∙ links_back v many
+
+-- a list cut at a byte
+cut_first : (p : ℕ → Bool) (word : List ℕ) (byte : ℕ) (rest : List ℕ) → list_all (λ b. not (p b)) word ≡ true → p byte ≡ true → slice_split p (word ++ byte ∷ rest) ≡ word ∷ slice_split p rest
+cut_first p [] byte rest h t = rw t refl
+cut_first p (b ∷ word) byte rest h t =
+    let both = and_parts (not (p b)) (list_all (λ b. not (p b)) word) h in
+    rw (no_of (p b) both.0) (ap (onto_first b) (cut_first p word byte rest both.1 t))
+
+cut_last : (p : ℕ → Bool) (word : List ℕ) → list_all (λ b. not (p b)) word ≡ true → slice_split p word ≡ word ∷ []
+cut_last p [] h = refl
+cut_last p (b ∷ word) h =
+    let both = and_parts (not (p b)) (list_all (λ b. not (p b)) word) h in
+    rw (no_of (p b) both.0) (ap (onto_first b) (cut_last p word both.1))
+
+split_words : (e : Edge) (v : List Edge) → slice_split is_dash (join_by word_of (codes "-") (e ∷ v)) ≡ word_of e ∷ map word_of v
+split_words e [] = ap (slice_split is_dash) (append-nil (word_of e)) ∙ cut_last is_dash (word_of e) (word_whole e)
+split_words e (d ∷ v) =
+    cut_first is_dash (word_of e) 45 (join_by word_of (codes "-") (d ∷ v)) (word_whole e) refl ∙ ap (λ w. word_of e ∷ w) (split_words d v)
+
+spelled_back : (v : List Edge) → edges_spelled (map word_of v) ≡ Some v
+spelled_back [] = refl
+spelled_back (e ∷ v) = both_there (edge_of (word_of e)) (edges_spelled (map word_of v)) e v (edge_of-word_of e) (spelled_back v)
+
+-- the name of another cycle
+other_back : (v : List Edge) → 0 < length v → edges_read (name_from None v) ≡ Some v
+unfolding edges_read name_from
+other_back [] l = absurd (omega arith)
+other_back (e ∷ v) l = ap edges_spelled (split_words e v) ∙ spelled_back (e ∷ v)
+
+-- the name of a cycle is read as the rotation that it was made from
+pub name_back : (u : List Edge) → 0 < length u → edges_read (name_of u) ≡ Some (named_rotation u)
+unfolding name_of
+name_back u some =
+    by_option (found_family u)
+    (λ h.
+    ap (λ o. edges_read (name_from o (named_rotation u))) h
+    ∙ other_back (named_rotation u) (omega (arith, rotation_length u (named_rotation u) (named_rotates u some))))
+    (λ f h.
+    ap (λ o. edges_read (name_from o (named_rotation u))) h
+    ∙ family_back f (named_rotation u) (never_other u f (found_is_of u f h)) (named_joins u f h))

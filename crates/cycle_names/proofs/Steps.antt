@@ -1,0 +1,216 @@
+-- Steps of reading a name and of looking at its links: what one edge more means.
+use Rattle.std.specs.Prelude.{◌≡◌, ◌<◌, ◌≤◌, ◌+◌, ◌-◌, ◌&&◌, ◌||◌, ◌==◌, ℕ, suc, zero, Bool, true, false, not, Option, Some, None, Result, IsOk, List, [], ◌∷◌, ◌++◌, length, map, take, drop}
+use Rattle.std.specs.List.{list_all, slice_split, position_or_len, onto_first}
+use Rattle.std.proofs.Common.{refl, sym, ◌∙◌, ap, arith, get_or, append_assoc, length-append}
+use Rattle.std.proofs.lemmas.Bool.{and_parts, cond-true, cond-false, eqb-true}
+use Rattle.std.proofs.lemmas.List.{take_all, append-nil}
+use Rattle.std.proofs.Math.ListN.{drop_of_length-le}
+use Rattle.std.specs.Str.{bytes_eq}
+use Rattle.std.specs.Cmp.Lexicographic.{bytes_decides}
+use Rattle.list_laws.proofs.Cases.{by_test, by_option, by_less}
+use Rattle.relax_edges.specs.declared.TheConstants.{MAX_EDGES}
+use Rattle.relax_edges.specs.declared.edge.Edge.{Edge}
+use Rattle.relax_edges.specs.EdgeTable.{is_diff}
+use Rattle.relax_edges.specs.Order.{rank_of}
+use Rattle.relax_edges.specs.Spelling.{edge_of}
+use Rattle.relax_edges.specs.AllEdges.{edges_in_order}
+use Rattle.relax_edges.proofs.Ranks.{rank_injective, rank_below}
+use Rattle.relax_edges.proofs.RelaxWords.{position_or_len-no}
+use Rattle.cycle_names.specs.Links.{slot_of, link_word, link_words}
+use Rattle.cycle_names.specs.Reading.{is_dash, is_link, link_with, before, first_word, behind_word, filled_each, edges_spelled, Adds}
+use Rattle.cycle_names.proofs.Tables.{link_back}
+use Rattle.cycle_names.proofs.Members.{find_none}
+use Rattle.cycle_names.proofs.Texts.{all_links_cons}
+
+-- a list without its first element, as slice patterns give it
+abbrev rest_of : {A : Type 0} → List A → List A
+rest_of xs = take (length xs - 1) (drop 1 xs)
+
+rest_is : {A : Type 0} (x : A) (xs : List A) → rest_of (x ∷ xs) ≡ xs
+rest_is x xs = take_all (length (x ∷ xs) - 1) xs (omega arith)
+
+rest_drop : {A : Type 0} (xs : List A) → 1 ≤ length xs → rest_of xs ≡ drop 1 xs
+rest_drop [] h = absurd (omega arith)
+rest_drop (x ∷ xs) h = rest_is x xs
+
+-- one edge more has the word of the links
+pub alike_more : (p : List ℕ → Bool) (xs : List Edge) (d : Edge) (b : Bool) → 1 ≤ length xs → (not (is_diff (get_or xs 0 d)) || p (link_word (get_or xs 0 d))) ≡ true
+    → b ≡ list_all p (link_words (rest_of xs)) → b ≡ list_all p (link_words xs)
+alike_more p [] d b h t e = absurd (omega arith)
+alike_more p (x ∷ xs) d b h t e =
+    e ∙ ap (λ u. list_all p (link_words u)) (rest_is x xs) ∙ sym (all_links_cons p x xs ∙ ap (λ c. c && list_all p (link_words xs)) t)
+
+pub alike_fails : (p : List ℕ → Bool) (xs : List Edge) (d : Edge) → 1 ≤ length xs → (not (is_diff (get_or xs 0 d)) || p (link_word (get_or xs 0 d))) ≡ false
+    → false ≡ list_all p (link_words xs)
+alike_fails p [] d h t = absurd (omega arith)
+alike_fails p (x ∷ xs) d h t = sym (all_links_cons p x xs ∙ ap (λ c. c && list_all p (link_words xs)) t)
+
+-- the parts of a text behind its first one
+abbrev parts_behind : List ℕ → List (List ℕ)
+parts_behind [] = []
+parts_behind (_ ∷ text) = slice_split is_dash text
+
+split_is : (text : List ℕ) → slice_split is_dash text ≡ take (position_or_len is_dash text) text ∷ parts_behind (drop (position_or_len is_dash text) text)
+split_is [] = refl
+split_is (b ∷ text) =
+    by_test (is_dash b)
+    (λ t. rw t refl)
+    (λ f.
+    cond-false (is_dash b) ([] ∷ slice_split is_dash text) (onto_first b (slice_split is_dash text)) f
+    ∙ ap (onto_first b) (split_is text)
+    ∙ sym (ap (λ n. take n (b ∷ text) ∷ parts_behind (drop n (b ∷ text))) (position_or_len-no is_dash b text f)))
+
+spelled_parts : (text word behind : List ℕ) (n : ℕ) → n ≡ position_or_len is_dash text → word ≡ take n text → behind ≡ drop n text →
+    edges_spelled (slice_split is_dash text) ≡ before (edge_of word) (edges_spelled (parts_behind behind))
+spelled_parts text word behind n i w b =
+    ap edges_spelled (split_is text) ∙ ap (λ n. before (edge_of (take n text)) (edges_spelled (parts_behind (drop n text)))) (sym i)
+    ∙ ap (λ x. before (edge_of x) (edges_spelled (parts_behind (drop n text)))) (sym w)
+    ∙ ap (λ x. before (edge_of word) (edges_spelled (parts_behind x))) (sym b)
+
+parts_more : (behind : List ℕ) → 1 ≤ length behind → parts_behind behind ≡ slice_split is_dash (rest_of behind)
+parts_more [] h = absurd (omega arith)
+parts_more (b ∷ behind) h = ap (slice_split is_dash) (sym (rest_is b behind))
+
+parts_last : (behind : List ℕ) → length behind < 1 → parts_behind behind ≡ []
+parts_last [] h = refl
+parts_last (b ∷ behind) h = absurd (omega arith)
+
+some_edges : (u v : List Edge) → Some u ≡ Some v → u ≡ v
+some_edges u v z = cc
+
+module _ {E : Type 0} where
+  -- an edge has been added before others
+  pub adds_before : (o : Option Edge) (p : Option (List Edge)) (e : Edge) (old pushed new : List Edge) (result : Result (Unit {0}) E) →
+      o ≡ Some e → pushed ≡ old ++ e ∷ [] → Adds p pushed new result → Adds (before o p) old new result
+  adds_before o p e old pushed new result h k a edges found fits =
+      by_option p
+      (λ n. let z : None ≡ Some edges = sym (rw (h, n) refl) ∙ found in cc)
+      (λ rest s.
+      let z : Some (e ∷ rest) ≡ Some edges = sym (rw (h, s) refl) ∙ found in
+      let same : e ∷ rest ≡ edges = some_lists (e ∷ rest) edges z in
+      let long : suc (length rest) ≡ length edges = ap length same in
+      let r = a rest s (omega (arith, ap length k, length-append old (e ∷ []), long)) in
+      (r.0, r.1 ∙ ap (λ w. w ++ rest) k ∙ append_assoc old (e ∷ []) rest ∙ ap (λ w. old ++ w) same))
+    where
+      some_lists : (u v : List Edge) → Some u ≡ Some v → u ≡ v
+      some_lists u v z = cc
+
+  -- nothing is read where an edge isn't there
+  pub adds_none : (o : Option Edge) (p : Option (List Edge)) (old new : List Edge) (result : Result (Unit {0}) E) → o ≡ None → Adds (before o p) old new result
+  adds_none o p old new result h edges found fits = let z : None ≡ Some edges = sym (rw h refl) ∙ found in cc
+
+  -- no edge more fits where all are there
+  pub adds_full : (o : Option Edge) (p : Option (List Edge)) (old new : List Edge) (result : Result (Unit {0}) E) → MAX_EDGES ≤ length old → Adds (before o p) old new result
+  adds_full None p old new result h edges found fits = cc
+  adds_full (Some e) p old new result h edges found fits =
+      by_option p
+      (λ n. let z : None ≡ Some edges = sym (rw n refl) ∙ found in cc)
+      (λ rest s.
+      let z : Some (e ∷ rest) ≡ Some edges = sym (rw s refl) ∙ found in
+      let same : e ∷ rest ≡ edges = some_lists (e ∷ rest) edges z in
+      let long : suc (length rest) ≡ length edges = ap length same in
+      absurd (omega (arith, long)))
+    where
+      some_lists : (u v : List Edge) → Some u ≡ Some v → u ≡ v
+      some_lists u v z = cc
+
+  adds_same : (p q : Option (List Edge)) (old new : List Edge) (result : Result (Unit {0}) E) → p ≡ q → Adds q old new result → Adds p old new result
+  adds_same p q old new result e a edges found fits = a edges (sym e ∙ found) fits
+
+  -- one slot more, of a link
+  pub fill_link : (slots : List Edge) (links word behind : List ℕ) (d e : Edge) (old pushed new : List Edge) (result : Result (Unit {0}) E) →
+      1 ≤ length slots → is_diff (get_or slots 0 d) ≡ true → word ≡ first_word links → behind ≡ behind_word links → Some e ≡ link_with (get_or slots 0 d) word →
+      pushed ≡ old ++ e ∷ [] → Adds (filled_each (rest_of slots) behind) pushed new result → Adds (filled_each slots links) old new result
+  fill_link [] links word behind d e old pushed new result h t w b o k a = absurd (omega arith)
+  fill_link (s ∷ slots) links word behind d e old pushed new result h t w b o k a =
+      adds_same (filled_each (s ∷ slots) links) (before (link_with s word) (filled_each (rest_of (s ∷ slots)) behind)) old new result
+      (cond-true (is_diff s) (before (link_with s (first_word links)) (filled_each slots (behind_word links))) (before (Some s) (filled_each slots links)) t
+      ∙ rw (w, b, rest_is s slots) refl)
+      (adds_before (link_with s word) (filled_each (rest_of (s ∷ slots)) behind) e old pushed new result (sym o) k a)
+
+  -- one slot more, of no link
+  pub fill_plain : (slots : List Edge) (links : List ℕ) (d : Edge) (old pushed new : List Edge) (result : Result (Unit {0}) E) →
+      1 ≤ length slots → is_diff (get_or slots 0 d) ≡ false → pushed ≡ old ++ get_or slots 0 d ∷ [] → Adds (filled_each (rest_of slots) links) pushed new result → Adds (filled_each slots links) old new result
+  fill_plain [] links d old pushed new result h t k a = absurd (omega arith)
+  fill_plain (s ∷ slots) links d old pushed new result h t k a =
+      adds_same (filled_each (s ∷ slots) links) (before (Some s) (filled_each (rest_of (s ∷ slots)) links)) old new result
+      (cond-false (is_diff s) (before (link_with s (first_word links)) (filled_each slots (behind_word links))) (before (Some s) (filled_each slots links)) t
+      ∙ ap (λ u. before (Some s) (filled_each u links)) (sym (rest_is s slots)))
+      (adds_before (Some s) (filled_each (rest_of (s ∷ slots)) links) s old pushed new result refl k a)
+
+  -- one word more
+  pub spell_more : (text word behind : List ℕ) (n : ℕ) (e : Edge) (old pushed new : List Edge) (result : Result (Unit {0}) E) →
+      n ≡ position_or_len is_dash text → word ≡ take n text → behind ≡ drop n text → 1 ≤ length behind → Some e ≡ edge_of word → pushed ≡ old ++ e ∷ [] →
+      Adds (edges_spelled (slice_split is_dash (rest_of behind))) pushed new result → Adds (edges_spelled (slice_split is_dash text)) old new result
+  spell_more text word behind n e old pushed new result i w b h o k a =
+      adds_same (edges_spelled (slice_split is_dash text)) (before (edge_of word) (edges_spelled (slice_split is_dash (rest_of behind)))) old new result
+      (spelled_parts text word behind n i w b ∙ ap (λ parts. before (edge_of word) (edges_spelled parts)) (parts_more behind h))
+      (adds_before (edge_of word) (edges_spelled (slice_split is_dash (rest_of behind))) e old pushed new result (sym o) k a)
+
+  -- the last word
+  pub spell_last : (text word behind : List ℕ) (n : ℕ) (e : Edge) (old pushed : List Edge) (result : Result (Unit {0}) E) →
+      n ≡ position_or_len is_dash text → word ≡ take n text → behind ≡ drop n text → length behind < 1 → Some e ≡ edge_of word → pushed ≡ old ++ e ∷ [] →
+      IsOk result → Adds (edges_spelled (slice_split is_dash text)) old pushed result
+  spell_last text word behind n e old pushed result i w b h o k a =
+      adds_same (edges_spelled (slice_split is_dash text)) (before (edge_of word) (Some [])) old pushed result
+      (spelled_parts text word behind n i w b ∙ ap (λ parts. before (edge_of word) (edges_spelled parts)) (parts_last behind h))
+      (adds_before (edge_of word) (Some []) e old pushed pushed result (sym o) k (λ edges found fits. let z : [] ≡ edges = some_edges [] edges found in (a, sym (append-nil pushed) ∙ ap (λ w. pushed ++ w) z)))
+
+  -- no word
+  pub spell_none : (text word : List ℕ) (n : ℕ) (old new : List Edge) (result : Result (Unit {0}) E) →
+      n ≡ position_or_len is_dash text → word ≡ take n text → None ≡ edge_of word → Adds (edges_spelled (slice_split is_dash text)) old new result
+  spell_none text word n old new result i w o =
+      adds_same (edges_spelled (slice_split is_dash text)) (before (edge_of word) (edges_spelled (parts_behind (drop n text)))) old new result
+      (spelled_parts text word (drop n text) n i w refl)
+      (adds_none (edge_of word) (edges_spelled (parts_behind (drop n text))) old new result (sym o))
+
+  pub spell_full : (text : List ℕ) (old new : List Edge) (result : Result (Unit {0}) E) → MAX_EDGES ≤ length old → Adds (edges_spelled (slice_split is_dash text)) old new result
+  spell_full text old new result h =
+      let n : ℕ = position_or_len is_dash text in
+      adds_same (edges_spelled (slice_split is_dash text)) (before (edge_of (take n text)) (edges_spelled (parts_behind (drop n text)))) old new result
+      (spelled_parts text (take n text) (drop n text) n refl refl refl)
+      (adds_full (edge_of (take n text)) (edges_spelled (parts_behind (drop n text))) old new result h)
+
+-- the link that is found is the one
+pub link_found : (slot e : Edge) (word : List ℕ) → is_link slot word e ≡ true → link_with slot word ≡ Some e
+link_found slot e word h =
+    let a = and_parts (is_diff e) ((rank_of (slot_of e) == rank_of slot) && bytes_eq (link_word e) word) h in
+    let b = and_parts (rank_of (slot_of e) == rank_of slot) (bytes_eq (link_word e) word) a.1 in
+    let s : slot ≡ slot_of e = sym (rank_injective (slot_of e) slot (eqb-true _ _ b.0)) in
+    let w : word ≡ link_word e = sym ((bytes_decides (link_word e) word).0 b.1) in
+    ap (λ s. link_with s word) s ∙ ap (link_with (slot_of e)) w ∙ link_back e a.0
+
+pub link_missing : (slot : Edge) (word : List ℕ) → ((e : Edge) → rank_of e < 168 → is_link slot word e ≡ false) → link_with slot word ≡ None
+unfolding link_with
+link_missing slot word h = find_none (is_link slot word) edges_in_order (λ e m t. let z : true ≡ false = sym t ∙ h e (rank_below e) in cc)
+
+-- an edge of the rank at hand is the one looked at
+pub link_at : (slot e : Edge) (word : List ℕ) (k : ℕ) → rank_of e ≡ k → is_link slot word e ≡ false → ((d : Edge) → rank_of d < k → is_link slot word d ≡ false) → (d : Edge) → rank_of d < k + 1 → is_link slot word d ≡ false
+link_at slot e word k r f before d l =
+    by_less (rank_of d) k
+    (λ less. before d less)
+    (λ more. let same : d ≡ e = rank_injective d e (omega arith) in ap (is_link slot word) same ∙ f)
+
+-- the edges of a family are those of its ranks
+pub ranks_told : (u v : List Edge) → map rank_of u ≡ map rank_of v → u ≡ v
+ranks_told [] [] e = refl
+ranks_told [] (y ∷ v) e = cc
+ranks_told (x ∷ u) [] e = cc
+ranks_told (x ∷ u) (y ∷ v) e =
+    let one : x ≡ y = rank_injective x y (head_of (rank_of x) (rank_of y) (map rank_of u) (map rank_of v) e) in
+    let rest : u ≡ v = ranks_told u v (tail_of (rank_of x) (rank_of y) (map rank_of u) (map rank_of v) e) in
+    rw (one, rest) refl
+  where
+    head_of : (a b : ℕ) (c d : List ℕ) → a ∷ c ≡ b ∷ d → a ≡ b
+    head_of a b c d e = cc
+
+    tail_of : (a b : ℕ) (c d : List ℕ) → a ∷ c ≡ b ∷ d → c ≡ d
+    tail_of a b c d e = cc
+
+pub rank_small : (u : List Edge) (i d : ℕ) → i < length (map rank_of u) → get_or (map rank_of u) i d < 168
+rank_small [] i d h = absurd (omega arith)
+rank_small (x ∷ u) zero d h = rank_below x
+rank_small (x ∷ u) (suc i) d h = rank_small u i d (omega arith)
+
+pub pushed_all : (a b ranks : List ℕ) (i : ℕ) → a ++ drop i ranks ≡ b → length ranks ≤ i → a ≡ b
+pushed_all a b ranks i e h = sym (append-nil a) ∙ ap (λ w. a ++ w) (sym (drop_of_length-le ranks h)) ∙ e

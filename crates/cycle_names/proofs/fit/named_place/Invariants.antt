@@ -1,0 +1,5 @@
+use Rattle.cycle_names.proofs.Places.{NamedUpTo}
+use Rattle.cycle_names.proofs.fit.named_place.Given as goal
+
+abbrev pub invariant-loop-place : goal.invariant-loop-place
+invariant-loop-place l = NamedUpTo l.fn.edges l.fn.first.family l.place l.named

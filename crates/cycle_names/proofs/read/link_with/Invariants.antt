@@ -1,0 +1,8 @@
+use Rattle.std.specs.Prelude.{◌≡◌, ◌<◌, false}
+use Rattle.relax_edges.specs.declared.edge.Edge.{Edge}
+use Rattle.relax_edges.specs.Order.{rank_of}
+use Rattle.cycle_names.specs.Reading.{is_link}
+use Rattle.cycle_names.proofs.read.link_with.Given as goal
+
+abbrev pub invariant-loop-rank : goal.invariant-loop-rank
+invariant-loop-rank l = (e : Edge) → rank_of e < l.rank → is_link l.fn.slot l.fn.word e ≡ false

@@ -1,0 +1,68 @@
+-- The table of the families: the name of each, and its cycle, in which each `PodXY` stands for a link from X to Y.
+-- Source: the names of litmus tests in the diy part of the herdtools manual.
+use Rattle.std.specs.Prelude.{ℕ, List, [], ◌∷◌, codes}
+use Rattle.relax_edges.specs.declared.kinds.Dir.{Dir}
+use Rattle.relax_edges.specs.declared.kinds.Dir.TheVariants.{R, W}
+use Rattle.relax_edges.specs.declared.kinds.Sd.TheVariants.{Diff}
+use Rattle.relax_edges.specs.declared.kinds.Reach.TheVariants.{External}
+use Rattle.relax_edges.specs.declared.kinds.Com.TheVariants as coms
+use Rattle.relax_edges.specs.declared.edge.Edge.{Edge}
+use Rattle.relax_edges.specs.declared.edge.Edge.TheVariants as edges
+use Rattle.cycle_names.specs.declared.family.Family.{Family}
+use Rattle.cycle_names.specs.declared.family.Family.TheVariants as families
+
+-- program order to another location
+abbrev pub pod : Dir → Dir → Edge
+pod from to = edges.Po Diff from to
+
+-- the external edges
+abbrev pub rfe : Edge
+rfe = edges.Com coms.Rf External
+
+abbrev pub fre : Edge
+fre = edges.Com coms.Fr External
+
+abbrev pub wse : Edge
+wse = edges.Com coms.Ws External
+
+-- the name of a family; `OTHER` stands for the cycles of none
+abbrev pub family_word : Family → List ℕ
+family_word families.SB = codes "SB"
+family_word families.MP = codes "MP"
+family_word families.LB = codes "LB"
+family_word families.R = codes "R"
+family_word families.S = codes "S"
+family_word families.W2 = codes "2+2W"
+family_word families.WRC = codes "WRC"
+family_word families.RWC = codes "RWC"
+family_word families.ISA2 = codes "ISA2"
+family_word families.IRIW = codes "IRIW"
+family_word families.WRWC = codes "W+RWC"
+family_word families.SB3 = codes "3.SB"
+family_word families.LB3 = codes "3.LB"
+family_word families.W3 = codes "3.2W"
+family_word families.Other = codes "OTHER"
+
+-- the cycle of a family
+abbrev pub family_edges : Family → List Edge
+family_edges families.SB = pod W R ∷ fre ∷ pod W R ∷ fre ∷ []
+family_edges families.MP = pod W W ∷ rfe ∷ pod R R ∷ fre ∷ []
+family_edges families.LB = pod R W ∷ rfe ∷ pod R W ∷ rfe ∷ []
+family_edges families.R = pod W W ∷ wse ∷ pod W R ∷ fre ∷ []
+family_edges families.S = pod W W ∷ rfe ∷ pod R W ∷ wse ∷ []
+family_edges families.W2 = pod W W ∷ wse ∷ pod W W ∷ wse ∷ []
+family_edges families.WRC = rfe ∷ pod R W ∷ rfe ∷ pod R R ∷ fre ∷ []
+family_edges families.RWC = rfe ∷ pod R R ∷ fre ∷ pod W R ∷ fre ∷ []
+family_edges families.ISA2 = pod W W ∷ rfe ∷ pod R W ∷ rfe ∷ pod R R ∷ fre ∷ []
+family_edges families.IRIW = rfe ∷ pod R R ∷ fre ∷ rfe ∷ pod R R ∷ fre ∷ []
+family_edges families.WRWC = pod W W ∷ rfe ∷ pod R R ∷ fre ∷ pod W R ∷ fre ∷ []
+family_edges families.SB3 = pod W R ∷ fre ∷ pod W R ∷ fre ∷ pod W R ∷ fre ∷ []
+family_edges families.LB3 = pod R W ∷ rfe ∷ pod R W ∷ rfe ∷ pod R W ∷ rfe ∷ []
+family_edges families.W3 = pod W W ∷ wse ∷ pod W W ∷ wse ∷ pod W W ∷ wse ∷ []
+family_edges families.Other = []
+
+-- the families of the table
+abbrev pub all_families : List Family
+all_families =
+    families.SB ∷ families.MP ∷ families.LB ∷ families.R ∷ families.S ∷ families.W2 ∷ families.WRC ∷ families.RWC
+    ∷ families.ISA2 ∷ families.IRIW ∷ families.WRWC ∷ families.SB3 ∷ families.LB3 ∷ families.W3 ∷ []

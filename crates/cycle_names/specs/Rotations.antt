@@ -1,0 +1,57 @@
+-- The family of a cycle, and the rotation of a cycle from which it is named.
+-- Source: own, after the names of litmus tests in the diy part of the herdtools manual.
+use Rattle.std.specs.Prelude.{Bool, not, Option, Some, None, List, map, filter, length, unwrap_or}
+use Rattle.std.specs.List.{find, list_any}
+use Rattle.std.specs.Cmp.Lexicographic.{slice_cmp}
+use Rattle.std.specs.Ordering.{nat_cmp, is_lt}
+use Rattle.relax_edges.specs.declared.edge.Edge.{Edge}
+use Rattle.relax_edges.specs.Order.{rank_of}
+use Rattle.relax_edges.specs.Relaxations.{is_same}
+use Rattle.list_laws.specs.Numbers.{upto}
+use Rattle.walk_laws.specs.Rotation.{rotated}
+use Rattle.walk_laws.specs.Order.{ranks_below}
+use Rattle.cycle_names.specs.declared.family.Family.{Family}
+use Rattle.cycle_names.specs.declared.family.Family.TheVariants as families
+use Rattle.cycle_names.specs.Families.{family_edges, all_families}
+use Rattle.cycle_names.specs.Links.{outline, link_words}
+
+-- the rotations of a cycle
+abbrev pub rotations : List Edge → List (List Edge)
+rotations u = map (λ k. rotated k u) (upto (length u))
+
+-- a rotation fits a family that has the same external edges at the same places, and at the other places links from and to the same accesses
+abbrev pub fits : Family → List Edge → Bool
+fits family v = is_same (outline v) (family_edges family)
+
+-- a cycle is of a family that some rotation of it fits
+abbrev pub is_of_family : List Edge → Family → Bool
+is_of_family u family = list_any (fits family) (rotations u)
+
+-- the family of the table that a cycle is of, if it is of one
+unfoldable pub found_family : List Edge → Option Family
+found_family u = find (is_of_family u) all_families
+
+-- the family of a cycle
+abbrev pub family_of : List Edge → Family
+family_of u = unwrap_or (found_family u) families.Other
+
+-- the words of the links of v come before those of w: lists of words compared word by word, in byte order
+abbrev pub words_below : List Edge → List Edge → Bool
+words_below v w = is_lt (slice_cmp (slice_cmp nat_cmp) (link_words v) (link_words w))
+
+-- v comes before w in the order of lists of edges
+abbrev pub edges_below : List Edge → List Edge → Bool
+edges_below v w = ranks_below (map rank_of v) (map rank_of w)
+
+-- the first of some lists before which none of them comes
+abbrev pub least_of : {A : Type 0} → (A → A → Bool) → List A → Option A
+least_of below lists = find (λ v. not (list_any (λ w. below w v) lists)) lists
+
+-- a cycle of a family is named from the rotation whose words come first, of those that fit; every other cycle from its normal form
+abbrev pub rotation_in : Option Family → List Edge → Option (List Edge)
+rotation_in (Some family) u = least_of words_below (filter (fits family) (rotations u))
+rotation_in None u = least_of edges_below (rotations u)
+
+-- the rotation from which a cycle is named
+unfoldable pub named_rotation : List Edge → List Edge
+named_rotation u = unwrap_or (rotation_in (found_family u) u) u

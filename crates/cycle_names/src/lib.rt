@@ -1,0 +1,17 @@
+//! The name of a cycle, and the cycle of a name.
+#![tactic(auto)]
+
+mod family;
+mod fit;
+mod laws;
+mod link;
+mod name;
+mod read;
+#[cfg(test)]
+mod tests;
+mod words;
+
+pub use family::Family;
+pub use laws::{families_apart, names_are_names, names_decide, names_read_back};
+pub use name::{MAX_NAME, family_of, name_and_rotation, name_of};
+pub use read::{NotAName, cycle_of};

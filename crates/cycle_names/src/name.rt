@@ -1,0 +1,56 @@
+ghost use Rattle.std.specs.Prelude.{◌≡◌};
+ghost use Rattle.cycle_names.specs.Rotations.{family_of, named_rotation};
+ghost use Rattle.cycle_names.specs.Names.{name_of};
+
+use crate::family::Family;
+use crate::fit::{found_family, named_fit};
+use crate::words::{push_links, push_words};
+use arrayvec::ArrayString;
+use edge_algebra::Cycle;
+
+/// The most bytes of a name.
+pub const MAX_NAME: usize = 800;
+
+/// The family of a cycle: that of the table of which some rotation of the cycle has the external
+/// edges at their places and, for each `PodXY`, an edge from X to Y that leads to another location
+/// in its thread. `Other` where there is none. No cycle is of two families.
+pub fn family_of(cycle: &Cycle) -> Family
+    ensures { result ≡ family_of cycle.now }
+{
+    found_family(cycle.edges()).unwrap_or(Family::Other)
+}
+
+/// Makes `out` the name of a cycle, whatever it held: two cycles have one name exactly where they
+/// are the same, each a rotation of the other.
+///
+/// The name of a cycle of a family is the family's word alone where all its links are plain
+/// program order; else the word of the links and an `s` where they are all alike; else the word of
+/// each. Of the rotations that fit the family, the one counts whose list of words comes first. Every
+/// other cycle is named `C+` and the words of the edges of its normal form, joined by `-`.
+pub fn name_of(cycle: &Cycle, out: &mut ArrayString<MAX_NAME>)
+    ensures { out.new.bytes ≡ name_of cycle.now }
+{
+    name_and_rotation(cycle, out);
+}
+
+/// Makes `out` the name of a cycle, and gives the rotation of the cycle that it is named from.
+pub fn name_and_rotation(cycle: &Cycle, out: &mut ArrayString<MAX_NAME>) -> Cycle
+    ensures name { out.new.bytes ≡ name_of cycle.now }
+    ensures rotation { result ≡ named_rotation cycle.now }
+{
+    out.clear();
+    match named_fit(cycle.edges()) {
+        Some(fit) => {
+            let rotation = cycle.rotate(fit.place as u8);
+            out.push_str(fit.family.word());
+            push_links(rotation.edges(), out);
+            rotation
+        }
+        None => {
+            let rotation = cycle.least();
+            out.push_str("C+");
+            push_words(rotation.edges(), out);
+            rotation
+        }
+    }
+}

@@ -1,0 +1,268 @@
+ghost use Rattle.std.specs.Prelude.{◌≡◌, ◌+◌, ◌-◌, ◌≤◌, ◌&&◌, ◌==◌, [], codes, length, take, drop, MatchResult, cond};
+ghost use Rattle.std.specs.List.{position_or_len, slice_split};
+ghost use Rattle.std.specs.Str.{bytes_eq};
+ghost use Rattle.std.specs.Result.{result_ok};
+ghost use Rattle.relax_edges.specs.Relaxations.{is_same};
+ghost use Rattle.cycle_names.specs.Families.{family_edges};
+ghost use Rattle.cycle_names.specs.Rotations.{named_rotation};
+ghost use Rattle.cycle_names.specs.Names.{name_of};
+ghost use Rattle.cycle_names.specs.Reading.{begins_with, named_family, is_link, link_with, slot_with, first_word, behind_word, but_last, filled_alike, filled_each, filled, is_dash, edges_spelled, words_read, edges_read, Adds};
+ghost use Rattle.cycle_names.specs.Laws.{are_of_arch, IsNamed, NamesNone};
+
+use crate::family::{FAMILIES, Family};
+use crate::link::{link_word, slot_rank};
+use crate::name::{MAX_NAME, name_and_rotation};
+use arrayvec::{ArrayString, ArrayVec};
+use edge_algebra::{Cycle, cycle};
+use relax_edges::{ArchName, EDGES, Edge, MAX_EDGES, read_edge_bytes};
+use thiserror::Error;
+
+type Edges = ArrayVec<Edge, MAX_EDGES>;
+
+/// No cycle of the architecture has this name.
+#[derive(Clone, Copy, Debug, PartialEq, Eq, Error)]
+#[error("no cycle of the architecture has this name")]
+pub struct NotAName;
+
+/// The cycle of an architecture that has this name, in the rotation that it is named from.
+/// `NotAName` comes exactly where no cycle whose edges are all of the architecture has this name.
+pub fn cycle_of(name: &str, arch: ArchName) -> Result<Cycle, NotAName>
+    ensures { MatchResult result (λ c. IsNamed name.now arch c) (λ _. NamesNone name.now arch) }
+{
+    let mut edges = Edges::new();
+    read_edges(name.as_bytes(), &mut edges)?;
+    match cycle(edges.as_slice()) {
+        Err(_) => Err(NotAName),
+        Ok(found) => {
+            if has_name(&found, name) && are_of_arch(found.edges(), arch) {
+                Ok(found)
+            } else {
+                Err(NotAName)
+            }
+        }
+    }
+}
+
+/// Whether a cycle has this name, and is named from the very rotation that it is.
+fn has_name(cycle: &Cycle, name: &str) -> bool
+    ensures { result ≡ (bytes_eq (name_of cycle.now) name.now && is_same (named_rotation cycle.now) cycle.now) }
+{
+    let mut text = ArrayString::<MAX_NAME>::new();
+    let rotation = name_and_rotation(cycle, &mut text);
+    text.as_str() == name && rotation == *cycle
+}
+
+/// Whether all edges are of an architecture.
+fn are_of_arch(edges: &[Edge], arch: ArchName) -> bool
+    ensures { result ≡ are_of_arch arch edges.now }
+{
+    match edges {
+        [] => true,
+        [edge, rest @ ..] => edge.of_arch(arch) && are_of_arch(rest, arch),
+    }
+}
+
+/// Adds the edges that a text would name.
+fn read_edges(text: &[u8], edges: &mut Edges) -> Result<(), NotAName>
+    requires { edges.old.items ≡ [] }
+    ensures { Adds (edges_read text.now) edges.old.items edges.new.items result }
+{
+    match named_family(FAMILIES.as_slice(), text) {
+        Some(family) => {
+            let slots = slots_of(family);
+            let (_, links) = text.split_at(family.word().len());
+            fill(slots.as_slice(), links, edges)
+        }
+        None => read_other(text, edges),
+    }
+}
+
+/// The first of some families whose name a text is, or goes on with `+` behind.
+fn named_family(families: &[Family], text: &[u8]) -> Option<Family>
+    ensures { result ≡ named_family families.now text.now }
+{
+    match families {
+        [] => None,
+        [family, rest @ ..] => {
+            if begins_with(family.word().as_bytes(), text) {
+                Some(*family)
+            } else {
+                named_family(rest, text)
+            }
+        }
+    }
+}
+
+/// Whether a text is a word, or goes on with `+` behind it.
+fn begins_with(word: &[u8], text: &[u8]) -> bool
+    ensures { result ≡ begins_with word.now text.now }
+{
+    match word {
+        [] => match text {
+            [] => true,
+            [byte, ..] => *byte == b'+',
+        },
+        [first, word_left @ ..] => match text {
+            [] => false,
+            [byte, text_left @ ..] => first == byte && begins_with(word_left, text_left),
+        },
+    }
+}
+
+/// The edges of a family's cycle.
+fn slots_of(family: Family) -> Edges
+    ensures { result.items ≡ family_edges family }
+{
+    let mut slots = Edges::new();
+    for rank in family.ranks() {
+        slots.push(Edge::at_rank(*rank));
+    }
+    slots
+}
+
+/// Adds the edges of slots, with the links of which a name tells.
+fn fill(slots: &[Edge], links: &[u8], edges: &mut Edges) -> Result<(), NotAName>
+    requires { length edges.old.items + length slots.now ≤ MAX_EDGES }
+    ensures { Adds (filled slots.now links.now) edges.old.items edges.new.items result }
+{
+    match links {
+        [] => fill_alike(slots, b"po", edges),
+        [_, words @ ..] => {
+            if words.contains(&b'+') {
+                fill_each(slots, links, edges)
+            } else {
+                fill_alike(slots, but_last(words), edges)
+            }
+        }
+    }
+}
+
+fn but_last(text: &[u8]) -> &[u8]
+    ensures { result.now ≡ but_last text.now }
+{
+    match text {
+        [] => text,
+        [front @ .., _] => front,
+    }
+}
+
+/// Adds the edges of slots, the links with this word.
+fn fill_alike(slots: &[Edge], word: &[u8], edges: &mut Edges) -> Result<(), NotAName>
+    requires { length edges.old.items + length slots.now ≤ MAX_EDGES }
+    ensures { Adds (filled_alike slots.now word.now) edges.old.items edges.new.items result }
+{
+    match slots {
+        [] => Ok(()),
+        [slot, rest @ ..] => {
+            edges.push(edge_with(*slot, word)?);
+            fill_alike(rest, word, edges)
+        }
+    }
+}
+
+/// Adds the edges of slots, the links with these words, each behind a `+`.
+fn fill_each(slots: &[Edge], links: &[u8], edges: &mut Edges) -> Result<(), NotAName>
+    requires { length edges.old.items + length slots.now ≤ MAX_EDGES }
+    ensures { Adds (filled_each slots.now links.now) edges.old.items edges.new.items result }
+{
+    match slots {
+        [] => Ok(()),
+        [slot, rest @ ..] => {
+            if slot.is_diff() {
+                let (word, behind) = split_word(links);
+                edges.push(link_with(*slot, word)?);
+                fill_each(rest, behind, edges)
+            } else {
+                edges.push(*slot);
+                fill_each(rest, links, edges)
+            }
+        }
+    }
+}
+
+/// The word behind the first byte of a text, up to the next `+`, and the text from there on.
+fn split_word(text: &[u8]) -> (&[u8], &[u8])
+    ensures word { result.0.now ≡ first_word text.now }
+    ensures behind { result.1.now ≡ behind_word text.now }
+{
+    match text {
+        [] => (text, text),
+        [_, words @ ..] => words.split_at(len_before(b'+', words)),
+    }
+}
+
+/// How many bytes a text has before the first of this value, or all where there is none.
+fn len_before(byte: u8, text: &[u8]) -> usize
+    ensures value { result ≡ position_or_len (λ b. b == byte) text.now }
+    ensures within { result ≤ length text.now }
+{
+    match text {
+        [] => 0,
+        [first, rest @ ..] => {
+            if *first == byte {
+                0
+            } else {
+                1 + len_before(byte, rest)
+            }
+        }
+    }
+}
+
+/// The edge of a slot: itself, or if it is a link the one with this word.
+fn edge_with(slot: Edge, word: &[u8]) -> Result<Edge, NotAName>
+    ensures { result_ok result ≡ slot_with slot word.now }
+{
+    if slot.is_diff() {
+        link_with(slot, word)
+    } else {
+        Ok(slot)
+    }
+}
+
+/// The link that joins what a slot joins, with this word.
+fn link_with(slot: Edge, word: &[u8]) -> Result<Edge, NotAName>
+    ensures { result_ok result ≡ link_with slot word.now }
+{
+    for rank in 0..EDGES {
+        let edge = Edge::at_rank(rank);
+        if is_link(slot, word, edge) {
+            return Ok(edge);
+        }
+    }
+    Err(NotAName)
+}
+
+fn is_link(slot: Edge, word: &[u8], edge: Edge) -> bool
+    ensures { result ≡ is_link slot word.now edge }
+{
+    edge.is_diff() && slot_rank(edge) == slot.rank() && link_word(edge).as_bytes() == word
+}
+
+/// Adds the edges whose words a text has behind `C+`, joined by `-`.
+fn read_other(text: &[u8], edges: &mut Edges) -> Result<(), NotAName>
+    requires { edges.old.items ≡ [] }
+    ensures { Adds (words_read text.now) edges.old.items edges.new.items result }
+{
+    match text {
+        [b'C', b'+', words @ ..] => read_words(words, edges),
+        _ => Err(NotAName),
+    }
+}
+
+/// Adds the edges whose words a text has, joined by `-`.
+fn read_words(text: &[u8], edges: &mut Edges) -> Result<(), NotAName>
+    ensures { Adds (edges_spelled (slice_split is_dash text.now)) edges.old.items edges.new.items result }
+{
+    let (word, behind) = text.split_at(len_before(b'-', text));
+    let Ok(edge) = read_edge_bytes(word) else {
+        return Err(NotAName);
+    };
+    if edges.is_full() {
+        return Err(NotAName);
+    }
+    edges.push(edge);
+    match behind {
+        [] => Ok(()),
+        [_, words @ ..] => read_words(words, edges),
+    }
+}

@@ -1,0 +1,143 @@
+ghost use Rattle.std.specs.Prelude.{◌≡◌, ◌+◌, ◌*◌, ◌≤◌, ◌++◌, ◌||◌, not, length, codes};
+ghost use Rattle.std.specs.List.{find, flat_map, list_all, join_by};
+ghost use Rattle.std.specs.Str.{bytes_eq};
+ghost use Rattle.relax_edges.specs.EdgeTable.{is_diff};
+ghost use Rattle.relax_edges.specs.Words.{word_of};
+ghost use Rattle.cycle_names.specs.Links.{link_word, link_words};
+ghost use Rattle.cycle_names.specs.Names.{links_text};
+ghost use Rattle.cycle_names.specs.Fitting.{link_text};
+
+use crate::link::{link_rank, link_word};
+use crate::name::MAX_NAME;
+use arrayvec::ArrayString;
+use relax_edges::{Dir, Edge, MAX_EDGES, Sd};
+
+type Name = ArrayString<MAX_NAME>;
+
+/// A link of plain program order.
+const PLAIN: Edge = Edge::Po {
+    sd: Sd::Diff,
+    from: Dir::R,
+    to: Dir::R,
+};
+
+/// Adds what a name of a family has behind the family's word.
+pub(crate) fn push_links(edges: &[Edge], name: &mut Name)
+    requires few { length edges.now ≤ MAX_EDGES }
+    requires room { length name.old.bytes ≤ 16 }
+    ensures { name.new.bytes ≡ name.old.bytes ++ links_text (link_words edges.now) }
+{
+    let Some(link) = first_link(edges) else {
+        return;
+    };
+    if are_alike(PLAIN, edges) {
+        return;
+    }
+    if are_alike(link, edges) {
+        push_link(link, name);
+        name.push_str("s");
+        return;
+    }
+    push_each(edges, name);
+}
+
+/// The first link of a list of edges.
+fn first_link(edges: &[Edge]) -> Option<Edge>
+    ensures { result ≡ find is_diff edges.now }
+{
+    match edges {
+        [] => None,
+        [edge, rest @ ..] => {
+            if edge.is_diff() {
+                Some(*edge)
+            } else {
+                first_link(rest)
+            }
+        }
+    }
+}
+
+/// Whether the links of a list of edges all have the word of this one.
+#[tactic(auto, using(crate::proofs::Texts::all_links_cons))]
+fn are_alike(link: Edge, edges: &[Edge]) -> bool
+    ensures { result ≡ list_all (bytes_eq (link_word link)) (link_words edges.now) }
+{
+    match edges {
+        [] => true,
+        [edge, rest @ ..] => is_alike(link, *edge) && are_alike(link, rest),
+    }
+}
+
+/// Whether an edge is no link, or has the word of this one.
+#[tactic(auto, using(crate::proofs::Tables::link_words_equal))]
+fn is_alike(link: Edge, edge: Edge) -> bool
+    ensures { result ≡ (not (is_diff edge) || bytes_eq (link_word link) (link_word edge)) }
+{
+    !edge.is_diff() || link_rank(link) == link_rank(edge)
+}
+
+/// Adds the word of an edge behind a `+`, if the edge is a link.
+fn push_link(edge: Edge, name: &mut Name)
+    requires { length name.old.bytes + 12 ≤ MAX_NAME }
+    ensures text { name.new.bytes ≡ name.old.bytes ++ link_text edge }
+    ensures short { length name.new.bytes ≤ length name.old.bytes + 12 }
+{
+    if edge.is_diff() {
+        name.push_str("+");
+        name.push_str(link_word(edge));
+    }
+}
+
+/// Adds the word of each link, behind a `+`.
+fn push_each(edges: &[Edge], name: &mut Name)
+    requires { length name.old.bytes + 12 * length edges.now ≤ MAX_NAME }
+    ensures { name.new.bytes ≡ name.old.bytes ++ flat_map link_text edges.now }
+{
+    match edges {
+        [] => {}
+        [edge, rest @ ..] => {
+            push_link(*edge, name);
+            push_each(rest, name);
+        }
+    }
+}
+
+/// Adds the words of some edges, joined by `-`.
+pub(crate) fn push_words(edges: &[Edge], name: &mut Name)
+    requires few { length edges.now ≤ MAX_EDGES }
+    requires room { length name.old.bytes ≤ 16 }
+    ensures { name.new.bytes ≡ name.old.bytes ++ join_by word_of (codes "-") edges.now }
+{
+    match edges {
+        [] => {}
+        [edge, rest @ ..] => {
+            push_word(*edge, name);
+            push_dashed(rest, name);
+        }
+    }
+}
+
+fn push_word(edge: Edge, name: &mut Name)
+    requires { length name.old.bytes + 14 ≤ MAX_NAME }
+    ensures text { name.new.bytes ≡ name.old.bytes ++ word_of edge }
+    ensures short { length name.new.bytes ≤ length name.old.bytes + 14 }
+{
+    let mut word: ArrayString<16> = ArrayString::new();
+    edge.word(&mut word);
+    name.push_str(word.as_str());
+}
+
+/// Adds the word of each edge, behind a `-`.
+fn push_dashed(edges: &[Edge], name: &mut Name)
+    requires { length name.old.bytes + 15 * length edges.now ≤ MAX_NAME }
+    ensures { name.new.bytes ≡ name.old.bytes ++ flat_map (λ edge. codes "-" ++ word_of edge) edges.now }
+{
+    match edges {
+        [] => {}
+        [edge, rest @ ..] => {
+            name.push_str("-");
+            push_word(*edge, name);
+            push_dashed(rest, name);
+        }
+    }
+}
