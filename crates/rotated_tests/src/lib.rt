@@ -1,7 +1,7 @@
-//! Rotations of a cycle have tests alike: all of them are accepted, or none, and which of them have the same test.
+//! Rotations of a cycle: they are accepted alike, and those that begin alike have tests of the same text.
 #![tactic(auto)]
 
-ghost use Rattle.rotated_tests.specs.Alike.{AcceptedAlike, SameText};
+ghost use Rattle.rotated_tests.specs.Alike.{AcceptedAlike, TurnedAlike, SameText};
 
 use arch_trait::Arch;
 
@@ -10,8 +10,16 @@ pub fn accepted_alike<A: Arch>()
     ensures { AcceptedAlike A.puts }
 {}
 
-/// The test of a cycle is that of the turn of it whose last edge is the first to lead to another
-/// thread. So is the test of each turn that begins in the last thread of that one.
+/// Threads are counted in the first turn of a cycle whose last edge leads to another thread. That
+/// turn is its own first such turn, and it is so for exactly itself and the turns of it that begin
+/// at an event of its last thread other than the first.
+#[tactic(auto, using(crate::proofs::Beginning::turned_alike))]
+pub fn turned_alike()
+    ensures { TurnedAlike }
+{}
+
+/// On every architecture, the test of a cycle has the text of the test of the turn in which its
+/// threads are counted, and so has the test of every other turn that begins alike.
 pub fn same_text<A: Arch>()
-    ensures { SameText A.puts }
+    ensures { SameText A.puts A.writing }
 {}
