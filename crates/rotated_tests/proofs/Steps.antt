@@ -1,13 +1,13 @@
 -- Each thread of the test of a turned cycle has the shape of a thread of the cycle's test.
-use Rattle.std.proofs.Common.{◌≡◌, ℕ, ◌+◌, ◌<◌, Bool, true, ◌==◌, List, ◌++◌, length, map, Some, slice_get, refl, sym, ◌∙◌, ap, subst, eq-eqb}
-use Rattle.std.specs.List.{AllByRecursion, count_by}
+use Rattle.std.proofs.Common.{◌≡◌, ℕ, ◌+◌, ◌<◌, true, ◌==◌, List, length, map, Some, slice_get, refl, sym, ◌∙◌, ap, subst, eq-eqb}
+use Rattle.std.specs.List.{count_by}
 use Rattle.std.specs.Prelude.{if◌then◌else◌}
 use Rattle.relax_edges.specs.declared.kinds.ObsMode.{ObsMode}
 use Rattle.relax_edges.specs.declared.edge.Edge.{Edge}
 use Rattle.relax_edges.specs.EdgeTable.{source_of}
 use Rattle.list_laws.specs.Numbers.{upto}
 use Rattle.list_laws.proofs.Ranks.{rank_upto}
-use Rattle.cycle_resolve.specs.Resolution.{external_count, edge_at, ends_outside, event_before, events_in, move_count, slot_of, IsResolved}
+use Rattle.cycle_resolve.specs.Resolution.{external_count, edge_at, event_before, events_in, move_count, slot_of, IsResolved}
 use Rattle.coherence_values.specs.Values.{is_observed, write_count}
 use Rattle.arch_trait.specs.declared.link.Link.TheVariants.{Plain}
 use Rattle.arch_trait.specs.declared.step.Step.{Step}
@@ -21,7 +21,7 @@ use Rattle.test_laws.proofs.StepsAt.{by_steps, observer_steps_at, thread_steps_a
 use Rattle.rotated_tests.proofs.Alike.{Alike, ThreadFrom}
 use Rattle.rotated_tests.proofs.Parts.{events_below}
 use Rattle.rotated_tests.proofs.Shapes.{StepAlike, shape_alike}
-use Rattle.rotated_tests.proofs.Values.{SpotFrom, entered_alike, located_alike, observed_alike, spot_from}
+use Rattle.rotated_tests.proofs.Values.{entered_alike, located_alike, observed_alike, spot_from}
 
 -- the events of the two lists make accesses alike
 link_alike : (es fs : List Edge) (to : ℕ → ℕ) (i : ℕ) → Alike es fs to → i < length es → event_link fs (to i) ≡ event_link es i

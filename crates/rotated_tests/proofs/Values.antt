@@ -1,7 +1,6 @@
 -- Cycles with the same events have the same values, writes and observers.
-use Rattle.std.proofs.Common.{◌≡◌, ℕ, zero, suc, ◌+◌, ◌-◌, ◌<◌, ◌≤◌, Bool, true, false, ◌==◌, ◌&&◌, cond, List, length, Option, Some, None, nat_lt, refl, sym, ◌∙◌, ap, arith, add-one, subst}
+use Rattle.std.proofs.Common.{◌≡◌, ℕ, zero, suc, ◌+◌, ◌-◌, ◌<◌, ◌≤◌, true, false, ◌==◌, ◌&&◌, cond, List, length, Option, Some, None, nat_lt, refl, sym, ◌∙◌, ap, arith, add-one, subst}
 use Rattle.std.specs.Prelude.{nat_le}
-use Rattle.std.specs.List.{list_any}
 use Rattle.std.specs.Option.{is_some}
 use Rattle.std.proofs.lemmas.Bool.{eq-eqb, ne_eqb}
 use Rattle.relax_edges.specs.declared.kinds.Dir.TheVariants as dirs
@@ -10,9 +9,9 @@ use Rattle.relax_edges.specs.declared.kinds.ObsMode.TheVariants.{Accept, Avoid, 
 use Rattle.relax_edges.specs.declared.edge.Edge.{Edge}
 use Rattle.relax_edges.specs.EdgeTable.{source_of, same_dir, is_external, is_diff}
 use Rattle.list_laws.specs.Numbers.{upto}
-use Rattle.list_laws.proofs.Cases.{by_test, by_less, by_same}
+use Rattle.list_laws.proofs.Cases.{by_test, by_same}
 use Rattle.list_laws.proofs.Finds.{any_upto, any_upto_none, any_upto_passing}
-use Rattle.cycle_resolve.specs.Resolution.{move_count, edge_at, event_before, event_after, location_of, moves_before, IsResolved}
+use Rattle.cycle_resolve.specs.Resolution.{move_count, edge_at, event_before, event_after, location_of, IsResolved}
 use Rattle.cycle_resolve.proofs.Locations.{location_first}
 use Rattle.cycle_resolve.proofs.Arcs.{leaving, location_below, several_locations}
 use Rattle.cycle_resolve.proofs.Around.{by_after, after_below, after_before, before_after, before_below, moves_within}
@@ -20,7 +19,7 @@ use Rattle.coherence_values.specs.Values.{edge_into, is_write_at, value_of, writ
 use Rattle.coherence_values.specs.Arc.{inner_entry}
 use Rattle.coherence_values.proofs.Along.{is_write, value_after, value_at_end}
 use Rattle.coherence_values.proofs.Entries.{inner_found, no_inner_entry, no_need_more}
-use Rattle.rotated_tests.proofs.Alike.{Alike, Comes}
+use Rattle.rotated_tests.proofs.Alike.{Alike}
 
 -- from a number up to another below n
 climb : (P : ℕ → Type 0) (n m k : ℕ) → ((i : ℕ) → i + 1 < n → P i → P (i + 1)) → P m → m + k < n → P (m + k)
