@@ -1,6 +1,7 @@
 -- What rotations of a cycle have in common: whether they are accepted, and where they begin alike, the text of their test.
 -- Source: own.
 use Rattle.std.specs.Prelude.{◌≡◌, ◌↔◌, ◌⊎◌, ℕ, ◌+◌, ◌<◌, true, List, length, None}
+use Rattle.std.specs.Option.{option_map}
 use Rattle.relax_edges.specs.declared.kinds.ObsMode.{ObsMode}
 use Rattle.relax_edges.specs.declared.edge.Edge.{Edge}
 use Rattle.walk_laws.specs.Composable.{IsCycle}
@@ -10,6 +11,8 @@ use Rattle.arch_trait.specs.Threads.{Puts}
 use Rattle.arch_trait.specs.Writing.{Writing, name_in}
 use Rattle.litmus_text.specs.TestText.{test_text}
 use Rattle.test_laws.specs.TestOf.{test_of}
+use Rattle.test_maker.specs.declared.refusal.MakeRefusal.{MakeRefusal}
+use Rattle.test_maker.specs.declared.refusal.MakeRefusal.TheVariants as refusals
 use Rattle.test_maker.specs.Made.{shown}
 use Rattle.test_maker.specs.Refusals.{refusal_of}
 
@@ -17,6 +20,19 @@ use Rattle.test_maker.specs.Refusals.{refusal_of}
 abbrev pub AcceptedAlike : Puts → Type 0
 AcceptedAlike a =
     (es fs : List Edge) (mode : ObsMode) → IsCycle es → IsRotation es fs → (refusal_of a es mode ≡ None) ↔ (refusal_of a fs mode ≡ None)
+
+-- the kind of a reason: the reason without the numbers of the edge, location, event or thread that it names
+abbrev pub kind_of : MakeRefusal → MakeRefusal
+kind_of (refusals.NotOfArch at) = refusals.NotOfArch 0
+kind_of refusals.TooFewThreads = refusals.TooFewThreads
+kind_of refusals.CoherenceOnly = refusals.CoherenceOnly
+kind_of (refusals.NeedsObserver location event) = refusals.NeedsObserver 0 0
+kind_of (refusals.TooManyRegisters thread) = refusals.TooManyRegisters 0
+
+-- a cycle is refused for a reason of the same kind as each rotation of it, where it is refused
+abbrev pub RefusedAlike : Puts → Type 0
+RefusedAlike a =
+    (es fs : List Edge) (mode : ObsMode) → IsCycle es → IsRotation es fs → option_map kind_of (refusal_of a es mode) ≡ option_map kind_of (refusal_of a fs mode)
 
 -- es is the turn of a list that begins at an event of its last thread, but not at the first of that thread
 pub record BeginsInside (us es : List Edge) : Type 0 where

@@ -1,13 +1,19 @@
 //! Rotations of a cycle: they are accepted alike, and those that begin alike have tests of the same text.
 #![tactic(auto)]
 
-ghost use Rattle.rotated_tests.specs.Alike.{AcceptedAlike, TurnedAlike, SameText};
+ghost use Rattle.rotated_tests.specs.Alike.{AcceptedAlike, RefusedAlike, TurnedAlike, SameText};
 
 use arch_trait::Arch;
 
 /// On every architecture, a cycle is accepted in a mode exactly where each rotation of it is.
 pub fn accepted_alike<A: Arch>()
     ensures { AcceptedAlike A.puts }
+{}
+
+/// Where it is refused, it is for a reason of the same kind. The edge, location, event or thread
+/// that the reason names may be another.
+pub fn refused_alike<A: Arch>()
+    ensures { RefusedAlike A.puts }
 {}
 
 /// Threads are counted in the first turn of a cycle whose last edge leads to another thread. That

@@ -1,4 +1,4 @@
-use Rattle.rotated_tests.proofs.Accepted.{accepted_alike}
+use Rattle.rotated_tests.proofs.Refused.{accepted_alike}
 use Rattle.rotated_tests.proofs.accepted_alike.Goals as goal
 
 pub returns : goal.returns
