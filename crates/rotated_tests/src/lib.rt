@@ -10,15 +10,15 @@ pub fn accepted_alike<A: Arch>()
     ensures { AcceptedAlike A.puts }
 {}
 
-/// Where it is refused, it is for a reason of the same kind. The edge, location, event or thread
-/// that the reason names may be another.
+/// On every architecture, a cycle that is refused in a mode is refused for a reason of the same kind
+/// as each rotation of it. The edge, location, event or thread that the reason names may be another.
 pub fn refused_alike<A: Arch>()
     ensures { RefusedAlike A.puts }
 {}
 
-/// Threads are counted in the first turn of a cycle whose last edge leads to another thread. That
-/// turn is its own first such turn, and it is so for exactly itself and the turns of it that begin
-/// at an event of its last thread other than the first.
+/// Threads are counted in the turned list, the first turn of a cycle whose last edge leads to another
+/// thread. It is the turned list of itself, of its turns that begin at an event of its last thread
+/// other than the first, and of no other list.
 #[tactic(auto, using(crate::proofs::Beginning::turned_alike))]
 pub fn turned_alike()
     ensures { TurnedAlike }
