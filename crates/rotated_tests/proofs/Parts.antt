@@ -1,0 +1,159 @@
+-- Two lists of edges joined: the edges, the threads and the moves of the first, and then those of the second.
+use Rattle.std.proofs.Common.{◌≡◌, ℕ, zero, suc, ◌+◌, ◌-◌, ◌<◌, ◌≤◌, Bool, true, false, ◌==◌, cond, List, [], ◌∷◌, ◌++◌, length, take, map, refl, sym, ◌∙◌, ap, arith, length-append, eq-eqb, append_assoc}
+use Rattle.std.specs.List.{AllByRecursion, filter}
+use Rattle.std.proofs.lemmas.List.{append-nil, take-append-le, get_or_append_left, get_or-append-add}
+use Rattle.std.proofs.lemmas.List.Elements.{filter-append}
+use Rattle.std.proofs.lemmas.List.Sums.{sum_by-append}
+use Rattle.std.proofs.lemmas.Bool.{ne_eqb, cond-false}
+use Rattle.relax_edges.specs.declared.kinds.Reach.TheVariants.{Internal}
+use Rattle.relax_edges.specs.declared.kinds.Com.TheVariants.{Rf}
+use Rattle.relax_edges.specs.declared.edge.Edge.{Edge}
+use Rattle.relax_edges.specs.declared.edge.Edge.TheVariants as edges
+use Rattle.relax_edges.specs.EdgeTable.{is_external, is_diff}
+use Rattle.list_laws.specs.Numbers.{upto}
+use Rattle.list_laws.proofs.Cases.{by_test, by_same}
+use Rattle.list_laws.proofs.Parts.{take-append-add}
+use Rattle.cycle_resolve.specs.Resolution.{external_count, move_count, edge_at, ends_outside, thread_of, moves_before, events_in}
+use Rattle.cycle_resolve.proofs.Threads.{thread_up, thread_out, thread_end}
+use Rattle.cycle_resolve.proofs.Locations.{ends_with}
+use Rattle.test_laws.proofs.Everywhere.{all_joined}
+
+pub external_count-append : (a b : List Edge) → external_count (a ++ b) ≡ external_count a + external_count b
+external_count-append a b = sum_by-append (λ x. cond (is_external x) 1 0) a b
+
+pub move_count-append : (a b : List Edge) → move_count (a ++ b) ≡ move_count a + move_count b
+move_count-append a b = sum_by-append (λ x. cond (is_diff x) 1 0) a b
+
+pub edge_first : (a b : List Edge) (i : ℕ) → i < length a → edge_at (a ++ b) i ≡ edge_at a i
+edge_first a b i h = get_or_append_left a b (edges.Com Rf Internal) i h
+
+pub edge_second : (a b : List Edge) (i : ℕ) → edge_at (a ++ b) (length a + i) ≡ edge_at b i
+edge_second a b i = get_or-append-add a b i (edges.Com Rf Internal)
+
+pub thread_first : (a b : List Edge) (i : ℕ) → i ≤ length a → thread_of (a ++ b) i ≡ thread_of a i
+unfolding thread_of
+thread_first a b i h = ap external_count (take-append-le i a b h)
+
+pub thread_second : (a b : List Edge) (i : ℕ) → i ≤ length b → thread_of (a ++ b) (length a + i) ≡ external_count a + thread_of b i
+unfolding thread_of
+thread_second a b i h = ap external_count (take-append-add a b i h) ∙ external_count-append a (take i b)
+
+pub moves_first : (a b : List Edge) (i : ℕ) → i ≤ length a → moves_before (a ++ b) i ≡ moves_before a i
+unfolding moves_before
+moves_first a b i h = ap move_count (take-append-le i a b h)
+
+pub moves_second : (a b : List Edge) (i : ℕ) → i ≤ length b → moves_before (a ++ b) (length a + i) ≡ move_count a + moves_before b i
+unfolding moves_before
+moves_second a b i h = ap move_count (take-append-add a b i h) ∙ move_count-append a (take i b)
+
+-- all threads of a part have ended at its end
+unfoldable pub Ended : List Edge → Type 0
+Ended a = (i : ℕ) → i < length a → thread_of a i < external_count a
+
+ended_outside : (a : List Edge) → ends_outside a ≡ true → Ended a
+unfolding Ended
+ended_outside a h i l =
+    let e : length a ≡ (length a - 1) + 1 = omega arith in
+    let last : is_external (edge_at a (length a - 1)) ≡ true = sym (ends_with a (length a - 1) e) ∙ h in
+    omega (arith, thread_up a i (length a - 1) (omega arith) (omega arith), thread_out a (length a - 1) (omega arith) last, ap (thread_of a) e, thread_end a)
+
+ended_none : Ended []
+unfolding Ended
+ended_none i l = absurd (omega arith)
+
+-- the last edge of a list with some edges behind
+pub outside_behind : (a : List Edge) (e : Edge) (b : List Edge) → ends_outside (a ++ e ∷ b) ≡ ends_outside (e ∷ b)
+outside_behind [] e b = refl
+outside_behind (x ∷ []) e b = refl
+outside_behind (x ∷ y ∷ a) e b = outside_behind (y ∷ a) e b
+
+pub ended_back : (a b : List Edge) → ends_outside (a ++ b) ≡ true → Ended b
+ended_back a [] h = ended_none
+ended_back a (e ∷ b) h = ended_outside (e ∷ b) (sym (outside_behind a e b) ∙ h)
+
+pub ended_below : (a : List Edge) (i : ℕ) → Ended a → i < length a → thread_of a i < external_count a
+unfolding Ended
+ended_below a i ended h = ended i h
+
+-- the numbers that pass a test, of those below m and then of n more
+filter_upto_none : (p : ℕ → Bool) (n : ℕ) → ((i : ℕ) → i < n → p i ≡ false) → filter p (upto n) ≡ []
+filter_upto_none p zero h = refl
+filter_upto_none p (suc n) h =
+    filter-append p (upto n) (n ∷ [])
+    ∙ ap (λ l. l ++ filter p (n ∷ [])) (filter_upto_none p n (λ i l. h i (omega arith)))
+    ∙ cond-false (p n) (n ∷ []) [] (h n (omega arith))
+
+filter_upto_same : (p q : ℕ → Bool) (n : ℕ) → ((i : ℕ) → i < n → p i ≡ q i) → filter p (upto n) ≡ filter q (upto n)
+filter_upto_same p q zero h = refl
+filter_upto_same p q (suc n) h =
+    filter-append p (upto n) (n ∷ [])
+    ∙ ap (λ l. l ++ filter p (n ∷ [])) (filter_upto_same p q n (λ i l. h i (omega arith)))
+    ∙ ap (λ b. filter q (upto n) ++ cond b (n ∷ []) []) (h n (omega arith))
+    ∙ sym (filter-append q (upto n) (n ∷ []))
+
+upto-add : (m n : ℕ) → upto (m + n) ≡ upto m ++ map (λ i. m + i) (upto n)
+upto-add m zero = let e : m + 0 ≡ m = omega arith in rw e (sym (append-nil (upto m)))
+upto-add m (suc n) =
+    let e : m + suc n ≡ suc (m + n) = omega arith in
+    ap upto e
+    ∙ ap (λ l. l ++ (m + n) ∷ []) (upto-add m n)
+    ∙ append_assoc (upto m) (map (λ i. m + i) (upto n)) ((m + n) ∷ [])
+    ∙ ap (λ l. upto m ++ l) (sym (map-push (λ i. m + i) (upto n) n))
+  where
+    map-push : (f : ℕ → ℕ) (xs : List ℕ) (x : ℕ) → map f (xs ++ x ∷ []) ≡ map f xs ++ f x ∷ []
+    map-push f [] x = refl
+    map-push f (y ∷ xs) x = ap (λ l. f y ∷ l) (map-push f xs x)
+
+filter_shifted : (p : ℕ → Bool) (m : ℕ) (xs : List ℕ) → filter p (map (λ i. m + i) xs) ≡ map (λ i. m + i) (filter (λ i. p (m + i)) xs)
+filter_shifted p m [] = refl
+filter_shifted p m (x ∷ xs) =
+    by_test (p (m + x))
+    (λ t. rw (t, filter_shifted p m xs) refl)
+    (λ f. rw f (filter_shifted p m xs))
+
+filter_upto-add : (p : ℕ → Bool) (m n : ℕ) → filter p (upto (m + n)) ≡ filter p (upto m) ++ map (λ i. m + i) (filter (λ i. p (m + i)) (upto n))
+filter_upto-add p m n =
+    ap (filter p) (upto-add m n)
+    ∙ filter-append p (upto m) (map (λ i. m + i) (upto n))
+    ∙ ap (λ l. filter p (upto m) ++ l) (filter_shifted p m (upto n))
+
+-- the events of a thread of the first part, and of one of the second
+pub events_first : (a b : List Edge) (k : ℕ) → k < external_count a → events_in (a ++ b) k ≡ events_in a k
+unfolding events_in
+events_first a b k h =
+    let p : ℕ → Bool = λ i. thread_of (a ++ b) i == k in
+    ap (λ n. filter p (upto n)) (length-append a b)
+    ∙ filter_upto-add p (length a) (length b)
+    ∙ ap (λ l. filter p (upto (length a)) ++ map (λ i. length a + i) l)
+    (filter_upto_none (λ i. p (length a + i)) (length b) (λ i l. ne_eqb (thread_of (a ++ b) (length a + i)) k (λ e. omega (arith, e, thread_second a b i (omega arith), h))))
+    ∙ append-nil (filter p (upto (length a)))
+    ∙ filter_upto_same p (λ i. thread_of a i == k) (length a) (λ i l. ap (λ t. t == k) (thread_first a b i (omega arith)))
+
+same_shifted : (c x y : ℕ) → (c + x == c + y) ≡ (x == y)
+same_shifted c x y =
+    by_same x y
+    (λ e. eq-eqb (c + x) (c + y) (ap (λ n. c + n) e) ∙ sym (eq-eqb x y e))
+    (λ d. ne_eqb (c + x) (c + y) (λ e. d (omega (arith, e))) ∙ sym (ne_eqb x y d))
+
+pub events_second : (a b : List Edge) (k : ℕ) → Ended a → events_in (a ++ b) (external_count a + k) ≡ map (λ i. length a + i) (events_in b k)
+unfolding events_in
+events_second a b k ended =
+    let p : ℕ → Bool = λ i. thread_of (a ++ b) i == external_count a + k in
+    ap (λ n. filter p (upto n)) (length-append a b)
+    ∙ filter_upto-add p (length a) (length b)
+    ∙ ap (λ l. l ++ map (λ i. length a + i) (filter (λ i. p (length a + i)) (upto (length b))))
+    (filter_upto_none p (length a) (λ i l. ne_eqb (thread_of (a ++ b) i) (external_count a + k) (λ e. omega (arith, e, thread_first a b i (omega arith), ended_below a i ended l))))
+    ∙ ap (map (λ i. length a + i)) (filter_upto_same (λ i. p (length a + i)) (λ i. thread_of b i == k) (length b)
+    (λ i l. ap (λ t. t == external_count a + k) (thread_second a b i (omega arith)) ∙ same_shifted (external_count a) (thread_of b i) k))
+
+-- the events of a thread are numbers below the length
+filter_upto_below : (p : ℕ → Bool) (n m : ℕ) → n ≤ m → AllByRecursion (λ i. i < m) (filter p (upto n))
+filter_upto_below p zero m h = tt
+filter_upto_below p (suc n) m h =
+    rw (filter-append p (upto n) (n ∷ []))
+    (all_joined (λ i. i < m) (filter p (upto n)) (filter p (n ∷ [])) (filter_upto_below p n m (omega arith))
+    (by_test (p n) (λ t. rw t (omega arith, tt)) (λ f. rw f tt)))
+
+pub events_below : (es : List Edge) (k : ℕ) → AllByRecursion (λ i. i < length es) (events_in es k)
+unfolding events_in
+events_below es k = filter_upto_below (λ i. thread_of es i == k) (length es) (length es) (omega arith)

@@ -1,0 +1,5 @@
+use Rattle.rotated_tests.proofs.Refused.{refused_alike}
+use Rattle.rotated_tests.proofs.refused_alike.Goals as goal
+
+pub returns : goal.returns
+returns g c = refused_alike g.A.Arch.puts

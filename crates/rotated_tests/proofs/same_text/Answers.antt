@@ -1,0 +1,5 @@
+use Rattle.rotated_tests.proofs.Texts.{same_text}
+use Rattle.rotated_tests.proofs.same_text.Goals as goal
+
+pub returns : goal.returns
+returns g c = same_text g.A.Arch.puts g.A.Arch.writing
