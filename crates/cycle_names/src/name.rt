@@ -49,7 +49,7 @@ pub fn name_and_rotation(cycle: &Cycle, out: &mut ArrayString<MAX_NAME>) -> Cycl
         None => {
             let rotation = cycle.least();
             out.push_str("C+");
-            push_words(rotation.edges(), out);
+            push_words(rotation.edges(), "-", out);
             rotation
         }
     }

@@ -102,17 +102,18 @@ fn push_each(edges: &[Edge], name: &mut Name)
     }
 }
 
-/// Adds the words of some edges, joined by `-`.
-pub(crate) fn push_words(edges: &[Edge], name: &mut Name)
+/// Adds the words of some edges, joined by a byte, to a text of at most 16 bytes.
+pub fn push_words(edges: &[Edge], between: &str, name: &mut Name)
     requires few { length edges.now ≤ MAX_EDGES }
+    requires one { length between.now ≡ 1 }
     requires room { length name.old.bytes ≤ 16 }
-    ensures { name.new.bytes ≡ name.old.bytes ++ join_by word_of (codes "-") edges.now }
+    ensures { name.new.bytes ≡ name.old.bytes ++ join_by word_of between.now edges.now }
 {
     match edges {
         [] => {}
         [edge, rest @ ..] => {
             push_word(*edge, name);
-            push_dashed(rest, name);
+            push_behind(rest, between, name);
         }
     }
 }
@@ -127,17 +128,18 @@ fn push_word(edge: Edge, name: &mut Name)
     name.push_str(word.as_str());
 }
 
-/// Adds the word of each edge, behind a `-`.
-fn push_dashed(edges: &[Edge], name: &mut Name)
-    requires { length name.old.bytes + 15 * length edges.now ≤ MAX_NAME }
-    ensures { name.new.bytes ≡ name.old.bytes ++ flat_map (λ edge. codes "-" ++ word_of edge) edges.now }
+/// Adds the word of each edge, behind a byte.
+fn push_behind(edges: &[Edge], between: &str, name: &mut Name)
+    requires one { length between.now ≡ 1 }
+    requires room { length name.old.bytes + 15 * length edges.now ≤ MAX_NAME }
+    ensures { name.new.bytes ≡ name.old.bytes ++ flat_map (λ edge. between.now ++ word_of edge) edges.now }
 {
     match edges {
         [] => {}
         [edge, rest @ ..] => {
-            name.push_str("-");
+            name.push_str(between);
             push_word(*edge, name);
-            push_dashed(rest, name);
+            push_behind(rest, between, name);
         }
     }
 }

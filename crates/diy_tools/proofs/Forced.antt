@@ -1,7 +1,8 @@
 -- Where a test is printed, its bytes force the cycle.
 use Rattle.std.proofs.Common.{◌≡◌, ℕ, Bool, true, false, cond, not, nat_lt, nat_le, List, [], ◌∷◌, ◌++◌, length, Option, Some, None, refl, sym, ap, subst, arith, Ok, Err, ◌∙◌}
 use Rattle.std.specs.Char.{is_ascii_alphanumeric}
-use Rattle.std.specs.Prelude.{Result, ◌==◌, ◌&&◌, ◌||◌, if◌then◌else◌}
+use Rattle.std.specs.Option.{option_or}
+use Rattle.std.specs.Prelude.{IfSome, Result, ◌==◌, ◌&&◌, ◌||◌, if◌then◌else◌}
 use Rattle.std.specs.List.{list_all, position_from}
 use Rattle.std.proofs.lemmas.Bool.{and_parts, ltb-false}
 use Rattle.std.proofs.lemmas.Bool.Decides.{nat_tests}
@@ -37,7 +38,10 @@ use Rattle.litmus_text.specs.Wrote.{SinkSeen}
 use Rattle.litmus_text.proofs.CutBack.{weaker}
 use Rattle.diy_words.specs.declared.usage.Usage.{Usage}
 use Rattle.diy_words.specs.Names.{is_name, is_name_byte}
-use Rattle.diy_words.specs.Requests.{Asked, asked_of}
+use Rattle.diy_words.specs.Requests.{Asked, TestAsked, AsksTest, AsksName, asked_of}
+use Rattle.cycle_names.specs.Names as cycles
+use Rattle.cycle_names.specs.Names.{name_of}
+use Rattle.cycle_names.proofs.NameLaws.{names_of_cycles}
 use Rattle.diy_words.proofs.NameForm.{asked_form}
 use Rattle.test_maker.specs.declared.refusal.MakeRefusal.{MakeRefusal}
 use Rattle.test_maker.specs.Refusals.{refusal_of}
@@ -49,8 +53,8 @@ use Rattle.diy_tools.specs.declared.status.Refusal.TheVariants as refusals
 use Rattle.diy_tools.specs.declared.status.Status.{Status}
 use Rattle.diy_tools.specs.declared.status.Status.TheVariants as statuses
 use Rattle.diy_tools.specs.Machines.{Machine, machine_of}
-use Rattle.diy_tools.specs.Refused.{refused_of, refused_of_arch, refused_composed, refused_making}
-use Rattle.diy_tools.specs.Answers.{AnswersEdges, Answers, AnswersAsked, WherePrinted, ForcesAsked, PrintedForces, cycle_text}
+use Rattle.diy_tools.specs.Refused.{refused_list, refused_of, refused_of_arch, refused_composing, refused_making}
+use Rattle.diy_tools.specs.Answers.{AnswersEdges, Answers, AnswersAsked, WherePrinted, ForcesAsked, PrintedForces, cycle_text, test_name}
 
 -- what the law over the bytes asks of an architecture
 record KeepsLaws (m : Machine) : Type 0 where
@@ -91,27 +95,33 @@ record IsAccepted (a : Puts) (mode : ObsMode) (es : List Edge) : Type 0 where
   is_cycle : IsCycle es
   unrefused : refusal_of a es mode ≡ None
 
+either_none : (a b : Option Refusal) → option_or a b ≡ None → (a ≡ None) × (b ≡ None)
+either_none None b h = (refl, h)
+either_none (Some x) b h = cc h
+
+makes_cycle : (arch : ArchName) (es : List Edge) → refused_list arch es ≡ None → IsCycle es
+makes_cycle arch [] h = cc h
+makes_cycle arch (e ∷ es) h = of_size (nat_lt 24 (length (e ∷ es))) refl (position_from (λ u. not (is_of_arch u arch)) 0 (e ∷ es)) h
+  where
+    of_break : (b : Option ℕ) → first_break ((e ∷ es) ++ e ∷ []) ≡ b → nat_lt 24 (length (e ∷ es)) ≡ false → refused_composing (unbroken (e ∷ es) b) ≡ None → IsCycle (e ∷ es)
+    of_break (Some at) s f h = cc h
+    of_break None s f h = unbroken_cycle (e ∷ es) e refl (ltb-false 24 (length (e ∷ es)) f) s
+
+    of_size : (b : Bool) → nat_lt 24 (length (e ∷ es)) ≡ b → (foreign : Option ℕ) → (if b then Some refusals.TooLong else refused_of_arch (e ∷ es) foreign) ≡ None → IsCycle (e ∷ es)
+    of_size true f foreign h = cc h
+    of_size false f (Some at) h = cc h
+    of_size false f None h =
+        of_break (first_break ((e ∷ es) ++ e ∷ [])) refl f
+        (sym (ap (λ b. refused_composing (cond b (Err composing.TooLong) (unbroken (e ∷ es) (first_break ((e ∷ es) ++ e ∷ []))))) f) ∙ h)
+
 accepted : (a : Puts) (mode : ObsMode) (es : List Edge) → refused_of a mode es ≡ None → IsAccepted a mode es
-accepted a mode [] h = cc
-accepted a mode (e ∷ es) h = of_size (nat_lt 24 (length (e ∷ es))) refl (position_from (λ u. not (is_of_arch u a.name)) 0 (e ∷ es)) h
+accepted a mode es h =
+    let both = either_none (refused_list a.name es) (refused_making (refusal_of a es mode)) h in
+    record { is_cycle = makes_cycle a.name es both.0; unrefused = none_made (refusal_of a es mode) both.1 }
   where
     none_made : (reason : Option MakeRefusal) → refused_making reason ≡ None → reason ≡ None
     none_made None h = refl
-    none_made (Some reason) h = cc
-
-    of_break : (b : Option ℕ) → first_break ((e ∷ es) ++ e ∷ []) ≡ b → nat_lt 24 (length (e ∷ es)) ≡ false → refused_composed a mode (unbroken (e ∷ es) b) ≡ None → IsAccepted a mode (e ∷ es)
-    of_break (Some at) s f h = cc
-    of_break None s f h = record {
-      is_cycle = unbroken_cycle (e ∷ es) e refl (ltb-false 24 (length (e ∷ es)) f) s;
-      unrefused = none_made (refusal_of a (e ∷ es) mode) h;
-    }
-
-    of_size : (b : Bool) → nat_lt 24 (length (e ∷ es)) ≡ b → (foreign : Option ℕ) → (if b then Some refusals.TooLong else refused_of_arch a mode (e ∷ es) foreign) ≡ None → IsAccepted a mode (e ∷ es)
-    of_size true f foreign h = cc
-    of_size false f (Some at) h = cc
-    of_size false f None h =
-        of_break (first_break ((e ∷ es) ++ e ∷ [])) refl f
-        (sym (ap (λ b. refused_composed a mode (cond b (Err composing.TooLong) (unbroken (e ∷ es) (first_break ((e ∷ es) ++ e ∷ []))))) f) ∙ h)
+    none_made (Some reason) h = cc h
 
 -- a byte of a name as words give it
 name_byte : (b : ℕ) → is_name_byte b ≡ true → printable.is_name_byte b ≡ true
@@ -131,6 +141,16 @@ named_so name h =
     let inner = and_parts (nat_lt 0 (length name)) (nat_le (length name) 800) outer.0 in
     record { some = grind (arith, nat_tests, inner.0); short = inner.1; bytes = weaker is_name_byte printable.is_name_byte name_byte name outer.1 }
 
+-- so has the name of a cycle
+cycle_named_so : (es : List Edge) → IsCycle es → IsTestName (name_of es)
+cycle_named_so es whole =
+    let name = names_of_cycles es whole in
+    record { some = name.some; short = name.short; bytes = weaker cycles.is_name_byte printable.is_name_byte name_byte (name_of es) name.bytes }
+
+test_named_so : (name : Option (List ℕ)) (es : List Edge) → IsCycle es → IfSome name (λ name. is_name name ≡ true) → IsTestName (test_name name es)
+test_named_so (Some name) es whole h = named_so name h
+test_named_so None es whole h = cycle_named_so es whole
+
 -- what is answered of words whose test is printed
 pub answers_force : {Sink : Type 0} (seen : Sink → SinkSeen) (words : List (List ℕ)) (status : Status) (old new : Sink) → Answers seen words status old new → PrintedForces words status
 unfolding cycle_text
@@ -145,20 +165,22 @@ answers_force {Sink} seen words status old new h = of_asked (asked_of words) ref
     where_printed said (statuses.Refused _) h = tt
     where_printed said (statuses.Usage _ _) h = tt
 
-    forced : (asked : Asked) → asked_of words ≡ Ok asked → refused_of (machine_of asked.arch).puts asked.mode asked.edges ≡ None
-        → BytesForce (machine_of asked.arch).puts.name (machine_of asked.arch).writing (cycle_text (machine_of asked.arch) asked.mode asked.name asked.edges) (turned asked.edges) asked.mode
+    forced : (asked : TestAsked) → asked_of words ≡ Ok (AsksTest asked) → refused_of (machine_of asked.arch).puts asked.mode asked.edges ≡ None
+        → BytesForce (machine_of asked.arch).puts.name (machine_of asked.arch).writing (cycle_text (machine_of asked.arch) asked.mode (test_name asked.name asked.edges) asked.edges) (turned asked.edges) asked.mode
     forced asked e none =
         let m = machine_of asked.arch in
         let keeps = keeps_laws asked.arch in
         let whole = accepted m.puts asked.mode asked.edges none in
-        printed_force m.puts m.puts.name m.writing asked.name (turned asked.edges) asked.mode keeps.laws keeps.back keeps.cells keeps.one (named_so asked.name (asked_form words asked e))
+        printed_force m.puts m.puts.name m.writing (test_name asked.name asked.edges) (turned asked.edges) asked.mode keeps.laws keeps.back keeps.cells keeps.one
+        (test_named_so asked.name asked.edges whole.is_cycle (asked_form words (AsksTest asked) e))
         (accepted_has_test m.puts asked.edges asked.mode whole.is_cycle whole.unrefused)
 
-    of_refused : (asked : Asked) → asked_of words ≡ Ok asked → (refused : Option Refusal) → refused_of (machine_of asked.arch).puts asked.mode asked.edges ≡ refused
-        → AnswersEdges seen refused (cycle_text (machine_of asked.arch) asked.mode asked.name asked.edges) status old new → ForcesAsked (Ok asked) status
+    of_refused : (asked : TestAsked) → asked_of words ≡ Ok (AsksTest asked) → (refused : Option Refusal) → refused_of (machine_of asked.arch).puts asked.mode asked.edges ≡ refused
+        → AnswersEdges seen refused (cycle_text (machine_of asked.arch) asked.mode (test_name asked.name asked.edges) asked.edges) status old new → ForcesAsked (Ok (AsksTest asked)) status
     of_refused asked e (Some refusal) r h = refused_says _ refusal status h.0
     of_refused asked e None r h = where_printed _ status (forced asked e r)
 
     of_asked : (asked : Result Asked Usage) → asked_of words ≡ asked → AnswersAsked seen asked status old new → ForcesAsked asked status
     of_asked (Err usage) e h = tt
-    of_asked (Ok asked) e h = of_refused asked e (refused_of (machine_of asked.arch).puts asked.mode asked.edges) refl h
+    of_asked (Ok (AsksName asked)) e h = tt
+    of_asked (Ok (AsksTest asked)) e h = of_refused asked e (refused_of (machine_of asked.arch).puts asked.mode asked.edges) refl h

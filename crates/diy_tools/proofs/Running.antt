@@ -14,7 +14,14 @@ use Rattle.diy_io.specs.declared.errors.Failed.{Failed}
 use Rattle.diy_io.specs.Count.{Rose}
 use Rattle.diy_io.specs.Sink.{Told, Grew, GrewByPrefix}
 use Rattle.litmus_text.specs.Wrote.{SinkSeen, sink_seen}
+use Rattle.diy_words.specs.declared.request.EdgeList.{EdgeList}
 use Rattle.diy_words.specs.declared.request.EdgeList.TheVariants.{Whole, TooLong}
+use Rattle.diy_words.specs.declared.request.Sought.{Sought}
+use Rattle.diy_words.specs.declared.request.Sought.TheVariants as sought
+use Rattle.diy_words.specs.Requests.{OfEdges, OfName}
+use Rattle.diy_words.specs.Requests as words
+use Rattle.diy_words.specs.Given.{IsSought}
+use Rattle.relax_edges.specs.declared.kinds.ArchName.{ArchName}
 use Rattle.diy_words.specs.Edges.{kept}
 use Rattle.litmus_text.specs.declared.test.Test.{Test}
 use Rattle.test_maker.specs.declared.refusal.MakeRefusal.{MakeRefusal}
@@ -25,9 +32,9 @@ use Rattle.diy_tools.specs.declared.status.Refusal.{Refusal}
 use Rattle.diy_tools.specs.declared.status.Refusal.TheVariants as refusals
 use Rattle.test_maker.specs.Made as made
 use Rattle.diy_tools.specs.Machines.{Machine}
-use Rattle.diy_tools.specs.Refused.{refused_of, refused_of_arch, refused_composed, refused_making, making_refusal, composing_refusal}
+use Rattle.diy_tools.specs.Refused.{refused_list, refused_of, refused_of_arch, refused_making, making_refusal, composing_refusal}
 use Rattle.diy_tools.specs.Report.{RefusesLocation}
-use Rattle.diy_tools.specs.Answers.{AnswersEdges, TakesLine, refused_kept, edges_kept, cycle_text, MakesTestOf}
+use Rattle.diy_tools.specs.Answers.{AnswersEdges, AnswersName, AnswersKept, AnswersSought, TakesLine, refused_kept, refused_edges, edges_kept, test_name, name_line, cycle_text, MakesCycle}
 
 by_test : {G : Type 0} (b : Bool) → (b ≡ true → G) → (b ≡ false → G) → G
 by_test true t f = t refl
@@ -43,16 +50,17 @@ pub takes_line : (a b : Told) (m n : ℕ) (line : List ℕ) (result : Answer)
 takes_line a b m n line (Ok _) grew part none rose falls = inl (record { grew = grew; no_fault = none })
 takes_line a b m n line (Err _) grew part none rose falls = inr (record { grew = part; fault = rose; never_falls = falls })
 
--- edges as they are kept are answered as those that were given
-pub kept_answered : {Sink : Type 0} (seen : Sink → SinkSeen) (m : Machine) (mode : ObsMode) (name : List ℕ) (es : List Edge) (status : Status) (old new : Sink)
-    → AnswersEdges seen (refused_kept m mode (kept es)) (cycle_text m mode name (edges_kept (kept es))) status old new
-    → AnswersEdges seen (refused_of m.puts mode es) (cycle_text m mode name es) status old new
-kept_answered seen m mode name [] status old new h = h
-kept_answered seen m mode name (e ∷ es) status old new h =
+-- edges as they are kept are refused as those that were given, and a list of them that is kept whole is theirs
+record IsKeptSo (list : EdgeList) (es : List Edge) : Type 0 where
+  refused : (arch : ArchName) → refused_edges arch list ≡ refused_list arch es
+  same : (list ≡ TooLong → ⊥) → edges_kept list ≡ es
+
+kept_so : (es : List Edge) → IsKeptSo (kept es) es
+kept_so [] = record { refused = λ arch. refl; same = λ h. refl }
+kept_so (e ∷ es) =
     by_test (nat_le (length (e ∷ es)) 24)
-    (λ t. subst (λ k. AnswersEdges seen (refused_kept m mode k) (cycle_text m mode name (edges_kept k)) status old new) (kept_whole (e ∷ es) t) h)
-    (λ f. subst (λ r. AnswersEdges seen r (cycle_text m mode name (e ∷ es)) status old new) (sym (refused_long e es f))
-    (subst (λ k. AnswersEdges seen (refused_kept m mode k) (cycle_text m mode name (edges_kept k)) status old new) (kept_long (e ∷ es) f) h))
+    (λ t. subst (λ k. IsKeptSo k (e ∷ es)) (sym (kept_whole (e ∷ es) t)) (record { refused = λ arch. refl; same = λ h. refl }))
+    (λ f. subst (λ k. IsKeptSo k (e ∷ es)) (sym (kept_long (e ∷ es) f)) (record { refused = λ arch. sym (refused_long arch f); same = λ h. absurd (h refl) }))
   where
     kept_whole : (us : List Edge) → nat_le (length us) 24 ≡ true → kept us ≡ Whole (record { items = us })
     kept_whole us t = ap (λ b. if b then Whole (record { items = us }) else TooLong) t
@@ -63,13 +71,57 @@ kept_answered seen m mode name (e ∷ es) status old new h =
     long : (n : ℕ) → nat_le n 24 ≡ false → nat_lt 24 n ≡ true
     long n f = grind (arith, nat_tests)
 
-    refused_long : (e : Edge) (es : List Edge) → nat_le (length (e ∷ es)) 24 ≡ false → refused_of m.puts mode (e ∷ es) ≡ Some refusals.TooLong
-    refused_long e es f =
-        ap (λ b. if b then Some refusals.TooLong else refused_of_arch m.puts mode (e ∷ es) (position_from (λ e. not (is_of_arch e m.puts.name)) 0 (e ∷ es)))
+    refused_long : (arch : ArchName) → nat_le (length (e ∷ es)) 24 ≡ false → refused_list arch (e ∷ es) ≡ Some refusals.TooLong
+    refused_long arch f =
+        ap (λ b. if b then Some refusals.TooLong else refused_of_arch (e ∷ es) (position_from (λ e. not (is_of_arch e arch)) 0 (e ∷ es)))
         (long (length (e ∷ es)) f)
 
+-- what is answered of edges that are kept is answered of those that were given
+edges_answered : {Sink : Type 0} (seen : Sink → SinkSeen) (list : EdgeList) (es : List Edge) (last : List Edge → Option Refusal) (text : List Edge → List ℕ) (arch : ArchName) (status : Status) (old new : Sink)
+    → IsKeptSo list es
+    → AnswersEdges seen (option_or (refused_edges arch list) (last (edges_kept list))) (text (edges_kept list)) status old new
+    → AnswersEdges seen (option_or (refused_list arch es) (last es)) (text es) status old new
+edges_answered seen (Whole list) es last text arch status old new k h =
+    subst (λ us. AnswersEdges seen (option_or (refused_list arch us) (last us)) (text us) status old new) (k.same (λ e. cc e)) h
+edges_answered seen TooLong es last text arch status old new k h =
+    subst (λ r. AnswersEdges seen (option_or r (last es)) (text es) status old new) (k.refused arch) h
+
+pub kept_answered : {Sink : Type 0} (seen : Sink → SinkSeen) (m : Machine) (mode : ObsMode) (name : Option (List ℕ)) (es : List Edge) (status : Status) (old new : Sink)
+    → AnswersEdges seen (refused_kept m mode (kept es)) (cycle_text m mode (test_name name (edges_kept (kept es))) (edges_kept (kept es))) status old new
+    → AnswersEdges seen (refused_of m.puts mode es) (cycle_text m mode (test_name name es) es) status old new
+kept_answered seen m mode name es status old new h =
+    edges_answered seen (kept es) es (λ us. refused_making (refusal_of m.puts us mode)) (λ us. cycle_text m mode (test_name name us) us) m.puts.name status old new (kept_so es) h
+
+or_nothing : {X : Type 0} (a : Option X) → option_or a None ≡ a
+or_nothing None = refl
+or_nothing (Some x) = refl
+
+names_answered : {Sink : Type 0} (seen : Sink → SinkSeen) (arch : ArchName) (es : List Edge) (status : Status) (old new : Sink)
+    → AnswersEdges seen (refused_edges arch (kept es)) (name_line (edges_kept (kept es))) status old new
+    → AnswersEdges seen (refused_list arch es) (name_line es) status old new
+names_answered seen arch es status old new h =
+    subst (λ r. AnswersEdges seen r (name_line es) status old new) (or_nothing (refused_list arch es))
+    (edges_answered seen (kept es) es (λ us. None) name_line arch status old new (kept_so es)
+    (subst (λ r. AnswersEdges seen r (name_line (edges_kept (kept es))) status old new) (sym (or_nothing (refused_edges arch (kept es)))) h))
+
+-- what is answered of a cycle that is sought, as it is kept, is answered of the one that was asked for
+pub sought_answered : {Sink : Type 0} (seen : Sink → SinkSeen) (arch : ArchName) (cycle : Sought) (asked : words.Sought) (status : Status) (old new : Sink)
+    → IsSought cycle asked → AnswersKept seen arch cycle status old new → AnswersSought seen arch asked status old new
+sought_answered seen arch (sought.Edges list) (OfEdges es) status old new same h =
+    names_answered seen arch es status old new (subst (λ l. AnswersEdges seen (refused_edges arch l) (name_line (edges_kept l)) status old new) same h)
+sought_answered seen arch (sought.Edges list) (OfName at name) status old new same h = absurd same
+sought_answered seen arch (sought.Named source) (OfEdges es) status old new same h = absurd same
+sought_answered seen arch (sought.Named source) (OfName at name) status old new same h =
+    subst (λ n. AnswersName seen arch at n status old new) same.1
+    (subst (λ a. AnswersName seen arch a source.name.now status old new) same.0 h)
+
+-- an architecture by its two names
+pub named_refused : (a b : ArchName) (list : EdgeList) (result : Result (List Edge) Refusal) → a ≡ b
+    → MakesCycle (refused_edges b list) (edges_kept list) result → MakesCycle (refused_edges a list) (edges_kept list) result
+named_refused a b list result same h = subst (λ n. MakesCycle (refused_edges n list) (edges_kept list) result) (sym same) h
+
 -- a cycle that edges make is those edges
-composed_is : (es u : List Edge) → composed es ≡ Ok u → u ≡ es
+pub composed_is : (es u : List Edge) → composed es ≡ Ok u → u ≡ es
 composed_is [] u e = cc e
 composed_is (x ∷ es) u e = whole (nat_lt 24 (length (x ∷ es))) (first_break ((x ∷ es) ++ x ∷ [])) (x ∷ es) u e
   where
@@ -77,13 +129,6 @@ composed_is (x ∷ es) u e = whole (nat_lt 24 (length (x ∷ es))) (first_break 
     whole true o us v h = cc h
     whole false None us v h = cc h
     whole false (Some at) us v h = cc h
-
--- the test of a cycle is that of the edges that make it
-pub composed_test : (m : Machine) (mode : ObsMode) (es u : List Edge) (result : Result Test Refusal) → composed es ≡ Ok u
-    → MakesTestOf m mode u (refused_making (refusal_of m.puts u mode)) result → MakesTestOf m mode es (refused_composed m.puts mode (composed es)) result
-composed_test m mode es u result e h =
-    subst (λ r. MakesTestOf m mode es (refused_composed m.puts mode r) result) (sym e)
-    (subst (λ v. MakesTestOf m mode v (refused_making (refusal_of m.puts u mode)) result) (composed_is es u e) h)
 
 -- a refusal of the maker names a location that a test can have
 pub making_located : (refusal : MakeRefusal) → made.NamesLocation refusal → RefusesLocation (making_refusal refusal)

@@ -2,7 +2,9 @@
 -- Source: own, after the refusals of diy.
 use Rattle.std.specs.Prelude.{ℕ, not, nat_lt, if◌then◌else◌, List, [], ◌∷◌, length, Option, Some, None, Result, Ok, Err}
 use Rattle.std.specs.List.{position_from}
+use Rattle.std.specs.Option.{option_or}
 use Rattle.relax_edges.specs.declared.TheConstants.{MAX_EDGES}
+use Rattle.relax_edges.specs.declared.kinds.ArchName.{ArchName}
 use Rattle.relax_edges.specs.declared.kinds.ObsMode.{ObsMode}
 use Rattle.relax_edges.specs.declared.edge.Edge.{Edge}
 use Rattle.relax_edges.specs.EdgeTable.{is_of_arch}
@@ -35,20 +37,24 @@ abbrev pub refused_making : Option MakeRefusal → Option Refusal
 refused_making (Some reason) = Some (making_refusal reason)
 refused_making None = None
 
--- what is refused of edges that compose to a cycle or don't
-abbrev pub refused_composed : Puts → ObsMode → Result (List Edge) CycleError → Option Refusal
-refused_composed a mode (Err error) = Some (composing_refusal error)
-refused_composed a mode (Ok cycle) = refused_making (refusal_of a cycle mode)
+-- what composing refuses, if anything
+abbrev pub refused_composing : Result (List Edge) CycleError → Option Refusal
+refused_composing (Err error) = Some (composing_refusal error)
+refused_composing (Ok cycle) = None
 
 -- what is refused of a list of edges of which none, or the one at a place, isn't of the architecture
-abbrev pub refused_of_arch : Puts → ObsMode → List Edge → Option ℕ → Option Refusal
-refused_of_arch a mode edges (Some at) = Some (refusals.NotOfArch at)
-refused_of_arch a mode edges None = refused_composed a mode (composed edges)
+abbrev pub refused_of_arch : List Edge → Option ℕ → Option Refusal
+refused_of_arch edges (Some at) = Some (refusals.NotOfArch at)
+refused_of_arch edges None = refused_composing (composed edges)
+
+-- the first reason why a list of edges makes no cycle of an architecture
+abbrev pub refused_list : ArchName → List Edge → Option Refusal
+refused_list arch [] = Some refusals.Empty
+refused_list arch (edge ∷ edges) =
+    if nat_lt MAX_EDGES (length (edge ∷ edges))
+    then Some refusals.TooLong
+    else refused_of_arch (edge ∷ edges) (position_from (λ e. not (is_of_arch e arch)) 0 (edge ∷ edges))
 
 -- the first reason why a list of edges is refused, on an architecture in a mode
 abbrev pub refused_of : Puts → ObsMode → List Edge → Option Refusal
-refused_of a mode [] = Some refusals.Empty
-refused_of a mode (edge ∷ edges) =
-    if nat_lt MAX_EDGES (length (edge ∷ edges))
-    then Some refusals.TooLong
-    else refused_of_arch a mode (edge ∷ edges) (position_from (λ e. not (is_of_arch e a.name)) 0 (edge ∷ edges))
+refused_of a mode edges = option_or (refused_list a.name edges) (refused_making (refusal_of a edges mode))

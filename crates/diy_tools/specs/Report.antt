@@ -40,6 +40,8 @@ usage_text usages.UnknownArch = codes "UnknownArch"
 usage_text usages.BadMode = codes "BadMode"
 usage_text usages.BadName = codes "BadName"
 usage_text usages.UnknownEdge = codes "UnknownEdge"
+usage_text usages.UnknownName = codes "UnknownName"
+usage_text usages.StrayWord = codes "StrayWord"
 usage_text usages.MissingArch = codes "MissingArch"
 usage_text usages.NotBuilt = codes "NotBuilt"
 

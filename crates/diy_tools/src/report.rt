@@ -68,6 +68,8 @@ fn usage_name(kind: UsageKind) -> &'static [u8]
         UsageKind::BadMode => b"BadMode",
         UsageKind::BadName => b"BadName",
         UsageKind::UnknownEdge => b"UnknownEdge",
+        UsageKind::UnknownName => b"UnknownName",
+        UsageKind::StrayWord => b"StrayWord",
         UsageKind::MissingArch => b"MissingArch",
         UsageKind::NotBuilt => b"NotBuilt",
     }

@@ -186,7 +186,7 @@ added_whole list (edge ∷ edges) h =
     (λ e. rw e (added_whole (list ++ edge ∷ []) edges (room_left list edge e) ∙ ap kept (append_assoc list (edge ∷ []) edges)))
     (λ e. rw e (added_too_long edges ∙ sym (kept_many (list ++ edge ∷ edges) (room_passed list edge edges e))))
 
-kept_test : (request : Request) (arch : ArchName) (name : List ℕ) (mode : ObsMode) (edges : List Edge) →
+kept_test : (request : Request) (arch : ArchName) (name : Option (List ℕ)) (mode : ObsMode) (edges : List Edge) →
     shown_request request ≡ KeepsTest (record { arch = arch; name = name; mode = mode; edges = added (Whole (record { items = [] })) edges }) →
     IsKept request (AsksTest (record { arch = arch; name = name; mode = mode; edges = edges }))
 kept_test (requests.Name request) arch name mode edges h = cc h
@@ -223,11 +223,9 @@ gives_test : (count : ℕ) (request : Result Request Usage) (arch : Option ArchN
     shown request ≡ keeps KeepsTest (finished count arch name mode (added (Whole (record { items = [] })) edges)) → Gives request (asks AsksTest (asked_with count arch name mode edges))
 gives_test count (Ok request) None name mode edges h = cc h
 gives_test count (Err usage) None name mode edges h = cc h
-gives_test count (Ok request) (Some arch) None mode edges h = cc h
-gives_test count (Err usage) (Some arch) None mode edges h = cc h
-gives_test count (Ok request) (Some arch) (Some name) mode edges h =
+gives_test count (Ok request) (Some arch) name mode edges h =
     let k = kept_test request arch name mode (edges) (ok_is _ _ h) in k
-gives_test count (Err usage) (Some arch) (Some name) mode edges h = cc h
+gives_test count (Err usage) (Some arch) name mode edges h = cc h
 
 gives_name : (count : ℕ) (request : Result Request Usage) (arch : Option ArchName) (from : Option (ℕ × List ℕ)) (operand : Option ℕ) (edges : List Edge) →
     shown request ≡ keeps KeepsName (named count arch from operand (added (Whole (record { items = [] })) edges)) → Gives request (asks AsksName (named_with count arch from operand edges))

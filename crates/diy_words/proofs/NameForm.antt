@@ -1,6 +1,7 @@
 -- The name of a request has the form of a name.
 use Rattle.std.proofs.Common.{◌≡◌, ℕ, Bool, true, false, List, [], ◌∷◌, map, Option, Some, None, Result, Ok, Err, refl, sym, subst, length}
-use Rattle.std.specs.Prelude.{if◌then◌else◌, IfOk}
+use Rattle.std.specs.Prelude.{if◌then◌else◌, IfOk, IfSome}
+use Rattle.std.specs.Option.{option_map}
 use Rattle.std.specs.List.{AllByRecursion}
 use Rattle.relax_edges.specs.declared.edge.Edge.{Edge}
 use Rattle.relax_edges.specs.declared.kinds.ArchName.{ArchName}
@@ -16,6 +17,7 @@ use Rattle.diy_words.specs.Names.{is_name}
 use Rattle.diy_words.specs.Edges.{operand_edges}
 use Rattle.diy_words.specs.Parts.{Part, Operand, Valued, Unvalued, parts_of, tool_named, arch_named, mode_named}
 use Rattle.diy_words.specs.Requests.{Said, SaysArch, SaysName, SaysMode, SaysFrom, SaysEdges, Asked, AsksTest, AsksName, NameAsked, fault, said_by, said_first, said_all, arch_said, mode_said, edges_said, begins_option, or_later, last_given, arch_in, name_in, mode_in, mode_or_accept, edges_given, asks, asked_with, asked_for, norm_asked, tool_asked, asked_of}
+use Rattle.arrayvec.specs.ArrayString.{ArrayString}
 use Rattle.diy_words.specs.Given.{Gives, NamesTest}
 
 -- a name that is said has its form
@@ -94,7 +96,7 @@ given_form (said ∷ rest) name h e = of_later said h.0 (last_given name_in rest
 
 -- the name of a test that words ask for has its form
 abbrev pub IsNamedSo : Asked → Type 0
-IsNamedSo (AsksTest asked) = is_name asked.name ≡ true
+IsNamedSo (AsksTest asked) = IfSome asked.name (λ name. is_name name ≡ true)
 IsNamedSo (AsksName asked) = Unit {0}
 
 abbrev AskedSo : Result Asked Usage → Type 0
@@ -134,8 +136,12 @@ asked_form words asked e = subst (λ (a : Result Asked Usage). AskedSo a) e (wor
 pub request_form : (words : List (List ℕ)) (result : Result Request Usage) → Gives result (asked_of words) → IfOk result NamesTest
 request_form words result h = of_asked result (asked_of words) (words_form words) h
   where
+    named_so : (name : Option ArrayString) → IfSome (option_map (λ (name : ArrayString). name.bytes) name) (λ name. is_name name ≡ true) → IfSome name (λ name. is_name name.bytes ≡ true)
+    named_so None h = tt
+    named_so (Some name) h = h
+
     of_asked : (result : Result Request Usage) (asked : Result Asked Usage) → AskedSo asked → Gives result asked → IfOk result NamesTest
-    of_asked (Ok (requests.Test request)) (Ok (AsksTest asked)) e h = subst (λ name. is_name name ≡ true) (sym h.1) e
+    of_asked (Ok (requests.Test request)) (Ok (AsksTest asked)) e h = named_so request.name (subst (λ (name : Option (List ℕ)). IfSome name (λ name. is_name name ≡ true)) (sym h.1) e)
     of_asked (Ok (requests.Test request)) (Ok (AsksName asked)) e h = absurd h
     of_asked (Ok (requests.Name request)) asked e h = tt
     of_asked (Ok (requests.Test request)) (Err usage) e h = absurd h

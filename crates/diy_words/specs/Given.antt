@@ -1,5 +1,5 @@
 -- What words have said so far, as it is held while they are read.
-use Rattle.std.specs.Prelude.{ℕ, ◌≡◌, ◌<◌, true, List, [], ◌∷◌, map, drop, slice_get, Option, Some, None, Result, Ok, Err}
+use Rattle.std.specs.Prelude.{ℕ, ◌≡◌, ◌<◌, true, IfSome, List, [], ◌∷◌, map, drop, slice_get, Option, Some, None, Result, Ok, Err}
 use Rattle.std.specs.Option.{option_map, option_or}
 use Rattle.relax_edges.specs.declared.kinds.ArchName.{ArchName}
 use Rattle.relax_edges.specs.declared.kinds.ObsMode.{ObsMode}
@@ -75,7 +75,7 @@ IsSought (sought.Named from) (OfName at name) = (from.word ≡ at) × (from.name
 -- the request as it is kept
 abbrev pub IsKept : Request → Asked → Type 0
 IsKept (requests.Test request) (AsksTest asked) =
-    (request.arch ≡ asked.arch) × (request.name.bytes ≡ asked.name) × (request.mode ≡ asked.mode) × (request.edges ≡ kept asked.edges)
+    (request.arch ≡ asked.arch) × (option_map (λ name. name.bytes) request.name ≡ asked.name) × (request.mode ≡ asked.mode) × (request.edges ≡ kept asked.edges)
 IsKept (requests.Test request) (AsksName asked) = ⊥
 IsKept (requests.Name request) (AsksTest asked) = ⊥
 IsKept (requests.Name request) (AsksName asked) = (request.arch ≡ asked.arch) × IsSought request.cycle asked.cycle
@@ -87,9 +87,9 @@ Gives (Ok request) (Err usage) = ⊥
 Gives (Err usage) (Ok asked) = ⊥
 Gives (Err usage) (Err fault) = usage ≡ fault
 
--- the name of a test that is asked for has its form
+-- the name of a test that is asked for, if one is given, has its form
 abbrev pub NamesTest : Request → Type 0
-NamesTest (requests.Test request) = is_name request.name.bytes ≡ true
+NamesTest (requests.Test request) = IfSome request.name (λ name. is_name name.bytes ≡ true)
 NamesTest (requests.Name request) = Unit {0}
 
 -- a call that takes in the part of the words at a place gives the place behind it, or the fault there: what is held
@@ -102,14 +102,13 @@ Steps tool words at old new (Err usage) = Err usage ≡ all_absorbed (Ok old) (s
 -- the request of diyone7 as it is kept, from what is held at the end
 pub record AskedHeld : Type 0 where
   pub arch : ArchName
-  pub name : List ℕ
+  pub name : Option (List ℕ)
   pub mode : ObsMode
   pub edges : EdgeList
 
 abbrev pub finished : ℕ → Option ArchName → Option (List ℕ) → ObsMode → EdgeList → Result AskedHeld Usage
-finished count None _ _ _ = Err (record { word = count; kind = MissingArch })
-finished count (Some _) None _ _ = Err (record { word = count; kind = NotBuilt })
-finished count (Some arch) (Some name) mode edges = Ok (record { arch = arch; name = name; mode = mode; edges = edges })
+finished count None name _ _ = Err (record { word = count; kind = MissingArch })
+finished count (Some arch) name mode edges = Ok (record { arch = arch; name = name; mode = mode; edges = edges })
 
 -- the request of norm7 as it is kept, from what is held at the end
 pub data SoughtHeld : Type 0 where
@@ -157,7 +156,7 @@ tool_held tools.Later count (Ok h) = Err (record { word = 0; kind = NotBuilt })
 -- a request as it is shown
 abbrev pub shown_request : Request → Kept
 shown_request (requests.Test request) =
-    KeepsTest (record { arch = request.arch; name = request.name.bytes; mode = request.mode; edges = request.edges })
+    KeepsTest (record { arch = request.arch; name = option_map (λ name. name.bytes) request.name; mode = request.mode; edges = request.edges })
 shown_request (requests.Name request) = KeepsName (record { arch = request.arch; cycle = sought_held request.cycle })
 
 -- what a call gives

@@ -24,10 +24,10 @@ pub data Said : Type 0 where
   SaysFrom : ℕ → List ℕ → Said
   SaysEdges : ℕ → List Edge → Said
 
--- what diyone7 is asked for: a test
+-- what diyone7 is asked for: a test, under a name that is given or that of its cycle
 pub record TestAsked : Type 0 where
   pub arch : ArchName
-  pub name : List ℕ
+  pub name : Option (List ℕ)
   pub mode : ObsMode
   pub edges : List Edge
 
@@ -147,9 +147,8 @@ mode_or_accept None = Accept
 
 -- the request of diyone7 from what was given; `count` is the number of words
 abbrev pub asked_with : ℕ → Option ArchName → Option (List ℕ) → ObsMode → List Edge → Result TestAsked Usage
-asked_with count None _ mode edges = Err (record { word = count; kind = MissingArch })
-asked_with count (Some _) None mode edges = Err (record { word = count; kind = NotBuilt })
-asked_with count (Some arch) (Some name) mode edges = Ok (record { arch = arch; name = name; mode = mode; edges = edges })
+asked_with count None name mode edges = Err (record { word = count; kind = MissingArch })
+asked_with count (Some arch) name mode edges = Ok (record { arch = arch; name = name; mode = mode; edges = edges })
 
 -- the request of norm7 from what was given: `-from` or operands, and not both
 abbrev pub named_with : ℕ → Option ArchName → Option (ℕ × List ℕ) → Option ℕ → List Edge → Result NameAsked Usage

@@ -119,12 +119,9 @@ fn finish_test(count: usize, said: Said<'_>) -> Result<Request<'_>, Usage>
     let Some(arch) = said.arch else {
         return Err(missing_arch(count));
     };
-    let Some(name) = said.name else {
-        return Err(not_built(count));
-    };
     Ok(Request::Test(DiyOne {
         arch,
-        name,
+        name: said.name,
         mode: said.mode,
         edges: said.edges,
     }))

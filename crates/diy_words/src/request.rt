@@ -76,8 +76,8 @@ pub struct Source<'a> {
 pub struct DiyOne {
     /// The architecture of the test.
     pub arch: ArchName,
-    /// Its name.
-    pub name: TestName,
+    /// Its name, where one is given; else it has that of its cycle.
+    pub name: Option<TestName>,
     /// When locations have observers.
     pub mode: ObsMode,
     /// The edges of its cycle, as given.

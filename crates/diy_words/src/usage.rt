@@ -23,6 +23,8 @@ pub enum UsageKind {
     BadName,
     /// A word among the operands is no edge.
     UnknownEdge,
+    /// No cycle of the architecture has the name that `-from` gives.
+    UnknownName,
     /// An operand stands beside `-from`.
     StrayWord,
     /// The tool needs `-arch`, and it isn't there.
