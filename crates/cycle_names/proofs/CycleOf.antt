@@ -1,14 +1,13 @@
 -- What is read is the cycle of the name, and what is refused is no name.
-use Rattle.std.specs.Prelude.{◌≡◌, ◌≤◌, ◌&&◌, ℕ, true, false, Option, Some, None, nat_lt, Result, Ok, Err, IsOk, List, [], ◌∷◌, ◌++◌, length, drop, codes}
+use Rattle.std.specs.Prelude.{◌≡◌, ◌≤◌, ℕ, true, false, Option, Some, None, nat_lt, Result, Ok, Err, IsOk, List, [], ◌∷◌, ◌++◌, length, drop, codes}
 use Rattle.std.specs.Str.{bytes_eq}
 use Rattle.std.specs.Cmp.Lexicographic.{bytes_decides}
-use Rattle.std.proofs.Common.{refl, sym, ◌∙◌, ap, arith}
+use Rattle.std.proofs.Common.{sym, ◌∙◌, ap, arith}
 use Rattle.std.proofs.lemmas.Bool.{and_parts, cond-true, cond-false}
 use Rattle.list_laws.proofs.Cases.{by_test}
 use Rattle.relax_edges.specs.declared.TheConstants.{MAX_EDGES}
 use Rattle.relax_edges.specs.declared.kinds.ArchName.{ArchName}
 use Rattle.relax_edges.specs.declared.edge.Edge.{Edge}
-use Rattle.relax_edges.specs.Relaxations.{is_same}
 use Rattle.relax_edges.specs.Words.{word_of}
 use Rattle.std.specs.List.{join_by}
 use Rattle.walk_laws.specs.Composable.{IsCycle, first_break}
@@ -28,7 +27,6 @@ use Rattle.cycle_names.specs.Fitting.{IsNamedAt}
 use Rattle.cycle_names.specs.Reading.{begins_with, named_family, filled, words_read, read_in, edges_read, Adds}
 use Rattle.cycle_names.specs.Laws.{are_of_arch, IsNamed, NamesNone}
 use Rattle.cycle_names.proofs.Members.{found_passes}
-use Rattle.cycle_names.proofs.Outlines.{same_edges, edges_told}
 use Rattle.cycle_names.proofs.Chosen.{named_rotates, least_named}
 use Rattle.cycle_names.proofs.ReadBack.{name_back}
 use Rattle.cycle_names.proofs.NameLaws.{named, arch_turned}
@@ -76,16 +74,14 @@ none_composed name text arch old edges result error i e a k u c o h =
     not_both : {v : List Edge} {x : CycleError} → ◌≡◌ {A = Result (List Edge) CycleError} (Err x) (Ok v) → ⊥
     not_both z = cc
 
--- the edges have another name, or another rotation: no name
+-- the edges have another name: no name
 pub none_named : {E : Type 0} (name text : List ℕ) (arch : ArchName) (old edges : List Edge) (result : Result (Unit {0}) E) → text ≡ name → old ≡ [] → Adds (edges_read text) old edges result
-    → (bytes_eq (name_of edges) name && is_same (named_rotation edges) edges) ≡ false → NamesNone name arch
+    → bytes_eq (name_of edges) name ≡ false → NamesNone name arch
 none_named name text arch old edges result i e a k u c o h =
     let r = read_as name text old edges result i e a u c h in
     let n = named u c in
-    let one : bytes_eq (name_of edges) name ≡ true = (bytes_decides _ _).1 (ap name_of r.edges_are ∙ n.has_name ∙ h) in
-    let two : is_same (named_rotation edges) edges ≡ true = edges_told _ _ (ap named_rotation r.edges_are ∙ n.rotation ∙ sym r.edges_are) in
-    let both : (bytes_eq (name_of edges) name && is_same (named_rotation edges) edges) ≡ true = rw (one, two) refl in
-    let z : true ≡ false = sym both ∙ k in
+    let t : bytes_eq (name_of edges) name ≡ true = (bytes_decides _ _).1 (ap name_of r.edges_are ∙ n.has_name ∙ h) in
+    let z : true ≡ false = sym t ∙ k in
     cc
 
 -- the edges are not of the architecture: no name
@@ -97,11 +93,13 @@ none_of_arch name text arch old edges result i e a k u c o h =
     let z : true ≡ false = sym t ∙ k in
     cc
 
--- what passes is the cycle of the name
-pub is_named : (name : List ℕ) (arch : ArchName) (edges : List Edge) → IsCycle edges → (bytes_eq (name_of edges) name && is_same (named_rotation edges) edges) ≡ true → are_of_arch arch edges ≡ true → IsNamed name arch edges
-is_named name arch edges c k o =
-    let both = and_parts (bytes_eq (name_of edges) name) (is_same (named_rotation edges) edges) k in
-    record { composable = c; of_arch = o; has_name = (bytes_decides _ _).0 both.0; rotation = same_edges _ _ both.1 }
+-- what passes is the cycle of the name, in the rotation that it is named from, since a name is read as that
+pub is_named : {E : Type 0} (name text : List ℕ) (arch : ArchName) (old edges : List Edge) (result : Result (Unit {0}) E) → text ≡ name → old ≡ [] → Adds (edges_read text) old edges result
+    → IsCycle edges → bytes_eq (name_of edges) name ≡ true → are_of_arch arch edges ≡ true → IsNamed name arch edges
+is_named name text arch old edges result i e a c k o =
+    let same : name_of edges ≡ name = (bytes_decides _ _).0 k in
+    let r = read_as name text old edges result i e a edges c same in
+    record { composable = c; of_arch = o; has_name = same; rotation = sym r.edges_are }
 
 -- a text that begins with a word is no shorter
 begins_long : (word text : List ℕ) → begins_with word text ≡ true → length word ≤ length text

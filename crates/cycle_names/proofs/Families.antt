@@ -2,7 +2,7 @@
 use Rattle.std.specs.Prelude.{◌≡◌, ◌<◌, ◌≤◌, ◌==◌, ◌&&◌, ◌||◌, ℕ, Bool, true, false, not, Some, None, List, [], ◌∷◌, ◌++◌, length, filter, nat_le, slice_get}
 use Rattle.std.specs.List.{list_any, list_all}
 use Rattle.std.proofs.Common.{refl, ◌∙◌, ap, subst, arith, inl, inr}
-use Rattle.std.proofs.lemmas.Bool.{eqb-true, leb-true, and_parts, or_cases}
+use Rattle.std.proofs.lemmas.Bool.{eqb-true, eq-eqb, leb-true, and_parts, or_cases}
 use Rattle.std.proofs.lemmas.List.{length-map}
 use Rattle.relax_edges.specs.declared.edge.Edge.{Edge}
 use Rattle.relax_edges.specs.EdgeTable.{is_diff}
@@ -15,6 +15,7 @@ use Rattle.cycle_names.specs.declared.family.Family.TheVariants as families
 use Rattle.cycle_names.specs.Families.{family_edges, family_word, all_families}
 use Rattle.cycle_names.specs.Links.{slot_of, outline}
 use Rattle.cycle_names.specs.Rotations.{rotations, fits, is_of_family, found_family}
+use Rattle.cycle_names.specs.Fitting.{family_sum}
 use Rattle.cycle_names.specs.Names.{is_name_byte}
 use Rattle.cycle_names.specs.Reading.{named_family}
 use Rattle.cycle_names.proofs.Members.{Member, any_of_member, member_of_any, member_upto, upto_member, find_none, find_only, found_passes, map_rotated}
@@ -270,3 +271,22 @@ word_before families.SB3 text n = refl
 word_before families.LB3 text n = refl
 word_before families.W3 text n = refl
 word_before families.Other text n = absurd (n refl)
+
+-- no two families have one sum
+sums_apart : Family → Family → Bool
+sums_apart f g = (family_place f == family_place g) || not (family_sum f == family_sum g)
+
+all_sums_apart : list_all (λ f. list_all (sums_apart f) every_family) every_family ≡ true
+unfolding sums_apart family_place rank_of
+all_sums_apart = refl
+
+pub sums_differ : (f g : Family) → family_sum f ≡ family_sum g → f ≡ g
+unfolding sums_apart
+sums_differ f g e =
+    let t : sums_apart f g ≡ true = each_family (sums_apart f) (each_family (λ f. list_all (sums_apart f) every_family) all_sums_apart f) g in
+    family_same f g (eqb-true (family_place f) (family_place g) (one_of (family_place f == family_place g) (family_sum f == family_sum g) t (eq-eqb _ _ e)))
+  where
+    one_of : (b c : Bool) → (b || not c) ≡ true → c ≡ true → b ≡ true
+    one_of true c t a = refl
+    one_of false true t a = cc
+    one_of false false t a = cc

@@ -1,10 +1,11 @@
 -- The parts of lists written twice that the code compares, and the rotation that it finds.
-use Rattle.std.specs.Prelude.{◌≡◌, ◌<◌, ◌≤◌, ◌+◌, ◌-◌, ◌&&◌, ℕ, true, false, Some, None, List, length, map, take, drop}
+use Rattle.std.specs.Prelude.{◌≡◌, ◌<◌, ◌≤◌, ◌+◌, ◌-◌, ◌&&◌, ◌==◌, ℕ, true, false, sum, Option, Some, None, MatchOption, List, [], ◌∷◌, ◌++◌, length, map, take, drop}
 use Rattle.std.specs.Str.{bytes_eq}
 use Rattle.std.specs.Cmp.Lexicographic.{bytes_decides}
 use Rattle.std.proofs.Common.{refl, sym, ◌∙◌, ap, arith, below_more}
-use Rattle.std.proofs.lemmas.Bool.{and_parts}
-use Rattle.std.proofs.lemmas.List.{length-map}
+use Rattle.std.proofs.lemmas.Bool.{and_parts, eqb-true, eq-eqb}
+use Rattle.std.proofs.lemmas.List.{length-map, take-append-drop}
+use Rattle.std.proofs.lemmas.List.Sums.{sum_by-append}
 use Rattle.relax_edges.specs.declared.edge.Edge.{Edge}
 use Rattle.relax_edges.specs.Order.{rank_of}
 use Rattle.walk_laws.specs.Rotation.{rotated}
@@ -14,11 +15,11 @@ use Rattle.cycle_names.specs.declared.family.Family.{Family}
 use Rattle.cycle_names.specs.Families.{family_edges, all_families}
 use Rattle.cycle_names.specs.Links.{outline, link_rank}
 use Rattle.cycle_names.specs.Rotations.{rotations, fits, is_of_family, found_family}
-use Rattle.cycle_names.specs.Fitting.{slot_rank, twice, family_of_ranks, family_at, FitsNone, FitsFirst, IsNamedAt}
-use Rattle.cycle_names.proofs.Members.{Member, found_passes, found_among, found_none, find_none, filter_among, filter_passes, filter_member, member_upto, upto_member, map_rotated}
+use Rattle.cycle_names.specs.Fitting.{slot_rank, slot_sum, family_sum, family_of_sum, twice, fits_at, FitsNone, FitsFirst, IsNamedAt}
+use Rattle.cycle_names.proofs.Members.{find_none, find_only, filter_among, filter_passes, filter_member, member_upto, upto_member, map_rotated}
 use Rattle.cycle_names.proofs.Below.{below_irreflexive, below_transitive}
 use Rattle.cycle_names.proofs.Outlines.{slots_told, outline_of_fits, fits_of_outline}
-use Rattle.cycle_names.proofs.Families.{fitting, family_found, is_of_fitting}
+use Rattle.cycle_names.proofs.Families.{Fitting, fitting, family_found, is_of_fitting, listed, never_other, sums_differ}
 use Rattle.cycle_names.proofs.Chosen.{links_below, first_by_words, named_in_family}
 
 -- a part of a list written twice
@@ -30,32 +31,67 @@ part_is xs list k n e l h =
 fits_told : (f : Family) (u : List Edge) (k : ℕ) → fits f (rotated k u) ≡ bytes_eq (rotated k (map slot_rank u)) (map rank_of (family_edges f))
 fits_told f u k = slots_told (rotated k u) (family_edges f) ∙ ap (λ s. bytes_eq s (map rank_of (family_edges f))) (map_rotated slot_rank k u)
 
-pub family_at_fits : (u : List Edge) (k : ℕ) (f : Family) → family_at u k ≡ Some f → fits f (rotated k u) ≡ true
-unfolding family_of_ranks
-family_at_fits u k f h = fits_told f u k ∙ found_passes (λ f. bytes_eq (rotated k (map slot_rank u)) (map rank_of (family_edges f))) all_families f h
-
-family_at_none : (u : List Edge) (k : ℕ) (f : Family) → family_at u k ≡ None → Member f all_families → fits f (rotated k u) ≡ true → ⊥
-unfolding family_of_ranks
-family_at_none u k f h m t =
-    found_none (λ f. bytes_eq (rotated k (map slot_rank u)) (map rank_of (family_edges f))) all_families f h m (sym (fits_told f u k) ∙ t)
-
 -- one place more from which no rotation fits
-pub none_more : (u : List Edge) (k : ℕ) → FitsNone u k → family_at u k ≡ None → FitsNone u (k + 1)
-none_more u k h n = below_more (λ k. family_at u k ≡ None) k h n
+pub none_more : (u : List Edge) (f : Family) (k : ℕ) → FitsNone u f k → fits_at f u k ≡ false → FitsNone u f (k + 1)
+none_more u f k h n = below_more (λ k. fits_at f u k ≡ false) k h n
 
--- where no rotation fits, the cycle is of no family
-pub fits_none : (u : List Edge) → FitsNone u (length u) → found_family u ≡ None
+-- the sum of the ranks of slots is that of the edges of the family
+sum_swaps : (a b : List ℕ) → sum (a ++ b) ≡ sum (b ++ a)
+sum_swaps a b = sum_by-append (λ x. x) a b ∙ swapped (sum a) (sum b) ∙ sym (sum_by-append (λ x. x) b a)
+  where
+    swapped : (m n : ℕ) → m + n ≡ n + m
+    swapped m n = omega arith
+
+ranks_of_outline : (v : List Edge) → map rank_of (outline v) ≡ map slot_rank v
+ranks_of_outline [] = refl
+ranks_of_outline (e ∷ v) = ap (λ w. slot_rank e ∷ w) (ranks_of_outline v)
+
+sum_of_fitting : (u : List Edge) (f : Family) → Fitting u f → family_sum f ≡ slot_sum u
+sum_of_fitting u f w =
+    let xs : List ℕ = map slot_rank u in
+    ap (λ v. sum (map rank_of v)) (sym w.joins)
+    ∙ ap sum (ranks_of_outline (rotated w.place u))
+    ∙ ap sum (map_rotated slot_rank w.place u)
+    ∙ sum_swaps (drop w.place xs) (take w.place xs)
+    ∙ ap sum (take-append-drop w.place xs)
+
+-- the only family that a cycle can be of has its sum
+pub likely : (u : List Edge) (f : Family) → is_of_family u f ≡ true → family_of_sum (slot_sum u) ≡ Some f
+unfolding family_of_sum
+likely u f h =
+    find_only (λ g. family_sum g == slot_sum u) all_families f (listed f (never_other u f h)) (eq-eqb _ _ (sum_of_fitting u f (fitting u f h)))
+    (λ g m t. sums_differ g f (eqb-true _ _ t ∙ sym (sum_of_fitting u f (fitting u f h))))
+
+no_family : (u : List Edge) → ((f : Family) → is_of_family u f ≡ true → ⊥) → found_family u ≡ None
 unfolding found_family
-fits_none u h =
-    find_none (is_of_family u) all_families
-    (λ f m t. let w = fitting u f t in family_at_none u w.place f (h w.place w.within) m (fits_of_outline f (rotated w.place u) w.joins))
+no_family u h = find_none (is_of_family u) all_families (λ f m t. h f t)
+
+-- where no family has the sum, the cycle is of none
+pub unlikely : (u : List Edge) → family_of_sum (slot_sum u) ≡ None → found_family u ≡ None
+unlikely u h = no_family u (λ f t. let z : None ≡ Some f = sym h ∙ likely u f t in cc)
+
+some_family : (f g : Family) → Some f ≡ Some g → f ≡ g
+some_family f g e = cc
+
+-- where no rotation fits the family with the sum, the cycle is of none
+pub fits_none : (u : List Edge) (f : Family) → family_of_sum (slot_sum u) ≡ Some f → FitsNone u f (length u) → found_family u ≡ None
+fits_none u f l h =
+    no_family u (λ g t.
+    let same : f ≡ g = some_family f g (sym l ∙ likely u g t) in
+    let w = fitting u g t in
+    let yes_fits : fits_at f u w.place ≡ true = ap (λ x. fits_at x u w.place) same ∙ sym (fits_told g u w.place) ∙ fits_of_outline g (rotated w.place u) w.joins in
+    let z : true ≡ false = sym yes_fits ∙ h w.place w.within in
+    cc)
+
+fits_there : (u : List Edge) (f : Family) (k : ℕ) → FitsFirst u f k → fits f (rotated k u) ≡ true
+fits_there u f k h = fits_told f u k ∙ h.fits
 
 -- the family that a rotation fits is the cycle's
 pub fits_found : (u : List Edge) (f : Family) (k : ℕ) → FitsFirst u f k → found_family u ≡ Some f
-fits_found u f k h = family_found u f (is_of_fitting u f k h.within (family_at_fits u k f h.fits))
+fits_found u f k h = family_found u f (is_of_fitting u f k h.within (fits_there u f k h))
 
 first_joins : (u : List Edge) (f : Family) (k : ℕ) → FitsFirst u f k → outline (rotated k u) ≡ family_edges f
-first_joins u f k h = outline_of_fits f (rotated k u) (family_at_fits u k f h.fits)
+first_joins u f k h = outline_of_fits f (rotated k u) (fits_there u f k h)
 
 -- of the rotations that fit from the places below k, none has words before those of the one from `named`
 pub record NamedUpTo (u : List Edge) (f : Family) (k named : ℕ) : Type 0 where
@@ -63,16 +99,15 @@ pub record NamedUpTo (u : List Edge) (f : Family) (k named : ℕ) : Type 0 where
   pub joins : outline (rotated named u) ≡ family_edges f
   pub none : (j : ℕ) → j < k → outline (rotated j u) ≡ family_edges f → links_below (rotated j u) (rotated named u) ≡ true → ⊥
 
-found_member : (u : List Edge) (f : Family) (k : ℕ) → FitsFirst u f k → Member f all_families
-unfolding family_of_ranks
-found_member u f k h = found_among (λ f. bytes_eq (rotated k (map slot_rank u)) (map rank_of (family_edges f))) all_families f h.fits
-
 pub named_first : (u : List Edge) (f : Family) (k : ℕ) → FitsFirst u f k → NamedUpTo u f (k + 1) k
 named_first u f k h = record {
   within = h.within;
   joins = first_joins u f k h;
   none = below_more (λ j. outline (rotated j u) ≡ family_edges f → links_below (rotated j u) (rotated k u) ≡ true → ⊥) k
-      (λ j l e b. family_at_none u j f (h.before j l) (found_member u f k h) (fits_of_outline f (rotated j u) e))
+      (λ j l e b.
+      let t : fits_at f u j ≡ true = sym (fits_told f u j) ∙ fits_of_outline f (rotated j u) e in
+      let z : true ≡ false = sym t ∙ h.before j l in
+      cc)
       (λ e b. below_irreflexive (map link_rank (rotated k u)) b);
 }
 
@@ -143,9 +178,15 @@ named_at u f first k named w l h =
       }));
     }
 
--- the family that the code finds at a place
-pub family_seen : (u : List Edge) (slots : List ℕ) (families : List Family) (k : ℕ) → families ≡ all_families → slots ≡ twice (map slot_rank u) → k ≤ length u →
-    family_of_ranks families (take ((k + length u) - k) (drop k slots)) ≡ family_at u k
-family_seen u slots families k e s h =
-    ap (λ fs. family_of_ranks fs (take ((k + length u) - k) (drop k slots))) e
-    ∙ ap (family_of_ranks all_families) (part_is (map slot_rank u) slots k (length u) s (sym (length-map u slot_rank)) h)
+-- what the code compares at a place
+pub fits_seen : (u : List Edge) (f : Family) (slots ranks : List ℕ) (k : ℕ) → slots ≡ twice (map slot_rank u) → ranks ≡ map rank_of (family_edges f) → k ≤ length u →
+    bytes_eq (take ((k + length u) - k) (drop k slots)) ranks ≡ fits_at f u k
+fits_seen u f slots ranks k s e h =
+    ap (λ r. bytes_eq (take ((k + length u) - k) (drop k slots)) r) e
+    ∙ ap (λ p. bytes_eq p (map rank_of (family_edges f))) (part_is (map slot_rank u) slots k (length u) s (sym (length-map u slot_rank)) h)
+
+-- what the sum tells: no family, or the only one that there can be
+pub likely_answer : (u : List Edge) (total : ℕ) (o : Option Family) → total ≡ slot_sum u → o ≡ family_of_sum total → length u ≤ 6 →
+    MatchOption o (found_family u ≡ None) (λ family. (length u ≤ 6) × (family_of_sum (slot_sum u) ≡ Some family))
+likely_answer u total None t o l = unlikely u (ap family_of_sum (sym t) ∙ sym o)
+likely_answer u total (Some f) t o l = (l, ap family_of_sum (sym t) ∙ sym o)

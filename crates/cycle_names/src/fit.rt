@@ -1,11 +1,11 @@
-ghost use Rattle.std.specs.Prelude.{◌≡◌, ◌+◌, ◌≤◌, ◌++◌, ◌&&◌, length, map, None, MatchOption};
+ghost use Rattle.std.specs.Prelude.{◌≡◌, ◌+◌, ◌≤◌, ◌++◌, ◌&&◌, ◌*◌, length, map, None, Some, MatchOption};
 ghost use Rattle.std.specs.Str.{bytes_eq};
 ghost use Rattle.walk_laws.specs.Order.{ranks_below};
 ghost use Rattle.cycle_names.specs.Links.{link_rank};
 ghost use Rattle.cycle_names.specs.Rotations.{found_family};
-ghost use Rattle.cycle_names.specs.Fitting.{slot_rank, twice, family_of_ranks, FitsNone, FitsFirst, IsNamedAt};
+ghost use Rattle.cycle_names.specs.Fitting.{slot_rank, twice, slot_sum, family_of_sum, FitsNone, FitsFirst, IsNamedAt};
 
-use crate::family::{FAMILIES, Family, LONGEST};
+use crate::family::{Family, LONGEST};
 use crate::link::{link_rank, slot_rank};
 use arrayvec::ArrayVec;
 use relax_edges::Edge;
@@ -24,30 +24,73 @@ pub(crate) struct Fit {
 pub(crate) fn named_fit(edges: &[Edge]) -> Option<Fit>
     ensures { MatchOption result (found_family edges.now ≡ None) (λ fit. IsNamedAt edges.now fit.family fit.place) }
 {
-    if edges.len() > LONGEST {
-        return None;
-    }
+    let family = likely_family(edges)?;
     let slots = slots_twice(edges);
-    let first = first_fit(edges, slots.as_slice())?;
+    let first = first_fit(edges, slots.as_slice(), family)?;
     let links = links_twice(edges);
-    let place = named_place(edges, slots.as_slice(), links.as_slice(), first);
-    Some(Fit {
-        family: first.family,
-        place,
-    })
+    let fit = Fit {
+        family,
+        place: first,
+    };
+    let place = named_place(edges, slots.as_slice(), links.as_slice(), fit);
+    Some(Fit { family, place })
 }
 
 /// The family of a list of edges.
 pub(crate) fn found_family(edges: &[Edge]) -> Option<Family>
     ensures { result ≡ found_family edges.now }
 {
+    let family = likely_family(edges)?;
+    let slots = slots_twice(edges);
+    match first_fit(edges, slots.as_slice(), family) {
+        Some(_) => Some(family),
+        None => None,
+    }
+}
+
+/// The only family that a list of edges can be of: it has the sum of the ranks of the slots.
+fn likely_family(edges: &[Edge]) -> Option<Family>
+    ensures { MatchOption result (found_family edges.now ≡ None) (λ family. (length edges.now ≤ LONGEST) × (family_of_sum (slot_sum edges.now) ≡ Some family)) }
+{
     if edges.len() > LONGEST {
         return None;
     }
-    let slots = slots_twice(edges);
-    match first_fit(edges, slots.as_slice()) {
-        Some(fit) => Some(fit.family),
-        None => None,
+    family_of_sum(slot_sum(edges))
+}
+
+/// The sum of the ranks of the slots of a list of edges.
+fn slot_sum(edges: &[Edge]) -> u16
+    requires { length edges.now ≤ LONGEST }
+    ensures value { result ≡ slot_sum edges.now }
+    ensures small { result ≤ 255 * length edges.now }
+{
+    match edges {
+        [] => 0,
+        [edge, rest @ ..] => u16::from(slot_rank(*edge)) + slot_sum(rest),
+    }
+}
+
+/// The family whose edges' ranks have this sum.
+#[tactic(auto, unfolding(crate::specs::Fitting::family_of_sum, relax_edges::specs::Order::rank_of))]
+fn family_of_sum(total: u16) -> Option<Family>
+    ensures { result ≡ family_of_sum total }
+{
+    match total {
+        544 => Some(Family::SB),
+        577 => Some(Family::MP),
+        610 => Some(Family::LB),
+        589 => Some(Family::R),
+        622 => Some(Family::S),
+        634 => Some(Family::W2),
+        731 => Some(Family::WRC),
+        698 => Some(Family::RWC),
+        882 => Some(Family::ISA2),
+        852 => Some(Family::IRIW),
+        849 => Some(Family::WRWC),
+        816 => Some(Family::SB3),
+        915 => Some(Family::LB3),
+        951 => Some(Family::W3),
+        _ => None,
     }
 }
 
@@ -91,33 +134,16 @@ fn push_links(links: &mut ArrayVec<u8, TWICE>, edges: &[Edge])
     }
 }
 
-/// The first of some families whose slots have these ranks.
-#[tactic(auto, unfolding(crate::specs::Fitting::family_of_ranks))]
-fn family_of_ranks(families: &[Family], slots: &[u8]) -> Option<Family>
-    ensures { result ≡ family_of_ranks families.now slots.now }
-{
-    match families {
-        [] => None,
-        [family, rest @ ..] => {
-            if slots == family.ranks() {
-                Some(*family)
-            } else {
-                family_of_ranks(rest, slots)
-            }
-        }
-    }
-}
-
-/// The first place from which a rotation fits a family, and the family.
-fn first_fit(edges: &[Edge], slots: &[u8]) -> Option<Fit>
+/// The first place from which a rotation fits a family.
+fn first_fit(edges: &[Edge], slots: &[u8], family: Family) -> Option<usize>
     requires { slots.now ≡ twice (map slot_rank edges.now) }
-    ensures { MatchOption result (FitsNone edges.now (length edges.now)) (λ fit. FitsFirst edges.now fit.family fit.place) }
+    ensures { MatchOption result (FitsNone edges.now family (length edges.now)) (λ place. FitsFirst edges.now family place) }
 {
     let len = edges.len();
+    let ranks = family.ranks();
     for place in 0..len {
-        match family_of_ranks(FAMILIES.as_slice(), &slots[place..place + len]) {
-            Some(family) => return Some(Fit { family, place }),
-            None => {}
+        if &slots[place..place + len] == ranks {
+            return Some(place);
         }
     }
     None

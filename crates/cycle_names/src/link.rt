@@ -1,8 +1,8 @@
 ghost use Rattle.std.specs.Prelude.{◌≡◌, ◌<◌};
-ghost use Rattle.relax_edges.specs.Order.{pick_rank, rank_of};
+ghost use Rattle.relax_edges.specs.Order.{dir_rank, pick_rank, rank_of};
 ghost use Rattle.cycle_names.specs.Links.{slot_of, link_word, link_rank, fence_link, fence_link_rank, dependency_link, dependency_link_rank};
 
-use relax_edges::{DepKind, Edge, FenceKind, Pick, Sd};
+use relax_edges::{DepKind, Dir, Edge, FenceKind, Pick};
 
 fn pick_rank(pick: Pick) -> u8
     ensures { result ≡ pick_rank pick }
@@ -107,17 +107,22 @@ pub(crate) fn link_word(edge: Edge) -> &'static str
 
 /// What an edge joins, as the rank of program order between the same accesses where the edge is a
 /// link, and of the edge itself where it is none.
+#[tactic(auto, unfolding(relax_edges::specs::Order::rank_of))]
 pub(crate) fn slot_rank(edge: Edge) -> u8
     ensures { result ≡ rank_of (slot_of edge) }
 {
     if edge.is_diff() {
-        let slot = Edge::Po {
-            sd: Sd::Diff,
-            from: edge.source(),
-            to: edge.target(),
-        };
-        slot.rank()
+        148 + 2 * dir_rank(edge.source()) + dir_rank(edge.target())
     } else {
         edge.rank()
+    }
+}
+
+fn dir_rank(dir: Dir) -> u8
+    ensures { result ≡ dir_rank dir }
+{
+    match dir {
+        Dir::R => 0,
+        Dir::W => 1,
     }
 }

@@ -1,6 +1,7 @@
 ghost use Rattle.std.specs.Prelude.{◌≡◌};
 ghost use Rattle.cycle_names.specs.Rotations.{family_of, named_rotation};
 ghost use Rattle.cycle_names.specs.Names.{name_of};
+ghost use Rattle.cycle_names.specs.Laws.{IsName};
 
 use crate::family::Family;
 use crate::fit::{found_family, named_fit};
@@ -28,7 +29,8 @@ pub fn family_of(cycle: &Cycle) -> Family
 /// each. Of the rotations that fit the family, the one counts whose list of words comes first. Every
 /// other cycle is named `C+` and the words of the edges of its normal form, joined by `-`.
 pub fn name_of(cycle: &Cycle, out: &mut ArrayString<MAX_NAME>)
-    ensures { out.new.bytes ≡ name_of cycle.now }
+    ensures name { out.new.bytes ≡ name_of cycle.now }
+    ensures form { IsName out.new.bytes }
 {
     name_and_rotation(cycle, out);
 }
@@ -37,6 +39,7 @@ pub fn name_of(cycle: &Cycle, out: &mut ArrayString<MAX_NAME>)
 pub fn name_and_rotation(cycle: &Cycle, out: &mut ArrayString<MAX_NAME>) -> Cycle
     ensures name { out.new.bytes ≡ name_of cycle.now }
     ensures rotation { result ≡ named_rotation cycle.now }
+    ensures form { IsName out.new.bytes }
 {
     out.clear();
     match named_fit(cycle.edges()) {

@@ -2,16 +2,14 @@ ghost use Rattle.std.specs.Prelude.{◌≡◌, ◌+◌, ◌-◌, ◌≤◌, ◌&
 ghost use Rattle.std.specs.List.{position_or_len, slice_split};
 ghost use Rattle.std.specs.Str.{bytes_eq};
 ghost use Rattle.std.specs.Result.{result_ok};
-ghost use Rattle.relax_edges.specs.Relaxations.{is_same};
 ghost use Rattle.cycle_names.specs.Families.{family_edges};
-ghost use Rattle.cycle_names.specs.Rotations.{named_rotation};
 ghost use Rattle.cycle_names.specs.Names.{name_of};
 ghost use Rattle.cycle_names.specs.Reading.{begins_with, named_family, is_link, link_with, slot_with, first_word, behind_word, but_last, filled_alike, filled_each, filled, is_dash, edges_spelled, words_read, edges_read, Adds};
 ghost use Rattle.cycle_names.specs.Laws.{are_of_arch, IsNamed, NamesNone};
 
 use crate::family::{FAMILIES, Family};
 use crate::link::{link_word, slot_rank};
-use crate::name::{MAX_NAME, name_and_rotation};
+use crate::name::{MAX_NAME, name_of};
 use arrayvec::{ArrayString, ArrayVec};
 use edge_algebra::{Cycle, cycle};
 use relax_edges::{ArchName, EDGES, Edge, MAX_EDGES, read_edge_bytes};
@@ -43,13 +41,13 @@ pub fn cycle_of(name: &str, arch: ArchName) -> Result<Cycle, NotAName>
     }
 }
 
-/// Whether a cycle has this name, and is named from the very rotation that it is.
+/// Whether a cycle has this name.
 fn has_name(cycle: &Cycle, name: &str) -> bool
-    ensures { result ≡ (bytes_eq (name_of cycle.now) name.now && is_same (named_rotation cycle.now) cycle.now) }
+    ensures { result ≡ bytes_eq (name_of cycle.now) name.now }
 {
     let mut text = ArrayString::<MAX_NAME>::new();
-    let rotation = name_and_rotation(cycle, &mut text);
-    text.as_str() == name && rotation == *cycle
+    name_of(cycle, &mut text);
+    text.as_str() == name
 }
 
 /// Whether all edges are of an architecture.

@@ -5,6 +5,7 @@ use Rattle.relax_edges.specs.Words.{word_of}
 use Rattle.cycle_names.specs.Families.{family_word}
 use Rattle.cycle_names.specs.Links.{link_words}
 use Rattle.cycle_names.specs.Names.{links_text}
+use Rattle.cycle_names.proofs.NameLaws.{names_of_cycles}
 use Rattle.cycle_names.proofs.Chosen.{least_named}
 use Rattle.cycle_names.proofs.CycleOf.{name_in_family, name_in_none}
 use Rattle.cycle_names.proofs.name.name_and_rotation.Goals as goal
@@ -26,3 +27,9 @@ returns-in-None-clause-name c =
 pub returns-in-None-clause-rotation : goal.returns-in-None-clause-rotation
 returns-in-None-clause-rotation c =
     sym (least_named c.args.cycle.now c.least-rotation.result c.edges.ensures.composable.some (rw (← c.edges.ensures.value) c.in-None.ensures) c.least-rotation.ensures)
+
+pub returns-in-Some-clause-form : goal.returns-in-Some-clause-form
+returns-in-Some-clause-form c = rw (returns-in-Some-clause-name c) (names_of_cycles c.args.cycle.now c.edges.ensures.composable)
+
+pub returns-in-None-clause-form : goal.returns-in-None-clause-form
+returns-in-None-clause-form c = rw (returns-in-None-clause-name c) (names_of_cycles c.args.cycle.now c.edges.ensures.composable)

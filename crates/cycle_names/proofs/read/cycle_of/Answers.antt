@@ -1,10 +1,7 @@
 use Rattle.std.proofs.Common.{sym, ◌∙◌, ap}
-use Rattle.std.specs.Prelude.{◌&&◌}
 use Rattle.std.proofs.lemmas.Result.{err_from_is_err_and}
 use Rattle.edge_algebra.specs.Compose.{composed}
 use Rattle.std.specs.Str.{bytes_eq}
-use Rattle.relax_edges.specs.Relaxations.{is_same}
-use Rattle.cycle_names.specs.Rotations.{named_rotation}
 use Rattle.cycle_names.specs.Names.{name_of}
 use Rattle.cycle_names.specs.Laws.{are_of_arch}
 use Rattle.cycle_names.specs.declared.read.NotAName.{NotAName}
@@ -25,8 +22,11 @@ returns-in-Err c =
 
 pub returns-then-are_of_arch : goal.returns-then-are_of_arch
 returns-then-are_of_arch c =
-    is_named c.args.name.now c.args.arch c.in-Ok.found c.edges.ensures.composable (sym c.has_name.ensures ∙ c.if-has_name.true)
-    (ap (are_of_arch c.args.arch) (sym c.edges.ensures.value) ∙ sym c.are_of_arch.ensures ∙ c.if-are_of_arch.true)
+    let found = made_of c.as_slice.result.now c.in-Ok.found c.in-Ok.ensures.made ∙ c.as_slice.ensures.value in
+    rw found (is_named c.args.name.now c.as_bytes.result.now c.args.arch c.new-edges.result.items c.read_edges.new.edges.items c.read_edges.result
+    c.as_bytes.ensures.value c.new-edges.ensures c.read_edges.ensures (rw found at c.edges.ensures.composable)
+    (ap (λ u. bytes_eq (name_of u) c.args.name.now) (sym found) ∙ sym c.has_name.ensures ∙ c.if-has_name.true)
+    (ap (are_of_arch c.args.arch) (sym found ∙ sym c.edges.ensures.value) ∙ sym c.are_of_arch.ensures ∙ c.if-are_of_arch.true))
 
 pub returns-else-has_name : goal.returns-else-has_name
 returns-else-has_name c =
@@ -39,5 +39,5 @@ returns-else-has_name c =
       | else-has_name-via-else-has_name w ↦
           none_named c.args.name.now c.as_bytes.result.now c.args.arch c.new-edges.result.items c.read_edges.new.edges.items c.read_edges.result
           c.as_bytes.ensures.value c.new-edges.ensures c.read_edges.ensures
-          (ap (λ u. bytes_eq (name_of u) c.args.name.now && is_same (named_rotation u) u) (sym found) ∙ sym c.has_name.ensures ∙ w.if-has_name.false)
+          (ap (λ u. bytes_eq (name_of u) c.args.name.now) (sym found) ∙ sym c.has_name.ensures ∙ w.if-has_name.false)
     ]

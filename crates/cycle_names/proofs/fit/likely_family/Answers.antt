@@ -1,0 +1,9 @@
+use Rattle.cycle_names.proofs.Families.{too_long}
+use Rattle.cycle_names.proofs.Places.{likely_answer}
+use Rattle.cycle_names.proofs.fit.likely_family.Goals as goal
+
+pub returns-then-edges-gt-LONGEST : goal.returns-then-edges-gt-LONGEST
+returns-then-edges-gt-LONGEST c = too_long c.args.edges.now c.if-edges-gt-LONGEST.true
+
+pub returns : goal.returns
+returns c = likely_answer c.args.edges.now c.slot_sum.result c.family_of_sum.result c.slot_sum.ensures.value c.family_of_sum.ensures c.if-edges-gt-LONGEST.false
