@@ -1,0 +1,45 @@
+use diy_io::NoMemory;
+use thiserror::Error;
+
+/// What is wrong with a line of a log.
+#[derive(Clone, Copy, Debug, PartialEq, Eq)]
+pub enum LogKind {
+    /// The log ends inside a block, or a block begins inside one.
+    Truncated,
+    /// The line isn't what its block needs there.
+    BadState,
+    /// A count is above 2^64-1.
+    BadCount,
+    /// The state has the other mark already.
+    MarkDiffers,
+    /// The test has another hash already.
+    HashDiffers,
+    /// The test has another condition already.
+    ConditionDiffers,
+    /// The counts of a mark add up to more than 2^64-1.
+    SumTooLarge,
+    /// The block has no counts, as in logs of simulators.
+    NoCounts,
+    /// The test has another kind already, or its condition is of another kind.
+    KindDiffers,
+    /// The line has more than 65,536 bytes.
+    LineTooLong,
+}
+
+/// A fault in a log, at a line, from 1; the number stops at 2^64-1.
+#[derive(Clone, Copy, Debug, PartialEq, Eq)]
+pub struct LogError {
+    pub line: u64,
+    pub kind: LogKind,
+}
+
+/// Why a summer takes no more.
+#[derive(Clone, Copy, Debug, PartialEq, Eq, Error)]
+pub enum SumError {
+    /// A line of a log is wrong.
+    #[error("a log is wrong")]
+    Log(LogError),
+    /// There is no memory.
+    #[error("no memory")]
+    NoMemory,
+}
