@@ -1,3 +1,4 @@
+pub mod Classes
 pub mod Texts
 pub mod Counts
 pub mod States

@@ -1,4 +1,5 @@
 use diy_io::NoMemory;
+use std::alloc::{AllocError, AllocFailed};
 use thiserror::Error;
 
 /// What is wrong with a line of a log.
@@ -42,4 +43,35 @@ pub enum SumError {
     /// There is no memory.
     #[error("no memory")]
     NoMemory,
+}
+
+/// What is wrong with a line, whose number isn't known yet.
+#[derive(Clone, Copy)]
+pub(crate) enum Fault {
+    Wrong(LogKind),
+    NoMemory,
+}
+
+impl From<LogKind> for Fault {
+    fn from(kind: LogKind) -> Fault {
+        Fault::Wrong(kind)
+    }
+}
+
+impl From<NoMemory> for Fault {
+    fn from(_error: NoMemory) -> Fault {
+        Fault::NoMemory
+    }
+}
+
+impl From<AllocError> for Fault {
+    fn from(_error: AllocError) -> Fault {
+        Fault::NoMemory
+    }
+}
+
+impl<T: Drop> From<AllocFailed<T>> for Fault {
+    fn from(_error: AllocFailed<T>) -> Fault {
+        Fault::NoMemory
+    }
 }
