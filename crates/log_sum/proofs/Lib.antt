@@ -1,2 +1,4 @@
 mod ReadingRows
 pub mod RunLaws
+pub mod TextLaws
+pub mod CountLaws

@@ -1,6 +1,7 @@
 -- What logs say of tests, one fact after another, and what a test is by the facts of all logs.
 -- Source: own; the sum of logs is that of msum7.
 use Rattle.std.specs.Prelude.{ℕ, ◌+◌, nat_lt, Bool, true, false, ◌&&◌, not, cond, List, [], ◌∷◌, ◌++◌, Option, Some, None, map, filter, sum_by, fold}
+use Rattle.std.specs.Option.{option_map}
 use Rattle.std.specs.List.{list_any}
 use Rattle.std.specs.Ordering.{nat_cmp}
 use Rattle.std.specs.Cmp.Lexicographic.{slice_cmp}
@@ -96,14 +97,9 @@ state_sum state rows = sum_by (λ row. row.count) (filter (λ row. bytes_eq row.
 unfoldable pub states_of : List Row → List (List ℕ)
 states_of rows = fold (insert_key (slice_cmp nat_cmp)) [] (map (λ row. row.state) rows)
 
--- a state has this mark in some row
-unfoldable pub has_mark : List ℕ → Mark → List Row → Bool
-has_mark state mark rows = list_any (λ row. bytes_eq row.state state && same_mark row.mark mark) rows
-
--- the other mark
-abbrev pub other_mark : Mark → Mark
-other_mark Starred = Plain
-other_mark Plain = Starred
+-- the mark that a state has in the first row that has it
+unfoldable pub mark_in : List ℕ → List Row → Option Mark
+mark_in state rows = first_of (map (λ row. row.mark) (filter (λ row. bytes_eq row.state state) rows))
 
 -- what each block says of the condition
 abbrev pub says_validated : Verdict → Bool
@@ -117,12 +113,18 @@ verdicts facts = map (λ c. says_validated c.1) (conditions facts)
 abbrev pub fault_if : Bool → LogKind → Option LogKind
 fault_if b kind = cond b (Some kind) None
 
--- the fault of a fact behind others of its test, if it has one
+-- something is there already, and it is another
+abbrev pub is_other : {A : Type 0} → (A → A → Bool) → Option A → A → Bool
+is_other same None x = false
+is_other same (Some known) x = not (same known x)
+
+-- the fault of a fact behind others of its test, if it has one: the test has another kind, condition or hash already, the
+-- state has the other mark already, or the sum of the counts of the mark is too large
 unfoldable pub fault_of : List Fact → Fact → Option LogKind
-fault_of facts (a_kind kind) = fault_if (list_any (λ k. not (same_kind kind k)) (kinds facts)) KindDiffers
+fault_of facts (a_kind kind) = fault_if (is_other same_kind (first_of (kinds facts)) kind) KindDiffers
 fault_of facts (a_condition text verdict) =
-    fault_if (list_any (λ c. not (bytes_eq text c.0)) (conditions facts)) ConditionDiffers
-fault_of facts (a_hash text) = fault_if (list_any (λ h. not (bytes_eq text h)) (hashes facts)) HashDiffers
+    fault_if (is_other bytes_eq (option_map (λ c. c.0) (first_of (conditions facts))) text) ConditionDiffers
+fault_of facts (a_hash text) = fault_if (is_other bytes_eq (first_of (hashes facts)) text) HashDiffers
 fault_of facts (a_row row) =
-    cond (has_mark row.state (other_mark row.mark) (rows facts)) (Some MarkDiffers)
+    cond (is_other same_mark (mark_in row.state (rows facts)) row.mark) (Some MarkDiffers)
     (fault_if (nat_lt last_count (marked_sum row.mark (rows facts) + row.count)) SumTooLarge)

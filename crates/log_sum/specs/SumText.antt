@@ -7,7 +7,7 @@ use Rattle.log_sum.specs.declared.kinds.Kind.TheVariants.{Allowed, Forbidden, Re
 use Rattle.log_sum.specs.declared.kinds.Mark.{Mark}
 use Rattle.log_sum.specs.declared.kinds.Mark.TheVariants.{Starred, Plain}
 use Rattle.log_sum.specs.Facts.{Entry, facts_of, tests_of}
-use Rattle.log_sum.specs.Summed.{StateSummed, Summed, summed, is_validated}
+use Rattle.log_sum.specs.Summed.{StateSummed, Summed, summed, is_validated, or_else}
 
 -- the line feed that ends a line
 abbrev pub line_end : List ℕ
@@ -51,7 +51,7 @@ hash_text (Some hash) = codes "Hash=" ++ hash ++ line_end
 -- the lines above the states of a test, and those below
 unfoldable pub head_text : List ℕ → Summed → List ℕ
 head_text name test =
-    codes "Test " ++ name ++ codes " " ++ kind_word test.kind ++ line_end
+    codes "Test " ++ name ++ codes " " ++ kind_word (or_else Allowed test.kind) ++ line_end
     ++ codes "Histogram (" ++ decimal (length test.states) ++ codes " states)" ++ line_end
 
 unfoldable pub verdict_text : Summed → List ℕ
@@ -61,7 +61,7 @@ verdict_text test =
 
 unfoldable pub condition_text : Summed → List ℕ
 condition_text test =
-    codes "Condition " ++ test.condition ++ verdict_end (is_validated test) ++ line_end ++ hash_text test.hash
+    codes "Condition " ++ or_else [] test.condition ++ verdict_end (is_validated test) ++ line_end ++ hash_text test.hash
 
 unfoldable pub observation_text : List ℕ → Summed → List ℕ
 observation_text name test =
