@@ -2,3 +2,4 @@ mod ReadingRows
 pub mod RunLaws
 pub mod TextLaws
 pub mod CountLaws
+pub mod StateLaws

@@ -1,10 +1,11 @@
 -- Cuts, words and ends of texts.
-use Rattle.std.proofs.Common.{◌≡◌, ◌==◌, ℕ, zero, suc, ◌+◌, ◌-◌, ◌<◌, ◌≤◌, List, [], ◌∷◌, ◌++◌, Some, None, true, false, length, get_or, take, drop, refl, sym, ap, ◌∙◌, arith, length-drop}
-use Rattle.std.specs.Prelude.{Bool, not, ◌&&◌, Option, cond, IsTrue, ◌↔◌}
+use Rattle.std.proofs.Common.{◌≡◌, ◌==◌, ℕ, zero, suc, ◌+◌, ◌-◌, ◌<◌, ◌≤◌, List, [], ◌∷◌, ◌++◌, Some, None, true, false, length, get_or, take, drop, refl, sym, ap, ◌∙◌, arith, length-drop, append_assoc, append-nil}
+use Rattle.std.specs.Prelude.{Bool, not, ◌&&◌, Option, cond, Option}
 use Rattle.std.specs.List.{slice_split, filter, onto_first}
 use Rattle.std.proofs.Math.Seq.{take-length}
+use Rattle.std.proofs.lemmas.Bool.{eqb-true}
 use Rattle.memchr.specs.Find.{IsFirstByte, is_byte}
-use Rattle.log_sum.specs.Texts.{is_blank, is_inked, is_nil, run_of, after_run, before_blanks, kept_before, words, unblanked}
+use Rattle.log_sum.specs.Texts.{is_blank, is_inked, is_nil, run_of, after_run, before_blanks, kept_before, words, unblanked, later_words, joined_words}
 use Rattle.log_sum.specs.States.{cut_at, before_cut}
 use Rattle.log_sum.proofs.RunLaws.{by_test}
 
@@ -126,10 +127,9 @@ no_word_found text front word e f h =
     words_none text (ap (λ t. is_nil (run_of is_inked t)) (sym e) ∙ ap is_nil (sym f) ∙ h)
 
 -- a test whether a text is empty
-pub empty_is_nil : (b : Bool) (text : List ℕ) → (IsTrue b ↔ (length text ≡ 0)) → is_nil text ≡ b
-empty_is_nil b [] h = sym (h.1 refl)
-empty_is_nil true (x ∷ text) h = absurd (let e : length (x ∷ text) ≡ 0 = h.0 refl in omega arith)
-empty_is_nil false (x ∷ text) h = refl
+pub empty_is_nil : (text : List ℕ) → is_nil text ≡ (length text == 0)
+empty_is_nil [] = refl
+empty_is_nil (x ∷ text) = sym (not_so (length (x ∷ text) == 0) (λ h. let e : length (x ∷ text) ≡ 0 = eqb-true (length (x ∷ text)) 0 h in omega arith))
 
 pub cut_found : (sign : ℕ) (text : List ℕ) (r : Option ℕ) (k : ℕ) → IsFirstByte (is_byte sign) text r → r ≡ Some k
     → Some (take k text, take (length text - (k + 1)) (drop (k + 1) text)) ≡ cut_at sign text
@@ -140,3 +140,24 @@ cut_found sign text r k h e =
 
 pub cut_missing : (sign : ℕ) (text : List ℕ) (r : Option ℕ) → IsFirstByte (is_byte sign) text r → r ≡ None → cut_at sign text ≡ None
 cut_missing sign text r h e = cut_searched sign text r h ∙ ap (cut_by text) e
+
+pub some_if : (text : List ℕ) → is_nil text ≡ false → 0 < length text
+some_if [] h = cc
+some_if (x ∷ text) h = omega arith
+
+-- words put behind text that joins earlier ones
+abbrev pub joined_onto : List ℕ → List (List ℕ) → List ℕ
+joined_onto [] ws = joined_words ws
+joined_onto (b ∷ text) ws = (b ∷ text) ++ later_words ws
+
+pub joined_first : (ws : List (List ℕ)) (word : List ℕ) → 0 < length word → joined_onto ([] ++ word) ws ≡ joined_onto [] (word ∷ ws)
+joined_first ws [] h = absurd (omega arith)
+joined_first ws (b ∷ word) h = refl
+
+pub joined_more : (text : List ℕ) (ws : List (List ℕ)) (word : List ℕ) → 0 < length text → joined_onto ((text ++ 32 ∷ []) ++ word) ws ≡ joined_onto text (word ∷ ws)
+joined_more [] ws word h = absurd (omega arith)
+joined_more (b ∷ text) ws word h = ap (λ t. b ∷ t) (append_assoc (text ++ 32 ∷ []) word (later_words ws) ∙ append_assoc text (32 ∷ []) (word ++ later_words ws))
+
+pub joined_all : (text : List ℕ) → joined_onto text [] ≡ text
+joined_all [] = refl
+joined_all (b ∷ text) = append-nil (b ∷ text)

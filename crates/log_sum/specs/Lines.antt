@@ -1,6 +1,6 @@
 -- What a line of a log says at its place.
 -- Source: the logs of litmus7; what is a fault is own.
-use Rattle.std.specs.Prelude.{ℕ, zero, suc, ◌==◌, Bool, false, ◌||◌, cond, List, [], ◌∷◌, drop, Option, Some, None, Result, Ok, Err, codes}
+use Rattle.std.specs.Prelude.{ℕ, zero, suc, ◌==◌, Bool, false, ◌||◌, ◌&&◌, cond, List, [], ◌∷◌, drop, Option, Some, None, Result, Ok, Err, codes}
 use Rattle.std.specs.Str.{bytes_eq}
 use Rattle.log_sum.specs.declared.errors.LogKind.{LogKind}
 use Rattle.log_sum.specs.declared.errors.LogKind.TheVariants.{Truncated, BadState, NoCounts, KindDiffers}
@@ -12,9 +12,9 @@ use Rattle.log_sum.specs.declared.kinds.Verdict.{Verdict}
 use Rattle.log_sum.specs.declared.kinds.Verdict.TheVariants.{Validated, NotValidated}
 use Rattle.log_sum.specs.declared.kinds.Place.{Place}
 use Rattle.log_sum.specs.declared.kinds.Place.TheVariants.{Outside, Histogram, States, Judgement, Rest, Conditioned}
-use Rattle.log_sum.specs.Texts.{trimmed, unblanked, words, joined_words, ends_with, before_end, begins_with}
+use Rattle.log_sum.specs.Texts.{is_nil, trimmed, unblanked, words, joined_words, ends_with, before_end, begins_with}
 use Rattle.log_sum.specs.Counts.{count_read}
-use Rattle.log_sum.specs.States.{state_read, state_form}
+use Rattle.log_sum.specs.States.{form_read}
 use Rattle.log_sum.specs.Facts.{Row, Fact, a_kind, a_row, a_condition, a_hash}
 
 -- what a line says
@@ -50,9 +50,12 @@ outside_said None = passed_over
 outside_said (Some test) = begins test.0 test.1
 
 -- `Histogram (n states)`, or `state)`: the words behind the first
+abbrev pub is_states : List (List ℕ) → Bool
+is_states (word ∷ []) = bytes_eq word (codes "states)") || bytes_eq word (codes "state)")
+is_states _ = false
+
 abbrev pub are_states : List ℕ → List (List ℕ) → Bool
-are_states [] (word ∷ []) = bytes_eq word (codes "states)") || bytes_eq word (codes "state)")
-are_states _ _ = false
+are_states behind rest = is_nil behind && is_states rest
 
 abbrev pub states_counted : List (List ℕ) → Result (ℕ × List ℕ) LogKind → Result ℕ LogKind
 states_counted rest (Err kind) = Err kind
@@ -76,17 +79,26 @@ histogram_line (first ∷ rest) =
 abbrev pub mark_of : ℕ → Option Mark
 mark_of byte = cond (byte == 42) (Some Starred) (cond (byte == 58) (Some Plain) None)
 
-abbrev pub row_of : ℕ → Option Mark → Option (List (List ℕ)) → Result Row LogKind
-row_of count (Some mark) (Some state) = Ok (record { state = state_form state; mark = mark; count = count })
-row_of count _ _ = Err BadState
+-- a mark and the text behind its `>`
+abbrev pub mark_before : Option Mark → List ℕ → Option (Mark × List ℕ)
+mark_before None text = None
+mark_before (Some mark) text = Some (mark, text)
 
-abbrev pub row_marked : ℕ → List ℕ → Result Row LogKind
-row_marked count (mark ∷ arrow ∷ text) = cond (arrow == 62) (row_of count (mark_of mark) (state_read text)) (Err BadState)
-row_marked count _ = Err BadState
+abbrev pub mark_read : List ℕ → Option (Mark × List ℕ)
+mark_read (mark ∷ arrow ∷ text) = cond (arrow == 62) (mark_before (mark_of mark) text) None
+mark_read _ = None
+
+abbrev pub row_of : ℕ → Mark → Result (List ℕ) LogKind → Result Row LogKind
+row_of count mark (Err kind) = Err kind
+row_of count mark (Ok state) = Ok (record { state = state; mark = mark; count = count })
+
+abbrev pub row_marked : ℕ → Option (Mark × List ℕ) → Result Row LogKind
+row_marked count None = Err BadState
+row_marked count (Some marked) = row_of count marked.0 (form_read marked.1)
 
 abbrev pub row_counted : Result (ℕ × List ℕ) LogKind → Result Row LogKind
 row_counted (Err kind) = Err kind
-row_counted (Ok counted) = row_marked counted.0 (unblanked counted.1)
+row_counted (Ok counted) = row_marked counted.0 (mark_read (unblanked counted.1))
 
 unfoldable pub row_line : List ℕ → Result Row LogKind
 row_line text = row_counted (count_read (trimmed text))

@@ -1,7 +1,7 @@
 -- Blanks, words and ends of a line.
 -- Source: own; a blank is a space or a tab.
-use Rattle.std.specs.Prelude.{ℕ, Bool, true, false, ◌-◌, ◌==◌, ◌||◌, not, cond, List, [], ◌∷◌, ◌++◌, length, take, drop}
-use Rattle.std.specs.List.{filter, slice_split}
+use Rattle.std.specs.Prelude.{ℕ, nat_eq, Bool, true, false, ◌-◌, ◌==◌, ◌||◌, not, cond, List, [], ◌∷◌, ◌++◌, length, take, drop}
+use Rattle.std.specs.List.{filter, slice_split, starts_with}
 use Rattle.std.specs.Str.{bytes_eq}
 
 -- a space or a tab
@@ -68,4 +68,4 @@ before_end text tail = take (length text - length tail) text
 
 -- a text begins with another
 abbrev pub begins_with : List ℕ → List ℕ → Bool
-begins_with text head = bytes_eq (take (length head) text) head
+begins_with text head = starts_with nat_eq text head

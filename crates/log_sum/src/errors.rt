@@ -1,3 +1,6 @@
+ghost use Rattle.std.specs.Prelude.{◌≡◌};
+ghost use Rattle.log_sum.specs.declared.errors.Fault.TheVariants.{Wrong, NoMemory};
+
 use diy_io::NoMemory;
 use std::alloc::{AllocError, AllocFailed};
 use thiserror::Error;
@@ -53,24 +56,32 @@ pub(crate) enum Fault {
 }
 
 impl From<LogKind> for Fault {
+    ghost from_gives = { λ kind fault. fault ≡ Wrong kind };
+
     fn from(kind: LogKind) -> Fault {
         Fault::Wrong(kind)
     }
 }
 
 impl From<NoMemory> for Fault {
+    ghost from_gives = { λ _ fault. fault ≡ NoMemory };
+
     fn from(_error: NoMemory) -> Fault {
         Fault::NoMemory
     }
 }
 
 impl From<AllocError> for Fault {
+    ghost from_gives = { λ _ fault. fault ≡ NoMemory };
+
     fn from(_error: AllocError) -> Fault {
         Fault::NoMemory
     }
 }
 
 impl<T: Drop> From<AllocFailed<T>> for Fault {
+    ghost from_gives = { λ _ fault. fault ≡ NoMemory };
+
     fn from(_error: AllocFailed<T>) -> Fault {
         Fault::NoMemory
     }

@@ -1,8 +1,15 @@
+ghost use Rattle.std.specs.Prelude.{◌≡◌, option_map, take, IfOk};
+ghost use Rattle.std.specs.Borrow.{Bor};
+ghost use Rattle.log_sum.specs.Classes.{Gives, GivesOr, row_view, said_view, condition_view};
+ghost use Rattle.log_sum.specs.Lines.{kind_of, test_line, is_states, are_states, after_histogram, histogram_line, mark_of, mark_read, row_line, is_judgement, verdict_cut, condition_line, quantifier, hash_line, hash_said, condition_said, rest_said, is_observation, line_said};
+ghost use Rattle.log_sum.specs.Texts.{words, joined_words};
+
 use crate::counts::read_count;
 use crate::errors::{Fault, LogKind};
 use crate::kinds::{Kind, Mark, Place, Verdict};
 use crate::states::read_state;
 use crate::texts::{next_word, trimmed, without_blanks};
+use diy_io::NoMemory;
 use std::alloc::Global;
 
 /// What a line says.
@@ -26,7 +33,9 @@ pub(crate) struct Row {
     pub(crate) count: u64,
 }
 
-fn kind_of(word: &[u8]) -> Option<Kind> {
+fn kind_of(word: &[u8]) -> Option<Kind>
+    ensures { result ≡ kind_of word.now }
+{
     if word == b"Allowed".as_slice() {
         Some(Kind::Allowed)
     } else if word == b"Forbidden".as_slice() {
@@ -39,7 +48,10 @@ fn kind_of(word: &[u8]) -> Option<Kind> {
 }
 
 /// `Test NAME KIND`.
-fn read_test(line: &[u8]) -> Option<(&[u8], Kind)> {
+#[tactic(auto, unfolding(crate::specs::Lines::test_line))]
+fn read_test(line: &[u8]) -> Option<(&[u8], Kind)>
+    ensures { option_map (λ test. (test.0.now, test.1)) result ≡ test_line (words line.now) }
+{
     let (first, rest) = next_word(line)?;
     if first != b"Test".as_slice() {
         return None;
@@ -52,18 +64,31 @@ fn read_test(line: &[u8]) -> Option<(&[u8], Kind)> {
     }
 }
 
-/// Whether a count in parentheses ends with the word `states)`, or `state)`.
-fn are_states(behind: &[u8], rest: &[u8]) -> bool {
-    let Some((word, rest)) = next_word(rest) else {
-        return false;
-    };
-    behind.is_empty()
-        && (word == b"states)".as_slice() || word == b"state)".as_slice())
-        && next_word(rest).is_none()
+/// Whether a text is the word `states)`, or `state)`.
+fn is_states(text: &[u8]) -> bool
+    ensures { result ≡ is_states (words text.now) }
+{
+    match next_word(text) {
+        Some((word, rest)) => {
+            (word == b"states)".as_slice() || word == b"state)".as_slice())
+                && next_word(rest).is_none()
+        }
+        None => false,
+    }
+}
+
+/// Whether a count in parentheses ends so, with nothing between.
+#[tactic(auto, using(crate::proofs::TextLaws::empty_is_nil))]
+fn are_states(behind: &[u8], rest: &[u8]) -> bool
+    ensures { result ≡ are_states behind.now (words rest.now) }
+{
+    behind.is_empty() && is_states(rest)
 }
 
 /// The number in `(n states)`.
-fn read_number(text: &[u8]) -> Result<u64, LogKind> {
+fn read_number(text: &[u8]) -> Result<u64, LogKind>
+    ensures { Gives (λ n. n) result (after_histogram (words text.now)) }
+{
     let Some(([b'(', digits @ ..], rest)) = next_word(text) else {
         return Err(LogKind::BadState);
     };
@@ -76,7 +101,10 @@ fn read_number(text: &[u8]) -> Result<u64, LogKind> {
 }
 
 /// `Histogram (n states)`.
-fn read_histogram(line: &[u8]) -> Result<u64, LogKind> {
+#[tactic(auto, unfolding(crate::specs::Lines::histogram_line))]
+fn read_histogram(line: &[u8]) -> Result<u64, LogKind>
+    ensures { Gives (λ n. n) result (histogram_line (words line.now)) }
+{
     let Some((first, rest)) = next_word(line) else {
         return Err(LogKind::BadState);
     };
@@ -89,7 +117,9 @@ fn read_histogram(line: &[u8]) -> Result<u64, LogKind> {
     }
 }
 
-fn mark_of(byte: u8) -> Option<Mark> {
+fn mark_of(byte: u8) -> Option<Mark>
+    ensures { result ≡ mark_of byte }
+{
     match byte {
         b'*' => Some(Mark::Starred),
         b':' => Some(Mark::Plain),
@@ -98,7 +128,9 @@ fn mark_of(byte: u8) -> Option<Mark> {
 }
 
 /// The mark at the front of a text, and the text behind its `>`.
-fn read_mark(text: &[u8]) -> Option<(Mark, &[u8])> {
+fn read_mark(text: &[u8]) -> Option<(Mark, &[u8])>
+    ensures { option_map (λ mark. (mark.0, mark.1.now)) result ≡ mark_read text.now }
+{
     match text {
         [mark, b'>', rest @ ..] => Some((mark_of(*mark)?, rest)),
         _ => None,
@@ -106,7 +138,10 @@ fn read_mark(text: &[u8]) -> Option<(Mark, &[u8])> {
 }
 
 /// The line of a state.
-fn read_row(alloc: Global, line: &[u8]) -> Result<Row, Fault> {
+#[tactic(auto, unfolding(crate::specs::Lines::row_line))]
+fn read_row(alloc: Global, line: &[u8]) -> Result<Row, Fault>
+    ensures { GivesOr row_view result (row_line line.now) }
+{
     let (count, rest) = read_count(trimmed(line))?;
     let Some((mark, text)) = read_mark(without_blanks(rest)) else {
         return Err(Fault::Wrong(LogKind::BadState));
@@ -116,7 +151,9 @@ fn read_row(alloc: Global, line: &[u8]) -> Result<Row, Fault> {
 }
 
 /// `Ok` or `No`.
-fn is_judgement(line: &[u8]) -> bool {
+fn is_judgement(line: &[u8]) -> bool
+    ensures { result ≡ is_judgement (words line.now) }
+{
     match next_word(line) {
         Some((word, rest)) => {
             (word == b"Ok".as_slice() || word == b"No".as_slice()) && next_word(rest).is_none()
@@ -126,7 +163,9 @@ fn is_judgement(line: &[u8]) -> bool {
 }
 
 /// The words of a text, with one blank between them.
-fn joined_words(alloc: Global, text: &[u8]) -> Result<Vec<u8>, Fault> {
+fn joined_words(alloc: Global, text: &[u8]) -> Result<Vec<u8>, NoMemory>
+    ensures { IfOk result (λ joined. joined.items ≡ joined_words (words text.now)) }
+{
     let mut joined = Vec::new(alloc);
     let mut rest = text;
     while let Some((word, behind)) = next_word(rest) {
@@ -140,7 +179,9 @@ fn joined_words(alloc: Global, text: &[u8]) -> Result<Vec<u8>, Fault> {
 }
 
 /// The verdict with which a text ends, and how long the text before it is.
-fn read_verdict(text: &[u8]) -> Option<(usize, Verdict)> {
+fn read_verdict(text: &[u8]) -> Option<(usize, Verdict)>
+    ensures { option_map (λ cut. (take cut.0 text.now, cut.1)) result ≡ verdict_cut text.now }
+{
     if let Some(condition) = text.strip_suffix(b" is validated") {
         Some((condition.len(), Verdict::Validated))
     } else if let Some(condition) = text.strip_suffix(b" is NOT validated") {
@@ -151,7 +192,10 @@ fn read_verdict(text: &[u8]) -> Option<(usize, Verdict)> {
 }
 
 /// `Condition TEXT is validated` or `Condition TEXT is NOT validated`.
-fn read_condition(alloc: Global, line: &[u8]) -> Result<Option<(Vec<u8>, Verdict)>, Fault> {
+#[tactic(auto, unfolding(crate::specs::Lines::condition_line))]
+fn read_condition(alloc: Global, line: &[u8]) -> Result<Option<(Vec<u8>, Verdict)>, NoMemory>
+    ensures { IfOk result (λ condition. option_map condition_view condition ≡ condition_line (words line.now)) }
+{
     let Some((first, rest)) = next_word(line) else {
         return Ok(None);
     };
@@ -168,7 +212,9 @@ fn read_condition(alloc: Global, line: &[u8]) -> Result<Option<(Vec<u8>, Verdict
     }
 }
 
-fn quantifier(kind: Kind) -> &'static [u8] {
+fn quantifier(kind: Kind) -> &'static [u8]
+    ensures { result.now ≡ quantifier kind }
+{
     match kind {
         Kind::Allowed => b"exists",
         Kind::Forbidden => b"~exists",
@@ -176,11 +222,23 @@ fn quantifier(kind: Kind) -> &'static [u8] {
     }
 }
 
-/// What a line says that ends no block.
-fn read_rest(alloc: Global, kind: Kind, line: &[u8]) -> Result<Said<'_>, Fault> {
-    if read_test(line).is_some() {
-        return Err(Fault::Wrong(LogKind::Truncated));
+/// `Hash=TEXT`.
+#[tactic(auto, unfolding(crate::specs::Lines::hash_line))]
+fn read_hash(line: &[u8]) -> Option<&[u8]>
+    ensures { option_map (λ text. text.now) result ≡ hash_line line.now }
+{
+    let line = trimmed(line);
+    if line.starts_with(b"Hash=") {
+        Some(&line[5..])
+    } else {
+        None
     }
+}
+
+/// What a line says that ends no block and begins none.
+fn read_other(alloc: Global, kind: Kind, line: &[u8]) -> Result<Said<'_>, Fault>
+    ensures { GivesOr said_view result (condition_said kind (condition_line (words line.now)) (hash_said (hash_line line.now))) }
+{
     match read_condition(alloc, line)? {
         Some((text, verdict)) => {
             if text.starts_with(quantifier(kind)) {
@@ -189,15 +247,27 @@ fn read_rest(alloc: Global, kind: Kind, line: &[u8]) -> Result<Said<'_>, Fault> 
                 Err(Fault::Wrong(LogKind::KindDiffers))
             }
         }
-        None => Ok(match trimmed(line).strip_prefix(b"Hash=") {
-            Some(text) => Said::Hashed(text),
-            None => Said::PassedOver,
-        }),
+        None => match read_hash(line) {
+            Some(text) => Ok(Said::Hashed(text)),
+            None => Ok(Said::PassedOver),
+        },
+    }
+}
+
+/// What a line says that ends no block.
+fn read_rest(alloc: Global, kind: Kind, line: &[u8]) -> Result<Said<'_>, Fault>
+    ensures { GivesOr said_view result (rest_said kind line.now) }
+{
+    match read_test(line) {
+        Some(_) => Err(Fault::Wrong(LogKind::Truncated)),
+        None => read_other(alloc, kind, line),
     }
 }
 
 /// Whether a line ends its block.
-fn is_observation(line: &[u8]) -> bool {
+fn is_observation(line: &[u8]) -> bool
+    ensures { result ≡ is_observation (words line.now) }
+{
     match next_word(line) {
         Some((first, _)) => first == b"Observation".as_slice(),
         None => false,
@@ -205,7 +275,10 @@ fn is_observation(line: &[u8]) -> bool {
 }
 
 /// What a line says at a place, or what is wrong with it there.
-pub(crate) fn read_line(alloc: Global, place: Place, line: &[u8]) -> Result<Said<'_>, Fault> {
+#[tactic(auto, unfolding(crate::specs::Lines::line_said))]
+pub(crate) fn read_line(alloc: Global, place: Place, line: &[u8]) -> Result<Said<'_>, Fault>
+    ensures { GivesOr said_view result (line_said place line.now) }
+{
     match place {
         Place::Outside => Ok(match read_test(line) {
             Some((name, kind)) => Said::Begins(name, kind),

@@ -1,4 +1,5 @@
-ghost use Rattle.std.specs.Prelude.{◌≡◌, option_map};
+ghost use Rattle.std.specs.Prelude.{◌≡◌, ◌<◌, ◌≤◌, length, option_map, IfSome};
+ghost use Rattle.std.specs.List.{list_all};
 ghost use Rattle.log_sum.specs.Classes.{class_test, words_seen};
 ghost use Rattle.log_sum.specs.States.{cut_at};
 ghost use Rattle.log_sum.specs.Texts.{run_of, after_run, trimmed, unblanked, words, before_blanks};
@@ -23,6 +24,13 @@ impl Class {
             Class::Digit => byte.is_ascii_digit(),
         }
     }
+
+    /// Whether all bytes are of the class.
+    pub(crate) fn has_all(self, bytes: &[u8]) -> bool
+        ensures { result ≡ list_all (class_test self) bytes.now }
+    {
+        bytes.iter().all(|byte| self.has(*byte))
+    }
 }
 
 /// The bytes at the front of a text that are of a class, and the text behind them.
@@ -40,8 +48,10 @@ pub(crate) fn split_run(class: Class, text: &[u8]) -> (&[u8], &[u8])
 }
 
 /// A text without the blanks at its front.
+#[tactic(auto, using(crate::proofs::RunLaws::after_run_short))]
 pub(crate) fn without_blanks(text: &[u8]) -> &[u8]
-    ensures { result.now ≡ unblanked text.now }
+    ensures text { result.now ≡ unblanked text.now }
+    ensures short { length result.now ≤ length text.now }
 {
     split_run(Class::Blank, text).1
 }
@@ -69,7 +79,11 @@ pub(crate) fn trimmed(text: &[u8]) -> &[u8]
 
 /// The first word of a text, and the text behind it.
 pub(crate) fn next_word(text: &[u8]) -> Option<(&[u8], &[u8])>
-    ensures { words text.now ≡ words_seen (option_map (λ parts. (parts.0.now, parts.1.now)) result) }
+    ensures words { words text.now ≡ words_seen (option_map (λ parts. (parts.0.now, parts.1.now)) result) }
+
+    // The word has a byte, so less is left.
+    ensures some { IfSome result (λ parts. 0 < length parts.0.now) }
+    ensures less { IfSome result (λ parts. length parts.1.now < length text.now) }
 {
     let (word, rest) = split_run(Class::Inked, without_blanks(text));
     if word.is_empty() {
@@ -80,7 +94,8 @@ pub(crate) fn next_word(text: &[u8]) -> Option<(&[u8], &[u8])>
 
 /// The text before the first such byte, and the text behind it.
 pub(crate) fn cut(sign: u8, text: &[u8]) -> Option<(&[u8], &[u8])>
-    ensures { option_map (λ parts. (parts.0.now, parts.1.now)) result ≡ cut_at sign text.now }
+    ensures parts { option_map (λ parts. (parts.0.now, parts.1.now)) result ≡ cut_at sign text.now }
+    ensures less { IfSome result (λ parts. length parts.1.now < length text.now) }
 {
     let i = memchr(sign, text)?;
     Some((&text[..i], &text[i + 1..]))
