@@ -3,3 +3,4 @@ pub mod RunLaws
 pub mod TextLaws
 pub mod CountLaws
 pub mod StateLaws
+pub mod SumLaws

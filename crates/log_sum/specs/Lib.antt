@@ -6,4 +6,5 @@ pub mod Facts
 pub mod Lines
 pub mod Reading
 pub mod Summed
+pub mod Steps
 pub mod SumText

@@ -7,7 +7,7 @@ use Rattle.log_sum.proofs.states.form_of.Goals as goal
 pub loop-equality-init : goal.loop-equality-init
 loop-equality-init c = record {
   form = c.new-form.ensures.items ∙ form_none;
-  covers = let e : c.into_iter-equality-iterator.result ≡ c.args.state.now.keys = c.into_iter-equality-iterator.ensures.into_iter_gives in ap (map (λ equality. equality.items)) e;
+  covers = let e : c.into_iter-equality-iterator.result ≡ c.args.state.now.keys = c.into_iter-equality-iterator.ensures.into_iter_gives.0 in ap (map (λ equality. equality.items)) e;
 }
 
 pub loop-equality-preserved : goal.loop-equality-preserved
