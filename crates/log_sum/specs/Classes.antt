@@ -1,6 +1,6 @@
 -- What the code's view of texts stands for.
 -- Source: own.
-use Rattle.std.specs.Prelude.{◌≡◌, ℕ, Bool, List, [], ◌∷◌, Option, Some, None, Result, Ok, Err, map}
+use Rattle.std.specs.Prelude.{◌≡◌, ℕ, Bool, List, [], ◌∷◌, Option, Some, None, Result, Ok, Err, map, option_map}
 use Rattle.std.specs.BTreeSet.{BTreeSet}
 use Rattle.std.specs.Borrow.{Bor}
 use Rattle.log_sum.specs.declared.errors.LogKind.{LogKind}
@@ -15,6 +15,9 @@ use Rattle.log_sum.specs.declared.lines.Said.TheVariants as code
 use Rattle.log_sum.specs.declared.kinds.Verdict.{Verdict}
 use Rattle.std.specs.declared.vec.Vec.{Vec}
 use Rattle.std.specs.declared.alloc.Global.{Global}
+use Rattle.log_sum.specs.declared.test_sum.StateSum.{StateSum}
+use Rattle.log_sum.specs.declared.test_sum.TestSum.{TestSum}
+use Rattle.log_sum.specs.Summed.{Summed, StateSummed}
 use Rattle.log_sum.specs.Facts.{Row}
 use Rattle.log_sum.specs.Lines.{Said, passed_over, begins, counts, a_state, judged, conditioned, hashed, ends}
 use Rattle.log_sum.specs.Texts.{is_blank, is_inked, words}
@@ -69,3 +72,19 @@ said_view code.Ends = ends
 -- the texts of a set
 abbrev pub texts_of : BTreeSet (Vec ℕ Global) → List (List ℕ)
 texts_of state = map (λ text. text.items) state.keys
+
+-- what is kept of a state, and of a test
+abbrev pub state_view : Vec ℕ Global × StateSum → StateSummed
+state_view state = (state.0.items, (state.1.mark, state.1.count))
+
+abbrev pub test_view : TestSum → Summed
+test_view test = record {
+  kind = Some test.kind;
+  condition = option_map (λ text. text.items) test.condition;
+  hash = option_map (λ text. text.items) test.hash;
+  once_validated = test.once_validated;
+  always_validated = test.always_validated;
+  starred = test.starred;
+  plain = test.plain;
+  states = map state_view test.states.entries;
+}

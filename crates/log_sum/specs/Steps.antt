@@ -44,14 +44,23 @@ with_row test row = with_marked (record test {
   states = insert_entry (slice_cmp nat_cmp) test.states row.state (row.mark, min (count_known (known_state test.states row.state) + row.count) last_count)
 }) row.mark (marked test row.mark + row.count)
 
+-- a verdict more
+abbrev pub with_verdict : Summed → Verdict → Summed
+with_verdict test verdict = record test {
+  once_validated = test.once_validated || says_validated verdict;
+  always_validated = test.always_validated && says_validated verdict;
+}
+
+-- a test of which its kind alone is known
+abbrev pub of_kind : Kind → Summed
+of_kind kind = record {
+  kind = Some kind; condition = None; hash = None; once_validated = false; always_validated = true; starred = 0; plain = 0; states = []
+}
+
 unfoldable pub fact_to : Summed → Fact → Result Summed LogKind
 fact_to test (a_kind kind) = cond (is_other same_kind test.kind kind) (Err KindDiffers) (Ok (record test { kind = or_this test.kind kind }))
 fact_to test (a_condition text verdict) =
-    cond (is_other bytes_eq test.condition text) (Err ConditionDiffers) (Ok (record test {
-      condition = or_this test.condition text;
-      once_validated = test.once_validated || says_validated verdict;
-      always_validated = test.always_validated && says_validated verdict
-    }))
+    cond (is_other bytes_eq test.condition text) (Err ConditionDiffers) (Ok (with_verdict (record test { condition = or_this test.condition text }) verdict))
 fact_to test (a_hash text) = cond (is_other bytes_eq test.hash text) (Err HashDiffers) (Ok (record test { hash = or_this test.hash text }))
 fact_to test (a_row row) =
     cond (is_other same_mark (option_map (λ known. known.0) (known_state test.states row.state)) row.mark) (Err MarkDiffers)
