@@ -4,3 +4,5 @@ pub mod TextLaws
 pub mod CountLaws
 pub mod StateLaws
 pub mod SumLaws
+pub mod TestLaws
+pub mod ReadingLaws

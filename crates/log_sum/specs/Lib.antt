@@ -6,5 +6,6 @@ pub mod Facts
 pub mod Lines
 pub mod Reading
 pub mod Summed
+pub mod Standing
 pub mod Steps
 pub mod SumText

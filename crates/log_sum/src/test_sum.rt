@@ -1,7 +1,7 @@
 ghost use Rattle.std.specs.Prelude.{◌≡◌, option_map};
 ghost use Rattle.log_sum.specs.Classes.{Gives, GivesOr, test_view, row_view};
-ghost use Rattle.log_sum.specs.Facts.{same_kind, same_mark, a_kind, a_condition, a_hash, a_row};
-ghost use Rattle.log_sum.specs.Steps.{fact_to, of_kind, with_verdict, marked, with_marked, known_state};
+ghost use Rattle.log_sum.specs.Facts.{same_kind, same_mark, is_other, a_kind, a_condition, a_hash, a_row};
+ghost use Rattle.log_sum.specs.Steps.{fact_to, of_kind, with_verdict, marked, with_marked, known_state, count_known};
 
 use crate::errors::{Fault, LogKind};
 use crate::kinds::{Kind, Mark, Verdict};
@@ -41,7 +41,7 @@ fn same_kind(one: Kind, other: Kind) -> bool
     }
 }
 
-#[tactic(auto, using(crate::proofs::SumLaws::fact_put_is))]
+#[tactic(auto, using(crate::proofs::ReadingLaws::read_on))]
 fn same_mark(one: Mark, other: Mark) -> bool
     ensures { result ≡ same_mark one other }
 {
@@ -49,6 +49,26 @@ fn same_mark(one: Mark, other: Mark) -> bool
         (Mark::Starred, Mark::Starred) => true,
         (Mark::Plain, Mark::Plain) => true,
         _ => false,
+    }
+}
+
+/// Whether a state is known by another mark.
+fn has_other_mark(known: Option<StateSum>, mark: Mark) -> bool
+    ensures { result ≡ is_other same_mark (option_map (λ known. known.mark) known) mark }
+{
+    match known {
+        Some(known) => !same_mark(known.mark, mark),
+        None => false,
+    }
+}
+
+/// How often a state was seen.
+fn count_of(known: Option<StateSum>) -> u64
+    ensures { result ≡ count_known (option_map (λ known. (known.mark, known.count)) known) }
+{
+    match known {
+        Some(known) => known.count,
+        None => 0,
     }
 }
 
@@ -149,28 +169,21 @@ impl TestSum {
     }
 
     /// A state with a mark, seen so often.
-    #[tactic(auto, unfolding(crate::specs::Steps::fact_to))]
     pub(crate) fn put_row(&mut self, row: Row) -> Result<(), Fault>
         ensures { GivesOr (λ _. test_view self.new) result (fact_to (test_view self.old) (a_row (row_view row))) }
     {
         let Row { state, mark, count } = row;
         let known = self.known(state.as_slice());
-        if let Some(known) = known
-            && !same_mark(known.mark, mark)
-        {
+        if has_other_mark(known, mark) {
             return Err(Fault::Wrong(LogKind::MarkDiffers));
         }
         let sum = self.marked(mark);
         if count > u64::MAX - sum {
             return Err(Fault::Wrong(LogKind::SumTooLarge));
         }
-        let before = match known {
-            Some(known) => known.count,
-            None => 0,
-        };
         let state_sum = StateSum {
             mark,
-            count: before.saturating_add(count),
+            count: count_of(known).saturating_add(count),
         };
         self.states.insert(state, state_sum)?;
         self.set_marked(mark, sum + count);
