@@ -6,3 +6,4 @@ pub mod StateLaws
 pub mod SumLaws
 pub mod TestLaws
 pub mod ReadingLaws
+pub mod PrintLaws

@@ -44,7 +44,7 @@ abbrev pub how_often : ℕ → ℕ → List ℕ
 how_often starred plain =
     cond (starred == 0) (codes "Never") (cond (plain == 0) (codes "Always") (codes "Sometimes"))
 
-abbrev pub hash_text : Option (List ℕ) → List ℕ
+unfoldable pub hash_text : Option (List ℕ) → List ℕ
 hash_text None = []
 hash_text (Some hash) = codes "Hash=" ++ hash ++ line_end
 
@@ -59,9 +59,11 @@ verdict_text test =
     verdict_word (is_validated test) ++ line_end ++ line_end ++ codes "Witnesses" ++ line_end
     ++ codes "Positive: " ++ decimal test.starred ++ codes ", Negative: " ++ decimal test.plain ++ line_end
 
+unfoldable pub claim_text : Summed → List ℕ
+claim_text test = codes "Condition " ++ or_else [] test.condition ++ verdict_end (is_validated test) ++ line_end
+
 unfoldable pub condition_text : Summed → List ℕ
-condition_text test =
-    codes "Condition " ++ or_else [] test.condition ++ verdict_end (is_validated test) ++ line_end ++ hash_text test.hash
+condition_text test = claim_text test ++ hash_text test.hash
 
 unfoldable pub observation_text : List ℕ → Summed → List ℕ
 observation_text name test =
