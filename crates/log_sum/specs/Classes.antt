@@ -88,3 +88,6 @@ test_view test = record {
   plain = test.plain;
   states = map state_view test.states.entries;
 }
+
+abbrev pub named_view : Vec ℕ Global × TestSum → List ℕ × Summed
+named_view test = (test.0.items, test_view test.1)

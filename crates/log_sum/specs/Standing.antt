@@ -9,6 +9,8 @@ use Rattle.log_sum.specs.declared.kinds.Place.TheVariants.{Outside}
 use Rattle.log_sum.specs.Facts.{Entry, facts_of, tests_of}
 use Rattle.log_sum.specs.Reading.{Seen, input_judged, rest_of}
 use Rattle.log_sum.specs.Summed.{Summed, summed}
+use Rattle.log_sum.specs.SumText.{test_text}
+use Rattle.std.specs.List.{flat_map}
 
 -- the tests by name, in the order in which each was first seen; the place in the running log, the index of the test of the
 -- running block, the number of the running line, what has come of it; and the refusal of a summer that is spent
@@ -54,3 +56,7 @@ FedTo new files bytes (Err NoMemory) = new.refusal ≡ Some NoMemory
 -- a spent summer gives its refusal again, and stays as it is
 abbrev pub GivenAgain : Kept → Kept → Result (Unit {0}) SumError → Type 0
 GivenAgain old new result = (refusal : SumError) → old.refusal ≡ Some refusal → (result ≡ Err refusal) × (new ≡ old)
+
+-- the printed sum of what is kept
+abbrev pub kept_text : Kept → List ℕ
+kept_text kept = flat_map (λ test. test_text test.0 test.1) kept.tests

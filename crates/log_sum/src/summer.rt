@@ -1,3 +1,8 @@
+ghost use Rattle.std.specs.Prelude.{◌≡◌, ◌≤◌, [], IfOk, OnOk, OnErr};
+ghost use Rattle.diy_io.specs.Count.{Rose};
+ghost use Rattle.diy_io.specs.Sink.{Grew, GrewByPrefix};
+ghost use Rattle.log_sum.specs.Standing.{Kept, StandsFor, GivenAgain, kept_text};
+
 use crate::errors::{Fault, LogError, LogKind, SumError};
 use crate::kinds::{Kind, Place};
 use crate::lines::{Said, read_line};
@@ -7,6 +12,7 @@ use crate::texts::cut;
 use diy_io::{Failed, NoMemory, Sink};
 use indexmap::IndexMap;
 use std::alloc::Global;
+use std::marker::Model;
 
 /// The most bytes that a line of a log may have, its line feed not counted.
 pub const MAX_LINE: usize = 65_536;
@@ -25,6 +31,26 @@ pub struct Summer {
     held: Vec<u8>,
     /// What was refused.
     refusal: Option<SumError>,
+}
+
+impl Model for Summer {
+    ghost use Rattle.std.specs.Prelude.{◌≤◌, length, map};
+    ghost use Rattle.log_sum.specs.Standing.{Kept};
+
+    ghost Value = { Kept };
+
+    ghost use Rattle.log_sum.specs.Classes.{named_view};
+
+    ghost view = { λ s. record {
+        tests = map named_view s.tests.entries;
+        place = s.place;
+        test = s.test;
+        line = s.line;
+        held = s.held.items;
+        refusal = s.refusal;
+    } };
+
+    ghost invariant = { λ s. length s.held.items ≤ 65536 };
 }
 
 /// A line without the carriage return at its end.
@@ -64,7 +90,9 @@ fn after_state(place: Place) -> Place {
 
 impl Summer {
     /// A summer that was fed nothing yet.
-    pub fn new(alloc: Global) -> Result<Summer, NoMemory> {
+    pub fn new(alloc: Global) -> Result<Summer, NoMemory>
+        ensures { IfOk result (λ summer. StandsFor summer [] []) }
+    {
         Ok(Summer {
             alloc,
             tests: IndexMap::new(alloc),
@@ -77,7 +105,9 @@ impl Summer {
     }
 
     /// Feeds a piece of the running log.
-    pub fn feed(&mut self, piece: &[u8]) -> Result<(), SumError> {
+    pub fn feed(&mut self, piece: &[u8]) -> Result<(), SumError>
+        ensures { GivenAgain self.old self.new result }
+    {
         if let Some(refusal) = self.refusal {
             return Err(refusal);
         }
@@ -88,7 +118,9 @@ impl Summer {
     }
 
     /// Ends the running log.
-    pub fn end_file(&mut self) -> Result<(), SumError> {
+    pub fn end_file(&mut self) -> Result<(), SumError>
+        ensures { GivenAgain self.old self.new result }
+    {
         if let Some(refusal) = self.refusal {
             return Err(refusal);
         }
@@ -98,8 +130,14 @@ impl Summer {
         }
     }
 
-    /// Appends the sum of the logs that were fed.
-    pub fn write_sum<O: Sink>(&self, out: &mut O) -> Result<(), Failed> {
+    /// Appends the sum of the logs that were fed. Where the sink fails, it has taken a front of it.
+    pub fn write_sum<O: Sink>(&self, out: &mut O) -> Result<(), Failed>
+        ensures ok { OnOk result (Grew (O.told out.old) (O.told out.new) (kept_text self.now)) }
+        ensures failed { OnErr result (GrewByPrefix (O.told out.old) (O.told out.new) (kept_text self.now)) }
+        ensures no_fault { OnOk result (O.faults out.new ≡ O.faults out.old) }
+        ensures fault { OnErr result (Rose (O.faults out.old) (O.faults out.new)) }
+        ensures never_falls { O.faults out.old ≤ O.faults out.new }
+    {
         for (name, test) in &self.tests {
             print_sum(name.as_slice(), test, out)?;
         }
@@ -142,7 +180,7 @@ impl Summer {
 
     /// Holds a part of the running line.
     fn hold(&mut self, part: &[u8]) -> Result<(), Fault> {
-        if part.len() > MAX_LINE - self.held.len().min(MAX_LINE) {
+        if part.len() > MAX_LINE - self.held.len() {
             return Err(Fault::Wrong(LogKind::LineTooLong));
         }
         self.held.extend_from_slice(part)?;
