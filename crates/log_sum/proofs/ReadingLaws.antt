@@ -197,7 +197,7 @@ put_row name v w [] h d = refl
 put_row name v w (x ∷ names) h (more _ _ n d) =
     by_test (bytes_eq name x)
     (λ e. let same : name ≡ x = (bytes_eq-Decides name x).0 e in
-      rw e (rw (rows_by name v w names h (ap (λ y. list_any (bytes_eq y) names) same ∙ n)) (ap (λ y. (x, w y) ∷ named w names) same)))
+    rw e (rw (rows_by name v w names h (ap (λ y. list_any (bytes_eq y) names) same ∙ n)) (ap (λ y. (x, w y) ∷ named w names) same)))
     (λ e. rw e (rw (h x e) (ap (λ t. (x, w x) ∷ t) (put_row name v w names h d) ∙ later (list_any (bytes_eq name) names))))
   where
     later : (b : Bool) → ◌≡◌ {A = List (List ℕ × Summed)} ((x, w x) ∷ named w (cond b names (names ++ name ∷ []))) (named w (cond b (x ∷ names) (x ∷ (names ++ name ∷ []))))
@@ -210,7 +210,7 @@ pub table_put : (entries : List Entry) (test : List ℕ) (fact : Fact) → Diffe
 table_put entries test fact d =
     ap (λ facts. put_at test (summed facts) (table_of entries)) (sym (facts_here test entries fact))
     ∙ put_row test (λ x. summed (facts_of x entries)) (λ x. summed (facts_of x (entries ++ entry_of test fact ∷ []))) (tests_of entries)
-      (λ x h. ap summed (sym (facts_elsewhere x test entries fact h))) d
+    (λ x h. ap summed (sym (facts_elsewhere x test entries fact h))) d
     ∙ ap (named (λ x. summed (facts_of x (entries ++ entry_of test fact ∷ [])))) (sym (tests_then entries test fact))
 
 -- the names of tests differ

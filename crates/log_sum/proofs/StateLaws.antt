@@ -83,11 +83,15 @@ first_piece (byte ∷ text) =
     let further = first_piece text in
     by_test (byte == 59)
     (λ e. record {
-      piece = []; rest = slice_split (λ x. x == 59) text; is = rw e refl;
+      piece = [];
+      rest = slice_split (λ x. x == 59) text;
+      is = rw e refl;
       unblanked_is = let n : is_blank byte ≡ false = semicolon byte e in rw n (rw e refl);
     })
     (λ e. record {
-      piece = byte ∷ further.piece; rest = further.rest; is = rw (e, further.is) refl;
+      piece = byte ∷ further.piece;
+      rest = further.rest;
+      is = rw (e, further.is) refl;
       unblanked_is = by_test (is_blank byte) (λ n. rw n further.unblanked_is) (λ n. rw n (rw (e, further.is) refl));
     })
   where

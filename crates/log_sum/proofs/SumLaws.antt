@@ -287,15 +287,17 @@ no_state k m (r ∷ rs) e =
     by_test (bytes_eq r.state k) (λ f. let g = rw f at e in absurd (cc)) (λ f. rw f (no_state k m rs (rw f at e)))
 
 pub marked_put : (rs : List Row) (row : Row) → is_other same_mark (mark_in row.state rs) row.mark ≡ false → Marked rs → Marked (rs ++ row ∷ [])
-marked_put rs row agrees h = record { same = λ k m e.
-    list_all-append (λ r. not (bytes_eq r.state k) || same_mark r.mark m) rs (row ∷ [])
-    ∙ by_test (bytes_eq row.state k)
+marked_put rs row agrees h = record {
+  same = λ k m e.
+      list_all-append (λ r. not (bytes_eq r.state k) || same_mark r.mark m) rs (row ∷ [])
+      ∙ by_test (bytes_eq row.state k)
       (λ f. let e2 : or_this (mark_in k rs) row.mark ≡ Some m = ap (λ b. cond b (or_this (mark_in k rs) row.mark) (mark_in k rs)) (sym f) ∙ sym (mark_more k rs row) ∙ e in
-        let k_is : row.state ≡ k = (bytes_eq-Decides row.state k).0 f in
-        let agrees2 : is_other same_mark (mark_in k rs) row.mark ≡ false = ap (λ s. is_other same_mark (mark_in s rs) row.mark) (sym k_is) ∙ agrees in
-        rw f (by_known k m (mark_in k rs) refl agrees2 e2))
+      let k_is : row.state ≡ k = (bytes_eq-Decides row.state k).0 f in
+      let agrees2 : is_other same_mark (mark_in k rs) row.mark ≡ false = ap (λ s. is_other same_mark (mark_in s rs) row.mark) (sym k_is) ∙ agrees in
+      rw f (by_known k m (mark_in k rs) refl agrees2 e2))
       (λ f. let e2 : mark_in k rs ≡ Some m = ap (λ b. cond b (or_this (mark_in k rs) row.mark) (mark_in k rs)) (sym f) ∙ sym (mark_more k rs row) ∙ e in
-        rw (f, h.same k m e2) refl) }
+      rw (f, h.same k m e2) refl);
+}
   where
     by_known : (k : List ℕ) (m : Mark) (o : Option Mark) → mark_in k rs ≡ o → is_other same_mark o row.mark ≡ false → or_this o row.mark ≡ Some m
         → (list_all (λ r. not (bytes_eq r.state k) || same_mark r.mark m) rs && ((not true || same_mark row.mark m) && true)) ≡ true
@@ -352,14 +354,26 @@ unfolding summed
 hash_to facts text = rw (kinds_more facts (a_hash text), no_more (kinds facts), rows_more facts (a_hash text), no_more (rows facts), conditions_more facts (a_hash text), no_more (conditions facts), hashes_more facts (a_hash text), first_more (hashes facts) text) refl
 
 condition_to : (facts : List Fact) (text : List ℕ) (verdict : Verdict) → summed (facts ++ a_condition text verdict ∷ []) ≡ record (summed facts) {
-    condition = or_this (option_map (λ c. c.0) (first_of (conditions facts))) text;
-    once_validated = list_any (λ v. v) (verdicts facts) || says_validated verdict;
-    always_validated = list_all (λ v. v) (verdicts facts) && says_validated verdict }
+  condition = or_this (option_map (λ c. c.0) (first_of (conditions facts))) text;
+  once_validated = list_any (λ v. v) (verdicts facts) || says_validated verdict;
+  always_validated = list_all (λ v. v) (verdicts facts) && says_validated verdict;
+}
 unfolding summed
 condition_to facts text verdict =
-    rw (kinds_more facts (a_condition text verdict), no_more (kinds facts), rows_more facts (a_condition text verdict), no_more (rows facts), conditions_more facts (a_condition text verdict), hashes_more facts (a_condition text verdict), no_more (hashes facts),
-      first_more (conditions facts) (text, verdict), first_mapped (λ (c : List ℕ × Verdict). c.0) (first_of (conditions facts)) (text, verdict),
-      map_more (λ (c : List ℕ × Verdict). says_validated c.1) (conditions facts) (text, verdict), any_more (verdicts facts) (says_validated verdict), all_more (verdicts facts) (says_validated verdict)) refl
+    rw (
+      kinds_more facts (a_condition text verdict),
+      no_more (kinds facts),
+      rows_more facts (a_condition text verdict),
+      no_more (rows facts),
+      conditions_more facts (a_condition text verdict),
+      hashes_more facts (a_condition text verdict),
+      no_more (hashes facts),
+      first_more (conditions facts) (text, verdict),
+      first_mapped (λ (c : List ℕ × Verdict). c.0) (first_of (conditions facts)) (text, verdict),
+      map_more (λ (c : List ℕ × Verdict). says_validated c.1) (conditions facts) (text, verdict),
+      any_more (verdicts facts) (says_validated verdict),
+      all_more (verdicts facts) (says_validated verdict),
+    ) refl
 
 bytes_same : (t : List ℕ) → bytes_eq t t ≡ true
 bytes_same t = (bytes_eq-Decides t t).1 refl
@@ -396,8 +410,15 @@ value_put : (rs : List Row) (row : Row) → is_other same_mark (mark_in row.stat
     → ◌≡◌ {A = Mark × ℕ} (row.mark, min (count_known (known_state (map (state_by rs) (states_of rs)) row.state) + row.count) last_count)
     (or_else Plain (mark_in row.state (rs ++ row ∷ [])), state_sum row.state (rs ++ row ∷ []))
 value_put rs row agrees fits =
-    rw (mark_more row.state rs row, state_more row.state rs row, bytes_same row.state, known_is row.state rs, known_count rs row.state (mark_in row.state rs) refl, mark_stays (mark_in row.state rs) row.mark agrees,
-      min_small (state_sum row.state rs + row.count) last_count fits) refl
+    rw (
+      mark_more row.state rs row,
+      state_more row.state rs row,
+      bytes_same row.state,
+      known_is row.state rs,
+      known_count rs row.state (mark_in row.state rs) refl,
+      mark_stays (mark_in row.state rs) row.mark agrees,
+      min_small (state_sum row.state rs + row.count) last_count fits,
+    ) refl
 
 states_put : (rs : List Row) (row : Row) → is_other same_mark (mark_in row.state rs) row.mark ≡ false → state_sum row.state rs + row.count ≤ last_count
     → insert_entry (slice_cmp nat_cmp) (map (state_by rs) (states_of rs)) row.state (row.mark, min (count_known (known_state (map (state_by rs) (states_of rs)) row.state) + row.count) last_count)
@@ -413,13 +434,39 @@ unfolding summed
 marks_put facts row Starred states m e =
     let e1 : cond (same_mark row.mark Starred) row.count 0 ≡ row.count = ap (λ k. cond (same_mark k Starred) row.count 0) m in
     let e2 : cond (same_mark row.mark Plain) row.count 0 ≡ 0 = ap (λ k. cond (same_mark k Plain) row.count 0) m in
-    rw (kinds_more facts (a_row row), no_more (kinds facts), rows_more facts (a_row row), conditions_more facts (a_row row), no_more (conditions facts), hashes_more facts (a_row row), no_more (hashes facts),
-      marked_more Starred (rows facts) row, marked_more Plain (rows facts) row, e1, e2, e, add-zero (marked_sum Plain (rows facts))) refl
+    rw (
+      kinds_more facts (a_row row),
+      no_more (kinds facts),
+      rows_more facts (a_row row),
+      conditions_more facts (a_row row),
+      no_more (conditions facts),
+      hashes_more facts (a_row row),
+      no_more (hashes facts),
+      marked_more Starred (rows facts) row,
+      marked_more Plain (rows facts) row,
+      e1,
+      e2,
+      e,
+      add-zero (marked_sum Plain (rows facts)),
+    ) refl
 marks_put facts row Plain states m e =
     let e1 : cond (same_mark row.mark Starred) row.count 0 ≡ 0 = ap (λ k. cond (same_mark k Starred) row.count 0) m in
     let e2 : cond (same_mark row.mark Plain) row.count 0 ≡ row.count = ap (λ k. cond (same_mark k Plain) row.count 0) m in
-    rw (kinds_more facts (a_row row), no_more (kinds facts), rows_more facts (a_row row), conditions_more facts (a_row row), no_more (conditions facts), hashes_more facts (a_row row), no_more (hashes facts),
-      marked_more Starred (rows facts) row, marked_more Plain (rows facts) row, e1, e2, e, add-zero (marked_sum Starred (rows facts))) refl
+    rw (
+      kinds_more facts (a_row row),
+      no_more (kinds facts),
+      rows_more facts (a_row row),
+      conditions_more facts (a_row row),
+      no_more (conditions facts),
+      hashes_more facts (a_row row),
+      no_more (hashes facts),
+      marked_more Starred (rows facts) row,
+      marked_more Plain (rows facts) row,
+      e1,
+      e2,
+      e,
+      add-zero (marked_sum Starred (rows facts)),
+    ) refl
 
 row_to : (facts : List Fact) (row : Row) → is_other same_mark (mark_in row.state (rows facts)) row.mark ≡ false → state_sum row.state (rows facts) + row.count ≤ last_count → with_row (summed facts) row ≡ summed (facts ++ a_row row ∷ [])
 unfolding summed
@@ -427,7 +474,7 @@ row_to facts row agrees fits = marks_put facts row row.mark _ refl (states_put (
 
 abbrev row_by : Summed → Row → ℕ → Summed
 row_by test row sum = with_marked (record test {
-  states = insert_entry (slice_cmp nat_cmp) test.states row.state (row.mark, min (count_known (known_state test.states row.state) + row.count) last_count)
+  states = insert_entry (slice_cmp nat_cmp) test.states row.state (row.mark, min (count_known (known_state test.states row.state) + row.count) last_count);
 }) row.mark (sum + row.count)
 
 marked_is : (facts : List Fact) (mark : Mark) → marked (summed facts) mark ≡ marked_sum mark (rows facts)
@@ -454,8 +501,8 @@ fact_put_is facts (a_row row) h =
     (by_test (is_other same_mark (mark_in row.state (rows facts)) row.mark)
     (λ e. rw e refl)
     (λ e. rw e (by_test (nat_lt last_count (marked_sum row.mark (rows facts) + row.count))
-      (λ f. rw f refl)
-      (λ f. rw f (ap Ok (ap (row_by (summed facts) row) (sym (marked_is facts row.mark)) ∙ row_to facts row e (count_fits (rows facts) row (mark_in row.state (rows facts)) refl e h (small f))))))))
+    (λ f. rw f refl)
+    (λ f. rw f (ap Ok (ap (row_by (summed facts) row) (sym (marked_is facts row.mark)) ∙ row_to facts row e (count_fits (rows facts) row (mark_in row.state (rows facts)) refl e h (small f))))))))
   where
     small : nat_lt last_count (marked_sum row.mark (rows facts) + row.count) ≡ false → marked_sum row.mark (rows facts) + row.count ≤ last_count
     small f = grind (arith, nat_tests, f)

@@ -38,7 +38,7 @@ insert_shown cmp same (e ∷ entries) key value =
     by_ordering : map state_view (insert_entry cmp entries key value) ≡ insert_entry (slice_cmp nat_cmp) (map state_view entries) key.items (value.mark, value.count) → (o : Ordering)
         → map state_view (match_ordering o ((key, value) ∷ e ∷ entries) ((e.0, value) ∷ entries) (e ∷ insert_entry cmp entries key value))
         ≡ match_ordering o ((key.items, (value.mark, value.count)) ∷ state_view e ∷ map state_view entries) ((e.0.items, (value.mark, value.count)) ∷ map state_view entries)
-          (state_view e ∷ insert_entry (slice_cmp nat_cmp) (map state_view entries) key.items (value.mark, value.count))
+        (state_view e ∷ insert_entry (slice_cmp nat_cmp) (map state_view entries) key.items (value.mark, value.count))
     by_ordering further Less = refl
     by_ordering further Equal = refl
     by_ordering further Greater = ap (λ t. state_view e ∷ t) further

@@ -41,7 +41,7 @@ count_known (Some known) = known.1
 -- a state seen once more
 abbrev pub with_row : Summed → Row → Summed
 with_row test row = with_marked (record test {
-  states = insert_entry (slice_cmp nat_cmp) test.states row.state (row.mark, min (count_known (known_state test.states row.state) + row.count) last_count)
+  states = insert_entry (slice_cmp nat_cmp) test.states row.state (row.mark, min (count_known (known_state test.states row.state) + row.count) last_count);
 }) row.mark (marked test row.mark + row.count)
 
 -- a verdict more
@@ -54,7 +54,14 @@ with_verdict test verdict = record test {
 -- a test of which its kind alone is known
 abbrev pub of_kind : Kind → Summed
 of_kind kind = record {
-  kind = Some kind; condition = None; hash = None; once_validated = false; always_validated = true; starred = 0; plain = 0; states = []
+  kind = Some kind;
+  condition = None;
+  hash = None;
+  once_validated = false;
+  always_validated = true;
+  starred = 0;
+  plain = 0;
+  states = [];
 }
 
 unfoldable pub fact_to : Summed → Fact → Result Summed LogKind

@@ -42,12 +42,12 @@ impl Model for Summer {
     ghost use Rattle.log_sum.specs.Classes.{named_view};
 
     ghost view = { λ s. record {
-        tests = map named_view s.tests.entries;
-        place = s.place;
-        test = s.test;
-        line = s.line;
-        held = s.held.items;
-        refusal = s.refusal;
+      tests = map named_view s.tests.entries;
+      place = s.place;
+      test = s.test;
+      line = s.line;
+      held = s.held.items;
+      refusal = s.refusal;
     } };
 
     ghost invariant = { λ s. length s.held.items ≤ 65536 };
@@ -253,7 +253,9 @@ impl Summer {
             }
             None => {
                 let name = Vec::from_slice(self.alloc, name)?;
-                let (i, _) = self.tests.insert_full(name, TestSum::new(self.alloc, kind))?;
+                let (i, _) = self
+                    .tests
+                    .insert_full(name, TestSum::new(self.alloc, kind))?;
                 self.test = i;
                 Ok(())
             }

@@ -41,7 +41,6 @@ fn same_kind(one: Kind, other: Kind) -> bool
     }
 }
 
-#[tactic(auto, using(crate::proofs::ReadingLaws::read_on))]
 fn same_mark(one: Mark, other: Mark) -> bool
     ensures { result ≡ same_mark one other }
 {

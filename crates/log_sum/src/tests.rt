@@ -3,11 +3,14 @@ use diy_io::MemSink;
 use std::alloc::Global;
 use std::test::Fail;
 
-const A_LOG: &[u8] = b"Test SB Allowed\nHistogram (4 states)\n96    *>0:EAX=0; 1:EAX=0;\n499878:>0:EAX=1; 1:EAX=0;\n499862:>0:EAX=0; 1:EAX=1;\n164   :>0:EAX=1; 1:EAX=1;\nOk\n\nWitnesses\nPositive: 96, Negative: 999904\nCondition exists (0:EAX=0 /\\ 1:EAX=0) is validated\nObservation SB Sometimes 96 999904\nTime SB 0.11\n";
+const A_LOG: &[u8] =
+    b"Test SB Allowed\nHistogram (4 states)\n96    *>0:EAX=0; 1:EAX=0;\n499878:>0:EAX=1; 1:EAX=0;\n499862:>0:EAX=0; 1:EAX=1;\n164   :>0:EAX=1; 1:EAX=1;\nOk\n\nWitnesses\nPositive: 96, Negative: 999904\nCondition exists (0:EAX=0 /\\ 1:EAX=0) is validated\nObservation SB Sometimes 96 999904\nTime SB 0.11\n";
 
-const B_LOG: &[u8] = b"Test SB Allowed\nHistogram (3 states)\n4     :>1:EAX=1; 0:EAX=1;\n60    :>1:EAX=0; 0:EAX=1;\n36    :>1:EAX=1; 0:EAX=0;\nNo\n\nWitnesses\nPositive: 0, Negative: 100\nCondition exists (0:EAX=0 /\\ 1:EAX=0) is NOT validated\nObservation SB Never 0 100\n";
+const B_LOG: &[u8] =
+    b"Test SB Allowed\nHistogram (3 states)\n4     :>1:EAX=1; 0:EAX=1;\n60    :>1:EAX=0; 0:EAX=1;\n36    :>1:EAX=1; 0:EAX=0;\nNo\n\nWitnesses\nPositive: 0, Negative: 100\nCondition exists (0:EAX=0 /\\ 1:EAX=0) is NOT validated\nObservation SB Never 0 100\n";
 
-const PRINTED: &[u8] = b"Test SB Allowed\nHistogram (4 states)\n96    *>0:EAX=0; 1:EAX=0;\n499898:>0:EAX=0; 1:EAX=1;\n499938:>0:EAX=1; 1:EAX=0;\n168   :>0:EAX=1; 1:EAX=1;\nOk\n\nWitnesses\nPositive: 96, Negative: 1000004\nCondition exists (0:EAX=0 /\\ 1:EAX=0) is validated\nObservation SB Sometimes 96 1000004\n\n";
+const PRINTED: &[u8] =
+    b"Test SB Allowed\nHistogram (4 states)\n96    *>0:EAX=0; 1:EAX=0;\n499898:>0:EAX=0; 1:EAX=1;\n499938:>0:EAX=1; 1:EAX=0;\n168   :>0:EAX=1; 1:EAX=1;\nOk\n\nWitnesses\nPositive: 96, Negative: 1000004\nCondition exists (0:EAX=0 /\\ 1:EAX=0) is validated\nObservation SB Sometimes 96 1000004\n\n";
 
 fn feed_in_pieces(summer: &mut Summer, log: &[u8], length: usize) -> Result<(), SumError> {
     for piece in log.chunks(length.max(1)) {

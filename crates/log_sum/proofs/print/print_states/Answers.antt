@@ -43,7 +43,7 @@ loop-form-preserved g c = record {
 pub returns-in_err-print_state-clause-failed : goal.returns-in_err-print_state-clause-failed
 returns-in_err-print_state-clause-failed g c =
     on_err c.from_residual.result (states_stop shown state_line (g.O.Sink.told c.args.out.now) (g.O.Sink.told c.loop-form.out) (g.O.Sink.told c.print_state.new.out) c.loop-form.yielded (c.in-Some.form, c.in-Some.state)
-      (map state_view c.next.new.self) (map state_view c.args.test.now.states.entries) c.loop-form.invariant.grew
-      (front_as _ _ _ _ (line_as c.as_slice.result.now c.in-Some.form.now.items c.in-Some.state.now.mark c.in-Some.state.now.count c.as_slice.ensures.value) c.in_err-print_state.ensures.failed)
-      (covers_this shown state_view c.loop-form.yielded c.loop-form.form-iterator c.next.new.self (c.in-Some.form, c.in-Some.state) (c.in-Some.form.now, c.in-Some.state.now) (map state_view c.args.test.now.states.entries)
-        refl c.in-Some.ensures.steps c.loop-form.invariant.covers))
+    (map state_view c.next.new.self) (map state_view c.args.test.now.states.entries) c.loop-form.invariant.grew
+    (front_as _ _ _ _ (line_as c.as_slice.result.now c.in-Some.form.now.items c.in-Some.state.now.mark c.in-Some.state.now.count c.as_slice.ensures.value) c.in_err-print_state.ensures.failed)
+    (covers_this shown state_view c.loop-form.yielded c.loop-form.form-iterator c.next.new.self (c.in-Some.form, c.in-Some.state) (c.in-Some.form.now, c.in-Some.state.now) (map state_view c.args.test.now.states.entries)
+    refl c.in-Some.ensures.steps c.loop-form.invariant.covers))

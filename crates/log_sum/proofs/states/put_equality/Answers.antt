@@ -1,4 +1,4 @@
-use Rattle.std.proofs.Common.{◌≡◌, ap, sym, ◌∙◌, map, ◌++◌, refl}
+use Rattle.std.proofs.Common.{ap, sym, ◌∙◌, map, ◌++◌, refl}
 use Rattle.std.specs.Ordering.{nat_cmp}
 use Rattle.std.specs.Cmp.Lexicographic.{slice_cmp}
 use Rattle.std.specs.BTreeSet.{insert_key}
@@ -20,4 +20,4 @@ returns c =
     c.in-Some.ensures (c.as_slice.ensures.value ∙ c.in_ok-equality.ensures)
     (c.if-has_left.ensures ∙ sym (any_shown (λ text. text.items) (λ text. begins_with text c.as_slice.result.now) c.args.state.now.keys))
     (ap (map (λ text. text.items)) c.in_ok-insert.ensures.keys ∙ shown_insert (λ text. text.items) _ (λ x y. refl) c.args.state.now.keys c.extend_from_slice.new.self
-      ∙ ap (insert_key (slice_cmp nat_cmp) (texts_of c.args.state.now)) (c.in_ok-extend_from_slice.ensures.items ∙ ap (λ t. t ++ c.in-Some.value.now) (sym c.as_slice.ensures.value)))
+    ∙ ap (insert_key (slice_cmp nat_cmp) (texts_of c.args.state.now)) (c.in_ok-extend_from_slice.ensures.items ∙ ap (λ t. t ++ c.in-Some.value.now) (sym c.as_slice.ensures.value)))

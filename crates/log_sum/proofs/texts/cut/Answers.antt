@@ -1,4 +1,4 @@
-use Rattle.std.proofs.Common.{◌≡◌, ap, sym, ◌∙◌}
+use Rattle.std.proofs.Common.{ap, sym, ◌∙◌}
 use Rattle.std.specs.Option.{option_map}
 use Rattle.log_sum.proofs.TextLaws.{cut_found, cut_missing}
 use Rattle.log_sum.proofs.texts.cut.Goals as goal

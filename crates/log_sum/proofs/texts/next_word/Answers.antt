@@ -1,5 +1,5 @@
-use Rattle.std.proofs.Common.{◌≡◌, ◌<◌, ◌≤◌, length, sym, ◌∙◌, arith}
-use Rattle.log_sum.specs.Texts.{is_nil, is_inked}
+use Rattle.std.proofs.Common.{◌<◌, ◌≤◌, length, sym, ◌∙◌, arith}
+use Rattle.log_sum.specs.Texts.{is_inked}
 use Rattle.log_sum.proofs.RunLaws.{less_behind}
 use Rattle.log_sum.proofs.TextLaws.{word_found, no_word_found, empty_is_nil, some_if}
 use Rattle.log_sum.proofs.texts.next_word.Goals as goal

@@ -1,4 +1,4 @@
-use Rattle.std.proofs.Common.{◌≡◌, sym, ◌∙◌}
+use Rattle.std.proofs.Common.{sym, ◌∙◌}
 use Rattle.log_sum.proofs.TextLaws.{blank_off, inked_stays, none_stays}
 use Rattle.log_sum.proofs.texts.without_last_blanks.Goals as goal
 

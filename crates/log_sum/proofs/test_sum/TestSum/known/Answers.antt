@@ -1,4 +1,4 @@
-use Rattle.std.proofs.Common.{◌≡◌, ap, sym, ◌∙◌, refl}
+use Rattle.std.proofs.Common.{ap, ◌∙◌, refl}
 use Rattle.std.specs.Option.{option_map}
 use Rattle.log_sum.specs.declared.test_sum.StateSum.{StateSum}
 use Rattle.log_sum.proofs.TestLaws.{known_shown}
