@@ -1,6 +1,6 @@
 -- The printed sum, piece by piece.
 use Rattle.std.proofs.Common.{◌≡◌, ℕ, suc, ◌-◌, ◌≤◌, List, [], ◌∷◌, ◌++◌, length, take, refl, sym, ap, ◌∙◌, arith, min}
-use Rattle.std.specs.Prelude.{map, replicate, codes, Result, OnOk, OnErr}
+use Rattle.std.specs.Prelude.{map, replicate, codes, Result, Ok, OnOk, OnErr}
 use Rattle.std.specs.Fmt.{decimal}
 use Rattle.std.proofs.Common.{subst, append_assoc, append-nil}
 use Rattle.std.specs.List.{flat_map}
@@ -8,8 +8,12 @@ use Rattle.std.proofs.lemmas.List.Concat.{flat_map-append}
 use Rattle.diy_io.specs.SinkLaws.{grew_both, prefix_after, within_more, grew_nothing}
 use Rattle.diy_io.specs.Sink.{Told, told_kept, Grew, GrewByPrefix}
 use Rattle.log_sum.specs.declared.kinds.Kind.TheVariants.{Allowed}
-use Rattle.log_sum.specs.Summed.{Summed, or_else, is_validated}
-use Rattle.log_sum.specs.SumText.{line_end, kind_word, verdict_word, how_often, hash_text, claim_text, head_text, verdict_text, condition_text, observation_text}
+use Rattle.log_sum.specs.Summed.{Summed, summed, or_else, is_validated}
+use Rattle.log_sum.specs.declared.errors.LogError.{LogError}
+use Rattle.log_sum.specs.Standing.{Kept, StandsFor, kept_text}
+use Rattle.log_sum.specs.Reading.{Seen}
+use Rattle.log_sum.specs.Facts.{facts_of, tests_of}
+use Rattle.log_sum.specs.SumText.{test_text, sum_text, line_end, kind_word, verdict_word, how_often, hash_text, claim_text, head_text, verdict_text, condition_text, observation_text}
 use Rattle.std.proofs.lemmas.List.{take-replicate}
 
 pub length_map : {A B : Type 0} (f : A → B) (xs : List A) → length (map f xs) ≡ length xs
@@ -78,3 +82,20 @@ pub covers_this : {A B T : Type 0} (f : A → T) (g : B → T) (ys : List A) (it
     → map f ys ++ f x ∷ map g rest ≡ all
 covers_this f g ys it rest x y all e h k =
     ap (λ t. map f ys ++ t ∷ map g rest) e ∙ ap (λ t. map f ys ++ map g t) (sym h) ∙ k
+
+texts_of : (test : List ℕ → Summed) (names : List (List ℕ)) → flat_map (λ (row : List ℕ × Summed). test_text row.0 row.1) (map (λ name. (name, test name)) names) ≡ flat_map (λ name. test_text name (test name)) names
+texts_of test [] = refl
+texts_of test (name ∷ names) = ap (λ t. test_text name (test name) ++ t) (texts_of test names)
+
+-- the sum of what is kept is that of the facts of the input that it stands for
+pub sum_is : (kept : Kept) (files : List (List ℕ)) (bytes : List ℕ) (s : StandsFor kept files bytes) → kept_text kept ≡ sum_text s.seen.entries
+unfolding sum_text
+sum_is kept files bytes s =
+    ap (flat_map (λ (row : List ℕ × Summed). test_text row.0 row.1)) s.tests ∙ texts_of (λ name. summed (facts_of name s.seen.entries)) (tests_of s.seen.entries)
+
+-- two summers that stand for the same input have the same sum, however its bytes were cut
+pub same_sum : (one other : Kept) (files : List (List ℕ)) (bytes : List ℕ) → StandsFor one files bytes → StandsFor other files bytes → kept_text one ≡ kept_text other
+same_sum one other files bytes s t =
+    let same : Ok s.seen ≡ Ok t.seen = sym s.judged ∙ t.judged in
+    let seen : s.seen ≡ t.seen = cc in
+    sum_is one files bytes s ∙ ap (λ (x : Seen). sum_text x.entries) seen ∙ sym (sum_is other files bytes t)
