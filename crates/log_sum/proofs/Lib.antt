@@ -1,0 +1,9 @@
+mod ReadingRows
+pub mod RunLaws
+pub mod TextLaws
+pub mod CountLaws
+pub mod StateLaws
+pub mod SumLaws
+pub mod TestLaws
+pub mod ReadingLaws
+pub mod PrintLaws

@@ -1,0 +1,239 @@
+-- A log may come in any pieces.
+use Rattle.std.proofs.Common.{◌≡◌, ◌==◌, ℕ, List, [], ◌∷◌, ◌++◌, Some, None, true, false, length, refl, sym, ap, ◌∙◌, append_assoc, append-nil, arith}
+use Rattle.std.specs.Prelude.{Bool, not, cond, Option, map, Result, Ok, Err, filter, fold}
+use Rattle.std.specs.List.{slice_split, onto_first, list_any, list_all}
+use Rattle.std.specs.Str.{bytes_eq}
+use Rattle.std.proofs.lemmas.List.Elements.{filter-append}
+use Rattle.std.proofs.lemmas.List.Sums.{fold-append}
+use Rattle.std.proofs.lemmas.Slice.Eq.{bytes_eq-Decides}
+use Rattle.log_sum.specs.declared.errors.LogError.{LogError}
+use Rattle.log_sum.specs.Facts.{Fact, Entry, facts_of, tests_of, with_name}
+use Rattle.log_sum.specs.Summed.{Summed, summed}
+use Rattle.log_sum.specs.Standing.{table_of}
+use Rattle.log_sum.specs.Reading.{Seen, ◌>>=◌, lines_judged, line_judged, lines_of, rest_of, but_last, last_of, bytes_judged, rest_judged, file_judged, files_judged, last_judged, end_judged, input_judged, nothing_seen}
+use Rattle.log_sum.proofs.RunLaws.{by_test}
+
+abbrev is_feed : ℕ → Bool
+is_feed byte = byte == 10
+
+abbrev pub is_one_line : List ℕ → Bool
+is_one_line text = list_all (λ byte. not (is_feed byte)) text
+
+-- a split has a first piece
+record FirstLine (bytes : List ℕ) : Type 0 where
+  line : List ℕ
+  rest : List (List ℕ)
+  is : slice_split is_feed bytes ≡ line ∷ rest
+
+first_line : (bytes : List ℕ) → FirstLine bytes
+first_line [] = record { line = []; rest = []; is = refl }
+first_line (byte ∷ bytes) =
+    let further = first_line bytes in
+    by_test (is_feed byte)
+    (λ e. record { line = []; rest = slice_split is_feed bytes; is = rw e refl })
+    (λ e. record { line = byte ∷ further.line; rest = further.rest; is = rw (e, further.is) refl })
+
+last_onto : (byte : ℕ) (pieces : List (List ℕ)) (line : List ℕ) → pieces ≡ line ∷ [] → last_of (onto_first byte pieces) ≡ byte ∷ last_of pieces
+last_onto byte pieces line e = rw e refl
+
+-- bytes without a line feed go onto the last line
+split_more : (bytes part : List ℕ) → is_one_line part ≡ true → slice_split is_feed (bytes ++ part) ≡ but_last (slice_split is_feed bytes) ++ (last_of (slice_split is_feed bytes) ++ part) ∷ []
+split_more [] part h = one_line part h
+  where
+    one_line : (part : List ℕ) → is_one_line part ≡ true → slice_split is_feed part ≡ part ∷ []
+    one_line [] h = refl
+    one_line (byte ∷ part) h = by_test (is_feed byte) (λ e. let k = rw e at h in absurd (cc)) (λ e. rw e (ap (onto_first byte) (one_line part (rw e at h))))
+split_more (byte ∷ bytes) part h =
+    let further = split_more bytes part h in
+    let first = first_line bytes in
+    by_test (is_feed byte)
+    (λ e. rw e (rw (further, first.is) refl))
+    (λ e. rw e (rw (further, first.is) (by_rest byte first.line first.rest part)))
+  where
+    by_rest : (byte : ℕ) (line : List ℕ) (rest : List (List ℕ)) (part : List ℕ) → onto_first byte (but_last (line ∷ rest) ++ (last_of (line ∷ rest) ++ part) ∷ []) ≡ but_last ((byte ∷ line) ∷ rest) ++ (last_of ((byte ∷ line) ∷ rest) ++ part) ∷ []
+    by_rest byte line [] part = refl
+    by_rest byte line (next ∷ rest) part = refl
+
+-- where a line feed follows, the last line ends and a new one begins
+split_ended : (bytes : List ℕ) → slice_split is_feed (bytes ++ 10 ∷ []) ≡ slice_split is_feed bytes ++ [] ∷ []
+split_ended [] = refl
+split_ended (byte ∷ bytes) =
+    let first = first_line bytes in
+    by_test (is_feed byte) (λ e. rw e (ap (λ t. [] ∷ t) (split_ended bytes))) (λ e. rw e (ap (onto_first byte) (split_ended bytes) ∙ rw first.is refl))
+
+last_split : (lines : List (List ℕ)) (line : List ℕ) → last_of (lines ++ line ∷ []) ≡ line
+last_split [] line = refl
+last_split (l ∷ []) line = refl
+last_split (l ∷ m ∷ lines) line = last_split (m ∷ lines) line
+
+front_split : (lines : List (List ℕ)) (line : List ℕ) → but_last (lines ++ line ∷ []) ≡ lines
+front_split [] line = refl
+front_split (l ∷ []) line = refl
+front_split (l ∷ m ∷ lines) line = ap (λ t. l ∷ t) (front_split (m ∷ lines) line)
+
+pub lines_more : (bytes part : List ℕ) → is_one_line part ≡ true → lines_of (bytes ++ part) ≡ lines_of bytes
+unfolding lines_of
+lines_more bytes part h = ap but_last (split_more bytes part h) ∙ front_split (but_last (slice_split is_feed bytes)) (last_of (slice_split is_feed bytes) ++ part)
+
+pub rest_more : (bytes part : List ℕ) → is_one_line part ≡ true → rest_of (bytes ++ part) ≡ rest_of bytes ++ part
+unfolding rest_of
+rest_more bytes part h = ap last_of (split_more bytes part h) ∙ last_split (but_last (slice_split is_feed bytes)) (last_of (slice_split is_feed bytes) ++ part)
+
+-- the split without its last line and then that
+whole_split : (lines : List (List ℕ)) (line : List ℕ) (rest : List (List ℕ)) → lines ≡ line ∷ rest → lines ≡ but_last lines ++ last_of lines ∷ []
+whole_split lines line [] e = rw e refl
+whole_split lines line (next ∷ rest) e = rw e (ap (λ t. line ∷ t) (whole_split (next ∷ rest) next rest refl))
+
+pub lines_ended : (bytes : List ℕ) → lines_of (bytes ++ 10 ∷ []) ≡ lines_of bytes ++ rest_of bytes ∷ []
+unfolding lines_of rest_of
+lines_ended bytes =
+    let first = first_line bytes in
+    ap but_last (split_ended bytes) ∙ front_split (slice_split is_feed bytes) [] ∙ whole_split (slice_split is_feed bytes) first.line first.rest first.is
+
+pub rest_ended : (bytes : List ℕ) → rest_of (bytes ++ 10 ∷ []) ≡ []
+unfolding rest_of
+rest_ended bytes = ap last_of (split_ended bytes) ∙ last_split (slice_split is_feed bytes) []
+
+-- lines are judged one after another
+lines_then : (seen : Seen) (lines : List (List ℕ)) (line : List ℕ) → lines_judged seen (lines ++ line ∷ []) ≡ (lines_judged seen lines >>= (λ next. line_judged next line))
+lines_then seen [] line = by_result (line_judged seen line)
+  where
+    by_result : (r : Result Seen LogError) → (r >>= (λ next. Ok next)) ≡ r
+    by_result (Ok x) = refl
+    by_result (Err e) = refl
+lines_then seen (l ∷ lines) line = by_result (λ next. lines_then next lines line) (line_judged seen l)
+  where
+    by_result : ((next : Seen) → lines_judged next (lines ++ line ∷ []) ≡ (lines_judged next lines >>= (λ x. line_judged x line))) → (r : Result Seen LogError)
+        → (r >>= (λ next. lines_judged next (lines ++ line ∷ []))) ≡ ((r >>= (λ next. lines_judged next lines)) >>= (λ x. line_judged x line))
+    by_result law (Ok x) = law x
+    by_result law (Err e) = refl
+
+-- what the lines of bytes that have come give, before the line that goes on is judged
+abbrev pub so_far : List (List ℕ) → List ℕ → Result Seen LogError
+so_far files bytes = files_judged nothing_seen files >>= λ seen. lines_judged seen (lines_of bytes)
+
+pub input_by_lines : (files : List (List ℕ)) (bytes : List ℕ) → input_judged files bytes ≡ (so_far files bytes >>= (λ next. rest_judged next (rest_of bytes)))
+unfolding input_judged bytes_judged
+input_by_lines files bytes = by_result (files_judged nothing_seen files)
+  where
+    by_result : (r : Result Seen LogError) → (r >>= (λ seen. bytes_judged seen bytes)) ≡ ((r >>= (λ seen. lines_judged seen (lines_of bytes))) >>= (λ next. rest_judged next (rest_of bytes)))
+    by_result (Ok x) = refl
+    by_result (Err e) = refl
+
+-- bytes without a line feed change what goes on alone
+pub so_far_more : (files : List (List ℕ)) (bytes part : List ℕ) → is_one_line part ≡ true → so_far files (bytes ++ part) ≡ so_far files bytes
+so_far_more files bytes part h = ap (λ lines. files_judged nothing_seen files >>= λ seen. lines_judged seen lines) (lines_more bytes part h)
+
+-- a line feed has the line judged
+pub so_far_ended : (files : List (List ℕ)) (bytes : List ℕ) → so_far files (bytes ++ 10 ∷ []) ≡ (so_far files bytes >>= (λ next. line_judged next (rest_of bytes)))
+so_far_ended files bytes =
+    ap (λ lines. files_judged nothing_seen files >>= λ seen. lines_judged seen lines) (lines_ended bytes) ∙ by_result (files_judged nothing_seen files)
+  where
+    by_result : (r : Result Seen LogError) → (r >>= (λ seen. lines_judged seen (lines_of bytes ++ rest_of bytes ∷ []))) ≡ ((r >>= (λ seen. lines_judged seen (lines_of bytes))) >>= (λ next. line_judged next (rest_of bytes)))
+    by_result (Ok x) = lines_then x (lines_of bytes) (rest_of bytes)
+    by_result (Err e) = refl
+
+-- one file more
+pub read_on : (seen : Seen) (files : List (List ℕ)) (bytes : List ℕ) → files_judged seen (files ++ bytes ∷ []) ≡ (files_judged seen files >>= (λ next. file_judged next bytes))
+read_on seen [] bytes = by_result (file_judged seen bytes)
+  where
+    by_result : (r : Result Seen LogError) → (r >>= (λ next. Ok next)) ≡ r
+    by_result (Ok x) = refl
+    by_result (Err e) = refl
+read_on seen (file ∷ files) bytes = by_result (λ next. read_on next files bytes) (file_judged seen file)
+  where
+    by_result : ((next : Seen) → files_judged next (files ++ bytes ∷ []) ≡ (files_judged next files >>= (λ x. file_judged x bytes))) → (r : Result Seen LogError)
+        → (r >>= (λ next. files_judged next (files ++ bytes ∷ []))) ≡ ((r >>= (λ next. files_judged next files)) >>= (λ x. file_judged x bytes))
+    by_result law (Ok x) = law x
+    by_result law (Err e) = refl
+
+-- the facts of a test with an entry more
+map_more : {A B : Type 0} (f : A → B) (xs : List A) (x : A) → map f (xs ++ x ∷ []) ≡ map f xs ++ f x ∷ []
+map_more f [] x = refl
+map_more f (y ∷ xs) x = ap (λ t. f y ∷ t) (map_more f xs x)
+
+abbrev pub entry_of : List ℕ → Fact → Entry
+entry_of test fact = record { test = test; fact = fact }
+
+bytes_same : (t : List ℕ) → bytes_eq t t ≡ true
+bytes_same t = (bytes_eq-Decides t t).1 refl
+
+pub facts_here : (test : List ℕ) (entries : List Entry) (fact : Fact) → facts_of test (entries ++ entry_of test fact ∷ []) ≡ facts_of test entries ++ fact ∷ []
+facts_here test entries fact =
+    ap (map (λ e. e.fact)) (filter-append (λ e. bytes_eq e.test test) entries (entry_of test fact ∷ [])) ∙ rw (bytes_same test) (map_more (λ e. e.fact) (filter (λ e. bytes_eq e.test test) entries) (entry_of test fact))
+
+pub facts_elsewhere : (name test : List ℕ) (entries : List Entry) (fact : Fact) → bytes_eq test name ≡ false → facts_of name (entries ++ entry_of test fact ∷ []) ≡ facts_of name entries
+facts_elsewhere name test entries fact h =
+    ap (map (λ e. e.fact)) (filter-append (λ e. bytes_eq e.test name) entries (entry_of test fact ∷ [])) ∙ rw h (ap (map (λ e. e.fact)) (append-nil (filter (λ e. bytes_eq e.test name) entries)))
+
+pub tests_then : (entries : List Entry) (test : List ℕ) (fact : Fact) → tests_of (entries ++ entry_of test fact ∷ []) ≡ with_name (tests_of entries) test
+tests_then entries test fact =
+    ap (fold with_name []) (map_more (λ e. e.test) entries (entry_of test fact)) ∙ fold-append with_name [] (map (λ e. e.test) entries) (test ∷ [])
+
+-- names that differ
+abbrev pub Without : List ℕ → List (List ℕ) → Type 0
+Without name names = list_any (bytes_eq name) names ≡ false
+
+pub data Differ : List (List ℕ) → Type 0 where
+  none : Differ []
+  more : (name : List ℕ) (names : List (List ℕ)) → Without name names → Differ names → Differ (name ∷ names)
+
+-- a test's row in a table
+abbrev pub put_at : List ℕ → Summed → List (List ℕ × Summed) → List (List ℕ × Summed)
+put_at name test [] = (name, test) ∷ []
+put_at name test (row ∷ rows) = cond (bytes_eq name row.0) ((row.0, test) ∷ rows) (row ∷ put_at name test rows)
+
+abbrev named : (List ℕ → Summed) → List (List ℕ) → List (List ℕ × Summed)
+named v names = map (λ x. (x, v x)) names
+
+rows_by : (name : List ℕ) (v w : List ℕ → Summed) (names : List (List ℕ)) → ((x : List ℕ) → bytes_eq name x ≡ false → v x ≡ w x) → Without name names → named v names ≡ named w names
+rows_by name v w [] h n = refl
+rows_by name v w (x ∷ names) h n =
+    by_test (bytes_eq name x) (λ e. let k = rw e at n in absurd (cc)) (λ e. rw (h x e, rows_by name v w names h (rw e at n)) refl)
+
+put_row : (name : List ℕ) (v w : List ℕ → Summed) (names : List (List ℕ)) → ((x : List ℕ) → bytes_eq name x ≡ false → v x ≡ w x) → Differ names
+    → put_at name (w name) (named v names) ≡ named w (with_name names name)
+put_row name v w [] h d = refl
+put_row name v w (x ∷ names) h (more _ _ n d) =
+    by_test (bytes_eq name x)
+    (λ e. let same : name ≡ x = (bytes_eq-Decides name x).0 e in
+    rw e (rw (rows_by name v w names h (ap (λ y. list_any (bytes_eq y) names) same ∙ n)) (ap (λ y. (x, w y) ∷ named w names) same)))
+    (λ e. rw e (rw (h x e) (ap (λ t. (x, w x) ∷ t) (put_row name v w names h d) ∙ later (list_any (bytes_eq name) names))))
+  where
+    later : (b : Bool) → ◌≡◌ {A = List (List ℕ × Summed)} ((x, w x) ∷ named w (cond b names (names ++ name ∷ []))) (named w (cond b (x ∷ names) (x ∷ (names ++ name ∷ []))))
+    later true = refl
+    later false = refl
+
+-- the table with an entry more is the table with that test's row put
+pub table_put : (entries : List Entry) (test : List ℕ) (fact : Fact) → Differ (tests_of entries)
+    → put_at test (summed (facts_of test entries ++ fact ∷ [])) (table_of entries) ≡ table_of (entries ++ entry_of test fact ∷ [])
+table_put entries test fact d =
+    ap (λ facts. put_at test (summed facts) (table_of entries)) (sym (facts_here test entries fact))
+    ∙ put_row test (λ x. summed (facts_of x entries)) (λ x. summed (facts_of x (entries ++ entry_of test fact ∷ []))) (tests_of entries)
+    (λ x h. ap summed (sym (facts_elsewhere x test entries fact h))) d
+    ∙ ap (named (λ x. summed (facts_of x (entries ++ entry_of test fact ∷ [])))) (sym (tests_then entries test fact))
+
+-- the names of tests differ
+without_end : (x name : List ℕ) (names : List (List ℕ)) → Without x names → bytes_eq x name ≡ false → Without x (names ++ name ∷ [])
+without_end x name [] h e = rw e refl
+without_end x name (y ∷ names) h e = by_test (bytes_eq x y) (λ f. let k = rw f at h in absurd (cc)) (λ f. rw f (without_end x name names (rw f at h) e))
+
+differ_name : (names : List (List ℕ)) (name : List ℕ) → Without name names → Differ names → Differ (names ++ name ∷ [])
+differ_name [] name h d = more name [] refl none
+differ_name (x ∷ names) name h (more _ _ n d) =
+    by_test (bytes_eq name x)
+    (λ e. let k = rw e at h in absurd (cc))
+    (λ e. more x (names ++ name ∷ []) (without_end x name names n (swap x name e)) (differ_name names name (rw e at h) d))
+  where
+    swap : (x name : List ℕ) → bytes_eq name x ≡ false → bytes_eq x name ≡ false
+    swap x name e = by_test (bytes_eq x name) (λ f. let k : bytes_eq name x ≡ true = (bytes_eq-Decides name x).1 (sym ((bytes_eq-Decides x name).0 f)) in absurd (let z : true ≡ false = sym k ∙ e in cc)) (λ f. f)
+
+pub differ_with : (names : List (List ℕ)) (name : List ℕ) → Differ names → Differ (with_name names name)
+differ_with names name d = by_test (list_any (bytes_eq name) names) (λ e. rw e d) (λ e. rw e (differ_name names name e d))
+
+fold_differ : (more names : List (List ℕ)) → Differ names → Differ (fold with_name names more)
+fold_differ [] names d = d
+fold_differ (name ∷ rest) names d = fold_differ rest (with_name names name) (differ_with names name d)
+
+pub tests_differ : (entries : List Entry) → Differ (tests_of entries)
+tests_differ entries = fold_differ (map (λ e. e.test) entries) [] none

@@ -1,0 +1,215 @@
+-- Sets of texts, as the code keeps them.
+use Rattle.std.proofs.Common.{◌≡◌, ◌==◌, ℕ, zero, suc, ◌+◌, ◌<◌, ◌≤◌, List, [], ◌∷◌, ◌++◌, Some, None, true, false, length, take, refl, sym, ap, ◌∙◌, arith, append_assoc, append-nil, length-append}
+use Rattle.std.specs.Prelude.{Bool, ◌||◌, cond, Option, map, Result, Ok, Err}
+use Rattle.std.specs.List.{slice_split, list_any, onto_first}
+use Rattle.std.specs.Ordering.{nat_cmp, match_ordering}
+use Rattle.std.specs.declared.cmp.Ordering.{Ordering}
+use Rattle.std.specs.declared.cmp.Ordering.TheVariants.{Less, Equal, Greater}
+use Rattle.std.specs.Cmp.Lexicographic.{slice_cmp}
+use Rattle.std.specs.BTreeSet.{insert_key}
+use Rattle.std.proofs.lemmas.Bool.{eqb-true}
+use Rattle.log_sum.specs.Texts.{is_blank, is_nil, after_run, unblanked}
+use Rattle.log_sum.specs.States.{cut_at, before_cut, with_pieces, with_equality, sides_read, and_then, later_unblanked, state_read, state_form, later_forms, or_bad, separated, form_with, left_kept, has_left}
+use Rattle.log_sum.specs.declared.errors.LogKind.{LogKind}
+use Rattle.log_sum.specs.declared.errors.LogKind.TheVariants.{BadState}
+use Rattle.log_sum.specs.declared.errors.Fault.{Fault}
+use Rattle.log_sum.specs.declared.errors.Fault.TheVariants.{Wrong, NoMemory}
+use Rattle.log_sum.specs.Classes.{IsFault}
+use Rattle.log_sum.proofs.RunLaws.{by_test}
+
+-- a set in which a key is put, as the list of what its keys show
+pub shown_insert : {K : Type 0} (show : K → List ℕ) (cmp : K → K → Ordering) → ((x y : K) → cmp x y ≡ slice_cmp nat_cmp (show x) (show y)) → (keys : List K) (key : K)
+    → map show (insert_key cmp keys key) ≡ insert_key (slice_cmp nat_cmp) (map show keys) (show key)
+shown_insert show cmp same [] key = refl
+shown_insert show cmp same (x ∷ keys) key =
+    rw (same key x) (by_ordering (shown_insert show cmp same keys key) (slice_cmp nat_cmp (show key) (show x)))
+  where
+    by_ordering : map show (insert_key cmp keys key) ≡ insert_key (slice_cmp nat_cmp) (map show keys) (show key) → (o : Ordering)
+        → map show (match_ordering o (key ∷ x ∷ keys) (x ∷ keys) (x ∷ insert_key cmp keys key))
+        ≡ match_ordering o (show key ∷ show x ∷ map show keys) (show x ∷ map show keys) (show x ∷ insert_key (slice_cmp nat_cmp) (map show keys) (show key))
+    by_ordering further Less = refl
+    by_ordering further Equal = refl
+    by_ordering further Greater = ap (λ t. show x ∷ t) further
+
+-- the pieces of a text, cut at its first semicolon
+pub pieces_cut : (sign : ℕ) (text : List ℕ) (parts : List ℕ × List ℕ) → cut_at sign text ≡ Some parts
+    → slice_split (λ byte. byte == sign) text ≡ parts.0 ∷ slice_split (λ byte. byte == sign) parts.1
+unfolding cut_at
+pieces_cut sign [] parts h = absurd (cc)
+pieces_cut sign (byte ∷ text) parts h =
+    by_test (byte == sign)
+    (λ e. let k = rw e at h in let l : parts ≡ ([], text) = cc in rw (e, l) refl)
+    (λ e. let k = rw e at h in rw e (by_cut (pieces_cut sign text) (cut_at sign text) refl k))
+  where
+    by_cut : ((further : List ℕ × List ℕ) → cut_at sign text ≡ Some further → slice_split (λ x. x == sign) text ≡ further.0 ∷ slice_split (λ x. x == sign) further.1)
+        → (o : Option (List ℕ × List ℕ)) → cut_at sign text ≡ o → before_cut byte o ≡ Some parts → onto_first byte (slice_split (λ x. x == sign) text) ≡ parts.0 ∷ slice_split (λ x. x == sign) parts.1
+    by_cut law None f g = absurd (cc)
+    by_cut law (Some further) f g =
+        let l : parts ≡ (byte ∷ further.0, further.1) = cc in
+        rw l (ap (onto_first byte) (law further f))
+
+pub pieces_whole : (sign : ℕ) (text : List ℕ) → cut_at sign text ≡ None → slice_split (λ byte. byte == sign) text ≡ text ∷ []
+unfolding cut_at
+pieces_whole sign [] h = refl
+pieces_whole sign (byte ∷ text) h =
+    by_test (byte == sign)
+    (λ e. let k = rw e at h in absurd (cc))
+    (λ e. let k = rw e at h in rw e (by_cut (pieces_whole sign text) (cut_at sign text) refl k))
+  where
+    by_cut : (cut_at sign text ≡ None → slice_split (λ x. x == sign) text ≡ text ∷ []) → (o : Option (List ℕ × List ℕ)) → cut_at sign text ≡ o → before_cut byte o ≡ None → onto_first byte (slice_split (λ x. x == sign) text) ≡ (byte ∷ text) ∷ []
+    by_cut law None f g = ap (onto_first byte) (law f)
+    by_cut law (Some further) f g = absurd (cc)
+
+-- a test of what the keys show
+pub any_shown : {K : Type 0} (show : K → List ℕ) (p : List ℕ → Bool) (keys : List K) → list_any p (map show keys) ≡ list_any (λ key. p (show key)) keys
+any_shown show p [] = refl
+any_shown show p (key ∷ keys) = ap (λ b. p (show key) || b) (any_shown show p keys)
+
+-- what is read from the rest of a text into a set
+abbrev pub rest_read : List (List ℕ) → List ℕ → Option (List (List ℕ))
+rest_read state rest = with_pieces state (later_unblanked (slice_split (λ byte. byte == 59) rest))
+
+-- a split has a first piece
+record FirstPiece (text : List ℕ) : Type 0 where
+  piece : List ℕ
+  rest : List (List ℕ)
+  is : slice_split (λ byte. byte == 59) text ≡ piece ∷ rest
+  unblanked_is : slice_split (λ byte. byte == 59) (unblanked text) ≡ unblanked piece ∷ rest
+
+first_piece : (text : List ℕ) → FirstPiece text
+unfolding after_run
+first_piece [] = record { piece = []; rest = []; is = refl; unblanked_is = refl }
+first_piece (byte ∷ text) =
+    let further = first_piece text in
+    by_test (byte == 59)
+    (λ e. record {
+      piece = [];
+      rest = slice_split (λ x. x == 59) text;
+      is = rw e refl;
+      unblanked_is = let n : is_blank byte ≡ false = semicolon byte e in rw n (rw e refl);
+    })
+    (λ e. record {
+      piece = byte ∷ further.piece;
+      rest = further.rest;
+      is = rw (e, further.is) refl;
+      unblanked_is = by_test (is_blank byte) (λ n. rw n further.unblanked_is) (λ n. rw n (rw (e, further.is) refl));
+    })
+  where
+    semicolon : (byte : ℕ) → (byte == 59) ≡ true → is_blank byte ≡ false
+    semicolon byte e = let k : byte ≡ 59 = eqb-true byte 59 e in rw k refl
+
+pieces_go : (state : List (List ℕ)) (piece : List ℕ) (behind : List ℕ)
+    → with_pieces state (piece ∷ map unblanked (slice_split (λ byte. byte == 59) behind)) ≡ and_then (with_equality state (sides_read (cut_at 61 piece))) (λ more. rest_read more (unblanked behind))
+unfolding with_pieces
+pieces_go state piece behind =
+    let first = first_piece behind in rw (first.is, first.unblanked_is) refl
+
+pub rest_goes : (state : List (List ℕ)) (rest : List ℕ) (parts : List ℕ × List ℕ) → cut_at 59 rest ≡ Some parts
+    → rest_read state rest ≡ and_then (with_equality state (sides_read (cut_at 61 parts.0))) (λ more. rest_read more (unblanked parts.1))
+rest_goes state rest parts h =
+    ap (λ pieces. with_pieces state (later_unblanked pieces)) (pieces_cut 59 rest parts h) ∙ pieces_go state parts.0 parts.1
+
+pub rest_whole : (state : List (List ℕ)) (rest : List ℕ) → cut_at 59 rest ≡ None → rest_read state rest ≡ cond (is_nil rest) (Some state) None
+unfolding with_pieces
+rest_whole state rest h = rw (pieces_whole 59 rest h) refl
+
+pub set_begins : (text : List ℕ) → rest_read [] text ≡ state_read text
+unfolding state_read
+set_begins text = refl
+
+ok_some : {A : Type 0} (o : Option A) (x : A) → or_bad o ≡ Ok x → o ≡ Some x
+ok_some None x h = absurd (cc)
+ok_some (Some y) x h = cc
+
+err_none : {A : Type 0} (o : Option A) (kind : LogKind) → or_bad o ≡ Err kind → (o ≡ None) × (kind ≡ BadState)
+err_none None kind h = (refl, cc)
+err_none (Some y) kind h = absurd (cc)
+
+-- one equality more was put
+pub set_goes : (state more : List (List ℕ)) (rest next : List ℕ) (parts : List ℕ × List ℕ) → cut_at 59 rest ≡ Some parts
+    → or_bad (with_equality state (sides_read (cut_at 61 parts.0))) ≡ Ok more → next ≡ unblanked parts.1 → rest_read more next ≡ rest_read state rest
+set_goes state more rest next parts h g e =
+    ap (rest_read more) e ∙ sym (rest_goes state rest parts h ∙ ap (λ o. and_then o (λ x. rest_read x (unblanked parts.1))) (ok_some (with_equality state (sides_read (cut_at 61 parts.0))) more g))
+
+-- an equality is faulty
+pub set_fails : (state : List (List ℕ)) (rest : List ℕ) (parts : List ℕ × List ℕ) (kind : LogKind) → cut_at 59 rest ≡ Some parts
+    → or_bad (with_equality state (sides_read (cut_at 61 parts.0))) ≡ Err kind → or_bad (rest_read state rest) ≡ Err kind
+set_fails state rest parts kind h g =
+    let f : (with_equality state (sides_read (cut_at 61 parts.0)) ≡ None) × (kind ≡ BadState) = err_none (with_equality state (sides_read (cut_at 61 parts.0))) kind g in
+    let e : rest_read state rest ≡ None = rest_goes state rest parts h ∙ ap (λ o. and_then o (λ x. rest_read x (unblanked parts.1))) f.0 in
+    rw (e, f.1) refl
+
+pub set_whole : (state : List (List ℕ)) (rest : List ℕ) → cut_at 59 rest ≡ None → is_nil rest ≡ true → rest_read state rest ≡ Some state
+set_whole state rest h e = rest_whole state rest h ∙ rw e refl
+
+pub set_cut_off : (state : List (List ℕ)) (rest : List ℕ) → cut_at 59 rest ≡ None → is_nil rest ≡ false → rest_read state rest ≡ None
+set_cut_off state rest h e = rest_whole state rest h ∙ rw e refl
+
+-- the form of a set with a text more at its end
+later_more : (xs : List (List ℕ)) (x : List ℕ) → later_forms (xs ++ x ∷ []) ≡ later_forms xs ++ (32 ∷ x ++ 59 ∷ [])
+later_more [] x = append-nil (32 ∷ x ++ 59 ∷ [])
+later_more (y ∷ xs) x = ap (λ t. (32 ∷ y ++ 59 ∷ []) ++ t) (later_more xs x) ∙ sym (append_assoc (32 ∷ y ++ 59 ∷ []) (later_forms xs) (32 ∷ x ++ 59 ∷ []))
+
+separated_cons : (y t : List ℕ) → separated ((y ++ 59 ∷ []) ++ t) ≡ ((y ++ 59 ∷ []) ++ t) ++ 32 ∷ []
+separated_cons [] t = refl
+separated_cons (b ∷ y) t = refl
+
+regroup : (t x : List ℕ) → t ++ (32 ∷ x ++ 59 ∷ []) ≡ ((t ++ 32 ∷ []) ++ x) ++ 59 ∷ []
+regroup t x = sym (append_assoc (t ++ 32 ∷ []) x (59 ∷ []) ∙ append_assoc t (32 ∷ []) (x ++ 59 ∷ []))
+
+pub form_more : (xs : List (List ℕ)) (x : List ℕ) → form_with (state_form xs) x ≡ state_form (xs ++ x ∷ [])
+unfolding state_form
+form_more [] x = sym (append-nil (x ++ 59 ∷ []))
+form_more (y ∷ xs) x = sym (
+    ap (λ t. (y ++ 59 ∷ []) ++ t) (later_more xs x) ∙ sym (append_assoc (y ++ 59 ∷ []) (later_forms xs) (32 ∷ x ++ 59 ∷ []))
+    ∙ regroup ((y ++ 59 ∷ []) ++ later_forms xs) x ∙ ap (λ t. (t ++ x) ++ 59 ∷ []) (sym (separated_cons y (later_forms xs))))
+
+pub form_none : [] ≡ state_form []
+unfolding state_form
+form_none = refl
+
+pub separated_some : (form : List ℕ) → 0 < length form → separated form ≡ form ++ 32 ∷ []
+separated_some [] h = absurd (omega arith)
+separated_some (b ∷ form) h = refl
+
+pub separated_none : (form : List ℕ) → length form ≡ 0 → separated form ≡ form
+separated_none [] h = refl
+separated_none (b ∷ form) h = absurd (omega arith)
+
+map_more : {A B : Type 0} (f : A → B) (xs : List A) (x : A) → map f (xs ++ x ∷ []) ≡ map f xs ++ f x ∷ []
+map_more f [] x = refl
+map_more f (y ∷ xs) x = ap (λ t. f y ∷ t) (map_more f xs x)
+
+pub form_goes : {A : Type 0} (show : A → List ℕ) (xs : List A) (x : A) (form next : List ℕ) → form ≡ state_form (map show xs) → next ≡ form_with form (show x) → next ≡ state_form (map show (xs ++ x ∷ []))
+form_goes show xs x form next e f =
+    f ∙ ap (λ t. form_with t (show x)) e ∙ form_more (map show xs) (show x) ∙ ap state_form (sym (map_more show xs x))
+
+-- what putting an equality answers, by its sides
+pub left_there : (state : List (List ℕ)) (sides : Option (List ℕ × List ℕ)) (left value kept : List ℕ) → Some (left, value) ≡ sides → kept ≡ left_kept left ++ 61 ∷ [] → true ≡ has_left state kept
+    → or_bad (with_equality state sides) ≡ Err BadState
+left_there state sides left value kept e f h =
+    ap (λ o. or_bad (with_equality state o)) (sym e) ∙ ap (λ k. or_bad (cond (has_left state k) None (Some (insert_key (slice_cmp nat_cmp) state (k ++ value))))) (sym f)
+    ∙ ap (λ b. or_bad (cond b None (Some (insert_key (slice_cmp nat_cmp) state (kept ++ value))))) (sym h)
+
+pub equality_put : (state more : List (List ℕ)) (sides : Option (List ℕ × List ℕ)) (left value kept : List ℕ) → Some (left, value) ≡ sides → kept ≡ left_kept left ++ 61 ∷ [] → false ≡ has_left state kept
+    → more ≡ insert_key (slice_cmp nat_cmp) state (kept ++ value) → or_bad (with_equality state sides) ≡ Ok more
+equality_put state more sides left value kept e f h g =
+    ap (λ o. or_bad (with_equality state o)) (sym e) ∙ ap (λ k. or_bad (cond (has_left state k) None (Some (insert_key (slice_cmp nat_cmp) state (k ++ value))))) (sym f)
+    ∙ ap (λ b. or_bad (cond b None (Some (insert_key (slice_cmp nat_cmp) state (kept ++ value))))) (sym h) ∙ ap Ok (sym g)
+
+no_equality : (state : List (List ℕ)) (sides : Option (List ℕ × List ℕ)) → None ≡ sides → or_bad (with_equality state sides) ≡ Err BadState
+no_equality state sides e = ap (λ o. or_bad (with_equality state o)) (sym e)
+
+-- a fault that is passed on
+pub fault_on : {Y Z : Type 0} (fault : Fault) (read : Result Y LogKind) (other : Result Z LogKind) → ((kind : LogKind) → read ≡ Err kind → other ≡ Err kind) → IsFault fault read → IsFault fault other
+fault_on (Wrong kind) read other f h = f kind h
+fault_on NoMemory read other f h = tt
+
+-- a loop has gone over one element more
+pub covers_goes : {A B : Type 0} (f : A → List ℕ) (g : B → List ℕ) (ys : List A) (it rest : List B) (x : A) (y : B) (all : List (List ℕ)) → f x ≡ g y → it ≡ y ∷ rest → map f ys ++ map g it ≡ all
+    → map f (ys ++ x ∷ []) ++ map g rest ≡ all
+covers_goes f g ys it rest x y all e h k =
+    ap (λ t. t ++ map g rest) (map_more f ys x) ∙ append_assoc (map f ys) (f x ∷ []) (map g rest) ∙ ap (λ t. map f ys ++ t ∷ map g rest) e ∙ ap (λ t. map f ys ++ map g t) (sym h) ∙ k
+
+pub covers_all : {A B : Type 0} (f : A → List ℕ) (g : B → List ℕ) (ys : List A) (it : List B) (all : List (List ℕ)) → it ≡ [] → map f ys ++ map g it ≡ all → map f ys ≡ all
+covers_all f g ys it all e k = sym (append-nil (map f ys)) ∙ ap (λ t. map f ys ++ map g t) (sym e) ∙ k

@@ -1,0 +1,93 @@
+-- What the code's view of texts stands for.
+-- Source: own.
+use Rattle.std.specs.Prelude.{◌≡◌, ℕ, Bool, List, [], ◌∷◌, Option, Some, None, Result, Ok, Err, map, option_map}
+use Rattle.std.specs.BTreeSet.{BTreeSet}
+use Rattle.std.specs.Borrow.{Bor}
+use Rattle.log_sum.specs.declared.errors.LogKind.{LogKind}
+use Rattle.log_sum.specs.declared.errors.Fault.{Fault}
+use Rattle.log_sum.specs.declared.errors.Fault.TheVariants.{Wrong, NoMemory}
+use Rattle.std.specs.Char.{is_ascii_digit}
+use Rattle.log_sum.specs.declared.texts.Class.{Class}
+use Rattle.log_sum.specs.declared.texts.Class.TheVariants as classes
+use Rattle.log_sum.specs.declared.lines.Row.{Row as RowCode}
+use Rattle.log_sum.specs.declared.lines.Said.{Said as SaidCode}
+use Rattle.log_sum.specs.declared.lines.Said.TheVariants as code
+use Rattle.log_sum.specs.declared.kinds.Verdict.{Verdict}
+use Rattle.std.specs.declared.vec.Vec.{Vec}
+use Rattle.std.specs.declared.alloc.Global.{Global}
+use Rattle.log_sum.specs.declared.test_sum.StateSum.{StateSum}
+use Rattle.log_sum.specs.declared.test_sum.TestSum.{TestSum}
+use Rattle.log_sum.specs.Summed.{Summed, StateSummed}
+use Rattle.log_sum.specs.Facts.{Row}
+use Rattle.log_sum.specs.Lines.{Said, passed_over, begins, counts, a_state, judged, conditioned, hashed, ends}
+use Rattle.log_sum.specs.Texts.{is_blank, is_inked, words}
+
+-- whether a byte is of a class
+abbrev pub class_test : Class → ℕ → Bool
+class_test classes.Blank = is_blank
+class_test classes.Inked = is_inked
+class_test classes.Digit = is_ascii_digit
+
+-- the words of a text by its first word and the text behind it
+abbrev pub words_seen : Option (List ℕ × List ℕ) → List (List ℕ)
+words_seen None = []
+words_seen (Some parts) = parts.0 ∷ words parts.1
+
+-- an answer is what the definition gives, where view says what it means
+abbrev pub Gives : {X Y : Type 0} → (X → Y) → Result X LogKind → Result Y LogKind → Type 0
+Gives view (Ok x) read = read ≡ Ok (view x)
+Gives view (Err kind) read = read ≡ Err kind
+
+-- a fault is the one of the definition; where there was no memory, nothing is known
+abbrev pub IsFault : {Y : Type 0} → Fault → Result Y LogKind → Type 0
+IsFault (Wrong kind) read = read ≡ Err kind
+IsFault NoMemory read = Unit {0}
+
+-- an answer is what the definition gives, where there may be no memory
+abbrev pub GivesOr : {X Y : Type 0} → (X → Y) → Result X Fault → Result Y LogKind → Type 0
+GivesOr view (Ok x) read = read ≡ Ok (view x)
+GivesOr view (Err fault) read = IsFault fault read
+
+-- a count and the text behind it
+abbrev pub count_and_rest : ℕ × Bor (List ℕ) → ℕ × List ℕ
+count_and_rest counted = (counted.0, counted.1.now)
+
+-- what the code says of a row, a condition and a line, as the definitions see it
+abbrev pub row_view : RowCode → Row
+row_view row = record { state = row.state.items; mark = row.mark; count = row.count }
+
+abbrev pub condition_view : Vec ℕ Global × Verdict → List ℕ × Verdict
+condition_view condition = (condition.0.items, condition.1)
+
+abbrev pub said_view : SaidCode → Said
+said_view code.PassedOver = passed_over
+said_view (code.Begins name kind) = begins name.now kind
+said_view (code.Counts states) = counts states
+said_view (code.State row) = a_state (row_view row)
+said_view code.Judged = judged
+said_view (code.Conditioned text verdict) = conditioned text.items verdict
+said_view (code.Hashed text) = hashed text.now
+said_view code.Ends = ends
+
+-- the texts of a set
+abbrev pub texts_of : BTreeSet (Vec ℕ Global) → List (List ℕ)
+texts_of state = map (λ text. text.items) state.keys
+
+-- what is kept of a state, and of a test
+abbrev pub state_view : Vec ℕ Global × StateSum → StateSummed
+state_view state = (state.0.items, (state.1.mark, state.1.count))
+
+abbrev pub test_view : TestSum → Summed
+test_view test = record {
+  kind = Some test.kind;
+  condition = option_map (λ text. text.items) test.condition;
+  hash = option_map (λ text. text.items) test.hash;
+  once_validated = test.once_validated;
+  always_validated = test.always_validated;
+  starred = test.starred;
+  plain = test.plain;
+  states = map state_view test.states.entries;
+}
+
+abbrev pub named_view : Vec ℕ Global × TestSum → List ℕ × Summed
+named_view test = (test.0.items, test_view test.1)

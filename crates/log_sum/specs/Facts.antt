@@ -1,0 +1,130 @@
+-- What logs say of tests, one fact after another, and what a test is by the facts of all logs.
+-- Source: own; the sum of logs is that of msum7.
+use Rattle.std.specs.Prelude.{ℕ, ◌+◌, nat_lt, Bool, true, false, ◌&&◌, not, cond, List, [], ◌∷◌, ◌++◌, Option, Some, None, map, filter, sum_by, fold}
+use Rattle.std.specs.Option.{option_map}
+use Rattle.std.specs.List.{list_any}
+use Rattle.std.specs.Ordering.{nat_cmp}
+use Rattle.std.specs.Cmp.Lexicographic.{slice_cmp}
+use Rattle.std.specs.BTreeSet.{insert_key}
+use Rattle.std.specs.Str.{bytes_eq}
+use Rattle.log_sum.specs.declared.errors.LogKind.{LogKind}
+use Rattle.log_sum.specs.declared.errors.LogKind.TheVariants.{MarkDiffers, HashDiffers, ConditionDiffers, SumTooLarge, KindDiffers}
+use Rattle.log_sum.specs.declared.kinds.Kind.{Kind}
+use Rattle.log_sum.specs.declared.kinds.Kind.TheVariants.{Allowed, Forbidden, Required}
+use Rattle.log_sum.specs.declared.kinds.Mark.{Mark}
+use Rattle.log_sum.specs.declared.kinds.Mark.TheVariants.{Starred, Plain}
+use Rattle.log_sum.specs.declared.kinds.Verdict.{Verdict}
+use Rattle.log_sum.specs.declared.kinds.Verdict.TheVariants.{Validated, NotValidated}
+use Rattle.log_sum.specs.Counts.{last_count}
+
+-- a state, by its printed form, with its mark, was seen so often
+pub record Row : Type 0 where
+  pub state : List ℕ
+  pub mark : Mark
+  pub count : ℕ
+
+-- what a line says of a test
+pub data Fact : Type 0 where
+  a_kind : (kind : Kind) → Fact
+  a_row : (row : Row) → Fact
+  a_condition : (text : List ℕ) (verdict : Verdict) → Fact
+  a_hash : (text : List ℕ) → Fact
+
+-- a fact, and the name of the test that it is of
+pub record Entry : Type 0 where
+  pub test : List ℕ
+  pub fact : Fact
+
+-- the facts of a test
+abbrev pub facts_of : List ℕ → List Entry → List Fact
+facts_of test entries = map (λ e. e.fact) (filter (λ e. bytes_eq e.test test) entries)
+
+-- names in the order in which each was first seen
+abbrev pub with_name : List (List ℕ) → List ℕ → List (List ℕ)
+with_name names name = cond (list_any (bytes_eq name) names) names (names ++ name ∷ [])
+
+-- the tests of facts, in the order in which each was first seen
+abbrev pub tests_of : List Entry → List (List ℕ)
+tests_of entries = fold with_name [] (map (λ e. e.test) entries)
+
+-- the facts of each sort
+abbrev pub kinds : List Fact → List Kind
+kinds [] = []
+kinds (a_kind kind ∷ facts) = kind ∷ kinds facts
+kinds (_ ∷ facts) = kinds facts
+
+abbrev pub rows : List Fact → List Row
+rows [] = []
+rows (a_row row ∷ facts) = row ∷ rows facts
+rows (_ ∷ facts) = rows facts
+
+abbrev pub conditions : List Fact → List (List ℕ × Verdict)
+conditions [] = []
+conditions (a_condition text verdict ∷ facts) = (text, verdict) ∷ conditions facts
+conditions (_ ∷ facts) = conditions facts
+
+abbrev pub hashes : List Fact → List (List ℕ)
+hashes [] = []
+hashes (a_hash text ∷ facts) = text ∷ hashes facts
+hashes (_ ∷ facts) = hashes facts
+
+-- the first of a list
+abbrev pub first_of : {A : Type 0} → List A → Option A
+first_of [] = None
+first_of (x ∷ xs) = Some x
+
+-- the same kind, the same mark
+abbrev pub same_kind : Kind → Kind → Bool
+same_kind Allowed Allowed = true
+same_kind Forbidden Forbidden = true
+same_kind Required Required = true
+same_kind _ _ = false
+
+abbrev pub same_mark : Mark → Mark → Bool
+same_mark Starred Starred = true
+same_mark Plain Plain = true
+same_mark _ _ = false
+
+-- the sum of the counts of a mark
+unfoldable pub marked_sum : Mark → List Row → ℕ
+marked_sum mark rows = sum_by (λ row. row.count) (filter (λ row. same_mark row.mark mark) rows)
+
+-- the sum of the counts of a state
+unfoldable pub state_sum : List ℕ → List Row → ℕ
+state_sum state rows = sum_by (λ row. row.count) (filter (λ row. bytes_eq row.state state) rows)
+
+-- the states of rows, each once, in byte order
+unfoldable pub states_of : List Row → List (List ℕ)
+states_of rows = fold (insert_key (slice_cmp nat_cmp)) [] (map (λ row. row.state) rows)
+
+-- the mark that a state has in the first row that has it
+unfoldable pub mark_in : List ℕ → List Row → Option Mark
+mark_in state rows = first_of (map (λ row. row.mark) (filter (λ row. bytes_eq row.state state) rows))
+
+-- what each block says of the condition
+abbrev pub says_validated : Verdict → Bool
+says_validated Validated = true
+says_validated NotValidated = false
+
+abbrev pub verdicts : List Fact → List Bool
+verdicts facts = map (λ c. says_validated c.1) (conditions facts)
+
+-- a fault where something is so
+abbrev pub fault_if : Bool → LogKind → Option LogKind
+fault_if b kind = cond b (Some kind) None
+
+-- something is there already, and it is another
+abbrev pub is_other : {A : Type 0} → (A → A → Bool) → Option A → A → Bool
+is_other same None x = false
+is_other same (Some known) x = not (same known x)
+
+-- the fault of a fact behind others of its test, if it has one: the test has another kind, condition or hash already, the
+-- state has the other mark already, or the sum of the counts of the mark is too large
+unfoldable pub fault_of : List Fact → Fact → Option LogKind
+fault_of facts (a_kind kind) = fault_if (is_other same_kind (first_of (kinds facts)) kind) KindDiffers
+fault_of facts (a_condition text verdict) =
+    fault_if (is_other bytes_eq (option_map (λ c. c.0) (first_of (conditions facts))) text) ConditionDiffers
+fault_of facts (a_hash text) = fault_if (is_other bytes_eq (first_of (hashes facts)) text) HashDiffers
+fault_of facts (a_row row) =
+    cond (is_other same_mark (mark_in row.state (rows facts)) row.mark) (Some MarkDiffers)
+    (fault_if (nat_lt last_count (marked_sum row.mark (rows facts) + row.count)) SumTooLarge)

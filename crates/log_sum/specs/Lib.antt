@@ -1,0 +1,11 @@
+pub mod Classes
+pub mod Texts
+pub mod Counts
+pub mod States
+pub mod Facts
+pub mod Lines
+pub mod Reading
+pub mod Summed
+pub mod Standing
+pub mod Steps
+pub mod SumText

@@ -1,0 +1,139 @@
+-- The reading of logs, line by line: the facts of all logs, or the first fault.
+-- Source: own.
+use Rattle.std.specs.Prelude.{ℕ, ◌+◌, ◌==◌, nat_lt, Bool, cond, List, [], ◌∷◌, ◌++◌, length, min, Option, Some, None, Result, Ok, Err}
+use Rattle.std.specs.List.{slice_split}
+use Rattle.log_sum.specs.declared.errors.LogKind.{LogKind}
+use Rattle.log_sum.specs.declared.errors.LogKind.TheVariants.{Truncated, LineTooLong}
+use Rattle.log_sum.specs.declared.errors.LogError.{LogError}
+use Rattle.log_sum.specs.declared.kinds.Place.{Place}
+use Rattle.log_sum.specs.declared.kinds.Place.TheVariants.{Outside}
+use Rattle.log_sum.specs.Counts.{last_count}
+use Rattle.log_sum.specs.Facts.{Fact, Entry, facts_of, fault_of}
+use Rattle.log_sum.specs.Lines.{Said, line_said, place_after, fact_said, test_after}
+
+-- the facts so far, the test of the running block, the place in it, and the number of the next line
+pub record Seen : Type 0 where
+  pub entries : List Entry
+  pub test : List ℕ
+  pub place : Place
+  pub line : ℕ
+
+-- nothing was read yet
+abbrev pub nothing_seen : Seen
+nothing_seen = record { entries = []; test = []; place = Outside; line = 1 }
+
+infixl 1 ◌>>=◌
+-- what is read next, where there was no fault
+abbrev pub ◌>>=◌ : {A B : Type 0} → Result A LogError → (A → Result B LogError) → Result B LogError
+(Ok x) >>= next = next x
+(Err error) >>= next = Err error
+
+-- a fault at the next line
+abbrev pub fault_at : {A : Type 0} → ℕ → LogKind → Result A LogError
+fault_at line kind = Err (record { line = line; kind = kind })
+
+-- the greatest number of bytes of a line, its line feed not counted
+abbrev pub max_line : ℕ
+max_line = 65536
+
+abbrev pub is_too_long : List ℕ → Bool
+is_too_long line = nat_lt max_line (length line)
+
+-- the number behind a line's number
+abbrev pub next_line : ℕ → ℕ
+next_line line = min (line + 1) last_count
+
+-- a fact more, if it has no fault
+abbrev pub fact_judged : Seen → Fact → Option LogKind → Result Seen LogError
+fact_judged seen fact (Some kind) = fault_at seen.line kind
+fact_judged seen fact None =
+    Ok (record seen { entries = seen.entries ++ (record { test = seen.test; fact = fact }) ∷ [] })
+
+abbrev pub fact_put : Seen → Option Fact → Result Seen LogError
+fact_put seen None = Ok seen
+fact_put seen (Some fact) = fact_judged seen fact (fault_of (facts_of seen.test seen.entries) fact)
+
+-- the next line
+abbrev pub at_next_line : Seen → Result Seen LogError
+at_next_line seen = Ok (record seen { line = next_line seen.line })
+
+-- what a line said, put to what was seen
+abbrev pub said_put : Seen → Result Said LogKind → Result Seen LogError
+said_put seen (Err kind) = fault_at seen.line kind
+said_put seen (Ok said) =
+    fact_put (record seen { test = test_after seen.test said; place = place_after seen.place said }) (fact_said said)
+    >>= at_next_line
+
+-- a line without its end
+unfoldable pub text_judged : Seen → List ℕ → Result Seen LogError
+text_judged seen text = said_put seen (line_said seen.place text)
+
+-- a line without the carriage return at its end
+abbrev pub return_before : ℕ → List ℕ → List ℕ
+return_before byte [] = cond (byte == 13) [] (byte ∷ [])
+return_before byte (next ∷ text) = byte ∷ next ∷ text
+
+unfoldable pub without_return : List ℕ → List ℕ
+without_return [] = []
+without_return (byte ∷ []) = cond (byte == 13) [] (byte ∷ [])
+without_return (byte ∷ next ∷ text) = byte ∷ without_return (next ∷ text)
+
+-- a line that ended with a line feed
+unfoldable pub line_judged : Seen → List ℕ → Result Seen LogError
+line_judged seen line = cond (is_too_long line) (fault_at seen.line LineTooLong) (text_judged seen (without_return line))
+
+abbrev pub lines_judged : Seen → List (List ℕ) → Result Seen LogError
+lines_judged seen [] = Ok seen
+lines_judged seen (line ∷ rest) = line_judged seen line >>= λ next. lines_judged next rest
+
+-- the lines of bytes that ended with a line feed, and the line behind them
+abbrev pub but_last : List (List ℕ) → List (List ℕ)
+but_last [] = []
+but_last (piece ∷ []) = []
+but_last (piece ∷ next ∷ rest) = piece ∷ but_last (next ∷ rest)
+
+abbrev pub last_of : List (List ℕ) → List ℕ
+last_of [] = []
+last_of (piece ∷ []) = piece
+last_of (piece ∷ next ∷ rest) = last_of (next ∷ rest)
+
+unfoldable pub lines_of : List ℕ → List (List ℕ)
+lines_of bytes = but_last (slice_split (λ byte. byte == 10) bytes)
+
+unfoldable pub rest_of : List ℕ → List ℕ
+rest_of bytes = last_of (slice_split (λ byte. byte == 10) bytes)
+
+-- a line that goes on: it is judged once it is too long
+unfoldable pub rest_judged : Seen → List ℕ → Result Seen LogError
+rest_judged seen line = cond (is_too_long line) (fault_at seen.line LineTooLong) (Ok seen)
+
+-- the bytes that have come of a file
+unfoldable pub bytes_judged : Seen → List ℕ → Result Seen LogError
+bytes_judged seen bytes = lines_judged seen (lines_of bytes) >>= λ next. rest_judged next (rest_of bytes)
+
+-- a last line that no line feed ends, if it has a byte
+unfoldable pub last_judged : Seen → List ℕ → Result Seen LogError
+last_judged seen [] = Ok seen
+last_judged seen (byte ∷ line) =
+    cond (is_too_long (byte ∷ line)) (fault_at seen.line LineTooLong) (text_judged seen (byte ∷ line))
+
+-- a file ends outside the blocks
+abbrev pub end_at : Seen → Place → Result Seen LogError
+end_at seen Outside = Ok (record { entries = seen.entries; test = []; place = Outside; line = 1 })
+end_at seen _ = fault_at seen.line Truncated
+
+abbrev pub end_judged : Seen → Result Seen LogError
+end_judged seen = end_at seen seen.place
+
+-- a whole file
+unfoldable pub file_judged : Seen → List ℕ → Result Seen LogError
+file_judged seen bytes =
+    lines_judged seen (lines_of bytes) >>= (λ next. last_judged next (rest_of bytes)) >>= end_judged
+
+abbrev pub files_judged : Seen → List (List ℕ) → Result Seen LogError
+files_judged seen [] = Ok seen
+files_judged seen (file ∷ rest) = file_judged seen file >>= λ next. files_judged next rest
+
+-- whole files, and the bytes that have come of one more
+unfoldable pub input_judged : List (List ℕ) → List ℕ → Result Seen LogError
+input_judged files bytes = files_judged nothing_seen files >>= λ seen. bytes_judged seen bytes

@@ -1,0 +1,38 @@
+ghost use Rattle.std.specs.Prelude.{◌≡◌, ◌^◌, ◌<◌, length, cond, nat_lt, true, Some, None};
+ghost use Rattle.std.specs.Char.{is_ascii_digit};
+ghost use Rattle.std.specs.List.{list_all};
+ghost use Rattle.std.specs.Str.Parse.{digits_value};
+ghost use Rattle.log_sum.specs.Classes.{count_and_rest, Gives};
+ghost use Rattle.log_sum.specs.Counts.{count_read};
+
+use crate::errors::LogKind;
+use crate::texts::{Class, split_run};
+use std::str;
+
+/// The count at the front of a text, and the text behind it.
+#[tactic(auto, using(crate::proofs::TextLaws::empty_is_nil, crate::proofs::CountLaws::front_digits, crate::proofs::CountLaws::no_digit, crate::proofs::CountLaws::counted, crate::proofs::CountLaws::not_counted))]
+pub(crate) fn read_count(text: &[u8]) -> Result<(u64, &[u8]), LogKind>
+    ensures { Gives count_and_rest result (count_read text.now) }
+{
+    let (digits, rest) = split_run(Class::Digit, text);
+    if digits.is_empty() {
+        return Err(LogKind::BadState);
+    }
+    match count_of(digits) {
+        Some(count) => Ok((count, rest)),
+        None => Err(LogKind::BadCount),
+    }
+}
+
+/// The count that digits write, if it isn't too large.
+#[tactic(auto, using(crate::proofs::CountLaws::parsed, crate::proofs::CountLaws::digits_ascii))]
+fn count_of(digits: &[u8]) -> Option<u64>
+    requires some { 0 < length digits.now }
+    requires all { list_all is_ascii_digit digits.now ≡ true }
+    ensures { result ≡ cond (nat_lt (digits_value 10 digits.now) (2 ^ 64)) (Some (digits_value 10 digits.now)) None }
+{
+    match str::from_utf8(digits) {
+        Ok(text) => text.parse().ok(),
+        Err(_) => unreachable!(),
+    }
+}

@@ -1,0 +1,38 @@
+/// What a test asks of its final states.
+#[derive(Clone, Copy)]
+pub(crate) enum Kind {
+    Allowed,
+    Forbidden,
+    Required,
+}
+
+/// The mark of a state: whether it is one that the test looks for.
+#[derive(Clone, Copy)]
+pub(crate) enum Mark {
+    Starred,
+    Plain,
+}
+
+/// What a block says of its condition.
+#[derive(Clone, Copy)]
+pub(crate) enum Verdict {
+    Validated,
+    NotValidated,
+}
+
+/// The place in a log: outside its blocks, or what a block of a kind has next.
+#[derive(Clone, Copy)]
+pub(crate) enum Place {
+    /// Outside the blocks.
+    Outside,
+    /// The number of states.
+    Histogram(Kind),
+    /// So many states, one or more.
+    States(Kind, u64),
+    /// The line `Ok` or `No`.
+    Judgement(Kind),
+    /// The rest of the block, where no condition stood yet.
+    Rest(Kind),
+    /// The rest of the block, behind a condition.
+    Conditioned(Kind),
+}

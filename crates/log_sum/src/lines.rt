@@ -1,0 +1,311 @@
+ghost use Rattle.std.specs.Prelude.{◌≡◌, option_map, take, IfOk};
+ghost use Rattle.std.specs.Borrow.{Bor};
+ghost use Rattle.log_sum.specs.Classes.{Gives, GivesOr, row_view, said_view, condition_view};
+ghost use Rattle.log_sum.specs.Lines.{kind_of, test_line, is_states, are_states, after_histogram, histogram_line, mark_of, mark_read, row_line, is_judgement, verdict_cut, condition_line, quantifier, hash_line, hash_said, condition_said, rest_said, is_observation, line_said};
+ghost use Rattle.log_sum.specs.Texts.{words, joined_words};
+
+use crate::counts::read_count;
+use crate::errors::{Fault, LogKind};
+use crate::kinds::{Kind, Mark, Place, Verdict};
+use crate::states::read_state;
+use crate::texts::{next_word, trimmed, without_blanks};
+use diy_io::NoMemory;
+use std::alloc::Global;
+
+/// What a line says.
+#[derive(Drop)]
+pub(crate) enum Said<'a> {
+    PassedOver,
+    Begins(&'a [u8], Kind),
+    Counts(u64),
+    State(Row),
+    Judged,
+    Conditioned(Vec<u8>, Verdict),
+    Hashed(&'a [u8]),
+    Ends,
+}
+
+/// A state by its printed form, its mark, and how often it was seen.
+#[derive(Drop)]
+pub(crate) struct Row {
+    pub(crate) state: Vec<u8>,
+    pub(crate) mark: Mark,
+    pub(crate) count: u64,
+}
+
+fn kind_of(word: &[u8]) -> Option<Kind>
+    ensures { result ≡ kind_of word.now }
+{
+    if word == b"Allowed".as_slice() {
+        Some(Kind::Allowed)
+    } else if word == b"Forbidden".as_slice() {
+        Some(Kind::Forbidden)
+    } else if word == b"Required".as_slice() {
+        Some(Kind::Required)
+    } else {
+        None
+    }
+}
+
+/// `Test NAME KIND`.
+#[tactic(auto, unfolding(crate::specs::Lines::test_line))]
+fn read_test(line: &[u8]) -> Option<(&[u8], Kind)>
+    ensures { option_map (λ test. (test.0.now, test.1)) result ≡ test_line (words line.now) }
+{
+    let (first, rest) = next_word(line)?;
+    if first != b"Test".as_slice() {
+        return None;
+    }
+    let (name, rest) = next_word(rest)?;
+    let (kind, rest) = next_word(rest)?;
+    match next_word(rest) {
+        Some(_) => None,
+        None => Some((name, kind_of(kind)?)),
+    }
+}
+
+/// Whether a text is the word `states)`, or `state)`.
+fn is_states(text: &[u8]) -> bool
+    ensures { result ≡ is_states (words text.now) }
+{
+    match next_word(text) {
+        Some((word, rest)) => {
+            (word == b"states)".as_slice() || word == b"state)".as_slice())
+                && next_word(rest).is_none()
+        }
+        None => false,
+    }
+}
+
+/// Whether a count in parentheses ends so, with nothing between.
+#[tactic(auto, using(crate::proofs::TextLaws::empty_is_nil))]
+fn are_states(behind: &[u8], rest: &[u8]) -> bool
+    ensures { result ≡ are_states behind.now (words rest.now) }
+{
+    behind.is_empty() && is_states(rest)
+}
+
+/// The number in `(n states)`.
+fn read_number(text: &[u8]) -> Result<u64, LogKind>
+    ensures { Gives (λ n. n) result (after_histogram (words text.now)) }
+{
+    let Some(([b'(', digits @ ..], rest)) = next_word(text) else {
+        return Err(LogKind::BadState);
+    };
+    let (count, behind) = read_count(digits)?;
+    if are_states(behind, rest) {
+        Ok(count)
+    } else {
+        Err(LogKind::BadState)
+    }
+}
+
+/// `Histogram (n states)`.
+#[tactic(auto, unfolding(crate::specs::Lines::histogram_line))]
+fn read_histogram(line: &[u8]) -> Result<u64, LogKind>
+    ensures { Gives (λ n. n) result (histogram_line (words line.now)) }
+{
+    let Some((first, rest)) = next_word(line) else {
+        return Err(LogKind::BadState);
+    };
+    if first == b"States".as_slice() {
+        Err(LogKind::NoCounts)
+    } else if first == b"Histogram".as_slice() {
+        read_number(rest)
+    } else {
+        Err(LogKind::BadState)
+    }
+}
+
+fn mark_of(byte: u8) -> Option<Mark>
+    ensures { result ≡ mark_of byte }
+{
+    match byte {
+        b'*' => Some(Mark::Starred),
+        b':' => Some(Mark::Plain),
+        _ => None,
+    }
+}
+
+/// The mark at the front of a text, and the text behind its `>`.
+fn read_mark(text: &[u8]) -> Option<(Mark, &[u8])>
+    ensures { option_map (λ mark. (mark.0, mark.1.now)) result ≡ mark_read text.now }
+{
+    match text {
+        [mark, b'>', rest @ ..] => Some((mark_of(*mark)?, rest)),
+        _ => None,
+    }
+}
+
+/// The line of a state.
+#[tactic(auto, unfolding(crate::specs::Lines::row_line))]
+fn read_row(alloc: Global, line: &[u8]) -> Result<Row, Fault>
+    ensures { GivesOr row_view result (row_line line.now) }
+{
+    let (count, rest) = read_count(trimmed(line))?;
+    let Some((mark, text)) = read_mark(without_blanks(rest)) else {
+        return Err(Fault::Wrong(LogKind::BadState));
+    };
+    let state = read_state(alloc, text)?;
+    Ok(Row { state, mark, count })
+}
+
+/// `Ok` or `No`.
+fn is_judgement(line: &[u8]) -> bool
+    ensures { result ≡ is_judgement (words line.now) }
+{
+    match next_word(line) {
+        Some((word, rest)) => {
+            (word == b"Ok".as_slice() || word == b"No".as_slice()) && next_word(rest).is_none()
+        }
+        None => false,
+    }
+}
+
+/// The words of a text, with one blank between them.
+fn joined_words(alloc: Global, text: &[u8]) -> Result<Vec<u8>, NoMemory>
+    ensures { IfOk result (λ joined. joined.items ≡ joined_words (words text.now)) }
+{
+    let mut joined = Vec::new(alloc);
+    let mut rest = text;
+    while let Some((word, behind)) = next_word(rest) {
+        if !joined.is_empty() {
+            joined.push(b' ')?;
+        }
+        joined.extend_from_slice(word)?;
+        rest = behind;
+    }
+    Ok(joined)
+}
+
+/// The verdict with which a text ends, and how long the text before it is.
+fn read_verdict(text: &[u8]) -> Option<(usize, Verdict)>
+    ensures { option_map (λ cut. (take cut.0 text.now, cut.1)) result ≡ verdict_cut text.now }
+{
+    if let Some(condition) = text.strip_suffix(b" is validated") {
+        Some((condition.len(), Verdict::Validated))
+    } else if let Some(condition) = text.strip_suffix(b" is NOT validated") {
+        Some((condition.len(), Verdict::NotValidated))
+    } else {
+        None
+    }
+}
+
+/// `Condition TEXT is validated` or `Condition TEXT is NOT validated`.
+#[tactic(auto, unfolding(crate::specs::Lines::condition_line))]
+fn read_condition(alloc: Global, line: &[u8]) -> Result<Option<(Vec<u8>, Verdict)>, NoMemory>
+    ensures { IfOk result (λ condition. option_map condition_view condition ≡ condition_line (words line.now)) }
+{
+    let Some((first, rest)) = next_word(line) else {
+        return Ok(None);
+    };
+    if first != b"Condition".as_slice() {
+        return Ok(None);
+    }
+    let mut text = joined_words(alloc, rest)?;
+    match read_verdict(text.as_slice()) {
+        Some((length, verdict)) => {
+            text.truncate(length);
+            Ok(Some((text, verdict)))
+        }
+        None => Ok(None),
+    }
+}
+
+fn quantifier(kind: Kind) -> &'static [u8]
+    ensures { result.now ≡ quantifier kind }
+{
+    match kind {
+        Kind::Allowed => b"exists",
+        Kind::Forbidden => b"~exists",
+        Kind::Required => b"forall",
+    }
+}
+
+/// `Hash=TEXT`.
+#[tactic(auto, unfolding(crate::specs::Lines::hash_line))]
+fn read_hash(line: &[u8]) -> Option<&[u8]>
+    ensures { option_map (λ text. text.now) result ≡ hash_line line.now }
+{
+    let line = trimmed(line);
+    if line.starts_with(b"Hash=") {
+        Some(&line[5..])
+    } else {
+        None
+    }
+}
+
+/// What a line says that ends no block and begins none.
+fn read_other(alloc: Global, kind: Kind, line: &[u8]) -> Result<Said<'_>, Fault>
+    ensures { GivesOr said_view result (condition_said kind (condition_line (words line.now)) (hash_said (hash_line line.now))) }
+{
+    match read_condition(alloc, line)? {
+        Some((text, verdict)) => {
+            if text.starts_with(quantifier(kind)) {
+                Ok(Said::Conditioned(text, verdict))
+            } else {
+                Err(Fault::Wrong(LogKind::KindDiffers))
+            }
+        }
+        None => match read_hash(line) {
+            Some(text) => Ok(Said::Hashed(text)),
+            None => Ok(Said::PassedOver),
+        },
+    }
+}
+
+/// What a line says that ends no block.
+fn read_rest(alloc: Global, kind: Kind, line: &[u8]) -> Result<Said<'_>, Fault>
+    ensures { GivesOr said_view result (rest_said kind line.now) }
+{
+    match read_test(line) {
+        Some(_) => Err(Fault::Wrong(LogKind::Truncated)),
+        None => read_other(alloc, kind, line),
+    }
+}
+
+/// Whether a line ends its block.
+fn is_observation(line: &[u8]) -> bool
+    ensures { result ≡ is_observation (words line.now) }
+{
+    match next_word(line) {
+        Some((first, _)) => first == b"Observation".as_slice(),
+        None => false,
+    }
+}
+
+/// What a line says at a place, or what is wrong with it there.
+#[tactic(auto, unfolding(crate::specs::Lines::line_said))]
+pub(crate) fn read_line(alloc: Global, place: Place, line: &[u8]) -> Result<Said<'_>, Fault>
+    ensures { GivesOr said_view result (line_said place line.now) }
+{
+    match place {
+        Place::Outside => Ok(match read_test(line) {
+            Some((name, kind)) => Said::Begins(name, kind),
+            None => Said::PassedOver,
+        }),
+        Place::Histogram(_) => Ok(Said::Counts(read_histogram(line)?)),
+        Place::States(_, _) => Ok(Said::State(read_row(alloc, line)?)),
+        Place::Judgement(_) => {
+            if is_judgement(line) {
+                Ok(Said::Judged)
+            } else {
+                Err(Fault::Wrong(LogKind::BadState))
+            }
+        }
+        Place::Rest(kind) => {
+            if is_observation(line) {
+                Err(Fault::Wrong(LogKind::BadState))
+            } else {
+                read_rest(alloc, kind, line)
+            }
+        }
+        Place::Conditioned(kind) => {
+            if is_observation(line) {
+                Ok(Said::Ends)
+            } else {
+                read_rest(alloc, kind, line)
+            }
+        }
+    }
+}

@@ -1,0 +1,191 @@
+ghost use Rattle.std.specs.Prelude.{◌≡◌, option_map};
+ghost use Rattle.log_sum.specs.Classes.{Gives, GivesOr, test_view, row_view};
+ghost use Rattle.log_sum.specs.Facts.{same_kind, same_mark, is_other, a_kind, a_condition, a_hash, a_row};
+ghost use Rattle.log_sum.specs.Steps.{fact_to, of_kind, with_verdict, marked, with_marked, known_state, count_known};
+
+use crate::errors::{Fault, LogKind};
+use crate::kinds::{Kind, Mark, Verdict};
+use crate::lines::Row;
+use std::alloc::Global;
+use std::collections::BTreeMap;
+
+/// The mark of a state, and the sum of its counts.
+#[derive(Clone, Copy)]
+pub(crate) struct StateSum {
+    pub(crate) mark: Mark,
+    pub(crate) count: u64,
+}
+
+/// What the logs so far say of a test.
+#[derive(Drop)]
+pub(crate) struct TestSum {
+    pub(crate) kind: Kind,
+    pub(crate) condition: Option<Vec<u8>>,
+    pub(crate) hash: Option<Vec<u8>>,
+    pub(crate) once_validated: bool,
+    pub(crate) always_validated: bool,
+    pub(crate) starred: u64,
+    pub(crate) plain: u64,
+    /// The states by their printed forms.
+    pub(crate) states: BTreeMap<Vec<u8>, StateSum>,
+}
+
+fn same_kind(one: Kind, other: Kind) -> bool
+    ensures { result ≡ same_kind one other }
+{
+    match (one, other) {
+        (Kind::Allowed, Kind::Allowed) => true,
+        (Kind::Forbidden, Kind::Forbidden) => true,
+        (Kind::Required, Kind::Required) => true,
+        _ => false,
+    }
+}
+
+fn same_mark(one: Mark, other: Mark) -> bool
+    ensures { result ≡ same_mark one other }
+{
+    match (one, other) {
+        (Mark::Starred, Mark::Starred) => true,
+        (Mark::Plain, Mark::Plain) => true,
+        _ => false,
+    }
+}
+
+/// Whether a state is known by another mark.
+fn has_other_mark(known: Option<StateSum>, mark: Mark) -> bool
+    ensures { result ≡ is_other same_mark (option_map (λ known. known.mark) known) mark }
+{
+    match known {
+        Some(known) => !same_mark(known.mark, mark),
+        None => false,
+    }
+}
+
+/// How often a state was seen.
+fn count_of(known: Option<StateSum>) -> u64
+    ensures { result ≡ count_known (option_map (λ known. (known.mark, known.count)) known) }
+{
+    match known {
+        Some(known) => known.count,
+        None => 0,
+    }
+}
+
+impl TestSum {
+    /// A test of which its kind alone is known.
+    #[tactic(auto, unfolding(crate::specs::Summed::summed))]
+    pub(crate) fn new(alloc: Global, kind: Kind) -> TestSum
+        ensures { test_view result ≡ of_kind kind }
+    {
+        TestSum {
+            kind,
+            condition: None,
+            hash: None,
+            once_validated: false,
+            always_validated: true,
+            starred: 0,
+            plain: 0,
+            states: BTreeMap::new(alloc),
+        }
+    }
+
+    /// A kind that a block says.
+    #[tactic(auto, unfolding(crate::specs::Steps::fact_to))]
+    pub(crate) fn put_kind(&self, kind: Kind) -> Result<(), LogKind>
+        ensures { Gives (λ _. test_view self.now) result (fact_to (test_view self.now) (a_kind kind)) }
+    {
+        if same_kind(self.kind, kind) {
+            Ok(())
+        } else {
+            Err(LogKind::KindDiffers)
+        }
+    }
+
+    fn put_verdict(&mut self, verdict: Verdict)
+        ensures { test_view self.new ≡ with_verdict (test_view self.old) verdict }
+    {
+        match verdict {
+            Verdict::Validated => self.once_validated = true,
+            Verdict::NotValidated => self.always_validated = false,
+        }
+    }
+
+    /// A condition, and what a block says of it.
+    #[tactic(auto, unfolding(crate::specs::Steps::fact_to))]
+    pub(crate) fn put_condition(&mut self, text: Vec<u8>, verdict: Verdict) -> Result<(), LogKind>
+        ensures { Gives (λ _. test_view self.new) result (fact_to (test_view self.old) (a_condition text.items verdict)) }
+    {
+        if let Some(known) = &self.condition {
+            if known.as_slice() != text.as_slice() {
+                return Err(LogKind::ConditionDiffers);
+            }
+        } else {
+            self.condition = Some(text);
+        }
+        self.put_verdict(verdict);
+        Ok(())
+    }
+
+    /// A hash.
+    #[tactic(auto, unfolding(crate::specs::Steps::fact_to))]
+    pub(crate) fn put_hash(&mut self, alloc: Global, text: &[u8]) -> Result<(), Fault>
+        ensures { GivesOr (λ _. test_view self.new) result (fact_to (test_view self.old) (a_hash text.now)) }
+    {
+        if let Some(known) = &self.hash {
+            if known.as_slice() != text {
+                return Err(Fault::Wrong(LogKind::HashDiffers));
+            }
+        } else {
+            self.hash = Some(Vec::from_slice(alloc, text)?);
+        }
+        Ok(())
+    }
+
+    /// The sum of the counts of a mark.
+    fn marked(&self, mark: Mark) -> u64
+        ensures { result ≡ marked (test_view self.now) mark }
+    {
+        match mark {
+            Mark::Starred => self.starred,
+            Mark::Plain => self.plain,
+        }
+    }
+
+    fn set_marked(&mut self, mark: Mark, sum: u64)
+        ensures { test_view self.new ≡ with_marked (test_view self.old) mark sum }
+    {
+        match mark {
+            Mark::Starred => self.starred = sum,
+            Mark::Plain => self.plain = sum,
+        }
+    }
+
+    /// What is kept of a state.
+    fn known(&self, state: &[u8]) -> Option<StateSum>
+        ensures { option_map (λ known. (known.mark, known.count)) result ≡ known_state (test_view self.now).states state.now }
+    {
+        self.states.get(state).copied()
+    }
+
+    /// A state with a mark, seen so often.
+    pub(crate) fn put_row(&mut self, row: Row) -> Result<(), Fault>
+        ensures { GivesOr (λ _. test_view self.new) result (fact_to (test_view self.old) (a_row (row_view row))) }
+    {
+        let Row { state, mark, count } = row;
+        let known = self.known(state.as_slice());
+        if has_other_mark(known, mark) {
+            return Err(Fault::Wrong(LogKind::MarkDiffers));
+        }
+        let sum = self.marked(mark);
+        if count > u64::MAX - sum {
+            return Err(Fault::Wrong(LogKind::SumTooLarge));
+        }
+        let state_sum = StateSum {
+            mark,
+            count: count_of(known).saturating_add(count),
+        };
+        self.states.insert(state, state_sum)?;
+        self.set_marked(mark, sum + count);
+        Ok(())
+    }
+}
