@@ -1,0 +1,15 @@
+/// How many edges the cycles of a listing have.
+#[derive(Clone, Copy, Debug)]
+pub struct Limits {
+    /// The most edges, 1 to `MAX_EDGES`.
+    pub size: u8,
+    /// Whether a cycle has exactly so many.
+    pub exact: bool,
+}
+
+impl Limits {
+    /// Whether a number of edges keeps the limits.
+    pub fn keeps(self, len: u8) -> bool {
+        len == self.size || len < self.size && !self.exact
+    }
+}
