@@ -1,7 +1,11 @@
+pub mod Answering
 pub mod Beginnings
 pub mod Composing
+pub mod Counts
 pub mod Laws
 pub mod Neighbours
 pub mod Ordering
 pub mod Places
+pub mod Relaxing
 pub mod Rotating
+pub mod Searching
