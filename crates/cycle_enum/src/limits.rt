@@ -1,3 +1,6 @@
+ghost use Rattle.std.specs.Prelude.{◌↔◌, IsTrue};
+ghost use Rattle.walk_laws.specs.Listing.{KeepsLimits};
+
 /// How many edges the cycles of a listing have.
 #[derive(Clone, Copy, Debug)]
 pub struct Limits {
@@ -9,7 +12,9 @@ pub struct Limits {
 
 impl Limits {
     /// Whether a number of edges keeps the limits.
-    pub fn keeps(self, len: u8) -> bool {
+    pub fn keeps(self, len: u8) -> bool
+        ensures { IsTrue result ↔ KeepsLimits self.size self.exact len }
+    {
         len == self.size || len < self.size && !self.exact
     }
 }

@@ -1,3 +1,10 @@
+ghost use Rattle.std.specs.Prelude.{◌≡◌, ◌<◌, ◌≤◌, ◌+◌, ◌↔◌, [], length, IsTrue, IsFalse};
+ghost use Rattle.std.specs.List.{list_any};
+ghost use Rattle.walk_laws.specs.Listing.{IsConcatenation, IsMadeOf};
+ghost use Rattle.walk_laws.specs.Reading.{fits, leads, back_parts_read, back_part_leads};
+ghost use Rattle.walk_laws.specs.Search.{LeadsNowhere};
+ghost use Rattle.cycle_enum.specs.Ends.{is_inside};
+
 use arrayvec::ArrayVec;
 use edge_algebra::Cycle;
 use relax_edges::{Edge, MAX_EDGES, Relax};
@@ -14,7 +21,10 @@ enum End {
 }
 
 /// Whether some rotation of a cycle is a concatenation of relaxations.
-pub(crate) fn is_made(relaxes: &[Relax], cycle: &Cycle) -> bool {
+pub(crate) fn is_made(relaxes: &[Relax], cycle: &Cycle) -> bool
+    ensures { IsTrue result ↔ IsMadeOf relaxes.now cycle.now }
+{
+    let _edges = cycle.edges();
     for k in 0..cycle.len() {
         if is_concatenation(relaxes, cycle.rotate(k).edges()) {
             return true;
@@ -24,7 +34,10 @@ pub(crate) fn is_made(relaxes: &[Relax], cycle: &Cycle) -> bool {
 }
 
 /// Whether a list is a concatenation of relaxations.
-fn is_concatenation(relaxes: &[Relax], list: &[Edge]) -> bool {
+fn is_concatenation(relaxes: &[Relax], list: &[Edge]) -> bool
+    requires { length list.now ≤ MAX_EDGES }
+    ensures { IsTrue result ↔ IsConcatenation relaxes.now list.now }
+{
     let mut read = ArrayVec::new();
     read_back_parts(End::Behind, relaxes, list, &mut read);
     read.as_slice()[list.len()]
@@ -32,7 +45,10 @@ fn is_concatenation(relaxes: &[Relax], list: &[Edge]) -> bool {
 
 /// Whether a list may stand in a concatenation of relaxations: it begins inside a relaxation, or
 /// with one, and relaxations lead on from there.
-pub(crate) fn may_stand(relaxes: &[Relax], list: &[Edge]) -> bool {
+pub(crate) fn may_stand(relaxes: &[Relax], list: &[Edge]) -> bool
+    requires { length list.now ≤ MAX_EDGES }
+    ensures { IsFalse result → LeadsNowhere (IsMadeOf relaxes.now) list.now }
+{
     match list {
         [] => true,
         [_, rest @ ..] => {
@@ -44,7 +60,11 @@ pub(crate) fn may_stand(relaxes: &[Relax], list: &[Edge]) -> bool {
 }
 
 /// Whether a list begins with a back part of a relaxation, and is read on from there.
-fn any_begins(relaxes: &[Relax], list: &[Edge], read: &[bool]) -> bool {
+fn any_begins(relaxes: &[Relax], list: &[Edge], read: &[bool]) -> bool
+    requires some { 0 < length list.now }
+    requires as_many { length read.now ≡ length list.now }
+    ensures { result ≡ list_any (back_part_leads list.now read.now) relaxes.now }
+{
     match relaxes {
         [] => false,
         [first, rest @ ..] => {
@@ -53,7 +73,11 @@ fn any_begins(relaxes: &[Relax], list: &[Edge], read: &[bool]) -> bool {
     }
 }
 
-fn back_part_leads(relax: &[Edge], list: &[Edge], read: &[bool]) -> bool {
+fn back_part_leads(relax: &[Edge], list: &[Edge], read: &[bool]) -> bool
+    requires some { 0 < length list.now }
+    requires as_many { length read.now ≡ length list.now }
+    ensures { result ≡ back_part_leads list.now read.now relax.now }
+{
     match relax {
         [] => false,
         [_, rest @ ..] => {
@@ -69,7 +93,12 @@ fn read_back_parts(
     relaxes: &[Relax],
     list: &[Edge],
     read: &mut ArrayVec<bool, BACK_PARTS>,
-) {
+)
+    requires few { length list.now ≤ MAX_EDGES }
+    requires none { read.old.items ≡ [] }
+    ensures read { read.new.items ≡ back_parts_read (is_inside end) relaxes.now list.now }
+    ensures as_many { length read.new.items ≡ length list.now + 1 }
+{
     match list {
         [] => read.push(true),
         [_, rest @ ..] => {
@@ -81,7 +110,11 @@ fn read_back_parts(
 }
 
 /// Whether a list begins with a relaxation, and is read on from there.
-fn any_leads(end: End, relaxes: &[Relax], list: &[Edge], read: &[bool]) -> bool {
+fn any_leads(end: End, relaxes: &[Relax], list: &[Edge], read: &[bool]) -> bool
+    requires some { 0 < length list.now }
+    requires as_many { length read.now ≡ length list.now }
+    ensures { result ≡ list_any (leads (is_inside end) list.now read.now) relaxes.now }
+{
     match relaxes {
         [] => false,
         [first, rest @ ..] => {
@@ -92,12 +125,19 @@ fn any_leads(end: End, relaxes: &[Relax], list: &[Edge], read: &[bool]) -> bool 
 
 /// Whether a list begins with a relaxation, and is read on from there: `read` tells it for each
 /// shorter back part of the list.
-fn leads(end: End, relax: &[Edge], list: &[Edge], read: &[bool]) -> bool {
+fn leads(end: End, relax: &[Edge], list: &[Edge], read: &[bool]) -> bool
+    requires some { 0 < length list.now }
+    requires relax_some { 0 < length relax.now }
+    requires as_many { length read.now ≡ length list.now }
+    ensures { result ≡ leads (is_inside end) list.now read.now relax.now }
+{
     fits(end, relax, list) && read[list.len().saturating_sub(relax.len())]
 }
 
 /// Whether a list begins with a relaxation, or, where it may end inside one, is a front part of it.
-fn fits(end: End, relax: &[Edge], list: &[Edge]) -> bool {
+fn fits(end: End, relax: &[Edge], list: &[Edge]) -> bool
+    ensures { result ≡ fits (is_inside end) relax.now list.now }
+{
     match relax {
         [] => true,
         [edge, relax_left @ ..] => match list {

@@ -1,11 +1,23 @@
+ghost use Rattle.std.specs.Prelude.{◌≡◌, ◌<◌, ◌≤◌, Some, None, IfSome, IfNone, IsTrue, IsFalse, length, true};
+ghost use Rattle.walk_laws.specs.Asked.{Knows, KeptBelow, KeptWhole};
+ghost use Rattle.walk_laws.specs.Counting.{later};
+ghost use Rattle.walk_laws.specs.Listing.{IsAnswer, KeepsLimits};
+ghost use Rattle.walk_laws.specs.Order.{IsLeast};
+ghost use Rattle.walk_laws.specs.Search.{IsCut, IsFirst, LeadsNowhere, LongerThan, OfLength};
+ghost use Rattle.cycle_enum.specs.Walking.{Walking, MayCall, Says, Lists};
+
 use crate::limits::Limits;
 use crate::raise::{Edges, extend, is_joined, raise};
 use crate::relaxed::{is_made, may_stand};
 use arrayvec::ArrayVec;
 use edge_algebra::{Cycle, cycle, may_begin};
-use relax_edges::{Edge, Relaxes};
+use relax_edges::{Edge, MAX_EDGES, Relaxes};
+use std::marker::Model;
 
 /// A walk over the listed cycles, in order.
+///
+/// Contracts see its relaxations, its limits, its pruner `keep` and its test `take`, and the last
+/// cycle in normal form: the last answer or the one given to `after`.
 #[derive(Drop)]
 pub struct Walk<K, P> {
     relaxes: Relaxes,
@@ -15,9 +27,25 @@ pub struct Walk<K, P> {
     last: Option<Cycle>,
 }
 
+impl<K, P> Model for Walk<K, P> {
+    ghost use Rattle.std.specs.Prelude.{◌≤◌};
+    ghost use Rattle.relax_edges.specs.declared.TheConstants.{MAX_EDGES};
+    ghost use Rattle.cycle_enum.specs.Walking.{Walking};
+
+    ghost Value = { Walking K P };
+
+    ghost view = { λ w. record { relaxes = w.relaxes; limits = w.limits; keep = w.keep; take = w.take; last = w.last } };
+
+    ghost invariant = { λ w. w.limits.size ≤ MAX_EDGES };
+}
+
 impl<K: Fn(&[Edge]) -> bool, P: Fn(&Cycle) -> bool> Walk<K, P> {
     /// A walk that begins with the first listed cycle.
-    pub fn new(relaxes: Relaxes, limits: Limits, keep: K, take: P) -> Walk<K, P> {
+    pub fn new(relaxes: Relaxes, limits: Limits, keep: K, take: P) -> Walk<K, P>
+        requires few { limits.size ≤ MAX_EDGES }
+        requires knows { Knows (MayCall K.pre keep) (Says K.Fn.post keep) (MayCall P.pre take) (Says P.Fn.post take) }
+        ensures { result ≡ record { relaxes = relaxes; limits = limits; keep = keep; take = take; last = None } }
+    {
         Walk {
             relaxes,
             limits,
@@ -28,12 +56,20 @@ impl<K: Fn(&[Edge]) -> bool, P: Fn(&Cycle) -> bool> Walk<K, P> {
     }
 
     /// Goes on behind a cycle: the next answers follow its normal form.
-    pub fn after(&mut self, cycle: &Cycle) {
+    pub fn after(&mut self, cycle: &Cycle)
+        ensures { IfSome self.new.last (λ last. IsLeast cycle.now last × (self.new ≡ record self.old { last = Some last })) }
+    {
         self.last = Some(cycle.least());
     }
 
     /// The next listed cycle, and none exactly where none follows.
-    pub fn next(&mut self) -> Option<Cycle> {
+    pub fn next(&mut self) -> Option<Cycle>
+        requires knows { Knows (MayCall K.pre self.old.keep) (Says K.Fn.post self.old.keep) (MayCall P.pre self.old.take) (Says P.Fn.post self.old.take) }
+        ensures next { IsAnswer (Lists P.Fn.post self.old) self.old.last result }
+        ensures some { IfSome result (λ cycle. self.new ≡ record self.old { last = Some cycle }) }
+        ensures none { IfNone result (self.new ≡ self.old) }
+        ensures falls { IfSome result (λ cycle. later self.old.limits.size (Some cycle) < later self.old.limits.size self.old.last) }
+    {
         match self.find() {
             Some(cycle) => {
                 self.last = Some(cycle.copied());
@@ -43,7 +79,10 @@ impl<K: Fn(&[Edge]) -> bool, P: Fn(&Cycle) -> bool> Walk<K, P> {
         }
     }
 
-    fn find(&self) -> Option<Cycle> {
+    fn find(&self) -> Option<Cycle>
+        requires knows { Knows (MayCall K.pre self.now.keep) (Says K.Fn.post self.now.keep) (MayCall P.pre self.now.take) (Says P.Fn.post self.now.take) }
+        ensures { IsAnswer (Lists P.Fn.post self.now) self.now.last result }
+    {
         match &self.last {
             None => self.longer(0),
             Some(last) => match self.as_long(last) {
@@ -54,19 +93,27 @@ impl<K: Fn(&[Edge]) -> bool, P: Fn(&Cycle) -> bool> Walk<K, P> {
     }
 
     /// The first listed cycle of more than `len` edges.
-    fn longer(&self, len: u8) -> Option<Cycle> {
-        let mut len = len;
-        while len < self.limits.size {
-            len += 1;
-            if let Some(cycle) = self.of_len(len) {
-                return Some(cycle);
-            }
+    fn longer(&self, len: u8) -> Option<Cycle>
+        requires knows { Knows (MayCall K.pre self.now.keep) (Says K.Fn.post self.now.keep) (MayCall P.pre self.now.take) (Says P.Fn.post self.now.take) }
+        requires few { len ≤ MAX_EDGES }
+        ensures { IsAnswer (LongerThan len (Lists P.Fn.post self.now)) None result }
+    {
+        if len >= self.limits.size {
+            return None;
         }
-        None
+        match self.of_len(len + 1) {
+            Some(cycle) => Some(cycle),
+            None => self.longer(len + 1),
+        }
     }
 
     /// The first listed cycle of `len` edges.
-    fn of_len(&self, len: u8) -> Option<Cycle> {
+    fn of_len(&self, len: u8) -> Option<Cycle>
+        requires knows { Knows (MayCall K.pre self.now.keep) (Says K.Fn.post self.now.keep) (MayCall P.pre self.now.take) (Says P.Fn.post self.now.take) }
+        requires some { 0 < len }
+        requires few { len ≤ MAX_EDGES }
+        ensures { IsAnswer (OfLength len (Lists P.Fn.post self.now)) None result }
+    {
         if !self.limits.keeps(len) {
             return None;
         }
@@ -76,7 +123,10 @@ impl<K: Fn(&[Edge]) -> bool, P: Fn(&Cycle) -> bool> Walk<K, P> {
     }
 
     /// The first listed cycle of as many edges as the last one that follows it.
-    fn as_long(&self, last: &Cycle) -> Option<Cycle> {
+    fn as_long(&self, last: &Cycle) -> Option<Cycle>
+        requires knows { Knows (MayCall K.pre self.now.keep) (Says K.Fn.post self.now.keep) (MayCall P.pre self.now.take) (Says P.Fn.post self.now.take) }
+        ensures { IsAnswer (OfLength (length last.now) (Lists P.Fn.post self.now)) (Some last.now) result }
+    {
         if !self.limits.keeps(last.len()) {
             return None;
         }
@@ -86,7 +136,11 @@ impl<K: Fn(&[Edge]) -> bool, P: Fn(&Cycle) -> bool> Walk<K, P> {
     }
 
     /// The shortest front part of a list with which no listed cycle begins, else the list.
-    fn first_refused(&self, edges: &[Edge]) -> Edges {
+    fn first_refused(&self, edges: &[Edge]) -> Edges
+        requires knows { Knows (MayCall K.pre self.now.keep) (Says K.Fn.post self.now.keep) (MayCall P.pre self.now.take) (Says P.Fn.post self.now.take) }
+        requires few { length edges.now ≤ MAX_EDGES }
+        ensures { IsCut (Lists P.Fn.post self.now) (Says K.Fn.post self.now.keep) edges.now result.items }
+    {
         let mut list = ArrayVec::new();
         for edge in edges {
             list.push(*edge);
@@ -98,7 +152,14 @@ impl<K: Fn(&[Edge]) -> bool, P: Fn(&Cycle) -> bool> Walk<K, P> {
     }
 
     /// The first listed cycle of `len` edges from the list on.
-    fn search(&self, list: &mut Edges, len: u8) -> Option<Cycle> {
+    fn search(&self, list: &mut Edges, len: u8) -> Option<Cycle>
+        requires knows { Knows (MayCall K.pre self.now.keep) (Says K.Fn.post self.now.keep) (MayCall P.pre self.now.take) (Says P.Fn.post self.now.take) }
+        requires few { len ≤ MAX_EDGES }
+        requires limits { KeepsLimits self.now.limits.size self.now.limits.exact len }
+        requires within { length list.old.items ≤ len }
+        requires kept { KeptBelow (Says K.Fn.post self.now.keep) (length list.old.items) list.old.items }
+        ensures { IsFirst (OfLength len (Lists P.Fn.post self.now)) list.old.items result }
+    {
         while !list.is_empty() {
             if !self.leads_on(list.as_slice()) {
                 raise(list);
@@ -115,7 +176,13 @@ impl<K: Fn(&[Edge]) -> bool, P: Fn(&Cycle) -> bool> Walk<K, P> {
     }
 
     /// Whether a listed cycle may begin with the list.
-    fn leads_on(&self, list: &[Edge]) -> bool {
+    fn leads_on(&self, list: &[Edge]) -> bool
+        requires knows { Knows (MayCall K.pre self.now.keep) (Says K.Fn.post self.now.keep) (MayCall P.pre self.now.take) (Says P.Fn.post self.now.take) }
+        requires some { 0 < length list.now }
+        requires few { length list.now ≤ MAX_EDGES }
+        ensures kept { IsTrue result → Says K.Fn.post self.now.keep list.now true }
+        ensures refused { IsFalse result → LeadsNowhere (Lists P.Fn.post self.now) list.now }
+    {
         is_joined(list)
             && may_begin(list)
             && may_stand(self.relaxes.as_slice(), list)
@@ -123,7 +190,13 @@ impl<K: Fn(&[Edge]) -> bool, P: Fn(&Cycle) -> bool> Walk<K, P> {
     }
 
     /// The cycle of these edges, where it is listed.
-    fn listed(&self, list: &[Edge]) -> Option<Cycle> {
+    fn listed(&self, list: &[Edge]) -> Option<Cycle>
+        requires knows { Knows (MayCall K.pre self.now.keep) (Says K.Fn.post self.now.keep) (MayCall P.pre self.now.take) (Says P.Fn.post self.now.take) }
+        requires limits { KeepsLimits self.now.limits.size self.now.limits.exact (length list.now) }
+        requires kept { KeptWhole (Says K.Fn.post self.now.keep) list.now }
+        ensures some { IfSome result (λ cycle. (cycle ≡ list.now) × Lists P.Fn.post self.now cycle) }
+        ensures none { IfNone result (Lists P.Fn.post self.now list.now → ⊥) }
+    {
         match cycle(list) {
             Ok(cycle) => {
                 if cycle.is_normal()

@@ -6,6 +6,7 @@ pub mod Laws
 pub mod Neighbours
 pub mod Ordering
 pub mod Places
+pub mod Raising
 pub mod Relaxing
 pub mod Rotating
 pub mod Searching

@@ -61,3 +61,9 @@ pub record IsCut (sought : List Edge → Type 0) (says : List Edge → Bool → 
   pub front : u ≡ v ++ rest
   pub kept : KeptBelow says (length v) v
   pub whole : (rest ≡ []) ⊎ LeadsNowhere sought v
+
+-- a list goes on to the first that begins with it and is longer: the first of all edges stands behind it
+pub record IsExtended (u v : List Edge) : Type 0 where
+  pub edge : Edge
+  pub is : v ≡ u ++ edge ∷ []
+  pub first : rank_of edge ≡ 0
