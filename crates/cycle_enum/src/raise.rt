@@ -13,6 +13,7 @@ pub(crate) type Edges = ArrayVec<Edge, MAX_EDGES>;
 pub(crate) fn raise(list: &mut Edges)
     ensures { IsRaised list.old.items list.new.items }
 {
+    let _room = list.len();
     while let Some(edge) = list.pop() {
         let rank = edge.rank() + 1;
         if rank < EDGES {

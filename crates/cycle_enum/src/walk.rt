@@ -183,10 +183,16 @@ impl<K: Fn(&[Edge]) -> bool, P: Fn(&Cycle) -> bool> Walk<K, P> {
         ensures kept { IsTrue result → Says K.Fn.post self.now.keep list.now true }
         ensures refused { IsFalse result → LeadsNowhere (Lists P.Fn.post self.now) list.now }
     {
-        is_joined(list)
-            && may_begin(list)
-            && may_stand(self.relaxes.as_slice(), list)
-            && (self.keep)(list)
+        if !is_joined(list) {
+            return false;
+        }
+        if !may_begin(list) {
+            return false;
+        }
+        if !may_stand(self.relaxes.as_slice(), list) {
+            return false;
+        }
+        (self.keep)(list)
     }
 
     /// The cycle of these edges, where it is listed.
@@ -199,10 +205,7 @@ impl<K: Fn(&[Edge]) -> bool, P: Fn(&Cycle) -> bool> Walk<K, P> {
     {
         match cycle(list) {
             Ok(cycle) => {
-                if cycle.is_normal()
-                    && is_made(self.relaxes.as_slice(), &cycle)
-                    && (self.take)(&cycle)
-                {
+                if self.is_listed(&cycle) {
                     Some(cycle)
                 } else {
                     None
@@ -210,5 +213,23 @@ impl<K: Fn(&[Edge]) -> bool, P: Fn(&Cycle) -> bool> Walk<K, P> {
             }
             Err(_) => None,
         }
+    }
+
+    /// Whether a cycle is listed, where its number of edges keeps the limits.
+    fn is_listed(&self, cycle: &Cycle) -> bool
+        requires knows { Knows (MayCall K.pre self.now.keep) (Says K.Fn.post self.now.keep) (MayCall P.pre self.now.take) (Says P.Fn.post self.now.take) }
+        requires limits { KeepsLimits self.now.limits.size self.now.limits.exact (length cycle.now) }
+        requires kept { KeptWhole (Says K.Fn.post self.now.keep) cycle.now }
+        ensures listed { IsTrue result → Lists P.Fn.post self.now cycle.now }
+        ensures other { IsFalse result → Lists P.Fn.post self.now cycle.now → ⊥ }
+    {
+        let _edges = cycle.edges();
+        if !cycle.is_normal() {
+            return false;
+        }
+        if !is_made(self.relaxes.as_slice(), cycle) {
+            return false;
+        }
+        (self.take)(cycle)
     }
 }

@@ -7,27 +7,29 @@ use Rattle.relax_edges.specs.declared.edge.Edge.{Edge}
 use Rattle.relax_edges.specs.Order.{rank_of}
 use Rattle.walk_laws.specs.Order.{Above, Follows}
 use Rattle.walk_laws.specs.Listing.{ComesAfter, IsNext, IsAnswer}
-use Rattle.walk_laws.specs.Search.{Reaches, ToCome, LeadsNowhere, IsTop, IsRaised, over, replaced, OfLength, LongerThan, IsFirst, IsFirstFrom, IsCut}
+use Rattle.walk_laws.specs.Search.{Reaches, ToCome, LeadsNowhere, IsTop, IsRaised, over, replaced, IsExtended, OfLength, LongerThan, IsFirst, IsFirstFrom, IsCut}
 use Rattle.walk_laws.proofs.Ordering.{above_longer, above_transitive}
 use Rattle.walk_laws.proofs.Searching.{reaches_cases, reaches_above, reaches_extended, reaches_replaced, above_replaced, none_above, above_u}
 
 module _ (listed : List Edge → Type 0) (says : List Edge → Bool → Type 0) where
   -- all lists of n edges are to come at the first of all edges
-  pub answer_of_length : (n : ℕ) (e : Edge) (answer : Option (List Edge)) → 0 < n → rank_of e ≡ 0 → IsFirst (OfLength n listed) (e ∷ []) answer
+  pub answer_of_length : (n : ℕ) (start : List Edge) (answer : Option (List Edge)) → 0 < n → IsExtended [] start → IsFirst (OfLength n listed) start answer
       → IsAnswer (OfLength n listed) None answer
-  answer_of_length n e None some z f = λ v is h. f v is (all v is)
+  answer_of_length n start answer some x f = from_first answer (rw x.is at f)
     where
-      all : (v : List Edge) → OfLength n listed v → ToCome (e ∷ []) v
-      all v is = reaches_extended [] v e z (omega (arith, is.long)) tt
-  answer_of_length n e (Some m) some z f = record {
-    is = f.is;
-    after = tt;
-    least = λ v is h b.
-        elim b [
+      all : (v : List Edge) → OfLength n listed v → ToCome (x.edge ∷ []) v
+      all v is = reaches_extended [] v x.edge x.first (omega (arith, is.long)) tt
+
+      from_first : (answer : Option (List Edge)) → IsFirst (OfLength n listed) (x.edge ∷ []) answer → IsAnswer (OfLength n listed) None answer
+      from_first None f = λ v is h. f v is (all v is)
+      from_first (Some m) f = record {
+        is = f.is;
+        after = tt;
+        least = λ v is h b. elim b [
           | inl less ↦ omega (arith, is.long, f.is.long)
-          | inr both ↦ f.first v is (reaches_extended [] v e z (omega (arith, is.long)) tt) both.1
+          | inr both ↦ f.first v is (all v is) both.1
         ];
-  }
+      }
 
   -- the list cut off the last one, with one sought behind it, goes on: what is to come is what is above the last one
   cut_above : (last list m : List Edge) → IsCut listed says last list → listed m → Above last m → Above list m

@@ -7,7 +7,7 @@ use Rattle.relax_edges.specs.Order.{rank_of}
 use Rattle.relax_edges.proofs.Ranks.{rank_below}
 use Rattle.walk_laws.specs.Order.{Above, Follows}
 use Rattle.walk_laws.specs.Listing.{ComesAfter}
-use Rattle.walk_laws.specs.Search.{IsRaised, over, replaced}
+use Rattle.walk_laws.specs.Search.{IsRaised, over, replaced, IsExtended}
 use Rattle.walk_laws.specs.Counting.{lists_within, lists_behind, later}
 use Rattle.walk_laws.proofs.Searching.{above_replaced}
 
@@ -86,9 +86,10 @@ to_go_some : (n : ℕ) (u : List Edge) → 0 < length u → to_go n u ≡ suc (l
 to_go_some n [] h = absurd (omega arith)
 to_go_some n (x ∷ u) h = refl
 
-pub extended_falls : (n : ℕ) (u : List Edge) (e : Edge) → 0 < length u → length u < n → rank_of e ≡ 0 → to_go n (u ++ e ∷ []) < to_go n u
-extended_falls n u e some l z =
-    omega (arith, to_go_some n u some, to_go_some n (u ++ e ∷ []) (omega (arith, length-append u (e ∷ []))), extended_fewer n u e l z)
+pub extended_falls : (n : ℕ) (u v : List Edge) → 0 < length u → length u < n → IsExtended u v → to_go n v < to_go n u
+extended_falls n u v some l x =
+    rw x.is
+    (omega (arith, to_go_some n u some, to_go_some n (u ++ x.edge ∷ []) (omega (arith, length-append u (x.edge ∷ []))), extended_fewer n u x.edge l x.first))
 
 pub raised_falls : (n : ℕ) (u v : List Edge) → 0 < length u → length u ≤ n → IsRaised u v → to_go n v < to_go n u
 raised_falls n u v some l (over t e) = rw (e, to_go_some n u some) (omega arith)

@@ -4,6 +4,7 @@ pub mod Composing
 pub mod Counts
 pub mod Laws
 pub mod Neighbours
+pub mod Nowhere
 pub mod Ordering
 pub mod Places
 pub mod Raising

@@ -1,7 +1,7 @@
 -- A list goes on: the edges that were taken off its end, and the cut of a list.
 use Rattle.std.proofs.Common.{◌≡◌, ◌<◌, ◌≤◌, inl, inr, ℕ, suc, ◌+◌, Bool, true, List, [], ◌∷◌, ◌++◌, length, take, refl, sym, ◌∙◌, ap, arith, append_assoc, length-append}
 use Rattle.std.specs.List.{AllByRecursion}
-use Rattle.std.proofs.lemmas.List.{append-nil, take_at, take-append-le}
+use Rattle.std.proofs.lemmas.List.{append-nil, take_all, take-append-le}
 use Rattle.std.proofs.lemmas.Bool.{cases_lt}
 use Rattle.relax_edges.specs.declared.order.TheConstants.{EDGES}
 use Rattle.relax_edges.specs.declared.edge.Edge.{Edge}
@@ -39,24 +39,21 @@ module _ (sought : List Edge → Type 0) (says : List Edge → Bool → Type 0) 
   pub kept_none : KeptWhole says []
   kept_none k p l = absurd (omega arith)
 
-  pub kept_more : (list : List Edge) (x : Edge) → KeptWhole says list → says (list ++ x ∷ []) true → KeptWhole says (list ++ x ∷ [])
-  kept_more list x kept agreed k p l =
+  pub kept_more : (list new : List Edge) (x : Edge) → new ≡ list ++ x ∷ [] → KeptWhole says list → says new true → KeptWhole says new
+  kept_more list new x is kept agreed k p l =
       elim (cases_lt k (suc (length list))) [
-        | inl b ↦ rw (take-append-le k list (x ∷ []) (omega arith)) (kept k p (omega arith))
-        | inr b ↦ whole b
+        | inl b ↦ rw (is, take-append-le k list (x ∷ []) (omega arith)) (kept k p (omega arith))
+        | inr b ↦ rw (take_all k new (omega (arith, ap length is, length-append list (x ∷ [])))) agreed
       ]
-    where
-      whole : suc (length list) ≤ k → says (take k (list ++ x ∷ [])) true
-      whole b = let e : take k (list ++ x ∷ []) ≡ list ++ x ∷ [] =
-          ap (take k) (sym (append-nil (list ++ x ∷ []))) ∙ take_at (list ++ x ∷ []) [] k (omega (arith, length-append list (x ∷ []))) in rw e agreed
 
-  kept_below : (list : List Edge) (x : Edge) → KeptWhole says list → KeptBelow says (length (list ++ x ∷ [])) (list ++ x ∷ [])
-  kept_below list x kept k p l = rw (take-append-le k list (x ∷ []) (omega (arith, length-append list (x ∷ [])))) (kept k p (omega (arith, length-append list (x ∷ []))))
+  kept_below : (list new : List Edge) (x : Edge) → new ≡ list ++ x ∷ [] → KeptWhole says list → KeptBelow says (length new) new
+  kept_below list new x is kept k p l =
+      let short : k ≤ length list = omega (arith, ap length is, length-append list (x ∷ [])) in
+      rw (is, take-append-le k list (x ∷ []) short) (kept k p short)
 
   -- no sought list begins with the front part: the list is cut
-  pub cut_refused : (u list rest : List Edge) (x : Edge) → u ≡ (list ++ x ∷ []) ++ rest → KeptWhole says list → LeadsNowhere sought (list ++ x ∷ [])
-      → IsCut sought says u (list ++ x ∷ [])
-  cut_refused u list rest x parts kept none = record { rest = rest; front = parts; kept = kept_below list x kept; whole = inr none }
+  pub cut_refused : (u list new rest : List Edge) (x : Edge) → new ≡ list ++ x ∷ [] → u ≡ new ++ rest → KeptWhole says list → LeadsNowhere sought new → IsCut sought says u new
+  cut_refused u list new rest x is parts kept none = record { rest = rest; front = parts; kept = kept_below list new x is kept; whole = inr none }
 
   -- the whole list
   pub cut_whole : (u list rest : List Edge) → u ≡ list ++ rest → rest ≡ [] → KeptWhole says list → IsCut sought says u list

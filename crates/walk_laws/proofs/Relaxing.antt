@@ -1,15 +1,16 @@
 -- Reading a list as relaxations tells exactly whether it is a concatenation of them, and which lists stand in none.
-use Rattle.std.proofs.Common.{◌≡◌, ◌<◌, ◌≤◌, ◌⊎◌, inl, inr, ℕ, zero, suc, ◌-◌, Bool, true, false, ◌&&◌, ◌||◌, nat_eq, List, [], ◌∷◌, ◌++◌, length, get_or, refl, sym, ◌∙◌, ap, arith, append_assoc, length-append}
+use Rattle.std.proofs.Common.{◌≡◌, ◌<◌, ◌≤◌, ◌⊎◌, inl, inr, ℕ, zero, suc, ◌-◌, Bool, true, false, ◌&&◌, ◌||◌, nat_eq, List, [], ◌∷◌, ◌++◌, length, take, drop, get_or, refl, sym, ◌∙◌, ap, arith, append_assoc, length-append}
 use Rattle.std.specs.List.{AllByRecursion, list_any}
-use Rattle.std.proofs.lemmas.List.{append-nil}
+use Rattle.std.proofs.lemmas.List.{append-nil, take_all}
 use Rattle.std.proofs.lemmas.Bool.{or_cases, and_parts, and_from, or_left, or_right, eqb-true, eq-eqb}
 use Rattle.relax_edges.specs.declared.edge.Edge.{Edge}
 use Rattle.relax_edges.specs.Order.{rank_of}
 use Rattle.relax_edges.proofs.Ranks.{rank_injective}
-use Rattle.walk_laws.specs.Rotation.{IsRotation}
+use Rattle.walk_laws.specs.Rotation.{IsRotation, rotated}
+use Rattle.walk_laws.specs.Search.{LeadsNowhere}
 use Rattle.walk_laws.specs.Listing.{IsOneOf, concatenated, IsConcatenation, IsMadeOf}
 use Rattle.walk_laws.specs.Reading.{fits, leads, back_parts_read, back_part_leads}
-use Rattle.walk_laws.proofs.Rotating.{Cuts, before, behind, cuts}
+use Rattle.walk_laws.proofs.Rotating.{Cuts, before, behind, cuts, rotation_of_place, place_of_rotation}
 use Rattle.walk_laws.proofs.Searching.{BeginsWith}
 
 -- what fits a relaxation begins with it
@@ -259,3 +260,21 @@ module _ (relaxes : List (List Edge)) where
 
   pub read_concatenation : (u : List Edge) → get_or (back_parts_read false relaxes u) (length u) false ≡ true → IsConcatenation relaxes u
   read_concatenation u h = read_made u [] u refl h
+
+  -- a cycle is made of relaxations where one of its rotations by a place is a concatenation, and only there
+  pub made_at : (k : ℕ) (u : List Edge) → IsConcatenation relaxes (rotated k u) → IsMadeOf relaxes u
+  made_at k u c = record { turned = rotated k u; rotation = rotation_of_place k u; made = c }
+
+  pub made_nowhere : (u : List Edge) → 0 < length u → ((j : ℕ) → j < length u → IsConcatenation relaxes (rotated j u) → ⊥) → IsMadeOf relaxes u → ⊥
+  made_nowhere u some none m =
+      let p = place_of_rotation u m.turned some m.rotation in
+      none p.place p.within (rw p.is at m.made)
+
+  -- a list that may not stand in a concatenation begins no cycle that is made of relaxations
+  pub stands_nowhere : (u : List Edge) (read : List Bool) → 0 < length u → read ≡ back_parts_read true relaxes (take (length u - 1) (drop 1 u)) → list_any (back_part_leads u read) relaxes ≡ false
+      → LeadsNowhere (IsMadeOf relaxes) u
+  stands_nowhere [] read some is fails = absurd (omega arith)
+  stands_nowhere (e ∷ u) read some is fails =
+      let rest : take (suc (length u) - 1) u ≡ u = take_all (suc (length u) - 1) u (omega arith) in
+      let table : read ≡ back_parts_read true relaxes u = is ∙ ap (back_parts_read true relaxes) rest in
+      λ r m. stands_none e u r (rw table at fails) m

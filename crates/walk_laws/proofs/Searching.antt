@@ -9,7 +9,7 @@ use Rattle.relax_edges.specs.Order.{rank_of}
 use Rattle.relax_edges.proofs.Ranks.{rank_below, rank_injective}
 use Rattle.walk_laws.specs.Asked.{KeptBelow}
 use Rattle.walk_laws.specs.Order.{Above}
-use Rattle.walk_laws.specs.Search.{Reaches, ToCome, LeadsNowhere, IsTop, IsRaised, over, replaced, IsFirst, IsFirstFrom}
+use Rattle.walk_laws.specs.Search.{Reaches, ToCome, LeadsNowhere, IsTop, IsRaised, over, replaced, IsExtended, IsFirst, IsFirstFrom}
 use Rattle.walk_laws.proofs.Ordering.{by_rank, above_irreflexive, above_one_way}
 
 pub reaches_itself : (u : List Edge) → Reaches u u
@@ -148,6 +148,9 @@ module _ (sought : List Edge → Type 0) (says : List Edge → Bool → Type 0) 
         (reaches_extended list m e z (omega (arith, sized m is)) (to_come_reaches list m (s.since m is h)));
     from = λ l. to_come_longer start list (e ∷ []) (s.from some);
   }
+
+  pub search_goes_on : (start list new : List Edge) → Searching start list → 0 < length list → length list < n → says list true → IsExtended list new → Searching start new
+  search_goes_on start list new s some less agreed x = rw x.is (search_extended start list x.edge s some less agreed x.first)
 
   -- no sought list begins with the list: it goes on
   pub search_raised : (start list new : List Edge) → Searching start list → 0 < length list → LeadsNowhere sought list → IsRaised list new → Searching start new
