@@ -87,7 +87,10 @@ impl<K: Fn(&[Edge]) -> bool, P: Fn(&Cycle) -> bool> Walk<K, P> {
             None => self.longer(0),
             Some(last) => match self.as_long(last) {
                 Some(cycle) => Some(cycle),
-                None => self.longer(last.len()),
+                None => {
+                    let _edges = last.edges();
+                    self.longer(last.len())
+                }
             },
         }
     }

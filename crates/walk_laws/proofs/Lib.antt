@@ -11,3 +11,4 @@ pub mod Raising
 pub mod Relaxing
 pub mod Rotating
 pub mod Searching
+pub mod Stepping

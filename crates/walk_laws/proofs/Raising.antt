@@ -1,5 +1,5 @@
 -- A list goes on: the edges that were taken off its end, and the cut of a list.
-use Rattle.std.proofs.Common.{◌≡◌, ◌<◌, ◌≤◌, inl, inr, ℕ, suc, ◌+◌, Bool, true, List, [], ◌∷◌, ◌++◌, length, take, refl, sym, ◌∙◌, ap, arith, append_assoc, length-append}
+use Rattle.std.proofs.Common.{◌≡◌, ◌<◌, ◌≤◌, inl, inr, ℕ, zero, suc, ◌+◌, Bool, true, List, [], ◌∷◌, ◌++◌, length, take, drop, get_or, add-one, refl, sym, ◌∙◌, ap, arith, append_assoc, length-append}
 use Rattle.std.specs.List.{AllByRecursion}
 use Rattle.std.proofs.lemmas.List.{append-nil, take_all, take-append-le}
 use Rattle.std.proofs.lemmas.Bool.{cases_lt}
@@ -8,7 +8,7 @@ use Rattle.relax_edges.specs.declared.edge.Edge.{Edge}
 use Rattle.relax_edges.specs.Order.{rank_of}
 use Rattle.relax_edges.proofs.Ranks.{rank_below}
 use Rattle.walk_laws.specs.Asked.{KeptBelow, KeptWhole}
-use Rattle.walk_laws.specs.Search.{LeadsNowhere, IsTop, IsRaised, over, replaced, IsCut}
+use Rattle.walk_laws.specs.Search.{LeadsNowhere, IsTop, IsRaised, over, replaced, IsExtended, IsCut}
 
 -- last edges of all were taken off the end of a list
 pub record Popped (u list : List Edge) : Type 0 where
@@ -58,3 +58,34 @@ module _ (sought : List Edge → Type 0) (says : List Edge → Bool → Type 0) 
   -- the whole list
   pub cut_whole : (u list rest : List Edge) → u ≡ list ++ rest → rest ≡ [] → KeptWhole says list → IsCut sought says u list
   cut_whole u list rest parts none kept = record { rest = rest; front = parts; kept = λ k p l. kept k p (omega arith); whole = inl none }
+
+-- one more edge of a list is taken over
+drop_edge : (i : ℕ) (u : List Edge) (d : Edge) → i < length u → drop i u ≡ get_or u i d ∷ drop (suc i) u
+drop_edge i [] d h = absurd (omega arith)
+drop_edge zero (x ∷ u) d h = refl
+drop_edge (suc i) (x ∷ u) d h = drop_edge i u d (omega arith)
+
+pub one_further : (list new edges : List Edge) (i : ℕ) (d : Edge) → list ++ drop i edges ≡ edges → i < length edges → new ≡ list ++ get_or edges i d ∷ [] → new ++ drop (i + 1) edges ≡ edges
+one_further list new edges i d parts h is =
+    rw (is, add-one i) (append_assoc list (get_or edges i d ∷ []) (drop (suc i) edges) ∙ ap (λ w. list ++ w) (sym (drop_edge i edges d h)) ∙ parts)
+
+-- a list that went on is no longer, and the pruner said yes on its shorter front parts
+pub raised_few : (u v : List Edge) → IsRaised u v → length v ≤ length u
+raised_few u v (over t e) = rw e (omega arith)
+raised_few u v (replaced front x y back a b next t) =
+    omega (arith, ap length a, ap length b, length-append front (x ∷ back), length-append front (y ∷ []))
+
+pub raised_kept : (says : List Edge → Bool → Type 0) (u v : List Edge) → IsRaised u v → KeptBelow says (length u) u → KeptBelow says (length v) v
+raised_kept says u v (over t e) kept k p l = absurd (omega (arith, ap length e))
+raised_kept says u v (replaced front x y back a b next t) kept k p l =
+    let short : k ≤ length front = omega (arith, ap length b, length-append front (y ∷ [])) in
+    let within : k < length u = omega (arith, ap length a, length-append front (x ∷ back)) in
+    rw (b, take-append-le k front (y ∷ []) short) (rw (a, take-append-le k front (x ∷ back) short) at (kept k p within))
+
+-- the front part that a list is cut to is no longer
+pub cut_few : (sought : List Edge → Type 0) (says : List Edge → Bool → Type 0) (u v : List Edge) → IsCut sought says u v → length v ≤ length u
+cut_few sought says u v c = omega (arith, ap length c.front, length-append v c.rest)
+
+-- of one edge there is no shorter front part
+pub kept_one : (says : List Edge → Bool → Type 0) (v : List Edge) → IsExtended [] v → KeptBelow says (length v) v
+kept_one says v x k p l = absurd (omega (arith, ap length x.is))

@@ -1,13 +1,10 @@
-use Rattle.std.proofs.Common.{◌≡◌}
-use Rattle.walk_laws.specs.Search.{OfLength}
 use Rattle.walk_laws.proofs.Counts.{to_go}
-use Rattle.walk_laws.proofs.Searching.{Searching}
+use Rattle.walk_laws.proofs.Stepping.{Standing}
 use Rattle.cycle_enum.specs.Walking.{Says, Lists}
 use Rattle.cycle_enum.proofs.walk.Walk.search.Given as goal
 
 abbrev pub invariant-loop-list : goal.invariant-loop-list
-invariant-loop-list g l =
-    Searching (OfLength l.len (Lists g.P.Fn.post l.self)) (Says g.K.Fn.post l.self.keep) l.len (λ m is. is.long) l.fn.list.items l.list.items
+invariant-loop-list g l = Standing (Lists g.P.Fn.post l.self) (Says g.K.Fn.post l.self.keep) l.len l.fn.list.items l.list.items
 
 abbrev pub decreases-loop-list : goal.decreases-loop-list
 decreases-loop-list g l = to_go l.len l.list.items
