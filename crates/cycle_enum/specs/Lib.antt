@@ -1,2 +1,3 @@
+pub mod Alternating
 pub mod Ends
 pub mod Walking

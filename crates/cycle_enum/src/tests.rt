@@ -1,15 +1,20 @@
+ghost use Rattle.std.specs.Prelude.{◌≡◌, ◌<◌, ◌≤◌, length};
+ghost use Rattle.std.specs.List.{list_all};
+ghost use Rattle.relax_edges.specs.declared.TheConstants.{MAX_EDGES};
+ghost use Rattle.walk_laws.specs.Asked.{Knows};
+ghost use Rattle.cycle_enum.specs.Alternating.{alternates, is_x86};
+ghost use Rattle.cycle_enum.specs.Walking.{MayCall, Says};
+
 use crate::{Limits, Walk};
 use arrayvec::ArrayVec;
 use edge_algebra::{Cycle, cycle};
 use relax_edges::{ArchName, Edge, MAX_EDGES, Relaxes, read_edge, read_relaxes};
 use std::process::Abort;
 
-const ROW_16: &str = "Pod**,MFencedWR,Rfe,Fre,Wse";
-const ROW_17: &str =
-    "PodWR,Fre,SyncdWR,LwSyncdWR,SyncdRR,LwSyncdRR,SyncdWW,LwSyncdWW";
+const NINE: &str = "Pod**,MFencedWR,Rfe,Fre,Wse";
 
-/// The cycles in normal form of the nine tests, in order.
-const NINE: [&str; 9] = [
+/// The normal forms of the nine tests, in order.
+const NINE_CYCLES: [&str; 9] = [
     "Fre MFencedWR Fre MFencedWR",
     "Fre MFencedWR Fre PodWR",
     "Fre PodWR Fre PodWR",
@@ -19,6 +24,23 @@ const NINE: [&str; 9] = [
     "PodRW Rfe PodRW Rfe",
     "PodRW Wse PodWW Rfe",
     "PodWW Wse PodWW Wse",
+];
+
+const EIGHT: &str = "PodWR,Fre,SyncdWR,LwSyncdWR,SyncdRR,LwSyncdRR,SyncdWW,LwSyncdWW";
+
+/// `Fre PodWR` twice, three times and so on up to twelve times.
+const ELEVEN_CYCLES: [&str; 11] = [
+    "Fre PodWR Fre PodWR",
+    "Fre PodWR Fre PodWR Fre PodWR",
+    "Fre PodWR Fre PodWR Fre PodWR Fre PodWR",
+    "Fre PodWR Fre PodWR Fre PodWR Fre PodWR Fre PodWR",
+    "Fre PodWR Fre PodWR Fre PodWR Fre PodWR Fre PodWR Fre PodWR",
+    "Fre PodWR Fre PodWR Fre PodWR Fre PodWR Fre PodWR Fre PodWR Fre PodWR",
+    "Fre PodWR Fre PodWR Fre PodWR Fre PodWR Fre PodWR Fre PodWR Fre PodWR Fre PodWR",
+    "Fre PodWR Fre PodWR Fre PodWR Fre PodWR Fre PodWR Fre PodWR Fre PodWR Fre PodWR Fre PodWR",
+    "Fre PodWR Fre PodWR Fre PodWR Fre PodWR Fre PodWR Fre PodWR Fre PodWR Fre PodWR Fre PodWR Fre PodWR",
+    "Fre PodWR Fre PodWR Fre PodWR Fre PodWR Fre PodWR Fre PodWR Fre PodWR Fre PodWR Fre PodWR Fre PodWR Fre PodWR",
+    "Fre PodWR Fre PodWR Fre PodWR Fre PodWR Fre PodWR Fre PodWR Fre PodWR Fre PodWR Fre PodWR Fre PodWR Fre PodWR Fre PodWR",
 ];
 
 fn cycle_of(rt: &impl Abort, text: &str) -> Cycle {
@@ -36,66 +58,82 @@ fn relaxes_of(rt: &impl Abort, text: &str) -> Relaxes {
     relaxes
 }
 
-fn external(edges: &[Edge]) -> u8 {
-    let mut count = 0;
-    for edge in edges {
-        if edge.is_external() && count < 100 {
-            count += 1;
-        }
+fn is_x86(edges: &[Edge]) -> bool
+    ensures { result ≡ list_all is_x86 edges.now }
+{
+    edges.iter().all(|edge| edge.of_arch(ArchName::X86))
+}
+
+fn alternates(edges: &[Edge]) -> bool
+    ensures { result ≡ alternates edges.now }
+{
+    match edges {
+        [] => true,
+        [edge, rest @ ..] => match rest {
+            [] => true,
+            [next, ..] => {
+                let turns = if edge.is_external() {
+                    !next.is_external()
+                } else {
+                    next.is_external()
+                };
+                turns && alternates(rest)
+            }
+        },
     }
-    count
 }
 
-fn of_arch(edges: &[Edge], arch: ArchName) -> bool {
-    edges.iter().all(|edge| edge.of_arch(arch))
+fn gives<K: Fn(&[Edge]) -> bool, P: Fn(&Cycle) -> bool>(
+    rt: &impl Abort,
+    walk: &mut Walk<K, P>,
+    cycles: &[&str],
+)
+    requires knows { Knows (MayCall K.pre walk.old.keep) (Says K.Fn.post walk.old.keep) (MayCall P.pre walk.old.take) (Says P.Fn.post walk.old.take) }
+{
+    for text in cycles {
+        assert!(rt; walk.next().expect(rt, "one more") == cycle_of(rt, text));
+    }
+    assert!(rt; walk.next().is_none());
 }
 
-fn is_taken(edges: &[Edge], threads: u8) -> bool {
-    of_arch(edges, ArchName::X86)
-        && external(edges) <= threads
-        && external(edges) >= 2
-        && edges.iter().any(|edge| edge.is_diff())
+/// The walk over the relaxations of a text, behind a cycle or from the first, gives these cycles.
+fn lists(rt: &impl Abort, text: &str, size: u8, after: Option<&str>, cycles: &[&str])
+    requires { size ≤ MAX_EDGES }
+{
+    let keep = |edges: &[Edge]| is_x86(edges);
+    let take = |cycle: &Cycle| {
+        cycle.len() >= 4 && alternates(cycle.edges()) && is_x86(cycle.edges())
+    };
+    let limits = Limits { size, exact: false };
+    let mut walk = Walk::new(relaxes_of(rt, text), limits, keep, take);
+    match after {
+        Some(text) => walk.after(&cycle_of(rt, text)),
+        None => {}
+    }
+    gives(rt, &mut walk, cycles);
 }
 
 #[test]
-fn two_edges_make_one_test(rt: HostRuntime) {
-    let keep = |edges: &[Edge]| of_arch(edges, ArchName::X86) && external(edges) <= 24;
-    let take = |cycle: &Cycle| is_taken(cycle.edges(), 24);
-    let limits = Limits { size: 4, exact: false };
-    let mut walk = Walk::new(relaxes_of(&rt, "PodWR,Fre"), limits, keep, take);
-    assert!(rt; walk.next().expect(&rt, "one") == cycle_of(&rt, "Fre PodWR Fre PodWR"));
-    assert!(rt; walk.next().is_none());
-    let limits = Limits { size: 3, exact: false };
-    let mut walk = Walk::new(relaxes_of(&rt, "PodWR,Fre"), limits, keep, take);
-    assert!(rt; walk.next().is_none());
+fn store_buffering_alone(rt: HostRuntime) {
+    lists(&rt, "PodWR,Fre", 4, None, &["Fre PodWR Fre PodWR"]);
+    lists(&rt, "PodWR,Fre", 3, None, &[]);
 }
 
 #[test]
-fn nine_tests_in_order(rt: HostRuntime) {
-    let keep = |edges: &[Edge]| of_arch(edges, ArchName::X86) && external(edges) <= 24;
-    let take = |cycle: &Cycle| is_taken(cycle.edges(), 24);
-    let limits = Limits { size: 4, exact: false };
-    let mut walk = Walk::new(relaxes_of(&rt, ROW_16), limits, keep, take);
-    for text in NINE {
-        assert!(rt; walk.next().expect(&rt, "one more") == cycle_of(&rt, text));
-    }
-    assert!(rt; walk.next().is_none());
-    walk.after(&cycle_of(&rt, "Fre PodWW Wse PodWR"));
-    for k in 6..9 {
-        assert!(rt; walk.next().expect(&rt, "one more") == cycle_of(&rt, NINE[k]));
-    }
-    assert!(rt; walk.next().is_none());
+fn nine_cycles_in_order(rt: HostRuntime) {
+    lists(&rt, NINE, 4, None, &NINE_CYCLES);
+    lists(&rt, NINE, 4, Some("Fre PodWW Wse PodWR"), &NINE_CYCLES[6..]);
+    lists(&rt, NINE, 4, Some("Wse PodWR Fre PodWW"), &NINE_CYCLES[6..]);
 }
 
 #[test]
-fn eleven_tests_of_24_edges(rt: HostRuntime) {
-    let keep = |edges: &[Edge]| of_arch(edges, ArchName::X86) && external(edges) <= 12;
-    let take = |cycle: &Cycle| is_taken(cycle.edges(), 12);
-    let limits = Limits { size: 24, exact: false };
-    let mut walk = Walk::new(relaxes_of(&rt, ROW_17), limits, keep, take);
-    for k in 2..13u8 {
-        let found = walk.next().expect(&rt, "one more");
-        assert!(rt; found.len() == 2 * k);
-    }
-    assert!(rt; walk.next().is_none());
+fn eleven_cycles_of_up_to_24_edges(rt: HostRuntime) {
+    lists(&rt, EIGHT, 24, None, &ELEVEN_CYCLES);
+}
+
+#[test]
+fn relaxations_of_several_edges(rt: HostRuntime) {
+    lists(&rt, "[PodWW Rfe PodRR Fre]", 4, None, &["Fre PodWW Rfe PodRR"]);
+    lists(&rt, "[PodWW Rfe] [PodRW Rfe PodRR Fre]", 5, None, &[]);
+    lists(&rt, "[PodWR Fre PodWR],Fre", 4, None, &["Fre PodWR Fre PodWR"]);
 }

@@ -3,6 +3,7 @@ pub mod Beginnings
 pub mod Composing
 pub mod Counts
 pub mod Laws
+pub mod Listings
 pub mod Neighbours
 pub mod Nowhere
 pub mod Ordering

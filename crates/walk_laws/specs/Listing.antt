@@ -57,3 +57,39 @@ pub record IsNext (listed : List Edge → Type 0) (last : Option (List Edge)) (u
 abbrev pub IsAnswer : (List Edge → Type 0) → Option (List Edge) → Option (List Edge) → Type 0
 IsAnswer listed last None = (v : List Edge) → listed v → ComesAfter last v → ⊥
 IsAnswer listed last (Some u) = IsNext listed last u
+
+-- each of some lists of edges comes after those before it
+abbrev pub AreRising : List (List Edge) → Type 0
+AreRising [] = ⊤
+AreRising (u ∷ us) = ((v : List Edge) → IsOneOf us v → Follows u v) × AreRising us
+
+-- the answers are the listed lists that come after the one that was given, in order, each once
+pub record AreAllListed (listed : List Edge → Type 0) (given : Option (List Edge)) (answers : List (List Edge)) : Type 0 where
+  pub each : (u : List Edge) → IsOneOf answers u → listed u
+  pub after : (u : List Edge) → IsOneOf answers u → ComesAfter given u
+  pub rising : AreRising answers
+  pub all : (u : List Edge) → listed u → ComesAfter given u → IsOneOf answers u
+
+-- the answers so far: the listed lists that come after the one that was given, in order, each once, up to the last one
+pub record AreListedTo (listed : List Edge → Type 0) (given last : Option (List Edge)) (answers : List (List Edge)) : Type 0 where
+  pub each : (u : List Edge) → IsOneOf answers u → listed u
+  pub after : (u : List Edge) → IsOneOf answers u → ComesAfter given u
+  pub rising : AreRising answers
+  pub before : (u v : List Edge) → IsOneOf answers u → ComesAfter last v → Follows u v
+  pub beyond : (u : List Edge) → ComesAfter last u → ComesAfter given u
+  pub all : (u : List Edge) → listed u → ComesAfter given u → (IsOneOf answers u) ⊎ ComesAfter last u
+
+-- answers, each the next after the one before, are all that is listed, where at last there is no next one
+pub record AnswersAreAll (listed : List Edge → Type 0) (given : Option (List Edge)) : Type 0 where
+  pub first : AreListedTo listed given given []
+  pub next : (last : Option (List Edge)) (answers : List (List Edge)) (u : List Edge) → AreListedTo listed given last answers → IsNext listed last u
+      → AreListedTo listed given (Some u) (answers ++ u ∷ [])
+  pub none : (last : Option (List Edge)) (answers : List (List Edge)) → AreListedTo listed given last answers → IsAnswer listed last None
+      → AreAllListed listed given answers
+  pub once : (answers others : List (List Edge)) → AreAllListed listed given answers → AreAllListed listed given others → answers ≡ others
+
+-- this is so of each listing by a test, relaxations and limits
+abbrev pub NextAfterNext : Type 0
+NextAfterNext =
+    (takes : List Edge → Bool) (relaxes : List (List Edge)) (size : ℕ) (exact : Bool) (given : Option (List Edge))
+    → AnswersAreAll (IsListed (λ u. takes u ≡ true) relaxes size exact) given
