@@ -1,7 +1,6 @@
 -- What the tests ask of a cycle: its edges are of X86, and lead out of their threads and stay in them by turns.
 -- Source: own.
 use Rattle.std.specs.Prelude.{Bool, true, not, cond, ◌&&◌, List, [], ◌∷◌}
-use Rattle.std.specs.List.{list_all}
 use Rattle.relax_edges.specs.declared.edge.Edge.{Edge}
 use Rattle.relax_edges.specs.declared.kinds.ArchName.TheVariants.{X86}
 use Rattle.relax_edges.specs.EdgeTable.{is_external, is_of_arch}

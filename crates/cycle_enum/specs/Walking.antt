@@ -1,6 +1,6 @@
 -- What contracts see of a walk, and what its two closures are asked.
 -- Source: own.
-use Rattle.std.specs.Prelude.{◌≡◌, ℕ, Bool, true, List, Option}
+use Rattle.std.specs.Prelude.{◌≡◌, Bool, true, List, Option}
 use denote.Ref.{Bor}
 use Rattle.relax_edges.specs.declared.edge.Edge.{Edge}
 use Rattle.walk_laws.specs.Listing.{IsListed}

@@ -8,7 +8,7 @@ ghost use Rattle.cycle_enum.specs.Walking.{MayCall, Says};
 use crate::{Limits, Walk};
 use arrayvec::ArrayVec;
 use edge_algebra::{Cycle, cycle};
-use relax_edges::{ArchName, Edge, MAX_EDGES, Relaxes, read_edge, read_relaxes};
+use relax_edges::{ArchName, EDGES, Edge, MAX_EDGES, Relax, Relaxes, read_edge, read_relaxes};
 use std::process::Abort;
 
 const NINE: &str = "Pod**,MFencedWR,Rfe,Fre,Wse";
@@ -133,7 +133,123 @@ fn eleven_cycles_of_up_to_24_edges(rt: HostRuntime) {
 
 #[test]
 fn relaxations_of_several_edges(rt: HostRuntime) {
-    lists(&rt, "[PodWW Rfe PodRR Fre]", 4, None, &["Fre PodWW Rfe PodRR"]);
+    lists(
+        &rt,
+        "[PodWW Rfe PodRR Fre]",
+        4,
+        None,
+        &["Fre PodWW Rfe PodRR"],
+    );
     lists(&rt, "[PodWW Rfe] [PodRW Rfe PodRR Fre]", 5, None, &[]);
-    lists(&rt, "[PodWR Fre PodWR],Fre", 4, None, &["Fre PodWR Fre PodWR"]);
+    lists(
+        &rt,
+        "[PodWR Fre PodWR],Fre",
+        4,
+        None,
+        &["Fre PodWR Fre PodWR"],
+    );
+}
+
+/// The edges of some relaxations, in order.
+fn letters_of(rt: &impl Abort, relaxes: &Relaxes) -> ArrayVec<Edge, 16> {
+    let mut letters = ArrayVec::new();
+    for rank in 0..EDGES {
+        let edge = Edge::at_rank(rank);
+        if relaxes
+            .as_slice()
+            .iter()
+            .any(|relax| relax.edges().contains(&edge))
+        {
+            assert!(rt; letters.try_push(edge).is_ok());
+        }
+    }
+    letters
+}
+
+fn is_plainly_made(relaxes: &[Relax], list: &[Edge]) -> bool {
+    if list.is_empty() {
+        return true;
+    }
+    for relax in relaxes {
+        let len = relax.edges().len();
+        if len <= list.len()
+            && &list[..len] == relax.edges()
+            && is_plainly_made(relaxes, &list[len..])
+        {
+            return true;
+        }
+    }
+    false
+}
+
+/// The cycle of a list, where it is a normal form and made of relaxations.
+fn plain_cycle(relaxes: &[Relax], list: &[Edge]) -> Option<Cycle> {
+    let cycle = cycle(list).ok()?;
+    if !cycle.is_normal() {
+        return None;
+    }
+    for k in 0..cycle.len() {
+        if is_plainly_made(relaxes, cycle.rotate(k).edges()) {
+            return Some(cycle);
+        }
+    }
+    None
+}
+
+/// Tries all lists that begin with the list and have `left` edges more: the walk gives those that
+/// are listed, in order.
+fn tries_all<K: Fn(&[Edge]) -> bool, P: Fn(&Cycle) -> bool>(
+    rt: &impl Abort,
+    walk: &mut Walk<K, P>,
+    relaxes: &Relaxes,
+    letters: &[Edge],
+    list: &mut ArrayVec<Edge, MAX_EDGES>,
+    left: u8,
+)
+    requires knows { Knows (MayCall K.pre walk.old.keep) (Says K.Fn.post walk.old.keep) (MayCall P.pre walk.old.take) (Says P.Fn.post walk.old.take) }
+    ensures keep { walk.new.keep ≡ walk.old.keep }
+    ensures take { walk.new.take ≡ walk.old.take }
+{
+    if left == 0 {
+        match plain_cycle(relaxes.as_slice(), list.as_slice()) {
+            Some(cycle) => {
+                if is_x86(cycle.edges()) {
+                    assert!(rt; walk.next().expect(rt, "one more") == cycle);
+                }
+            }
+            None => {}
+        }
+        return;
+    }
+    for letter in letters {
+        assert!(rt; list.try_push(*letter).is_ok());
+        tries_all(rt, walk, relaxes, letters, list, left - 1);
+        list.pop();
+    }
+}
+
+/// The walk over all cycles of X86 gives what a plain listing of at most five edges gives.
+fn agrees(rt: &impl Abort, text: &str) {
+    let keep = |edges: &[Edge]| is_x86(edges);
+    let take = |cycle: &Cycle| is_x86(cycle.edges());
+    let limits = Limits {
+        size: 5,
+        exact: false,
+    };
+    let relaxes = relaxes_of(rt, text);
+    let letters = letters_of(rt, &relaxes);
+    let mut walk = Walk::new(relaxes_of(rt, text), limits, keep, take);
+    for len in 1..6 {
+        let mut list = ArrayVec::new();
+        tries_all(rt, &mut walk, &relaxes, letters.as_slice(), &mut list, len);
+    }
+    assert!(rt; walk.next().is_none());
+}
+
+#[test]
+fn as_the_plain_listing(rt: HostRuntime) {
+    agrees(&rt, NINE);
+    agrees(&rt, EIGHT);
+    agrees(&rt, "[PodWW Rfe PodRR Fre],[PodWR Fre],[Wse PodWW],Fri");
+    agrees(&rt, "[PodWR Fre PodWR],Fre,[Fre PodWR Fre],[Rfe PodRW]");
 }

@@ -1,11 +1,11 @@
 -- The numbers that fall as a walk goes on.
-use Rattle.std.proofs.Common.{◌≡◌, ◌<◌, ◌≤◌, ◌⊎◌, inl, inr, ℕ, zero, suc, ◌+◌, ◌-◌, ◌*◌, Option, Some, None, List, [], ◌∷◌, ◌++◌, length, refl, sym, ◌∙◌, ap, arith, length-append}
+use Rattle.std.proofs.Common.{◌≡◌, ◌<◌, ◌≤◌, inl, inr, ℕ, zero, suc, ◌+◌, ◌-◌, ◌*◌, Option, Some, None, List, [], ◌∷◌, ◌++◌, length, refl, ◌∙◌, ap, arith, length-append}
 use Rattle.std.proofs.Math.Nat.{mul-le-mul_left}
 use Rattle.relax_edges.specs.declared.order.TheConstants.{EDGES}
 use Rattle.relax_edges.specs.declared.edge.Edge.{Edge}
 use Rattle.relax_edges.specs.Order.{rank_of}
 use Rattle.relax_edges.proofs.Ranks.{rank_below}
-use Rattle.walk_laws.specs.Order.{Above, Follows}
+use Rattle.walk_laws.specs.Order.{Above}
 use Rattle.walk_laws.specs.Listing.{ComesAfter}
 use Rattle.walk_laws.specs.Search.{IsRaised, over, replaced, IsExtended}
 use Rattle.walk_laws.specs.Counting.{lists_within, lists_behind, later}

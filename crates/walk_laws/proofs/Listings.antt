@@ -1,5 +1,5 @@
 -- Answers, each the next after the one before, are all that is listed.
-use Rattle.std.proofs.Common.{◌≡◌, ◌⊎◌, inl, inr, Option, Some, None, List, [], ◌∷◌, ◌++◌, ℕ, Bool, true, refl, sym, ◌∙◌, ap}
+use Rattle.std.proofs.Common.{◌≡◌, ◌⊎◌, inl, inr, Option, Some, None, List, [], ◌∷◌, ◌++◌, true, refl, sym, ◌∙◌}
 use Rattle.relax_edges.specs.declared.edge.Edge.{Edge}
 use Rattle.walk_laws.specs.Order.{Follows}
 use Rattle.walk_laws.specs.Listing.{IsOneOf, ComesAfter, IsListed, IsNext, IsAnswer, AreRising, AreAllListed, AreListedTo, NextAfterNext}

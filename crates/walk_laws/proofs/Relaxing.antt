@@ -1,16 +1,16 @@
 -- Reading a list as relaxations tells exactly whether it is a concatenation of them, and which lists stand in none.
-use Rattle.std.proofs.Common.{◌≡◌, ◌<◌, ◌≤◌, ◌⊎◌, inl, inr, ℕ, zero, suc, ◌-◌, Bool, true, false, ◌&&◌, ◌||◌, nat_eq, List, [], ◌∷◌, ◌++◌, length, take, drop, get_or, refl, sym, ◌∙◌, ap, arith, append_assoc, length-append}
+use Rattle.std.proofs.Common.{◌≡◌, ◌<◌, ◌≤◌, ◌⊎◌, inl, inr, ℕ, zero, suc, ◌-◌, Bool, true, false, nat_eq, List, [], ◌∷◌, ◌++◌, length, take, drop, get_or, refl, sym, ◌∙◌, ap, arith, append_assoc, length-append}
 use Rattle.std.specs.List.{AllByRecursion, list_any}
 use Rattle.std.proofs.lemmas.List.{append-nil, take_all}
 use Rattle.std.proofs.lemmas.Bool.{or_cases, and_parts, and_from, or_left, or_right, eqb-true, eq-eqb}
 use Rattle.relax_edges.specs.declared.edge.Edge.{Edge}
 use Rattle.relax_edges.specs.Order.{rank_of}
 use Rattle.relax_edges.proofs.Ranks.{rank_injective}
-use Rattle.walk_laws.specs.Rotation.{IsRotation, rotated}
+use Rattle.walk_laws.specs.Rotation.{rotated}
 use Rattle.walk_laws.specs.Search.{LeadsNowhere}
 use Rattle.walk_laws.specs.Listing.{IsOneOf, concatenated, IsConcatenation, IsMadeOf}
 use Rattle.walk_laws.specs.Reading.{fits, leads, back_parts_read, back_part_leads}
-use Rattle.walk_laws.proofs.Rotating.{Cuts, before, behind, cuts, rotation_of_place, place_of_rotation}
+use Rattle.walk_laws.proofs.Rotating.{before, behind, cuts, rotation_of_place, place_of_rotation}
 use Rattle.walk_laws.proofs.Searching.{BeginsWith}
 
 -- what fits a relaxation begins with it

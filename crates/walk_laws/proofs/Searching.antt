@@ -1,12 +1,11 @@
 -- The steps of the search for the first list in order that is sought.
-use Rattle.std.proofs.Common.{◌≡◌, ◌<◌, ◌≤◌, ◌⊎◌, inl, inr, ℕ, suc, ◌+◌, Bool, true, List, [], ◌∷◌, ◌++◌, length, take, None, refl, sym, ◌∙◌, ap, arith, append_assoc, length-append}
+use Rattle.std.proofs.Common.{◌≡◌, ◌<◌, ◌≤◌, ◌⊎◌, inl, inr, ℕ, suc, ◌+◌, Bool, true, List, [], ◌∷◌, ◌++◌, length, None, refl, ◌∙◌, ap, arith, length-append}
 use Rattle.std.specs.List.{AllByRecursion}
-use Rattle.std.specs.Prelude.{⊤}
 use Rattle.std.proofs.lemmas.List.{append-nil, take_at, take-append-le}
 use Rattle.std.proofs.lemmas.Bool.{cases_lt}
 use Rattle.relax_edges.specs.declared.edge.Edge.{Edge}
 use Rattle.relax_edges.specs.Order.{rank_of}
-use Rattle.relax_edges.proofs.Ranks.{rank_below, rank_injective}
+use Rattle.relax_edges.proofs.Ranks.{rank_below}
 use Rattle.walk_laws.specs.Asked.{KeptBelow}
 use Rattle.walk_laws.specs.Order.{Above}
 use Rattle.walk_laws.specs.Search.{Reaches, ToCome, LeadsNowhere, IsTop, IsRaised, over, replaced, IsExtended, IsFirst, IsFirstFrom}

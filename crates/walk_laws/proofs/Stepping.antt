@@ -1,10 +1,10 @@
 -- The steps of the search for the listed cycles of one length.
-use Rattle.std.proofs.Common.{◌≡◌, ◌<◌, ◌≤◌, inl, inr, ℕ, suc, ◌+◌, Bool, true, Option, Some, None, List, [], ◌∷◌, ◌++◌, length, take, refl, sym, ◌∙◌, ap, arith}
+use Rattle.std.proofs.Common.{◌≡◌, ◌<◌, ◌≤◌, inl, inr, ℕ, Bool, true, List, length, arith}
 use Rattle.std.proofs.lemmas.List.{take_all}
 use Rattle.std.proofs.lemmas.Bool.{cases_lt}
 use Rattle.relax_edges.specs.declared.edge.Edge.{Edge}
 use Rattle.walk_laws.specs.Asked.{KeptBelow, KeptWhole}
-use Rattle.walk_laws.specs.Search.{LeadsNowhere, OfLength, IsRaised, IsExtended, IsFirst, IsFirstFrom}
+use Rattle.walk_laws.specs.Search.{LeadsNowhere, OfLength, IsRaised, IsExtended, IsFirstFrom}
 use Rattle.walk_laws.proofs.Searching.{Searching, search_begins, search_raised, search_goes_on, search_found, nowhere_whole}
 
 module _ (listed : List Edge → Type 0) (says : List Edge → Bool → Type 0) (n : ℕ) where

@@ -1,4 +1,4 @@
-use Rattle.std.proofs.Common.{arith, ◌∙◌, sym}
+use Rattle.std.proofs.Common.{◌∙◌, sym}
 use Rattle.walk_laws.proofs.Relaxing.{stands_nowhere}
 use Rattle.cycle_enum.proofs.relaxed.may_stand.Goals as goal
 

@@ -1,4 +1,4 @@
-use Rattle.std.proofs.Common.{◌≡◌, ◌<◌, ◌≤◌, ◌∙◌, ℕ, true, length, refl, sym, arith, rules}
+use Rattle.std.proofs.Common.{◌<◌, ◌≤◌, ◌∙◌, true, length, refl, rules}
 use Rattle.walk_laws.specs.Search.{LeadsNowhere}
 use Rattle.walk_laws.proofs.Counts.{raised_falls, extended_falls}
 use Rattle.walk_laws.proofs.Stepping.{stands_first, stands_raised, stands_extended, stands_past, stands_found, kept_all}
