@@ -3,6 +3,7 @@
 use Rattle.std.specs.Prelude.{◌≡◌, Bool, true, List, Option}
 use denote.Ref.{Bor}
 use Rattle.relax_edges.specs.declared.edge.Edge.{Edge}
+use Rattle.walk_laws.specs.Asked.{Knows}
 use Rattle.walk_laws.specs.Listing.{IsListed}
 use Rattle.cycle_enum.specs.declared.limits.Limits.{Limits}
 
@@ -27,3 +28,8 @@ pub record Says {F T : Type 0} (post : F → (Bor T × Unit {0}) → Bool → Ty
 -- the cycles that a walk lists: those in normal form that keep its limits, are made of its relaxations and are taken by its test
 abbrev pub Lists : {K P : Type 0} → (P → (Bor (List Edge) × Unit {0}) → Bool → Type 0) → Walking K P → List Edge → Type 0
 Lists post w = IsListed (λ u. Says post w.take u true) w.relaxes w.limits.size w.limits.exact
+
+-- what a walk knows of its two closures, by what may be asked of each and what each answers
+abbrev pub KnowsOf : {K P : Type 0} → (K → Bor (List Edge) → Type 0) → (K → (Bor (List Edge) × Unit {0}) → Bool → Type 0)
+    → (P → Bor (List Edge) → Type 0) → (P → (Bor (List Edge) × Unit {0}) → Bool → Type 0) → K → P → Type 0
+KnowsOf may_ask says may_test finds keep take = Knows (MayCall may_ask keep) (Says says keep) (MayCall may_test take) (Says finds take)

@@ -4,7 +4,7 @@ ghost use Rattle.walk_laws.specs.Listing.{KeepsLimits};
 /// How many edges the cycles of a listing have.
 #[derive(Clone, Copy, Debug)]
 pub struct Limits {
-    /// The most edges, 1 to `MAX_EDGES`.
+    /// The most edges, at most `MAX_EDGES`.
     pub size: u8,
     /// Whether a cycle has exactly so many.
     pub exact: bool,

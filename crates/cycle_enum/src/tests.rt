@@ -1,9 +1,8 @@
 ghost use Rattle.std.specs.Prelude.{◌≡◌, ◌<◌, ◌≤◌, length};
 ghost use Rattle.std.specs.List.{list_all};
 ghost use Rattle.relax_edges.specs.declared.TheConstants.{MAX_EDGES};
-ghost use Rattle.walk_laws.specs.Asked.{Knows};
 ghost use Rattle.cycle_enum.specs.Alternating.{alternates, is_x86};
-ghost use Rattle.cycle_enum.specs.Walking.{MayCall, Says};
+ghost use Rattle.cycle_enum.specs.Walking.{KnowsOf};
 
 use crate::{Limits, Walk};
 use arrayvec::ArrayVec;
@@ -88,7 +87,7 @@ fn gives<K: Fn(&[Edge]) -> bool, P: Fn(&Cycle) -> bool>(
     walk: &mut Walk<K, P>,
     cycles: &[&str],
 )
-    requires knows { Knows (MayCall K.pre walk.old.keep) (Says K.Fn.post walk.old.keep) (MayCall P.pre walk.old.take) (Says P.Fn.post walk.old.take) }
+    requires knows { KnowsOf K.pre K.Fn.post P.pre P.Fn.post walk.old.keep walk.old.take }
 {
     for text in cycles {
         assert!(rt; walk.next().expect(rt, "one more") == cycle_of(rt, text));
@@ -206,7 +205,7 @@ fn tries_all<K: Fn(&[Edge]) -> bool, P: Fn(&Cycle) -> bool>(
     list: &mut ArrayVec<Edge, MAX_EDGES>,
     left: u8,
 )
-    requires knows { Knows (MayCall K.pre walk.old.keep) (Says K.Fn.post walk.old.keep) (MayCall P.pre walk.old.take) (Says P.Fn.post walk.old.take) }
+    requires knows { KnowsOf K.pre K.Fn.post P.pre P.Fn.post walk.old.keep walk.old.take }
     ensures keep { walk.new.keep ≡ walk.old.keep }
     ensures take { walk.new.take ≡ walk.old.take }
 {

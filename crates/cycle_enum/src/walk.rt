@@ -1,10 +1,10 @@
-ghost use Rattle.std.specs.Prelude.{◌≡◌, ◌<◌, ◌≤◌, Some, None, IfSome, IfNone, IsTrue, IsFalse, length, true};
-ghost use Rattle.walk_laws.specs.Asked.{Knows, KeptBelow, KeptWhole};
+ghost use Rattle.std.specs.Prelude.{◌≡◌, ◌<◌, ◌≤◌, Some, None, IfSome, IfNone, MatchOption, IsTrue, IsFalse, length, true};
+ghost use Rattle.walk_laws.specs.Asked.{KeptBelow, KeptWhole};
 ghost use Rattle.walk_laws.specs.Counting.{later};
 ghost use Rattle.walk_laws.specs.Listing.{IsAnswer, KeepsLimits};
 ghost use Rattle.walk_laws.specs.Order.{IsLeast};
 ghost use Rattle.walk_laws.specs.Search.{IsCut, IsFirst, LeadsNowhere, LongerThan, OfLength};
-ghost use Rattle.cycle_enum.specs.Walking.{Walking, MayCall, Says, Lists};
+ghost use Rattle.cycle_enum.specs.Walking.{KnowsOf, Lists, Says, Walking};
 
 use crate::limits::Limits;
 use crate::raise::{Edges, extend, is_joined, raise};
@@ -41,9 +41,18 @@ impl<K, P> Model for Walk<K, P> {
 
 impl<K: Fn(&[Edge]) -> bool, P: Fn(&Cycle) -> bool> Walk<K, P> {
     /// A walk that begins with the first listed cycle.
+    ///
+    /// `keep` is a pruner: where it says no on a list of edges, no cycle that begins with the list
+    /// is to be listed. `take` is the test of which cycles are listed. It is asked only of cycles
+    /// in normal form, and only where the pruner said yes on all their front parts.
+    ///
+    /// The conditions: the size is at most `MAX_EDGES`; `keep` may be called on every list of 1 to
+    /// `MAX_EDGES` edges; `take` may be called on every cycle on all of whose front parts `keep`
+    /// says yes, and gives one answer for one cycle; where `keep` says no on a list, `take` says no
+    /// on every cycle that begins with it.
     pub fn new(relaxes: Relaxes, limits: Limits, keep: K, take: P) -> Walk<K, P>
         requires few { limits.size ≤ MAX_EDGES }
-        requires knows { Knows (MayCall K.pre keep) (Says K.Fn.post keep) (MayCall P.pre take) (Says P.Fn.post take) }
+        requires knows { KnowsOf K.pre K.Fn.post P.pre P.Fn.post keep take }
         ensures { result ≡ record { relaxes = relaxes; limits = limits; keep = keep; take = take; last = None } }
     {
         Walk {
@@ -55,16 +64,26 @@ impl<K: Fn(&[Edge]) -> bool, P: Fn(&Cycle) -> bool> Walk<K, P> {
         }
     }
 
-    /// Goes on behind a cycle: the next answers follow its normal form.
+    /// Goes on behind a cycle, which need not be listed: the next answers come after its normal
+    /// form.
     pub fn after(&mut self, cycle: &Cycle)
-        ensures { IfSome self.new.last (λ last. IsLeast cycle.now last × (self.new ≡ record self.old { last = Some last })) }
+        ensures last { MatchOption self.new.last ⊥ (λ last. IsLeast cycle.now last) }
+        ensures same { self.new ≡ record self.old { last = self.new.last } }
     {
         self.last = Some(cycle.least());
     }
 
-    /// The next listed cycle, and none exactly where none follows.
+    /// The next listed cycle: the least that comes after the last one, and none exactly where there
+    /// is none, which changes nothing.
+    ///
+    /// A cycle is listed where it is in normal form, keeps the limits, has a rotation that is a
+    /// concatenation of relaxations, and `take` says yes on it. Cycles are in order by their number
+    /// of edges, and then edge by edge by the byte order of their printed words. With each answer
+    /// the number `later` falls, so that a loop over the answers ends. It takes no memory.
+    ///
+    /// The condition on the closures is that of `new`, once more.
     pub fn next(&mut self) -> Option<Cycle>
-        requires knows { Knows (MayCall K.pre self.old.keep) (Says K.Fn.post self.old.keep) (MayCall P.pre self.old.take) (Says P.Fn.post self.old.take) }
+        requires knows { KnowsOf K.pre K.Fn.post P.pre P.Fn.post self.old.keep self.old.take }
         ensures next { IsAnswer (Lists P.Fn.post self.old) self.old.last result }
         ensures some { IfSome result (λ cycle. self.new ≡ record self.old { last = Some cycle }) }
         ensures none { IfNone result (self.new ≡ self.old) }
@@ -79,8 +98,9 @@ impl<K: Fn(&[Edge]) -> bool, P: Fn(&Cycle) -> bool> Walk<K, P> {
         }
     }
 
+    /// The least listed cycle that comes after the last one.
     fn find(&self) -> Option<Cycle>
-        requires knows { Knows (MayCall K.pre self.now.keep) (Says K.Fn.post self.now.keep) (MayCall P.pre self.now.take) (Says P.Fn.post self.now.take) }
+        requires knows { KnowsOf K.pre K.Fn.post P.pre P.Fn.post self.now.keep self.now.take }
         ensures { IsAnswer (Lists P.Fn.post self.now) self.now.last result }
     {
         match &self.last {
@@ -97,7 +117,7 @@ impl<K: Fn(&[Edge]) -> bool, P: Fn(&Cycle) -> bool> Walk<K, P> {
 
     /// The first listed cycle of more than `len` edges.
     fn longer(&self, len: u8) -> Option<Cycle>
-        requires knows { Knows (MayCall K.pre self.now.keep) (Says K.Fn.post self.now.keep) (MayCall P.pre self.now.take) (Says P.Fn.post self.now.take) }
+        requires knows { KnowsOf K.pre K.Fn.post P.pre P.Fn.post self.now.keep self.now.take }
         requires few { len ≤ MAX_EDGES }
         ensures { IsAnswer (LongerThan len (Lists P.Fn.post self.now)) None result }
     {
@@ -112,7 +132,7 @@ impl<K: Fn(&[Edge]) -> bool, P: Fn(&Cycle) -> bool> Walk<K, P> {
 
     /// The first listed cycle of `len` edges.
     fn of_len(&self, len: u8) -> Option<Cycle>
-        requires knows { Knows (MayCall K.pre self.now.keep) (Says K.Fn.post self.now.keep) (MayCall P.pre self.now.take) (Says P.Fn.post self.now.take) }
+        requires knows { KnowsOf K.pre K.Fn.post P.pre P.Fn.post self.now.keep self.now.take }
         requires some { 0 < len }
         requires few { len ≤ MAX_EDGES }
         ensures { IsAnswer (OfLength len (Lists P.Fn.post self.now)) None result }
@@ -127,7 +147,7 @@ impl<K: Fn(&[Edge]) -> bool, P: Fn(&Cycle) -> bool> Walk<K, P> {
 
     /// The first listed cycle of as many edges as the last one that follows it.
     fn as_long(&self, last: &Cycle) -> Option<Cycle>
-        requires knows { Knows (MayCall K.pre self.now.keep) (Says K.Fn.post self.now.keep) (MayCall P.pre self.now.take) (Says P.Fn.post self.now.take) }
+        requires knows { KnowsOf K.pre K.Fn.post P.pre P.Fn.post self.now.keep self.now.take }
         ensures { IsAnswer (OfLength (length last.now) (Lists P.Fn.post self.now)) (Some last.now) result }
     {
         if !self.limits.keeps(last.len()) {
@@ -140,7 +160,7 @@ impl<K: Fn(&[Edge]) -> bool, P: Fn(&Cycle) -> bool> Walk<K, P> {
 
     /// The shortest front part of a list with which no listed cycle begins, else the list.
     fn first_refused(&self, edges: &[Edge]) -> Edges
-        requires knows { Knows (MayCall K.pre self.now.keep) (Says K.Fn.post self.now.keep) (MayCall P.pre self.now.take) (Says P.Fn.post self.now.take) }
+        requires knows { KnowsOf K.pre K.Fn.post P.pre P.Fn.post self.now.keep self.now.take }
         requires few { length edges.now ≤ MAX_EDGES }
         ensures { IsCut (Lists P.Fn.post self.now) (Says K.Fn.post self.now.keep) edges.now result.items }
     {
@@ -156,7 +176,7 @@ impl<K: Fn(&[Edge]) -> bool, P: Fn(&Cycle) -> bool> Walk<K, P> {
 
     /// The first listed cycle of `len` edges from the list on.
     fn search(&self, list: &mut Edges, len: u8) -> Option<Cycle>
-        requires knows { Knows (MayCall K.pre self.now.keep) (Says K.Fn.post self.now.keep) (MayCall P.pre self.now.take) (Says P.Fn.post self.now.take) }
+        requires knows { KnowsOf K.pre K.Fn.post P.pre P.Fn.post self.now.keep self.now.take }
         requires few { len ≤ MAX_EDGES }
         requires limits { KeepsLimits self.now.limits.size self.now.limits.exact len }
         requires within { length list.old.items ≤ len }
@@ -180,7 +200,7 @@ impl<K: Fn(&[Edge]) -> bool, P: Fn(&Cycle) -> bool> Walk<K, P> {
 
     /// Whether a listed cycle may begin with the list.
     fn leads_on(&self, list: &[Edge]) -> bool
-        requires knows { Knows (MayCall K.pre self.now.keep) (Says K.Fn.post self.now.keep) (MayCall P.pre self.now.take) (Says P.Fn.post self.now.take) }
+        requires knows { KnowsOf K.pre K.Fn.post P.pre P.Fn.post self.now.keep self.now.take }
         requires some { 0 < length list.now }
         requires few { length list.now ≤ MAX_EDGES }
         ensures kept { IsTrue result → Says K.Fn.post self.now.keep list.now true }
@@ -200,7 +220,7 @@ impl<K: Fn(&[Edge]) -> bool, P: Fn(&Cycle) -> bool> Walk<K, P> {
 
     /// The cycle of these edges, where it is listed.
     fn listed(&self, list: &[Edge]) -> Option<Cycle>
-        requires knows { Knows (MayCall K.pre self.now.keep) (Says K.Fn.post self.now.keep) (MayCall P.pre self.now.take) (Says P.Fn.post self.now.take) }
+        requires knows { KnowsOf K.pre K.Fn.post P.pre P.Fn.post self.now.keep self.now.take }
         requires limits { KeepsLimits self.now.limits.size self.now.limits.exact (length list.now) }
         requires kept { KeptWhole (Says K.Fn.post self.now.keep) list.now }
         ensures some { IfSome result (λ cycle. (cycle ≡ list.now) × Lists P.Fn.post self.now cycle) }
@@ -220,7 +240,7 @@ impl<K: Fn(&[Edge]) -> bool, P: Fn(&Cycle) -> bool> Walk<K, P> {
 
     /// Whether a cycle is listed, where its number of edges keeps the limits.
     fn is_listed(&self, cycle: &Cycle) -> bool
-        requires knows { Knows (MayCall K.pre self.now.keep) (Says K.Fn.post self.now.keep) (MayCall P.pre self.now.take) (Says P.Fn.post self.now.take) }
+        requires knows { KnowsOf K.pre K.Fn.post P.pre P.Fn.post self.now.keep self.now.take }
         requires limits { KeepsLimits self.now.limits.size self.now.limits.exact (length cycle.now) }
         requires kept { KeptWhole (Says K.Fn.post self.now.keep) cycle.now }
         ensures listed { IsTrue result → Lists P.Fn.post self.now cycle.now }

@@ -12,11 +12,10 @@ KeptBelow says n u = (k : ℕ) → 0 < k → k < n → says (take k u) true
 abbrev pub KeptWhole : (List Edge → Bool → Type 0) → List Edge → Type 0
 KeptWhole says u = (k : ℕ) → 0 < k → k ≤ length u → says (take k u) true
 
--- what a walk knows of its pruner and of its test: on which lists they may be asked, that each has one answer, and that
--- the test takes no cycle that begins with a list on which the pruner says no
+-- what a walk knows of its pruner and of its test: on which lists they may be asked, that the test has one answer,
+-- and that it takes no cycle that begins with a list on which the pruner says no
 pub record Knows (may_ask : List Edge → Type 0) (says : List Edge → Bool → Type 0) (may_test : List Edge → Type 0) (finds : List Edge → Bool → Type 0) : Type 0 where
   pub asked : (u : List Edge) → 0 < length u → length u ≤ MAX_EDGES → may_ask u
   pub tested : (u : List Edge) → IsCycle u → KeptWhole says u → may_test u
-  pub one_answer : (u : List Edge) (a b : Bool) → 0 < length u → length u ≤ MAX_EDGES → says u a → says u b → a ≡ b
   pub one_finding : (u : List Edge) (a b : Bool) → IsCycle u → finds u a → finds u b → a ≡ b
   pub refused : (u r : List Edge) → 0 < length u → says u false → IsCycle (u ++ r) → finds (u ++ r) true → ⊥
