@@ -158,7 +158,8 @@ impl<K: Fn(&[Edge]) -> bool, P: Fn(&Cycle) -> bool> Walk<K, P> {
         self.search(&mut list, last.len())
     }
 
-    /// The shortest front part of a list with which no listed cycle begins, else the list.
+    /// The shortest front part of a list on which the pruner says no, so that no listed cycle begins
+    /// with it, else the list.
     fn first_refused(&self, edges: &[Edge]) -> Edges
         requires knows { KnowsOf K.pre K.Fn.post P.pre P.Fn.post self.now.keep self.now.take }
         requires few { length edges.now ≤ MAX_EDGES }
@@ -167,7 +168,7 @@ impl<K: Fn(&[Edge]) -> bool, P: Fn(&Cycle) -> bool> Walk<K, P> {
         let mut list = ArrayVec::new();
         for edge in edges {
             list.push(*edge);
-            if !self.leads_on(list.as_slice()) {
+            if !self.is_kept(list.as_slice()) {
                 return list;
             }
         }
@@ -215,6 +216,17 @@ impl<K: Fn(&[Edge]) -> bool, P: Fn(&Cycle) -> bool> Walk<K, P> {
         if !may_stand(self.relaxes.as_slice(), list) {
             return false;
         }
+        self.is_kept(list)
+    }
+
+    /// Whether the pruner says yes on the list.
+    fn is_kept(&self, list: &[Edge]) -> bool
+        requires knows { KnowsOf K.pre K.Fn.post P.pre P.Fn.post self.now.keep self.now.take }
+        requires some { 0 < length list.now }
+        requires few { length list.now ≤ MAX_EDGES }
+        ensures kept { IsTrue result → Says K.Fn.post self.now.keep list.now true }
+        ensures refused { IsFalse result → LeadsNowhere (Lists P.Fn.post self.now) list.now }
+    {
         (self.keep)(list)
     }
 

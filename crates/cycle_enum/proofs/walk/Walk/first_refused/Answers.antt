@@ -5,11 +5,11 @@ use Rattle.walk_laws.proofs.Raising.{kept_more, cut_refused, cut_whole, one_furt
 use Rattle.cycle_enum.specs.Walking.{Says, Lists}
 use Rattle.cycle_enum.proofs.walk.Walk.first_refused.Goals as goal
 
-pub returns-then-not-leads_on : goal.returns-then-not-leads_on
-returns-then-not-leads_on g c =
+pub returns-then-not-is_kept : goal.returns-then-not-is_kept
+returns-then-not-is_kept g c =
     let parts : c.push.new.self.items ++ drop (c.loop-edge.edge-index + 1) c.args.edges.now ≡ c.args.edges.now =
     one_further c.loop-edge.list.items c.push.new.self.items c.args.edges.now c.loop-edge.edge-index _ c.loop-edge.invariant.parts c.loop-edge-test.true c.push.ensures.items in
-    let none : LeadsNowhere (Lists g.P.Fn.post c.args.self.now) c.push.new.self.items = rw c.as_slice.ensures.value at (c.if-not-leads_on.ensures.refused refl) in
+    let none : LeadsNowhere (Lists g.P.Fn.post c.args.self.now) c.push.new.self.items = rw c.as_slice.ensures.value at (c.if-not-is_kept.ensures.refused refl) in
     cut_refused _ _ c.args.edges.now c.loop-edge.list.items c.push.new.self.items _ _ c.push.ensures.items (sym parts) c.loop-edge.invariant.kept none
 
 pub loop-edge-preserved : goal.loop-edge-preserved
@@ -17,7 +17,7 @@ loop-edge-preserved g c = record {
   parts =
       one_further c.loop-edge.list.items c.push.new.self.items c.args.edges.now c.loop-edge.edge-index _ c.loop-edge.invariant.parts c.loop-edge-test.true c.push.ensures.items;
   kept =
-      let agreed : Says g.K.Fn.post c.args.self.now.keep c.push.new.self.items true = rw c.as_slice.ensures.value at (c.if-not-leads_on.ensures.kept refl) in
+      let agreed : Says g.K.Fn.post c.args.self.now.keep c.push.new.self.items true = rw c.as_slice.ensures.value at (c.if-not-is_kept.ensures.kept refl) in
       kept_more (Lists g.P.Fn.post c.args.self.now) (Says g.K.Fn.post c.args.self.now.keep) c.loop-edge.list.items c.push.new.self.items _ c.push.ensures.items c.loop-edge.invariant.kept agreed;
 }
 

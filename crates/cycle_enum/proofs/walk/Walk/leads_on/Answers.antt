@@ -3,8 +3,7 @@ use Rattle.walk_laws.specs.Beginning.{may_begin}
 use Rattle.walk_laws.specs.Composable.{is_joined}
 use Rattle.walk_laws.specs.Listing.{IsMadeOf}
 use Rattle.walk_laws.specs.Search.{LeadsNowhere}
-use Rattle.walk_laws.proofs.Nowhere.{unjoined_nowhere, begins_nowhere, unmade_nowhere, refused_nowhere}
-use Rattle.cycle_enum.specs.Walking.{Says}
+use Rattle.walk_laws.proofs.Nowhere.{unjoined_nowhere, begins_nowhere, unmade_nowhere}
 use Rattle.cycle_enum.proofs.walk.Walk.leads_on.Goals as goal
 
 pub returns-then-not-is_joined-clause-refused : goal.returns-then-not-is_joined-clause-refused
@@ -21,8 +20,3 @@ pub returns-then-not-may_stand-clause-refused : goal.returns-then-not-may_stand-
 returns-then-not-may_stand-clause-refused g c _ =
     let h : LeadsNowhere (IsMadeOf c.args.self.now.relaxes) c.args.list.now = search rules in
     unmade_nowhere _ _ _ _ c.args.list.now h
-
-pub returns-clause-refused : goal.returns-clause-refused
-returns-clause-refused g c h =
-    let s : Says g.K.Fn.post c.args.self.now.keep c.args.list.now c.call.result = search rules in
-    refused_nowhere _ _ _ _ _ _ _ c.requires.knows c.args.list.now c.requires.some (rw h at s)
