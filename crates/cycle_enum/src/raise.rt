@@ -1,6 +1,6 @@
 ghost use Rattle.std.specs.Prelude.{◌≡◌, ◌<◌, length};
 ghost use Rattle.walk_laws.specs.Composable.{is_joined};
-ghost use Rattle.walk_laws.specs.Search.{IsRaised, IsExtended};
+ghost use Rattle.listing_laws.specs.Search.{IsRaised, IsExtended};
 
 use arrayvec::ArrayVec;
 use relax_edges::{EDGES, Edge, MAX_EDGES};

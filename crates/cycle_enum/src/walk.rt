@@ -1,9 +1,9 @@
 ghost use Rattle.std.specs.Prelude.{◌≡◌, ◌<◌, ◌≤◌, Some, None, IfSome, IfNone, MatchOption, IsTrue, IsFalse, length, true};
-ghost use Rattle.walk_laws.specs.Asked.{KeptBelow, KeptWhole};
-ghost use Rattle.walk_laws.specs.Counting.{later};
-ghost use Rattle.walk_laws.specs.Listing.{IsAnswer, KeepsLimits};
+ghost use Rattle.listing_laws.specs.Asked.{KeptBelow, KeptWhole};
+ghost use Rattle.listing_laws.specs.Counting.{later};
+ghost use Rattle.listing_laws.specs.Listing.{IsAnswer, KeepsLimits};
 ghost use Rattle.walk_laws.specs.Order.{IsLeast};
-ghost use Rattle.walk_laws.specs.Search.{IsCut, IsFirst, LeadsNowhere, LongerThan, OfLength};
+ghost use Rattle.listing_laws.specs.Search.{IsCut, IsFirst, LeadsNowhere, LongerThan, OfLength};
 ghost use Rattle.cycle_enum.specs.Walking.{KnowsOf, Lists, Says, Walking};
 
 use crate::limits::Limits;

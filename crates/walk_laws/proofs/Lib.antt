@@ -1,15 +1,7 @@
-pub mod Answering
 pub mod Beginnings
 pub mod Composing
-pub mod Counts
 pub mod Laws
-pub mod Listings
 pub mod Neighbours
-pub mod Nowhere
 pub mod Ordering
 pub mod Places
-pub mod Raising
-pub mod Relaxing
 pub mod Rotating
-pub mod Searching
-pub mod Stepping

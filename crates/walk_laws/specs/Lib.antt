@@ -1,10 +1,5 @@
-pub mod Asked
 pub mod Beginning
 pub mod Composable
-pub mod Counting
 pub mod Laws
-pub mod Listing
 pub mod Order
-pub mod Reading
 pub mod Rotation
-pub mod Search

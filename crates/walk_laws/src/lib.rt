@@ -1,7 +1,6 @@
 //! Laws of lists of edges: composable paths and cycles, rotations, the order and the normal form.
 #![tactic(auto)]
 
-ghost use Rattle.walk_laws.specs.Listing.{NextAfterNext};
 ghost use Rattle.walk_laws.specs.Laws.{SameCycleIsEquivalence, RotationsArePlaces, EdgesTurn, RotationsAdd, CyclesTurn, ClosesByPlace, OrderIsStrict, CyclesInOrder, NormalFormsDecide, BeginsNone};
 
 /// Being the same cycle, a rotation, is an equivalence.
@@ -59,10 +58,4 @@ pub fn normal_forms_decide()
 /// No normal form begins with a list that may not begin one.
 pub fn begins_none()
     ensures { BeginsNone }
-{}
-
-/// Answers, each the next listed list after the one before, are all that is listed, in order and
-/// each once, where at last there is no next one.
-pub fn next_after_next()
-    ensures { NextAfterNext }
 {}

@@ -1,5 +1,5 @@
 use Rattle.std.proofs.Common.{arith}
-use Rattle.walk_laws.proofs.Raising.{popped_replaced}
+use Rattle.listing_laws.proofs.Raising.{popped_replaced}
 use Rattle.cycle_enum.proofs.raise.raise.Goals as goal
 
 pub returns-then-rank-lt-EDGES : goal.returns-then-rank-lt-EDGES

@@ -1,6 +1,6 @@
 use Rattle.std.proofs.Common.{◌≤◌, length}
 use Rattle.relax_edges.specs.declared.TheConstants.{MAX_EDGES}
-use Rattle.walk_laws.proofs.Raising.{Popped}
+use Rattle.listing_laws.proofs.Raising.{Popped}
 use Rattle.cycle_enum.proofs.raise.raise.Given as goal
 
 abbrev pub invariant-loop-edge : goal.invariant-loop-edge

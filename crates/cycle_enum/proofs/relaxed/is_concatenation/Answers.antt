@@ -1,5 +1,5 @@
 use Rattle.std.proofs.Common.{◌∙◌}
-use Rattle.walk_laws.proofs.Relaxing.{read_concatenation, concatenation_read}
+use Rattle.listing_laws.proofs.Relaxing.{read_concatenation, concatenation_read}
 use Rattle.cycle_enum.proofs.relaxed.is_concatenation.Goals as goal
 
 pub returns : goal.returns

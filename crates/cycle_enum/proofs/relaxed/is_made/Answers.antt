@@ -1,5 +1,5 @@
 use Rattle.std.proofs.Common.{arith}
-use Rattle.walk_laws.proofs.Relaxing.{made_nowhere}
+use Rattle.listing_laws.proofs.Relaxing.{made_nowhere}
 use Rattle.cycle_enum.proofs.relaxed.is_made.Goals as goal
 
 pub returns : goal.returns

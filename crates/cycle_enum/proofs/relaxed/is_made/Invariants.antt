@@ -1,5 +1,5 @@
 use Rattle.std.proofs.Common.{ℕ, ◌<◌}
-use Rattle.walk_laws.specs.Listing.{IsConcatenation}
+use Rattle.listing_laws.specs.Listing.{IsConcatenation}
 use Rattle.walk_laws.specs.Rotation.{rotated}
 use Rattle.cycle_enum.proofs.relaxed.is_made.Given as goal
 

@@ -1,5 +1,5 @@
 use Rattle.std.proofs.Common.{◌∙◌, sym}
-use Rattle.walk_laws.proofs.Relaxing.{stands_nowhere}
+use Rattle.listing_laws.proofs.Relaxing.{stands_nowhere}
 use Rattle.cycle_enum.proofs.relaxed.may_stand.Goals as goal
 
 pub returns-in-len1-up : goal.returns-in-len1-up

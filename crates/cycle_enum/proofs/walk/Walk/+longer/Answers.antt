@@ -1,5 +1,5 @@
 use Rattle.std.proofs.Common.{add-one}
-use Rattle.walk_laws.proofs.Answering.{answer_longer}
+use Rattle.listing_laws.proofs.Answering.{answer_longer}
 use Rattle.cycle_enum.specs.Walking.{Says, Lists}
 use Rattle.cycle_enum.proofs.walk.Walk.+longer.Goals as goal
 

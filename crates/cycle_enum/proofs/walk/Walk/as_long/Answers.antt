@@ -1,7 +1,7 @@
 use Rattle.std.proofs.Common.{length}
-use Rattle.walk_laws.specs.Search.{IsCut, IsFirst, OfLength}
-use Rattle.walk_laws.proofs.Answering.{answer_as_long}
-use Rattle.walk_laws.proofs.Raising.{raised_kept}
+use Rattle.listing_laws.specs.Search.{IsCut, IsFirst, OfLength}
+use Rattle.listing_laws.proofs.Answering.{answer_as_long}
+use Rattle.listing_laws.proofs.Raising.{raised_kept}
 use Rattle.cycle_enum.specs.Walking.{Says, Lists}
 use Rattle.cycle_enum.proofs.walk.Walk.as_long.Goals as goal
 

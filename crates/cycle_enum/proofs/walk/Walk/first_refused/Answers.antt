@@ -1,7 +1,7 @@
 use Rattle.std.proofs.Common.{◌≡◌, ◌++◌, ◌+◌, true, drop, refl, sym, arith}
 use Rattle.std.proofs.lemmas.List.{drop_all}
-use Rattle.walk_laws.specs.Search.{LeadsNowhere}
-use Rattle.walk_laws.proofs.Raising.{kept_more, cut_refused, cut_whole, one_further}
+use Rattle.listing_laws.specs.Search.{LeadsNowhere}
+use Rattle.listing_laws.proofs.Raising.{kept_more, cut_refused, cut_whole, one_further}
 use Rattle.cycle_enum.specs.Walking.{Says, Lists}
 use Rattle.cycle_enum.proofs.walk.Walk.first_refused.Goals as goal
 

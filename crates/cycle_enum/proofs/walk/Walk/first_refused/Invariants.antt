@@ -1,5 +1,5 @@
 use Rattle.std.proofs.Common.{◌≡◌, ◌++◌, drop}
-use Rattle.walk_laws.specs.Asked.{KeptWhole}
+use Rattle.listing_laws.specs.Asked.{KeptWhole}
 use Rattle.cycle_enum.specs.Walking.{Says}
 use Rattle.cycle_enum.proofs.walk.Walk.first_refused.Given as goal
 

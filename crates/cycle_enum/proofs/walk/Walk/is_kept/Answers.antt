@@ -1,5 +1,5 @@
 use Rattle.std.proofs.Common.{rules}
-use Rattle.walk_laws.proofs.Nowhere.{refused_nowhere}
+use Rattle.listing_laws.proofs.Nowhere.{refused_nowhere}
 use Rattle.cycle_enum.specs.Walking.{Says}
 use Rattle.cycle_enum.proofs.walk.Walk.is_kept.Goals as goal
 

@@ -1,9 +1,9 @@
 use Rattle.std.proofs.Common.{◌≡◌, false, rules}
 use Rattle.walk_laws.specs.Beginning.{may_begin}
 use Rattle.walk_laws.specs.Composable.{is_joined}
-use Rattle.walk_laws.specs.Listing.{IsMadeOf}
-use Rattle.walk_laws.specs.Search.{LeadsNowhere}
-use Rattle.walk_laws.proofs.Nowhere.{unjoined_nowhere, begins_nowhere, unmade_nowhere}
+use Rattle.listing_laws.specs.Listing.{IsMadeOf}
+use Rattle.listing_laws.specs.Search.{LeadsNowhere}
+use Rattle.listing_laws.proofs.Nowhere.{unjoined_nowhere, begins_nowhere, unmade_nowhere}
 use Rattle.cycle_enum.proofs.walk.Walk.leads_on.Goals as goal
 
 pub returns-then-not-is_joined-clause-refused : goal.returns-then-not-is_joined-clause-refused

@@ -1,4 +1,4 @@
-use Rattle.walk_laws.proofs.Counts.{later_falls}
+use Rattle.listing_laws.proofs.Counts.{later_falls}
 use Rattle.cycle_enum.proofs.walk.Walk.next.Goals as goal
 
 pub returns-in-Some-clause-falls : goal.returns-in-Some-clause-falls

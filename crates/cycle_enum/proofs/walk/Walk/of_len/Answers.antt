@@ -1,4 +1,4 @@
-use Rattle.walk_laws.proofs.Answering.{answer_of_length}
+use Rattle.listing_laws.proofs.Answering.{answer_of_length}
 use Rattle.cycle_enum.specs.Walking.{Says, Lists}
 use Rattle.cycle_enum.proofs.walk.Walk.of_len.Goals as goal
 

@@ -1,7 +1,7 @@
 use Rattle.std.proofs.Common.{◌<◌, ◌≤◌, ◌∙◌, true, length, refl, rules}
-use Rattle.walk_laws.specs.Search.{LeadsNowhere}
-use Rattle.walk_laws.proofs.Counts.{raised_falls, extended_falls}
-use Rattle.walk_laws.proofs.Stepping.{stands_first, stands_raised, stands_extended, stands_past, stands_found, kept_all}
+use Rattle.listing_laws.specs.Search.{LeadsNowhere}
+use Rattle.listing_laws.proofs.Counts.{raised_falls, extended_falls}
+use Rattle.listing_laws.proofs.Stepping.{stands_first, stands_raised, stands_extended, stands_past, stands_found, kept_all}
 use Rattle.cycle_enum.specs.Walking.{Says, Lists}
 use Rattle.cycle_enum.proofs.walk.Walk.search.Goals as goal
 

@@ -1,5 +1,5 @@
-use Rattle.walk_laws.proofs.Counts.{to_go}
-use Rattle.walk_laws.proofs.Stepping.{Standing}
+use Rattle.listing_laws.proofs.Counts.{to_go}
+use Rattle.listing_laws.proofs.Stepping.{Standing}
 use Rattle.cycle_enum.specs.Walking.{Says, Lists}
 use Rattle.cycle_enum.proofs.walk.Walk.search.Given as goal
 

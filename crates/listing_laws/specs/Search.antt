@@ -6,7 +6,7 @@ use Rattle.relax_edges.specs.declared.order.TheConstants.{EDGES}
 use Rattle.relax_edges.specs.declared.edge.Edge.{Edge}
 use Rattle.relax_edges.specs.Order.{rank_of}
 use Rattle.walk_laws.specs.Order.{Above}
-use Rattle.walk_laws.specs.Asked.{KeptBelow}
+use Rattle.listing_laws.specs.Asked.{KeptBelow}
 
 -- m comes at or behind u: it begins with u, or has the greater edge at the first place where they differ, which both have
 abbrev pub Reaches : List Edge → List Edge → Type 0

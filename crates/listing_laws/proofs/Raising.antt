@@ -7,8 +7,8 @@ use Rattle.relax_edges.specs.declared.order.TheConstants.{EDGES}
 use Rattle.relax_edges.specs.declared.edge.Edge.{Edge}
 use Rattle.relax_edges.specs.Order.{rank_of}
 use Rattle.relax_edges.proofs.Ranks.{rank_below}
-use Rattle.walk_laws.specs.Asked.{KeptBelow, KeptWhole}
-use Rattle.walk_laws.specs.Search.{LeadsNowhere, IsTop, IsRaised, over, replaced, IsExtended, IsCut}
+use Rattle.listing_laws.specs.Asked.{KeptBelow, KeptWhole}
+use Rattle.listing_laws.specs.Search.{LeadsNowhere, IsTop, IsRaised, over, replaced, IsExtended, IsCut}
 
 -- last edges of all were taken off the end of a list
 pub record Popped (u list : List Edge) : Type 0 where

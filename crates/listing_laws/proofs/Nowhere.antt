@@ -1,11 +1,11 @@
 -- Why no listed cycle begins with a list.
 use Rattle.std.proofs.Common.{◌≡◌, ◌<◌, ℕ, Bool, true, false, List, ◌++◌, length, take, ◌∙◌, sym}
 use Rattle.relax_edges.specs.declared.edge.Edge.{Edge}
-use Rattle.walk_laws.specs.Asked.{Knows}
+use Rattle.listing_laws.specs.Asked.{Knows}
 use Rattle.walk_laws.specs.Beginning.{may_begin}
 use Rattle.walk_laws.specs.Composable.{is_joined}
-use Rattle.walk_laws.specs.Listing.{IsListed, IsMadeOf, KeepsLimits}
-use Rattle.walk_laws.specs.Search.{LeadsNowhere, OfLength}
+use Rattle.listing_laws.specs.Listing.{IsListed, IsMadeOf, KeepsLimits}
+use Rattle.listing_laws.specs.Search.{LeadsNowhere, OfLength}
 use Rattle.walk_laws.proofs.Beginnings.{begins_none}
 use Rattle.walk_laws.proofs.Composing.{joined_front}
 

@@ -7,11 +7,12 @@ use Rattle.relax_edges.specs.declared.edge.Edge.{Edge}
 use Rattle.relax_edges.specs.Order.{rank_of}
 use Rattle.relax_edges.proofs.Ranks.{rank_injective}
 use Rattle.walk_laws.specs.Rotation.{rotated}
-use Rattle.walk_laws.specs.Search.{LeadsNowhere}
-use Rattle.walk_laws.specs.Listing.{IsOneOf, concatenated, IsConcatenation, IsMadeOf}
-use Rattle.walk_laws.specs.Reading.{fits, leads, back_parts_read, back_part_leads}
-use Rattle.walk_laws.proofs.Rotating.{before, behind, cuts, rotation_of_place, place_of_rotation}
-use Rattle.walk_laws.proofs.Searching.{BeginsWith}
+use Rattle.listing_laws.specs.Search.{LeadsNowhere}
+use Rattle.listing_laws.specs.Listing.{IsOneOf, concatenated, IsConcatenation, IsMadeOf}
+use Rattle.listing_laws.specs.Reading.{fits, leads, back_parts_read, back_part_leads}
+use Rattle.walk_laws.proofs.Rotating.{rotation_of_place, place_of_rotation}
+use Rattle.listing_laws.proofs.Cuts.{before, behind, cuts}
+use Rattle.listing_laws.proofs.Searching.{BeginsWith}
 
 -- what fits a relaxation begins with it
 fits_whole : (r u : List Edge) → fits false r u ≡ true → BeginsWith r u

@@ -6,10 +6,10 @@ use Rattle.relax_edges.specs.declared.edge.Edge.{Edge}
 use Rattle.relax_edges.specs.Order.{rank_of}
 use Rattle.relax_edges.proofs.Ranks.{rank_below}
 use Rattle.walk_laws.specs.Order.{Above}
-use Rattle.walk_laws.specs.Listing.{ComesAfter}
-use Rattle.walk_laws.specs.Search.{IsRaised, over, replaced, IsExtended}
-use Rattle.walk_laws.specs.Counting.{lists_within, lists_behind, later}
-use Rattle.walk_laws.proofs.Searching.{above_replaced}
+use Rattle.listing_laws.specs.Listing.{ComesAfter}
+use Rattle.listing_laws.specs.Search.{IsRaised, over, replaced, IsExtended}
+use Rattle.listing_laws.specs.Counting.{lists_within, lists_behind, later}
+use Rattle.listing_laws.proofs.Searching.{above_replaced}
 
 -- the equations of the numbers
 within-suc : (d : ℕ) → lists_within (suc d) ≡ (lists_within d + 1) * EDGES

@@ -6,9 +6,9 @@ use Rattle.std.proofs.lemmas.Bool.{cases_lt}
 use Rattle.relax_edges.specs.declared.edge.Edge.{Edge}
 use Rattle.relax_edges.specs.Order.{rank_of}
 use Rattle.relax_edges.proofs.Ranks.{rank_below}
-use Rattle.walk_laws.specs.Asked.{KeptBelow}
+use Rattle.listing_laws.specs.Asked.{KeptBelow}
 use Rattle.walk_laws.specs.Order.{Above}
-use Rattle.walk_laws.specs.Search.{Reaches, ToCome, LeadsNowhere, IsTop, IsRaised, over, replaced, IsExtended, IsFirst, IsFirstFrom}
+use Rattle.listing_laws.specs.Search.{Reaches, ToCome, LeadsNowhere, IsTop, IsRaised, over, replaced, IsExtended, IsFirst, IsFirstFrom}
 use Rattle.walk_laws.proofs.Ordering.{by_rank, above_irreflexive, above_one_way}
 
 pub reaches_itself : (u : List Edge) → Reaches u u

@@ -3,9 +3,9 @@ use Rattle.std.proofs.Common.{◌≡◌, ◌<◌, ◌≤◌, inl, inr, ℕ, Bool
 use Rattle.std.proofs.lemmas.List.{take_all}
 use Rattle.std.proofs.lemmas.Bool.{cases_lt}
 use Rattle.relax_edges.specs.declared.edge.Edge.{Edge}
-use Rattle.walk_laws.specs.Asked.{KeptBelow, KeptWhole}
-use Rattle.walk_laws.specs.Search.{LeadsNowhere, OfLength, IsRaised, IsExtended, IsFirstFrom}
-use Rattle.walk_laws.proofs.Searching.{Searching, search_begins, search_raised, search_goes_on, search_found, nowhere_whole}
+use Rattle.listing_laws.specs.Asked.{KeptBelow, KeptWhole}
+use Rattle.listing_laws.specs.Search.{LeadsNowhere, OfLength, IsRaised, IsExtended, IsFirstFrom}
+use Rattle.listing_laws.proofs.Searching.{Searching, search_begins, search_raised, search_goes_on, search_found, nowhere_whole}
 
 module _ (listed : List Edge → Type 0) (says : List Edge → Bool → Type 0) (n : ℕ) where
   -- where the search stands

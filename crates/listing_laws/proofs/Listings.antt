@@ -2,7 +2,7 @@
 use Rattle.std.proofs.Common.{◌≡◌, ◌⊎◌, inl, inr, Option, Some, None, List, [], ◌∷◌, ◌++◌, true, refl, sym, ◌∙◌}
 use Rattle.relax_edges.specs.declared.edge.Edge.{Edge}
 use Rattle.walk_laws.specs.Order.{Follows}
-use Rattle.walk_laws.specs.Listing.{IsOneOf, ComesAfter, IsListed, IsNext, IsAnswer, AreRising, AreAllListed, AreListedTo, NextAfterNext}
+use Rattle.listing_laws.specs.Listing.{IsOneOf, ComesAfter, IsListed, IsNext, IsAnswer, AreRising, AreAllListed, AreListedTo, NextAfterNext}
 use Rattle.walk_laws.proofs.Ordering.{follows_irreflexive, follows_transitive, follows_or_same}
 
 one_of_last : (us : List (List Edge)) (u v : List Edge) → IsOneOf (us ++ u ∷ []) v → (IsOneOf us v) ⊎ (u ≡ v)

@@ -5,10 +5,10 @@ use Rattle.std.specs.Prelude.{Bool}
 use Rattle.std.proofs.lemmas.Bool.{cases_lt}
 use Rattle.relax_edges.specs.declared.edge.Edge.{Edge}
 use Rattle.walk_laws.specs.Order.{Above, Follows}
-use Rattle.walk_laws.specs.Listing.{IsNext, IsAnswer}
-use Rattle.walk_laws.specs.Search.{Reaches, ToCome, IsRaised, over, replaced, IsExtended, OfLength, LongerThan, IsFirst, IsCut}
+use Rattle.listing_laws.specs.Listing.{IsNext, IsAnswer}
+use Rattle.listing_laws.specs.Search.{Reaches, ToCome, IsRaised, over, replaced, IsExtended, OfLength, LongerThan, IsFirst, IsCut}
 use Rattle.walk_laws.proofs.Ordering.{above_longer, above_transitive}
-use Rattle.walk_laws.proofs.Searching.{reaches_cases, reaches_extended, reaches_replaced, above_replaced, none_above, above_u}
+use Rattle.listing_laws.proofs.Searching.{reaches_cases, reaches_extended, reaches_replaced, above_replaced, none_above, above_u}
 
 module _ (listed : List Edge → Type 0) (says : List Edge → Bool → Type 0) where
   -- all lists of n edges are to come at the first of all edges
