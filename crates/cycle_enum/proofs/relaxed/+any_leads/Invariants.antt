@@ -1,0 +1,5 @@
+use Rattle.std.proofs.Common.{length}
+use Rattle.cycle_enum.proofs.relaxed.+any_leads.Given as goal
+
+abbrev pub decreases-any_leads : goal.decreases-any_leads
+decreases-any_leads l = length l.relaxes.now

@@ -1,0 +1,5 @@
+use Rattle.std.proofs.Common.{length}
+use Rattle.cycle_enum.proofs.relaxed.+back_part_leads.Given as goal
+
+abbrev pub decreases-back_part_leads : goal.decreases-back_part_leads
+decreases-back_part_leads l = length l.relax.now

@@ -1,0 +1,5 @@
+use Rattle.std.proofs.Common.{length}
+use Rattle.cycle_enum.proofs.relaxed.+read_back_parts.Given as goal
+
+abbrev pub decreases-read_back_parts : goal.decreases-read_back_parts
+decreases-read_back_parts l = length l.list.now

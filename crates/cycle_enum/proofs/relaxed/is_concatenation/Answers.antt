@@ -1,0 +1,8 @@
+use Rattle.std.proofs.Common.{◌∙◌}
+use Rattle.listing_laws.proofs.Relaxing.{read_concatenation, concatenation_read}
+use Rattle.cycle_enum.proofs.relaxed.is_concatenation.Goals as goal
+
+pub returns : goal.returns
+returns c =
+    let e = c.as_slice.ensures.value ∙ c.read_back_parts.ensures.read in
+    (λ h. read_concatenation c.args.relaxes.now c.args.list.now (rw e at h), λ m. rw e (concatenation_read c.args.relaxes.now c.args.list.now m))

@@ -1,0 +1,7 @@
+use Rattle.std.proofs.Common.{ℕ, ◌<◌}
+use Rattle.listing_laws.specs.Listing.{IsConcatenation}
+use Rattle.walk_laws.specs.Rotation.{rotated}
+use Rattle.cycle_enum.proofs.relaxed.is_made.Given as goal
+
+abbrev pub invariant-loop-k : goal.invariant-loop-k
+invariant-loop-k l = (j : ℕ) → j < l.k → IsConcatenation l.relaxes (rotated j l.cycle) → ⊥

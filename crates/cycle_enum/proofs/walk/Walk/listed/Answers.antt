@@ -1,0 +1,22 @@
+use Rattle.std.proofs.Common.{◌≡◌, refl}
+use Rattle.cycle_enum.proofs.Composing.{composed_is, composed_none}
+use Rattle.cycle_enum.proofs.walk.Walk.listed.Goals as goal
+
+pub is_listed-requires-clause-limits : goal.is_listed-requires-clause-limits
+is_listed-requires-clause-limits g c =
+    let e : c.in-Ok.cycle ≡ c.args.list.now = composed_is c.args.list.now c.in-Ok.cycle c.in-Ok.ensures.made in rw e c.requires.limits
+
+pub is_listed-requires-clause-kept : goal.is_listed-requires-clause-kept
+is_listed-requires-clause-kept g c =
+    let e : c.in-Ok.cycle ≡ c.args.list.now = composed_is c.args.list.now c.in-Ok.cycle c.in-Ok.ensures.made in rw e c.requires.kept
+
+pub returns-then-is_listed-clause-some : goal.returns-then-is_listed-clause-some
+returns-then-is_listed-clause-some g c = (composed_is c.args.list.now c.in-Ok.cycle c.in-Ok.ensures.made, c.if-is_listed.ensures.listed refl)
+
+pub returns-else-is_listed-clause-none : goal.returns-else-is_listed-clause-none
+returns-else-is_listed-clause-none g c l =
+    let e : c.in-Ok.cycle ≡ c.args.list.now = composed_is c.args.list.now c.in-Ok.cycle c.in-Ok.ensures.made in
+    c.if-is_listed.ensures.other refl (rw e l)
+
+pub returns-in-Err-clause-none : goal.returns-in-Err-clause-none
+returns-in-Err-clause-none g c l = composed_none c.args.list.now c.in-Err.field-0 c.in-Err.ensures.made l.cycle

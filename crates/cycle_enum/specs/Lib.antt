@@ -1,0 +1,3 @@
+pub mod Alternating
+pub mod Ends
+pub mod Walking

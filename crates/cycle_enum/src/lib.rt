@@ -1,0 +1,13 @@
+//! The cycles of a listing, one after another in order, by a walk that keeps none of them.
+#![tactic(auto)]
+
+mod limits;
+mod raise;
+mod relaxed;
+mod walk;
+
+pub use limits::Limits;
+pub use walk::Walk;
+
+#[cfg(test)]
+mod tests;

@@ -1,0 +1,150 @@
+ghost use Rattle.std.specs.Prelude.{◌≡◌, ◌<◌, ◌≤◌, ◌+◌, ◌↔◌, [], length, IsTrue, IsFalse};
+ghost use Rattle.std.specs.List.{list_any};
+ghost use Rattle.listing_laws.specs.Listing.{IsConcatenation, IsMadeOf};
+ghost use Rattle.listing_laws.specs.Reading.{fits, leads, back_parts_read, back_part_leads};
+ghost use Rattle.listing_laws.specs.Search.{LeadsNowhere};
+ghost use Rattle.cycle_enum.specs.Ends.{is_inside};
+
+use arrayvec::ArrayVec;
+use edge_algebra::Cycle;
+use relax_edges::{Edge, MAX_EDGES, Relax};
+
+const BACK_PARTS: usize = MAX_EDGES + 1;
+
+/// Where a list may end that is read as relaxations, one behind the other.
+#[derive(Clone, Copy)]
+enum End {
+    /// Behind a relaxation.
+    Behind,
+    /// Behind a relaxation or inside one.
+    Anywhere,
+}
+
+/// Whether some rotation of a cycle is a concatenation of relaxations.
+pub(crate) fn is_made(relaxes: &[Relax], cycle: &Cycle) -> bool
+    ensures { IsTrue result ↔ IsMadeOf relaxes.now cycle.now }
+{
+    let _edges = cycle.edges();
+    for k in 0..cycle.len() {
+        if is_concatenation(relaxes, cycle.rotate(k).edges()) {
+            return true;
+        }
+    }
+    false
+}
+
+/// Whether a list is a concatenation of relaxations.
+fn is_concatenation(relaxes: &[Relax], list: &[Edge]) -> bool
+    requires { length list.now ≤ MAX_EDGES }
+    ensures { IsTrue result ↔ IsConcatenation relaxes.now list.now }
+{
+    let mut read = ArrayVec::new();
+    read_back_parts(End::Behind, relaxes, list, &mut read);
+    read.as_slice()[list.len()]
+}
+
+/// Whether a list may stand in a concatenation of relaxations: it begins inside a relaxation, or
+/// with one, and relaxations lead on from there.
+pub(crate) fn may_stand(relaxes: &[Relax], list: &[Edge]) -> bool
+    requires { length list.now ≤ MAX_EDGES }
+    ensures { IsFalse result → LeadsNowhere (IsMadeOf relaxes.now) list.now }
+{
+    match list {
+        [] => true,
+        [_, rest @ ..] => {
+            let mut read = ArrayVec::new();
+            read_back_parts(End::Anywhere, relaxes, rest, &mut read);
+            any_begins(relaxes, list, read.as_slice())
+        }
+    }
+}
+
+/// Whether a list begins with a back part of a relaxation, and is read on from there.
+fn any_begins(relaxes: &[Relax], list: &[Edge], read: &[bool]) -> bool
+    requires some { 0 < length list.now }
+    requires as_many { length read.now ≡ length list.now }
+    ensures { result ≡ list_any (back_part_leads list.now read.now) relaxes.now }
+{
+    match relaxes {
+        [] => false,
+        [first, rest @ ..] => {
+            back_part_leads(first.edges(), list, read) || any_begins(rest, list, read)
+        }
+    }
+}
+
+fn back_part_leads(relax: &[Edge], list: &[Edge], read: &[bool]) -> bool
+    requires some { 0 < length list.now }
+    requires as_many { length read.now ≡ length list.now }
+    ensures { result ≡ back_part_leads list.now read.now relax.now }
+{
+    match relax {
+        [] => false,
+        [_, rest @ ..] => {
+            leads(End::Anywhere, relax, list, read) || back_part_leads(rest, list, read)
+        }
+    }
+}
+
+/// Tells for each back part of a list, from the empty one to the whole, whether it is read as
+/// relaxations one behind the other.
+fn read_back_parts(
+    end: End,
+    relaxes: &[Relax],
+    list: &[Edge],
+    read: &mut ArrayVec<bool, BACK_PARTS>,
+)
+    requires few { length list.now ≤ MAX_EDGES }
+    requires none { read.old.items ≡ [] }
+    ensures read { read.new.items ≡ back_parts_read (is_inside end) relaxes.now list.now }
+    ensures as_many { length read.new.items ≡ length list.now + 1 }
+{
+    match list {
+        [] => read.push(true),
+        [_, rest @ ..] => {
+            read_back_parts(end, relaxes, rest, read);
+            let leads = any_leads(end, relaxes, list, read.as_slice());
+            read.push(leads);
+        }
+    }
+}
+
+/// Whether a list begins with a relaxation, and is read on from there.
+fn any_leads(end: End, relaxes: &[Relax], list: &[Edge], read: &[bool]) -> bool
+    requires some { 0 < length list.now }
+    requires as_many { length read.now ≡ length list.now }
+    ensures { result ≡ list_any (leads (is_inside end) list.now read.now) relaxes.now }
+{
+    match relaxes {
+        [] => false,
+        [first, rest @ ..] => {
+            leads(end, first.edges(), list, read) || any_leads(end, rest, list, read)
+        }
+    }
+}
+
+/// Whether a list begins with a relaxation, and is read on from there: `read` tells it for each
+/// shorter back part of the list.
+fn leads(end: End, relax: &[Edge], list: &[Edge], read: &[bool]) -> bool
+    requires some { 0 < length list.now }
+    requires relax_some { 0 < length relax.now }
+    requires as_many { length read.now ≡ length list.now }
+    ensures { result ≡ leads (is_inside end) list.now read.now relax.now }
+{
+    fits(end, relax, list) && read[list.len().saturating_sub(relax.len())]
+}
+
+/// Whether a list begins with a relaxation, or, where it may end inside one, is a front part of it.
+fn fits(end: End, relax: &[Edge], list: &[Edge]) -> bool
+    ensures { result ≡ fits (is_inside end) relax.now list.now }
+{
+    match relax {
+        [] => true,
+        [edge, relax_left @ ..] => match list {
+            [] => matches!(end, End::Anywhere),
+            [first, list_left @ ..] => {
+                edge.rank() == first.rank() && fits(end, relax_left, list_left)
+            }
+        },
+    }
+}

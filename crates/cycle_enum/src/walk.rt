@@ -1,0 +1,270 @@
+ghost use Rattle.std.specs.Prelude.{◌≡◌, ◌<◌, ◌≤◌, Some, None, IfSome, IfNone, MatchOption, IsTrue, IsFalse, length, true};
+ghost use Rattle.listing_laws.specs.Asked.{KeptBelow, KeptWhole};
+ghost use Rattle.listing_laws.specs.Counting.{later};
+ghost use Rattle.listing_laws.specs.Listing.{IsAnswer, KeepsLimits};
+ghost use Rattle.walk_laws.specs.Order.{IsLeast};
+ghost use Rattle.listing_laws.specs.Search.{IsCut, IsFirst, LeadsNowhere, LongerThan, OfLength};
+ghost use Rattle.cycle_enum.specs.Walking.{KnowsOf, Lists, Says, Walking};
+
+use crate::limits::Limits;
+use crate::raise::{Edges, extend, is_joined, raise};
+use crate::relaxed::{is_made, may_stand};
+use arrayvec::ArrayVec;
+use edge_algebra::{Cycle, cycle, may_begin};
+use relax_edges::{Edge, MAX_EDGES, Relaxes};
+use std::marker::Model;
+
+/// A walk over the listed cycles, in order.
+///
+/// Contracts see its relaxations, its limits, its pruner `keep` and its test `take`, and the last
+/// cycle in normal form: the last answer or the one given to `after`.
+#[derive(Drop)]
+pub struct Walk<K, P> {
+    relaxes: Relaxes,
+    limits: Limits,
+    keep: K,
+    take: P,
+    last: Option<Cycle>,
+}
+
+impl<K, P> Model for Walk<K, P> {
+    ghost use Rattle.std.specs.Prelude.{◌≤◌};
+    ghost use Rattle.relax_edges.specs.declared.TheConstants.{MAX_EDGES};
+    ghost use Rattle.cycle_enum.specs.Walking.{Walking};
+
+    ghost Value = { Walking K P };
+
+    ghost view = { λ w. record { relaxes = w.relaxes; limits = w.limits; keep = w.keep; take = w.take; last = w.last } };
+
+    ghost invariant = { λ w. w.limits.size ≤ MAX_EDGES };
+}
+
+impl<K: Fn(&[Edge]) -> bool, P: Fn(&Cycle) -> bool> Walk<K, P> {
+    /// A walk that begins with the first listed cycle.
+    ///
+    /// `keep` is a pruner: where it says no on a list of edges, no cycle that begins with the list
+    /// is to be listed. `take` is the test of which cycles are listed. It is asked only of cycles
+    /// in normal form, and only where the pruner said yes on all their front parts.
+    ///
+    /// The conditions: the size is at most `MAX_EDGES`; `keep` may be called on every list of 1 to
+    /// `MAX_EDGES` edges; `take` may be called on every cycle on all of whose front parts `keep`
+    /// says yes, and gives one answer for one cycle; where `keep` says no on a list, `take` says no
+    /// on every cycle that begins with it.
+    pub fn new(relaxes: Relaxes, limits: Limits, keep: K, take: P) -> Walk<K, P>
+        requires few { limits.size ≤ MAX_EDGES }
+        requires knows { KnowsOf K.pre K.Fn.post P.pre P.Fn.post keep take }
+        ensures { result ≡ record { relaxes = relaxes; limits = limits; keep = keep; take = take; last = None } }
+    {
+        Walk {
+            relaxes,
+            limits,
+            keep,
+            take,
+            last: None,
+        }
+    }
+
+    /// Goes on behind a cycle, which need not be listed: the next answers come after its normal
+    /// form.
+    pub fn after(&mut self, cycle: &Cycle)
+        ensures last { MatchOption self.new.last ⊥ (λ last. IsLeast cycle.now last) }
+        ensures same { self.new ≡ record self.old { last = self.new.last } }
+    {
+        self.last = Some(cycle.least());
+    }
+
+    /// The next listed cycle: the least that comes after the last one, and none exactly where there
+    /// is none, which changes nothing.
+    ///
+    /// A cycle is listed where it is in normal form, keeps the limits, has a rotation that is a
+    /// concatenation of relaxations, and `take` says yes on it. Cycles are in order by their number
+    /// of edges, and then edge by edge by the byte order of their printed words. With each answer
+    /// the number `later` falls, so that a loop over the answers ends. It takes no memory.
+    ///
+    /// The condition on the closures is that of `new`, once more.
+    pub fn next(&mut self) -> Option<Cycle>
+        requires knows { KnowsOf K.pre K.Fn.post P.pre P.Fn.post self.old.keep self.old.take }
+        ensures next { IsAnswer (Lists P.Fn.post self.old) self.old.last result }
+        ensures some { IfSome result (λ cycle. self.new ≡ record self.old { last = Some cycle }) }
+        ensures none { IfNone result (self.new ≡ self.old) }
+        ensures falls { IfSome result (λ cycle. later self.old.limits.size (Some cycle) < later self.old.limits.size self.old.last) }
+    {
+        match self.find() {
+            Some(cycle) => {
+                self.last = Some(cycle.copied());
+                Some(cycle)
+            }
+            None => None,
+        }
+    }
+
+    /// The least listed cycle that comes after the last one.
+    fn find(&self) -> Option<Cycle>
+        requires knows { KnowsOf K.pre K.Fn.post P.pre P.Fn.post self.now.keep self.now.take }
+        ensures { IsAnswer (Lists P.Fn.post self.now) self.now.last result }
+    {
+        match &self.last {
+            None => self.longer(0),
+            Some(last) => match self.as_long(last) {
+                Some(cycle) => Some(cycle),
+                None => {
+                    let _edges = last.edges();
+                    self.longer(last.len())
+                }
+            },
+        }
+    }
+
+    /// The first listed cycle of more than `len` edges.
+    fn longer(&self, len: u8) -> Option<Cycle>
+        requires knows { KnowsOf K.pre K.Fn.post P.pre P.Fn.post self.now.keep self.now.take }
+        requires few { len ≤ MAX_EDGES }
+        ensures { IsAnswer (LongerThan len (Lists P.Fn.post self.now)) None result }
+    {
+        if len >= self.limits.size {
+            return None;
+        }
+        match self.of_len(len + 1) {
+            Some(cycle) => Some(cycle),
+            None => self.longer(len + 1),
+        }
+    }
+
+    /// The first listed cycle of `len` edges.
+    fn of_len(&self, len: u8) -> Option<Cycle>
+        requires knows { KnowsOf K.pre K.Fn.post P.pre P.Fn.post self.now.keep self.now.take }
+        requires some { 0 < len }
+        requires few { len ≤ MAX_EDGES }
+        ensures { IsAnswer (OfLength len (Lists P.Fn.post self.now)) None result }
+    {
+        if !self.limits.keeps(len) {
+            return None;
+        }
+        let mut list = ArrayVec::new();
+        extend(&mut list);
+        self.search(&mut list, len)
+    }
+
+    /// The first listed cycle of as many edges as the last one that follows it.
+    fn as_long(&self, last: &Cycle) -> Option<Cycle>
+        requires knows { KnowsOf K.pre K.Fn.post P.pre P.Fn.post self.now.keep self.now.take }
+        ensures { IsAnswer (OfLength (length last.now) (Lists P.Fn.post self.now)) (Some last.now) result }
+    {
+        if !self.limits.keeps(last.len()) {
+            return None;
+        }
+        let mut list = self.first_refused(last.edges());
+        raise(&mut list);
+        self.search(&mut list, last.len())
+    }
+
+    /// The shortest front part of a list on which the pruner says no, so that no listed cycle begins
+    /// with it, else the list.
+    fn first_refused(&self, edges: &[Edge]) -> Edges
+        requires knows { KnowsOf K.pre K.Fn.post P.pre P.Fn.post self.now.keep self.now.take }
+        requires few { length edges.now ≤ MAX_EDGES }
+        ensures { IsCut (Lists P.Fn.post self.now) (Says K.Fn.post self.now.keep) edges.now result.items }
+    {
+        let mut list = ArrayVec::new();
+        for edge in edges {
+            list.push(*edge);
+            if !self.is_kept(list.as_slice()) {
+                return list;
+            }
+        }
+        list
+    }
+
+    /// The first listed cycle of `len` edges from the list on.
+    fn search(&self, list: &mut Edges, len: u8) -> Option<Cycle>
+        requires knows { KnowsOf K.pre K.Fn.post P.pre P.Fn.post self.now.keep self.now.take }
+        requires few { len ≤ MAX_EDGES }
+        requires limits { KeepsLimits self.now.limits.size self.now.limits.exact len }
+        requires within { length list.old.items ≤ len }
+        requires kept { KeptBelow (Says K.Fn.post self.now.keep) (length list.old.items) list.old.items }
+        ensures { IsFirst (OfLength len (Lists P.Fn.post self.now)) list.old.items result }
+    {
+        while !list.is_empty() {
+            if !self.leads_on(list.as_slice()) {
+                raise(list);
+            } else if list.len() < usize::from(len) {
+                extend(list);
+            } else {
+                match self.listed(list.as_slice()) {
+                    Some(cycle) => return Some(cycle),
+                    None => raise(list),
+                }
+            }
+        }
+        None
+    }
+
+    /// Whether a listed cycle may begin with the list.
+    fn leads_on(&self, list: &[Edge]) -> bool
+        requires knows { KnowsOf K.pre K.Fn.post P.pre P.Fn.post self.now.keep self.now.take }
+        requires some { 0 < length list.now }
+        requires few { length list.now ≤ MAX_EDGES }
+        ensures kept { IsTrue result → Says K.Fn.post self.now.keep list.now true }
+        ensures refused { IsFalse result → LeadsNowhere (Lists P.Fn.post self.now) list.now }
+    {
+        if !is_joined(list) {
+            return false;
+        }
+        if !may_begin(list) {
+            return false;
+        }
+        if !may_stand(self.relaxes.as_slice(), list) {
+            return false;
+        }
+        self.is_kept(list)
+    }
+
+    /// Whether the pruner says yes on the list.
+    fn is_kept(&self, list: &[Edge]) -> bool
+        requires knows { KnowsOf K.pre K.Fn.post P.pre P.Fn.post self.now.keep self.now.take }
+        requires some { 0 < length list.now }
+        requires few { length list.now ≤ MAX_EDGES }
+        ensures kept { IsTrue result → Says K.Fn.post self.now.keep list.now true }
+        ensures refused { IsFalse result → LeadsNowhere (Lists P.Fn.post self.now) list.now }
+    {
+        (self.keep)(list)
+    }
+
+    /// The cycle of these edges, where it is listed.
+    fn listed(&self, list: &[Edge]) -> Option<Cycle>
+        requires knows { KnowsOf K.pre K.Fn.post P.pre P.Fn.post self.now.keep self.now.take }
+        requires limits { KeepsLimits self.now.limits.size self.now.limits.exact (length list.now) }
+        requires kept { KeptWhole (Says K.Fn.post self.now.keep) list.now }
+        ensures some { IfSome result (λ cycle. (cycle ≡ list.now) × Lists P.Fn.post self.now cycle) }
+        ensures none { IfNone result (Lists P.Fn.post self.now list.now → ⊥) }
+    {
+        match cycle(list) {
+            Ok(cycle) => {
+                if self.is_listed(&cycle) {
+                    Some(cycle)
+                } else {
+                    None
+                }
+            }
+            Err(_) => None,
+        }
+    }
+
+    /// Whether a cycle is listed, where its number of edges keeps the limits.
+    fn is_listed(&self, cycle: &Cycle) -> bool
+        requires knows { KnowsOf K.pre K.Fn.post P.pre P.Fn.post self.now.keep self.now.take }
+        requires limits { KeepsLimits self.now.limits.size self.now.limits.exact (length cycle.now) }
+        requires kept { KeptWhole (Says K.Fn.post self.now.keep) cycle.now }
+        ensures listed { IsTrue result → Lists P.Fn.post self.now cycle.now }
+        ensures other { IsFalse result → Lists P.Fn.post self.now cycle.now → ⊥ }
+    {
+        let _edges = cycle.edges();
+        if !cycle.is_normal() {
+            return false;
+        }
+        if !is_made(self.relaxes.as_slice(), cycle) {
+            return false;
+        }
+        (self.take)(cycle)
+    }
+}

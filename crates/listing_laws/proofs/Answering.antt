@@ -1,0 +1,153 @@
+-- From the answer of a search to the next of the sought lists.
+use Rattle.std.proofs.Common.{◌<◌, inl, inr, ℕ, suc, Option, Some, None, List, [], ◌∷◌, ◌++◌, length, sym, arith}
+use Rattle.std.proofs.lemmas.List.{append-nil}
+use Rattle.std.specs.Prelude.{Bool}
+use Rattle.std.proofs.lemmas.Bool.{cases_lt}
+use Rattle.relax_edges.specs.declared.edge.Edge.{Edge}
+use Rattle.walk_laws.specs.Order.{Above, Follows}
+use Rattle.listing_laws.specs.Listing.{IsNext, IsAnswer}
+use Rattle.listing_laws.specs.Search.{Reaches, ToCome, IsRaised, over, replaced, IsExtended, OfLength, LongerThan, IsFirst, IsCut}
+use Rattle.walk_laws.proofs.Ordering.{above_longer, above_transitive}
+use Rattle.listing_laws.proofs.Searching.{reaches_cases, reaches_extended, reaches_replaced, above_replaced, none_above, above_u}
+
+module _ (listed : List Edge → Type 0) (says : List Edge → Bool → Type 0) where
+  -- all lists of n edges are to come at the first of all edges
+  pub answer_of_length : (n : ℕ) (start : List Edge) (answer : Option (List Edge)) → 0 < n → IsExtended [] start → IsFirst (OfLength n listed) start answer
+      → IsAnswer (OfLength n listed) None answer
+  answer_of_length n start answer some x f = from_first answer (rw x.is at f)
+    where
+      all : (v : List Edge) → OfLength n listed v → ToCome (x.edge ∷ []) v
+      all v is = reaches_extended [] v x.edge x.first (omega (arith, is.long)) tt
+
+      from_first : (answer : Option (List Edge)) → IsFirst (OfLength n listed) (x.edge ∷ []) answer → IsAnswer (OfLength n listed) None answer
+      from_first None f = λ v is h. f v is (all v is)
+      from_first (Some m) f = record {
+        is = f.is;
+        after = tt;
+        least = λ v is h b. elim b [
+          | inl less ↦ omega (arith, is.long, f.is.long)
+          | inr both ↦ f.first v is (all v is) both.1
+        ];
+      }
+
+  -- the list cut off the last one, with one sought behind it, goes on: what is to come is what is above the last one
+  cut_above : (last list m : List Edge) → IsCut listed says last list → listed m → Above last m → Above list m
+  cut_above last list m c is a =
+      elim c.whole [
+        | inl e ↦ rw (append-nil list) at (rw e at (rw c.front at a))
+        | inr none ↦ above_u list m (front_of list c.rest m (rw c.front at a)) (λ r e. none r (rw e at is))
+      ]
+    where
+      front_of : (u r v : List Edge) → Above (u ++ r) v → Reaches u v
+      front_of [] r v h = tt
+      front_of (x ∷ u) r [] h = h
+      front_of (x ∷ u) r (y ∷ v) h = elim h [ inl less ↦ inl less | inr both ↦ inr (both.0, front_of u r v both.1) ]
+
+  to_come_raised : (list new m : List Edge) → IsRaised list new → Above list m → ToCome new m
+  to_come_raised list new m (over t e) a = absurd (none_above list m t a)
+  to_come_raised list new m (replaced front x y back u v next t) a =
+      rw v (some front y m (reaches_replaced front x y back m next t (rw u at a)))
+    where
+      some : (front : List Edge) (y : Edge) (m : List Edge) → Reaches (front ++ y ∷ []) m → ToCome (front ++ y ∷ []) m
+      some [] y m h = h
+      some (f ∷ front) y m h = h
+
+  above_raised : (last list new m : List Edge) → IsCut listed says last list → IsRaised list new → ToCome new m → Above last m
+  above_raised last list new m c (over t e) h = absurd (rw e at h)
+  above_raised last list new m c (replaced front x y back u v next t) h =
+      let up : Above list new = rw (u, v) (above_replaced front x y back next) in
+      elim (reaches_cases new m (reached new m h)) [
+        | inl b ↦ rw (c.front, b.is) (above_longer list new c.rest b.rest up)
+        | inr a ↦ rw (c.front, ← append-nil m) (above_longer list m c.rest [] (above_transitive list new m up a))
+      ]
+    where
+      reached : (u m : List Edge) → ToCome u m → Reaches u m
+      reached [] m h = absurd h
+      reached (x ∷ u) m h = h
+
+  -- from the last list on: the next of its length
+  pub answer_as_long : (last list new : List Edge) (answer : Option (List Edge)) → IsCut listed says last list → IsRaised list new
+      → IsFirst (OfLength (length last) listed) new answer → IsAnswer (OfLength (length last) listed) (Some last) answer
+  answer_as_long last list new None c r f = λ v is h. f v is (later v is h)
+    where
+      later : (v : List Edge) → OfLength (length last) listed v → Follows last v → ToCome new v
+      later v is h =
+          elim h [
+            | inl less ↦ absurd (omega (arith, is.long))
+            | inr both ↦ to_come_raised list new v r (cut_above last list v c is.is both.1)
+          ]
+  answer_as_long last list new (Some m) c r f = record {
+    is = f.is;
+    after = inr (sym f.is.long, above_raised last list new m c r f.from);
+    least = λ v is h b.
+        elim h [
+          | inl less ↦ absurd (omega (arith, is.long))
+          | inr both ↦ elim b [
+            | inl less ↦ absurd (omega (arith, is.long, f.is.long))
+            | inr above ↦ f.first v is (to_come_raised list new v r (cut_above last list v c is.is both.1)) above.1
+          ]
+        ];
+  }
+
+  -- none of the next length: those that are longer are longer by two at least
+  pub answer_longer : (n : ℕ) (answer : Option (List Edge)) → IsAnswer (OfLength (suc n) listed) None None
+      → IsAnswer (LongerThan (suc n) listed) None answer → IsAnswer (LongerThan n listed) None answer
+  answer_longer n None none rest = λ v is h. elim (cases_lt (suc n) (length v)) [
+    | inl l ↦ rest v (record { is = is.is; longer = l }) tt
+    | inr l ↦ none v (record { is = is.is; long = omega (arith, is.longer) }) tt
+  ]
+  answer_longer n (Some m) none rest = record {
+    is = record { is = rest.is.is; longer = omega (arith, rest.is.longer) };
+    after = tt;
+    least = λ v is h b. elim (cases_lt (suc n) (length v)) [
+      | inl l ↦ rest.least v (record { is = is.is; longer = l }) tt b
+      | inr l ↦ none v (record { is = is.is; long = omega (arith, is.longer) }) tt
+    ];
+  }
+
+  -- one of the next length
+  pub answer_found : (n : ℕ) (m : List Edge) → IsNext (OfLength (suc n) listed) None m → IsNext (LongerThan n listed) None m
+  answer_found n m f = record {
+    is = record { is = f.is.is; longer = omega (arith, f.is.long) };
+    after = tt;
+    least = λ v is h b. elim (cases_lt (suc n) (length v)) [
+      | inl l ↦ elim b [ inl less ↦ absurd (omega (arith, f.is.long)) | inr both ↦ absurd (omega (arith, f.is.long, both.0)) ]
+      | inr l ↦ f.least v (record { is = is.is; long = omega (arith, is.longer) }) tt b
+    ];
+  }
+
+  -- all that are sought have an edge
+  pub answer_first : (answer : Option (List Edge)) → ((v : List Edge) → listed v → 0 < length v) → IsAnswer (LongerThan 0 listed) None answer → IsAnswer listed None answer
+  answer_first None some f = λ v is h. f v (record { is = is; longer = some v is }) tt
+  answer_first (Some m) some f = record {
+    is = f.is.is;
+    after = tt;
+    least = λ v is h b. f.least v (record { is = is; longer = some v is }) tt b;
+  }
+
+  -- one as long as the last
+  pub answer_behind : (last m : List Edge) → IsNext (OfLength (length last) listed) (Some last) m → IsNext listed (Some last) m
+  answer_behind last m f = record {
+    is = f.is.is;
+    after = f.after;
+    least = λ v is h b. elim h [
+      | inl less ↦ elim b [ inl l ↦ absurd (omega (arith, f.is.long)) | inr both ↦ absurd (omega (arith, f.is.long, both.0)) ]
+      | inr both ↦ f.least v (record { is = is; long = sym both.0 }) (inr both) b
+    ];
+  }
+
+  -- none as long as the last: the next is longer
+  pub answer_none_behind : (last : List Edge) (answer : Option (List Edge)) → IsAnswer (OfLength (length last) listed) (Some last) None
+      → IsAnswer (LongerThan (length last) listed) None answer → IsAnswer listed (Some last) answer
+  answer_none_behind last None none rest = λ v is h. elim h [
+    | inl less ↦ rest v (record { is = is; longer = less }) tt
+    | inr both ↦ none v (record { is = is; long = sym both.0 }) (inr both)
+  ]
+  answer_none_behind last (Some m) none rest = record {
+    is = rest.is.is;
+    after = inl rest.is.longer;
+    least = λ v is h b. elim h [
+      | inl less ↦ rest.least v (record { is = is; longer = less }) tt b
+      | inr both ↦ none v (record { is = is; long = sym both.0 }) (inr both)
+    ];
+  }

@@ -1,0 +1,114 @@
+-- The numbers that fall as a walk goes on.
+use Rattle.std.proofs.Common.{◌≡◌, ◌<◌, ◌≤◌, inl, inr, ℕ, zero, suc, ◌+◌, ◌-◌, ◌*◌, Option, Some, None, List, [], ◌∷◌, ◌++◌, length, refl, ◌∙◌, ap, arith, length-append}
+use Rattle.std.proofs.Math.Nat.{mul-le-mul_left}
+use Rattle.relax_edges.specs.declared.order.TheConstants.{EDGES}
+use Rattle.relax_edges.specs.declared.edge.Edge.{Edge}
+use Rattle.relax_edges.specs.Order.{rank_of}
+use Rattle.relax_edges.proofs.Ranks.{rank_below}
+use Rattle.walk_laws.specs.Order.{Above}
+use Rattle.listing_laws.specs.Listing.{ComesAfter}
+use Rattle.listing_laws.specs.Search.{IsRaised, over, replaced, IsExtended}
+use Rattle.listing_laws.specs.Counting.{lists_within, lists_behind, later}
+use Rattle.listing_laws.proofs.Searching.{above_replaced}
+
+-- the equations of the numbers
+within-suc : (d : ℕ) → lists_within (suc d) ≡ (lists_within d + 1) * EDGES
+unfolding lists_within
+within-suc d = refl
+
+behind-nil : (d : ℕ) → lists_behind d [] ≡ lists_within d
+unfolding lists_within lists_behind
+behind-nil zero = refl
+behind-nil (suc d) = refl
+
+behind-edge : (d : ℕ) (x : Edge) (u : List Edge) → lists_behind (suc d) (x ∷ u) ≡ (lists_within d + 1) * (EDGES - (rank_of x + 1)) + lists_behind d u
+unfolding lists_behind
+behind-edge d x u = refl
+
+behind-zero : (u : List Edge) → lists_behind 0 u ≡ 0
+unfolding lists_behind
+behind-zero u = refl
+
+later-none : (size : ℕ) → later size None ≡ (lists_within size + 1) * (size + 1)
+unfolding later
+later-none size = refl
+
+later-some : (size : ℕ) (u : List Edge) → later size (Some u) ≡ (lists_within size + 1) * (size - length u) + lists_behind size u
+unfolding later
+later-some size u = refl
+
+-- a product grows with its factor, by the other one at least
+one_more : (l p q : ℕ) → p < q → (l + 1) * p + (l + 1) ≤ (l + 1) * q
+one_more l p q h = let m : (l + 1) * (p + 1) ≤ (l + 1) * q = mul-le-mul_left {m = p + 1} {n = q} (l + 1) (omega arith) in omega arith
+
+edges_left : (x : Edge) → EDGES - (rank_of x + 1) < EDGES
+edges_left x = omega (arith, rank_below x)
+
+-- no more lists come behind a list than there are
+pub behind_few : (d : ℕ) (u : List Edge) → lists_behind d u ≤ lists_within d
+behind_few zero u = rw (behind-zero u) (omega arith)
+behind_few (suc d) [] = rw (behind-nil (suc d)) (omega arith)
+behind_few (suc d) (x ∷ u) =
+    rw (behind-edge d x u, within-suc d)
+    (omega (arith, behind_few d u, one_more (lists_within d) (EDGES - (rank_of x + 1)) EDGES (edges_left x)))
+
+-- fewer lists come behind a list that is above
+pub above_fewer : (d : ℕ) (u v : List Edge) → length u ≤ d → length v ≤ d → Above u v → lists_behind d v < lists_behind d u
+above_fewer d [] v a b h = absurd h
+above_fewer d (x ∷ u) [] a b h = absurd h
+above_fewer zero (x ∷ u) (y ∷ v) a b h = absurd (omega arith)
+above_fewer (suc d) (x ∷ u) (y ∷ v) a b h =
+    rw (behind-edge d x u, behind-edge d y v)
+    (elim h [
+      | inl less ↦
+          omega (arith, behind_few d v, one_more (lists_within d) (EDGES - (rank_of y + 1)) (EDGES - (rank_of x + 1)) (omega (arith, rank_below y)))
+      | inr both ↦
+          let e : (lists_within d + 1) * (EDGES - (rank_of x + 1)) ≡ (lists_within d + 1) * (EDGES - (rank_of y + 1)) =
+          ap (λ z. (lists_within d + 1) * (EDGES - (rank_of z + 1))) both.0 in
+          omega (arith, e, above_fewer d u v (omega arith) (omega arith) both.1)
+    ])
+
+-- fewer lists come behind a list with the first of all edges behind it
+pub extended_fewer : (d : ℕ) (u : List Edge) (e : Edge) → length u < d → rank_of e ≡ 0 → lists_behind d (u ++ e ∷ []) < lists_behind d u
+extended_fewer zero u e l z = absurd (omega arith)
+extended_fewer (suc d) [] e l z =
+    rw (behind-edge d e [], behind-nil d, behind-nil (suc d), within-suc d)
+    (omega (arith, one_more (lists_within d) (EDGES - (rank_of e + 1)) EDGES (edges_left e)))
+extended_fewer (suc d) (x ∷ u) e l z =
+    rw (behind-edge d x (u ++ e ∷ []), behind-edge d x u) (omega (arith, extended_fewer d u e (omega arith) z))
+
+-- what is left of a search that stands at a list: nothing where it is over
+abbrev pub to_go : ℕ → List Edge → ℕ
+to_go n [] = 0
+to_go n (x ∷ u) = suc (lists_behind n (x ∷ u))
+
+to_go_some : (n : ℕ) (u : List Edge) → 0 < length u → to_go n u ≡ suc (lists_behind n u)
+to_go_some n [] h = absurd (omega arith)
+to_go_some n (x ∷ u) h = refl
+
+pub extended_falls : (n : ℕ) (u v : List Edge) → 0 < length u → length u < n → IsExtended u v → to_go n v < to_go n u
+extended_falls n u v some l x =
+    rw x.is
+    (omega (arith, to_go_some n u some, to_go_some n (u ++ x.edge ∷ []) (omega (arith, length-append u (x.edge ∷ []))), extended_fewer n u x.edge l x.first))
+
+pub raised_falls : (n : ℕ) (u v : List Edge) → 0 < length u → length u ≤ n → IsRaised u v → to_go n v < to_go n u
+raised_falls n u v some l (over t e) = rw (e, to_go_some n u some) (omega arith)
+raised_falls n u v some l (replaced front x y back a b next t) =
+    let long : length u ≡ length front + suc (length back) = ap length a ∙ length-append front (x ∷ back) in
+    let short : length v ≡ length front + 1 = ap length b ∙ length-append front (y ∷ []) in
+    omega (arith, to_go_some n u some, to_go_some n v (omega arith), above_fewer n u v (omega arith) (omega arith) (rw (a, b) (above_replaced front x y back next)))
+
+-- the number that callers see falls
+pub later_falls : (size : ℕ) (last : Option (List Edge)) (v : List Edge) → ComesAfter last v → length v ≤ size → later size (Some v) < later size last
+later_falls size None v h l =
+    rw (later-none size, later-some size v)
+    (omega (arith, behind_few size v, one_more (lists_within size) (size - length v) (size + 1) (omega arith)))
+later_falls size (Some u) v h l =
+    rw (later-some size u, later-some size v)
+    (elim h [
+      | inl less ↦ omega (arith, behind_few size v, one_more (lists_within size) (size - length v) (size - length u) (omega arith))
+      | inr both ↦
+          let e : (lists_within size + 1) * (size - length u) ≡ (lists_within size + 1) * (size - length v) =
+          ap (λ k. (lists_within size + 1) * (size - k)) both.0 in
+          omega (arith, e, above_fewer size u v (omega (arith, both.0)) l both.1)
+    ])

@@ -1,0 +1,9 @@
+pub mod Cuts
+pub mod Answering
+pub mod Counts
+pub mod Listings
+pub mod Nowhere
+pub mod Raising
+pub mod Relaxing
+pub mod Searching
+pub mod Stepping

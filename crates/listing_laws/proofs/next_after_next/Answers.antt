@@ -1,0 +1,5 @@
+use Rattle.listing_laws.proofs.Listings as listings
+use Rattle.listing_laws.proofs.next_after_next.Goals as goal
+
+pub returns : goal.returns
+returns c = listings.next_after_next

@@ -1,0 +1,22 @@
+-- How many lists of edges come behind one: numbers that fall as a walk goes on.
+-- Source: own.
+use Rattle.std.specs.Prelude.{ℕ, zero, suc, ◌+◌, ◌-◌, ◌*◌, Option, Some, None, List, [], ◌∷◌, length}
+use Rattle.relax_edges.specs.declared.order.TheConstants.{EDGES}
+use Rattle.relax_edges.specs.declared.edge.Edge.{Edge}
+use Rattle.relax_edges.specs.Order.{rank_of}
+
+-- the number of lists of at most d edges that have an edge
+unfoldable pub lists_within : ℕ → ℕ
+lists_within zero = 0
+lists_within (suc d) = (lists_within d + 1) * EDGES
+
+-- the number of lists of at most d edges that come behind a list: those that begin with it, and those above it
+unfoldable pub lists_behind : ℕ → List Edge → ℕ
+lists_behind zero u = 0
+lists_behind (suc d) [] = lists_within (suc d)
+lists_behind (suc d) (x ∷ u) = (lists_within d + 1) * (EDGES - (rank_of x + 1)) + lists_behind d u
+
+-- a number that falls with each list of at most `size` edges that comes after the last one
+unfoldable pub later : ℕ → Option (List Edge) → ℕ
+later size None = (lists_within size + 1) * (size + 1)
+later size (Some u) = (lists_within size + 1) * (size - length u) + lists_behind size u
