@@ -4,13 +4,17 @@ use diy_tools::run;
 use std::test::Fail;
 
 /// Words of diyone7, and the test that they print.
-pub const TESTS: [(&str, &str); 24] = [
+pub const TESTS: [(&str, &str); 25] = [
     (
         "diyone7 -arch X86 -name SB PodWR Fre PodWR Fre",
         "X86 SB\n\"PodWR Fre PodWR Fre\"\n{\n}\n P0          | P1          ;\n MOV [x],$1  | MOV [y],$1  ;\n MOV EAX,[y] | MOV EAX,[x] ;\nexists (0:EAX=0 /\\ 1:EAX=0)\n",
     ),
     (
         "diyone7 -arch X86 -name SB Fre PodWR Fre PodWR",
+        "X86 SB\n\"PodWR Fre PodWR Fre\"\n{\n}\n P0          | P1          ;\n MOV [x],$1  | MOV [y],$1  ;\n MOV EAX,[y] | MOV EAX,[x] ;\nexists (0:EAX=0 /\\ 1:EAX=0)\n",
+    ),
+    (
+        "diyone7 -arch X86 Fre PodWR Fre PodWR",
         "X86 SB\n\"PodWR Fre PodWR Fre\"\n{\n}\n P0          | P1          ;\n MOV [x],$1  | MOV [y],$1  ;\n MOV EAX,[y] | MOV EAX,[x] ;\nexists (0:EAX=0 /\\ 1:EAX=0)\n",
     ),
     (
@@ -104,7 +108,7 @@ pub const TESTS: [(&str, &str); 24] = [
 ];
 
 /// Words that are refused or make no request, with the exit status and the line on `err`.
-const REFUSED: [(&str, u8, &str); 22] = [
+const REFUSED: [(&str, u8, &str); 25] = [
     (
         "diyone7 -arch X86 -name W3O -obs avoid PodWW Wse Wse PodWR Fre",
         1,
@@ -176,17 +180,32 @@ const REFUSED: [(&str, u8, &str); 22] = [
     ),
     ("diyone7 PodWR Fre PodWR Fre", 2, "diy: usage MissingArch\n"),
     (
-        "diyone7 -arch X86 PodWR Fre PodWR Fre",
-        2,
-        "diy: usage NotBuilt\n",
-    ),
-    (
         "diyone7 -arch RISCV -name Q PodWW Rfe PodRR PodRR PodRR PodRR PodRR PodRR PodRR PodRR PodRR PodRR PodRR PodRR PodRR Fre",
         1,
         "diy: refused TooManyRegisters 1\n",
     ),
     ("diyone7 -obs all -arch X86", 2, "diy: usage BadMode: all\n"),
-    ("norm7 -arch X86", 2, "diy: usage NotBuilt: norm7\n"),
+    ("norm7 -arch X86", 2, "diy: usage NotBuilt\n"),
+    (
+        "norm7 -arch X86 -from SB+po+mfence",
+        2,
+        "diy: usage UnknownName: SB+po+mfence\n",
+    ),
+    (
+        "norm7 -from SB PodWR Fre -arch X86 PodWR",
+        2,
+        "diy: usage StrayWord: PodWR\n",
+    ),
+    (
+        "norm7 -arch X86 PodWR Rfe",
+        1,
+        "diy: refused DoesNotCompose 0\n",
+    ),
+    (
+        "norm7 -name SB -arch X86",
+        2,
+        "diy: usage UnknownOption: -name\n",
+    ),
 ];
 
 #[test]

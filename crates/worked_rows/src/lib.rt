@@ -4,6 +4,8 @@
 #[cfg(test)]
 mod diyone;
 #[cfg(test)]
+mod norm;
+#[cfg(test)]
 mod ran;
 #[cfg(test)]
 mod reading;
