@@ -7,3 +7,4 @@ pub mod SumLaws
 pub mod TestLaws
 pub mod ReadingLaws
 pub mod PrintLaws
+pub mod ReturnLaws

@@ -1,15 +1,14 @@
 -- The printed sum, piece by piece.
-use Rattle.std.proofs.Common.{◌≡◌, ℕ, suc, ◌-◌, ◌≤◌, List, [], ◌∷◌, ◌++◌, length, take, refl, sym, ap, ◌∙◌, arith, min}
+use Rattle.std.proofs.Common.{◌≡◌, ℕ, suc, ◌-◌, List, [], ◌∷◌, ◌++◌, length, take, refl, sym, ap, ◌∙◌, arith, min}
 use Rattle.std.specs.Prelude.{map, replicate, codes, Result, Ok, OnOk, OnErr}
 use Rattle.std.specs.Fmt.{decimal}
 use Rattle.std.proofs.Common.{subst, append_assoc, append-nil}
 use Rattle.std.specs.List.{flat_map}
 use Rattle.std.proofs.lemmas.List.Concat.{flat_map-append}
-use Rattle.diy_io.specs.SinkLaws.{grew_both, prefix_after, within_more, grew_nothing}
+use Rattle.diy_io.specs.SinkLaws.{grew_both, prefix_after, within_more}
 use Rattle.diy_io.specs.Sink.{Told, told_kept, Grew, GrewByPrefix}
 use Rattle.log_sum.specs.declared.kinds.Kind.TheVariants.{Allowed}
 use Rattle.log_sum.specs.Summed.{Summed, summed, or_else, is_validated}
-use Rattle.log_sum.specs.declared.errors.LogError.{LogError}
 use Rattle.log_sum.specs.Standing.{Kept, StandsFor, kept_text}
 use Rattle.log_sum.specs.Reading.{Seen}
 use Rattle.log_sum.specs.Facts.{facts_of, tests_of}

@@ -1,6 +1,6 @@
 -- A log may come in any pieces.
-use Rattle.std.proofs.Common.{◌≡◌, ◌==◌, ℕ, List, [], ◌∷◌, ◌++◌, Some, None, true, false, length, refl, sym, ap, ◌∙◌, append_assoc, append-nil, arith}
-use Rattle.std.specs.Prelude.{Bool, not, cond, Option, map, Result, Ok, Err, filter, fold}
+use Rattle.std.proofs.Common.{◌≡◌, ◌==◌, ℕ, List, [], ◌∷◌, ◌++◌, true, false, refl, sym, ap, ◌∙◌, append-nil}
+use Rattle.std.specs.Prelude.{Bool, not, cond, map, Result, Ok, Err, filter, fold}
 use Rattle.std.specs.List.{slice_split, onto_first, list_any, list_all}
 use Rattle.std.specs.Str.{bytes_eq}
 use Rattle.std.proofs.lemmas.List.Elements.{filter-append}
@@ -10,7 +10,7 @@ use Rattle.log_sum.specs.declared.errors.LogError.{LogError}
 use Rattle.log_sum.specs.Facts.{Fact, Entry, facts_of, tests_of, with_name}
 use Rattle.log_sum.specs.Summed.{Summed, summed}
 use Rattle.log_sum.specs.Standing.{table_of}
-use Rattle.log_sum.specs.Reading.{Seen, ◌>>=◌, lines_judged, line_judged, lines_of, rest_of, but_last, last_of, bytes_judged, rest_judged, file_judged, files_judged, last_judged, end_judged, input_judged, nothing_seen}
+use Rattle.log_sum.specs.Reading.{Seen, ◌>>=◌, lines_judged, line_judged, lines_of, rest_of, but_last, last_of, bytes_judged, rest_judged, file_judged, files_judged, input_judged, nothing_seen}
 use Rattle.log_sum.proofs.RunLaws.{by_test}
 
 abbrev is_feed : ℕ → Bool

@@ -1,5 +1,5 @@
 -- Sets of texts, as the code keeps them.
-use Rattle.std.proofs.Common.{◌≡◌, ◌==◌, ℕ, zero, suc, ◌+◌, ◌<◌, ◌≤◌, List, [], ◌∷◌, ◌++◌, Some, None, true, false, length, take, refl, sym, ap, ◌∙◌, arith, append_assoc, append-nil, length-append}
+use Rattle.std.proofs.Common.{◌≡◌, ◌==◌, ℕ, ◌<◌, List, [], ◌∷◌, ◌++◌, Some, None, true, false, length, refl, sym, ap, ◌∙◌, arith, append_assoc, append-nil}
 use Rattle.std.specs.Prelude.{Bool, ◌||◌, cond, Option, map, Result, Ok, Err}
 use Rattle.std.specs.List.{slice_split, list_any, onto_first}
 use Rattle.std.specs.Ordering.{nat_cmp, match_ordering}

@@ -1,6 +1,6 @@
 -- States as the code keeps them.
-use Rattle.std.proofs.Common.{◌≡◌, ℕ, ◌+◌, ◌-◌, ◌<◌, ◌≤◌, List, [], ◌∷◌, Some, None, true, false, refl, sym, ap, ◌∙◌, arith, min}
-use Rattle.std.specs.Prelude.{Bool, cond, Option, map, Result, Ok, Err, option_map, nat_lt}
+use Rattle.std.proofs.Common.{◌≡◌, ℕ, ◌+◌, ◌-◌, ◌<◌, ◌≤◌, List, [], ◌∷◌, Some, None, true, false, refl, sym, ap, ◌∙◌, arith}
+use Rattle.std.specs.Prelude.{Option, map, Ok, Err, option_map, nat_lt}
 use Rattle.std.specs.Ordering.{nat_cmp, match_ordering, is_eq}
 use Rattle.std.specs.declared.cmp.Ordering.{Ordering}
 use Rattle.std.specs.declared.cmp.Ordering.TheVariants.{Less, Equal, Greater}
@@ -10,15 +10,14 @@ use Rattle.std.specs.Map.{lookup}
 use Rattle.std.specs.declared.vec.Vec.{Vec}
 use Rattle.std.specs.declared.alloc.Global.{Global}
 use Rattle.std.proofs.lemmas.Bool.Decides.{nat_tests}
-use Rattle.log_sum.specs.declared.errors.LogKind.{LogKind}
 use Rattle.log_sum.specs.declared.errors.LogKind.TheVariants.{MarkDiffers, SumTooLarge}
 use Rattle.log_sum.specs.declared.kinds.Mark.{Mark}
 use Rattle.log_sum.specs.declared.test_sum.StateSum.{StateSum}
 use Rattle.log_sum.specs.Classes.{state_view}
 use Rattle.log_sum.specs.Counts.{last_count}
 use Rattle.log_sum.specs.Facts.{Row, a_row, is_other, same_mark}
-use Rattle.log_sum.specs.Summed.{Summed, StateSummed}
-use Rattle.log_sum.specs.Steps.{known_state, count_known, marked, with_marked, with_row, fact_to}
+use Rattle.log_sum.specs.Summed.{Summed}
+use Rattle.log_sum.specs.Steps.{known_state, marked, with_row, fact_to}
 use Rattle.log_sum.proofs.RunLaws.{by_test}
 
 -- what is found, as the definitions see it

@@ -1,12 +1,12 @@
 -- Cuts, words and ends of texts.
 use Rattle.std.proofs.Common.{◌≡◌, ◌==◌, ℕ, zero, suc, ◌+◌, ◌-◌, ◌<◌, ◌≤◌, List, [], ◌∷◌, ◌++◌, Some, None, true, false, length, get_or, take, drop, refl, sym, ap, ◌∙◌, arith, length-drop, append_assoc, append-nil}
-use Rattle.std.specs.Prelude.{Bool, not, ◌&&◌, Option, cond, Option}
-use Rattle.std.specs.List.{slice_split, filter, onto_first}
+use Rattle.std.specs.Prelude.{Bool, not, Option, Option}
+use Rattle.std.specs.List.{slice_split, filter}
 use Rattle.std.proofs.Math.Seq.{take-length}
 use Rattle.std.proofs.lemmas.Bool.{eqb-true}
 use Rattle.memchr.specs.Find.{IsFirstByte, is_byte}
 use Rattle.log_sum.specs.Texts.{is_blank, is_inked, is_nil, run_of, after_run, before_blanks, kept_before, words, unblanked, later_words, joined_words}
-use Rattle.log_sum.specs.States.{cut_at, before_cut}
+use Rattle.log_sum.specs.States.{cut_at}
 use Rattle.log_sum.proofs.RunLaws.{by_test}
 
 -- a cut at the first place of a byte

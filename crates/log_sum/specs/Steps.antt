@@ -1,6 +1,6 @@
 -- A test with a fact more, by what is kept of it.
 -- Source: own.
-use Rattle.std.specs.Prelude.{ℕ, ◌+◌, min, nat_lt, Bool, true, false, ◌&&◌, ◌||◌, cond, List, [], ◌∷◌, Option, Some, None, Result, Ok, Err, option_map}
+use Rattle.std.specs.Prelude.{ℕ, ◌+◌, min, nat_lt, true, false, ◌&&◌, ◌||◌, cond, List, [], Option, Some, None, Result, Ok, Err, option_map}
 use Rattle.std.specs.Ordering.{nat_cmp}
 use Rattle.std.specs.Cmp.Lexicographic.{slice_cmp}
 use Rattle.std.specs.BTreeMap.{insert_entry, is_at}
@@ -14,7 +14,7 @@ use Rattle.log_sum.specs.declared.kinds.Mark.TheVariants.{Starred, Plain}
 use Rattle.log_sum.specs.declared.kinds.Verdict.{Verdict}
 use Rattle.log_sum.specs.Counts.{last_count}
 use Rattle.log_sum.specs.Facts.{Row, Fact, a_kind, a_row, a_condition, a_hash, same_kind, same_mark, says_validated, is_other}
-use Rattle.log_sum.specs.Summed.{Summed, StateSummed, or_else}
+use Rattle.log_sum.specs.Summed.{Summed, StateSummed}
 
 -- what was told first, or else this
 abbrev pub or_this : {A : Type 0} → Option A → A → Option A

@@ -1,9 +1,9 @@
 -- What a test is by all its facts.
 -- Source: own; the sum of logs is that of msum7.
-use Rattle.std.specs.Prelude.{ℕ, Bool, cond, List, [], map, Option, Some, None}
+use Rattle.std.specs.Prelude.{ℕ, Bool, List, map, Option, Some, None}
 use Rattle.std.specs.List.{list_any, list_all}
 use Rattle.log_sum.specs.declared.kinds.Kind.{Kind}
-use Rattle.log_sum.specs.declared.kinds.Kind.TheVariants.{Allowed, Forbidden, Required}
+use Rattle.log_sum.specs.declared.kinds.Kind.TheVariants.{Forbidden, Required}
 use Rattle.log_sum.specs.declared.kinds.Mark.{Mark}
 use Rattle.log_sum.specs.declared.kinds.Mark.TheVariants.{Starred, Plain}
 use Rattle.std.specs.Option.{option_map}

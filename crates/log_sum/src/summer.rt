@@ -1,6 +1,8 @@
 ghost use Rattle.std.specs.Prelude.{◌≡◌, ◌≤◌, [], IfOk, OnOk, OnErr};
 ghost use Rattle.diy_io.specs.Count.{Rose};
 ghost use Rattle.diy_io.specs.Sink.{Grew, GrewByPrefix};
+ghost use Rattle.log_sum.specs.Lines.{states_left, kind_at, after_state, left_at};
+ghost use Rattle.log_sum.specs.Reading.{without_return};
 ghost use Rattle.log_sum.specs.Standing.{Kept, StandsFor, GivenAgain, kept_text};
 
 use crate::errors::{Fault, LogError, LogKind, SumError};
@@ -54,14 +56,19 @@ impl Model for Summer {
 }
 
 /// A line without the carriage return at its end.
-fn without_return(line: &[u8]) -> &[u8] {
+#[tactic(auto, using(crate::proofs::ReturnLaws::return_off, crate::proofs::ReturnLaws::return_kept, crate::proofs::ReturnLaws::return_none))]
+fn without_return(line: &[u8]) -> &[u8]
+    ensures { result.now ≡ without_return line.now }
+{
     match line {
         [text @ .., b'\r'] => text,
         _ => line,
     }
 }
 
-fn states_left(kind: Kind, left: u64) -> Place {
+fn states_left(kind: Kind, left: u64) -> Place
+    ensures { result ≡ states_left kind left }
+{
     if left == 0 {
         Place::Judgement(kind)
     } else {
@@ -70,7 +77,9 @@ fn states_left(kind: Kind, left: u64) -> Place {
 }
 
 /// The kind of the block that a place is in.
-fn kind_at(place: Place) -> Kind {
+fn kind_at(place: Place) -> Kind
+    ensures { result ≡ kind_at place }
+{
     match place {
         Place::Outside => Kind::Allowed,
         Place::Histogram(kind) => kind,
@@ -81,7 +90,10 @@ fn kind_at(place: Place) -> Kind {
     }
 }
 
-fn after_state(place: Place) -> Place {
+#[tactic(auto, using(crate::proofs::ReturnLaws::one_state_less))]
+fn after_state(place: Place) -> Place
+    ensures { result ≡ after_state (kind_at place) (left_at place) }
+{
     match place {
         Place::States(kind, left) => states_left(kind, left.saturating_sub(1)),
         _ => Place::Judgement(kind_at(place)),
