@@ -213,10 +213,10 @@ impl<K: Fn(&[Edge]) -> bool, P: Fn(&Cycle) -> bool> Walk<K, P> {
         if !may_begin(list) {
             return false;
         }
-        if !may_stand(self.relaxes.as_slice(), list) {
+        if !self.is_kept(list) {
             return false;
         }
-        self.is_kept(list)
+        may_stand(self.relaxes.as_slice(), list)
     }
 
     /// Whether the pruner says yes on the list.

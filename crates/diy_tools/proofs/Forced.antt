@@ -145,7 +145,7 @@ named_so name h =
 cycle_named_so : (es : List Edge) → IsCycle es → IsTestName (name_of es)
 cycle_named_so es whole =
     let name = names_of_cycles es whole in
-    record { some = name.some; short = name.short; bytes = weaker cycles.is_name_byte printable.is_name_byte name_byte (name_of es) name.bytes }
+    record { some = grind (arith, nat_tests, name.some); short = grind (arith, nat_tests, name.short); bytes = weaker cycles.is_name_byte printable.is_name_byte name_byte (name_of es) name.bytes }
 
 test_named_so : (name : Option (List ℕ)) (es : List Edge) → IsCycle es → IfSome name (λ name. is_name name ≡ true) → IsTestName (test_name name es)
 test_named_so (Some name) es whole h = named_so name h

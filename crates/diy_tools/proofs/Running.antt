@@ -2,6 +2,7 @@
 use Rattle.std.proofs.Common.{◌≡◌, ◌≤◌, ℕ, Bool, true, false, not, nat_lt, nat_le, List, [], ◌∷◌, ◌++◌, length, Option, Some, None, refl, sym, ap, subst, arith, Ok, Err, inl, inr}
 use Rattle.std.specs.Prelude.{Result, OnOk, OnErr, cond, if◌then◌else◌}
 use Rattle.std.specs.List.{position_from}
+use Rattle.std.specs.Option.{option_or}
 use Rattle.std.proofs.lemmas.Bool.Decides.{nat_tests}
 use Rattle.relax_edges.specs.declared.edge.Edge.{Edge}
 use Rattle.relax_edges.specs.declared.kinds.ObsMode.{ObsMode}
@@ -18,12 +19,15 @@ use Rattle.diy_words.specs.declared.request.EdgeList.{EdgeList}
 use Rattle.diy_words.specs.declared.request.EdgeList.TheVariants.{Whole, TooLong}
 use Rattle.diy_words.specs.declared.request.Sought.{Sought}
 use Rattle.diy_words.specs.declared.request.Sought.TheVariants as sought
-use Rattle.diy_words.specs.Requests.{OfEdges, OfName}
+use Rattle.diy_words.specs.Requests.{Asked, AsksTest, AsksName, OfEdges, OfName, asked_of}
 use Rattle.diy_words.specs.Requests as words
-use Rattle.diy_words.specs.Given.{IsSought}
+use Rattle.diy_words.specs.Given.{IsSought, Gives}
+use Rattle.diy_words.specs.declared.usage.Usage.{Usage}
+use Rattle.diy_words.specs.declared.request.DiyOne.{DiyOne}
+use Rattle.diy_words.specs.declared.request.Norm.{Norm}
+use Rattle.diy_words.specs.declared.request.Request.TheVariants as requests
 use Rattle.relax_edges.specs.declared.kinds.ArchName.{ArchName}
 use Rattle.diy_words.specs.Edges.{kept}
-use Rattle.litmus_text.specs.declared.test.Test.{Test}
 use Rattle.test_maker.specs.declared.refusal.MakeRefusal.{MakeRefusal}
 use Rattle.test_maker.specs.declared.refusal.MakeRefusal.TheVariants as making
 use Rattle.test_maker.specs.Refusals.{refusal_of}
@@ -31,10 +35,10 @@ use Rattle.diy_tools.specs.declared.status.Status.{Status}
 use Rattle.diy_tools.specs.declared.status.Refusal.{Refusal}
 use Rattle.diy_tools.specs.declared.status.Refusal.TheVariants as refusals
 use Rattle.test_maker.specs.Made as made
-use Rattle.diy_tools.specs.Machines.{Machine}
-use Rattle.diy_tools.specs.Refused.{refused_list, refused_of, refused_of_arch, refused_making, making_refusal, composing_refusal}
+use Rattle.diy_tools.specs.Machines.{Machine, machine_of}
+use Rattle.diy_tools.specs.Refused.{refused_list, refused_of, refused_of_arch, refused_composing, refused_making, making_refusal, composing_refusal}
 use Rattle.diy_tools.specs.Report.{RefusesLocation}
-use Rattle.diy_tools.specs.Answers.{AnswersEdges, AnswersName, AnswersKept, AnswersSought, TakesLine, refused_kept, refused_edges, edges_kept, test_name, name_line, cycle_text, MakesCycle}
+use Rattle.diy_tools.specs.Answers.{Answers, AnswersAsked, AnswersEdges, AnswersName, AnswersKept, AnswersSought, TakesLine, refused_kept, refused_edges, edges_kept, name_kept, test_name, name_line, cycle_text, MakesCycle}
 
 by_test : {G : Type 0} (b : Bool) → (b ≡ true → G) → (b ≡ false → G) → G
 by_test true t f = t refl
@@ -143,3 +147,51 @@ pub composing_located : (error : CycleError) → RefusesLocation (composing_refu
 composing_located composing.Empty = tt
 composing_located composing.TooLong = tt
 composing_located (composing.DoesNotCompose at) = tt
+
+-- a cycle that is composed isn't refused, and is the edges
+pub composed_made : (es u : List Edge) → composed es ≡ Ok u → (refused_composing (composed es) ≡ None) × (u ≡ es)
+composed_made es u e = (ap refused_composing e, composed_is es u e)
+
+-- what is answered on an architecture is answered on the one with its name
+pub answered_on : {Sink : Type 0} (seen : Sink → SinkSeen) (arch a : ArchName) (mode : ObsMode) (list : EdgeList) (name : Option (List ℕ)) (status : Status) (old new : Sink)
+    → arch ≡ a
+    → AnswersEdges seen (refused_kept (machine_of a) mode list) (cycle_text (machine_of a) mode (test_name name (edges_kept list)) (edges_kept list)) status old new
+    → AnswersEdges seen (refused_kept (machine_of arch) mode list) (cycle_text (machine_of arch) mode (test_name name (edges_kept list)) (edges_kept list)) status old new
+answered_on seen arch a mode list name status old new same h =
+    subst (λ (n : ArchName). AnswersEdges seen (refused_kept (machine_of n) mode list) (cycle_text (machine_of n) mode (test_name name (edges_kept list)) (edges_kept list)) status old new) (sym same) h
+
+-- what is answered of a request for a test is answered of the words that make it
+test_asked : {Sink : Type 0} (seen : Sink → SinkSeen) (arch a : ArchName) (mode m : ObsMode) (name n : Option (List ℕ)) (list : EdgeList) (es : List Edge) (status : Status) (old new : Sink)
+    → arch ≡ a → name ≡ n → mode ≡ m → list ≡ kept es
+    → AnswersEdges seen (refused_kept (machine_of arch) mode list) (cycle_text (machine_of arch) mode (test_name name (edges_kept list)) (edges_kept list)) status old new
+    → AnswersEdges seen (refused_of (machine_of a).puts m es) (cycle_text (machine_of a) m (test_name n es) es) status old new
+test_asked seen arch a mode m name n list es status old new p q r k h =
+    kept_answered seen (machine_of a) m n es status old new
+    (subst (λ l. AnswersEdges seen (refused_kept (machine_of a) m l) (cycle_text (machine_of a) m (test_name n (edges_kept l)) (edges_kept l)) status old new) k
+    (subst (λ o. AnswersEdges seen (refused_kept (machine_of a) o list) (cycle_text (machine_of a) o (test_name n (edges_kept list)) (edges_kept list)) status old new) r
+    (subst (λ o. AnswersEdges seen (refused_kept (machine_of a) mode list) (cycle_text (machine_of a) mode (test_name o (edges_kept list)) (edges_kept list)) status old new) q
+    (subst (λ (o : ArchName). AnswersEdges seen (refused_kept (machine_of o) mode list) (cycle_text (machine_of o) mode (test_name name (edges_kept list)) (edges_kept list)) status old new) p h))))
+
+pub test_answered : {Sink : Type 0} (seen : Sink → SinkSeen) (words : List (List ℕ)) (request : DiyOne) (status : Status) (old new : Sink)
+    → Gives (Ok (requests.Test request)) (asked_of words)
+    → AnswersEdges seen (refused_kept (machine_of request.arch) request.mode request.edges) (cycle_text (machine_of request.arch) request.mode (test_name (name_kept request.name) (edges_kept request.edges)) (edges_kept request.edges)) status old new
+    → Answers seen words status old new
+test_answered {Sink} seen words request status old new given h = of_asked (asked_of words) given
+  where
+    of_asked : (asked : Result Asked Usage) → Gives (Ok (requests.Test request)) asked → AnswersAsked seen asked status old new
+    of_asked (Err usage) g = absurd g
+    of_asked (Ok (AsksName asked)) g = absurd g
+    of_asked (Ok (AsksTest asked)) g = test_asked seen request.arch asked.arch request.mode asked.mode (name_kept request.name) asked.name request.edges asked.edges status old new g.0 g.1 g.2 g.3 h
+
+-- and what is answered of a request for a name
+pub name_answered : {Sink : Type 0} (seen : Sink → SinkSeen) (words : List (List ℕ)) (request : Norm) (status : Status) (old new : Sink)
+    → Gives (Ok (requests.Name request)) (asked_of words)
+    → AnswersKept seen request.arch request.cycle status old new → Answers seen words status old new
+name_answered {Sink} seen words request status old new given h = of_asked (asked_of words) given
+  where
+    of_asked : (asked : Result Asked Usage) → Gives (Ok (requests.Name request)) asked → AnswersAsked seen asked status old new
+    of_asked (Err usage) g = absurd g
+    of_asked (Ok (AsksTest asked)) g = absurd g
+    of_asked (Ok (AsksName asked)) g =
+        sought_answered seen asked.arch request.cycle asked.cycle status old new g.1
+        (subst (λ a. AnswersKept seen a request.cycle status old new) g.0 h)

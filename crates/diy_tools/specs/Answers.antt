@@ -1,6 +1,6 @@
 -- What a call of `run` answers, and what it leaves on `out`.
 -- Source: own.
-use Rattle.std.specs.Prelude.{ℕ, ◌≡◌, ◌⊎◌, List, [], ◌++◌, codes, length, Option, Some, None, Result, Ok, Err}
+use Rattle.std.specs.Prelude.{ℕ, ◌≡◌, ◌⊎◌, List, [], ◌++◌, codes, Option, Some, None, Result, Ok, Err}
 use Rattle.std.specs.List.{join_by}
 use Rattle.std.specs.Option.{option_map, option_or}
 use Rattle.arrayvec.specs.ArrayString.{ArrayString}

@@ -22,7 +22,9 @@ use arch_x86::X86;
 use arrayvec::ArrayString;
 use cycle_names::{NotAName, cycle_of, name_and_rotation, name_of, push_words};
 use diy_io::{Failed, Sink, Words, write_pieces};
-use diy_words::{DiyOne, EdgeList, Norm, Request, Sought, Source, TestName, UsageKind, read_request};
+use diy_words::{
+    DiyOne, EdgeList, Norm, Request, Sought, Source, TestName, UsageKind, read_request,
+};
 use edge_algebra::{Cycle, cycle};
 use litmus_text::{Test, print_test};
 use relax_edges::{ArchName, Edge, MAX_EDGES, ObsMode};
@@ -47,7 +49,6 @@ pub fn run<O: Sink, E: Sink>(_alloc: Global, words: &Words, out: &mut O, err: &m
 }
 
 /// Answers the words, all but the line of the status.
-#[tactic(auto, using(crate::proofs::Running::kept_answered, crate::proofs::Running::sought_answered))]
 fn answer<O: Sink>(words: &Words, out: &mut O) -> Status
     ensures answers { Answers (λ sink. sink_seen (O.told sink) (O.faults sink)) words.now result out.old out.new }
     ensures location { NamesLocation result }

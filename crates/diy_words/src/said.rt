@@ -42,12 +42,7 @@ impl<'a> Said<'a> {
     }
 
     /// Takes in an option at place `at` with its value, which stands behind it.
-    pub fn take_value(
-        &mut self,
-        option: OptionName,
-        at: usize,
-        value: &'a str,
-    ) -> Result<(), Usage>
+    pub fn take_value(&mut self, option: OptionName, at: usize, value: &'a str) -> Result<(), Usage>
         requires { at + 1 < 2 ^ 64 }
         ensures { left_by result (held self.new) ≡ absorbed (held self.old) (said_by (Valued option at value.now)) }
     {

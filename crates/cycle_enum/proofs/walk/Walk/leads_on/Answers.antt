@@ -1,4 +1,4 @@
-use Rattle.std.proofs.Common.{◌≡◌, false, rules}
+use Rattle.std.proofs.Common.{◌≡◌, false, rules, IsFalse}
 use Rattle.walk_laws.specs.Beginning.{may_begin}
 use Rattle.walk_laws.specs.Composable.{is_joined}
 use Rattle.listing_laws.specs.Listing.{IsMadeOf}
@@ -16,7 +16,7 @@ returns-then-not-may_begin-clause-refused g c _ =
     let h : may_begin c.args.list.now ≡ false = cc (c.may_begin.ensures, c.if-not-may_begin.true) in
     begins_nowhere _ _ _ _ c.args.list.now h
 
-pub returns-then-not-may_stand-clause-refused : goal.returns-then-not-may_stand-clause-refused
-returns-then-not-may_stand-clause-refused g c _ =
-    let h : LeadsNowhere (IsMadeOf c.args.self.now.relaxes) c.args.list.now = search rules in
-    unmade_nowhere _ _ _ _ c.args.list.now h
+pub returns-clause-refused : goal.returns-clause-refused
+returns-clause-refused g c fails =
+    let h : IsFalse c.may_stand.result → LeadsNowhere (IsMadeOf c.args.self.now.relaxes) c.args.list.now = search rules in
+    unmade_nowhere _ _ _ _ c.args.list.now (h fails)
