@@ -1,68 +1,68 @@
 -- Executions of small programs written out: candidates and others, in which the edges of a cycle stand or don't.
-use Rattle.std.proofs.Common.{◌≡◌, ℕ, zero, suc, ◌<◌, true, false, List, [], ◌∷◌, Some, None, refl, sym, ap, subst, arith, ◌∙◌, slice_get}
-use Rattle.std.specs.List.{AllByRecursion, filter}
+use Rattle.std.proofs.Common.{◌≡◌, ℕ, zero, suc, ◌<◌, ◌≤◌, List, [], ◌∷◌, length, Some, None, refl, sym, ap, subst, arith, ◌∙◌, slice_get}
+use Rattle.relax_edges.specs.declared.kinds.Value.TheVariants.{Num}
+use Rattle.relax_edges.specs.declared.edge.Edge.{Edge}
 use Rattle.micro_ops.specs.declared.operation.Micro.TheVariants as ops
-use Rattle.cycle_resolve.specs.Resolution.{thread_of, slot_of, event_after}
-use Rattle.program_meaning.specs.declared.WriteAt.{WriteAt}
-use Rattle.program_meaning.specs.Accesses.{Access, Visit, read, write, at_name, is_read}
-use Rattle.program_meaning.specs.Executions.{Execution, IsOrderOf, AreReadsOf}
-use Rattle.program_meaning.specs.Coherence.{coherence_place}
-use Rattle.program_meaning.specs.Programs.{Program, IsCandidate, IsCoherentIn, HasEnded, accesses_in, runs_of, visits_in}
-use Rattle.program_meaning.specs.Standing.{AccessAt, AllStand, ComesBefore, access_at}
-use Rattle.communication.proofs.Examples.{store_buffering, name}
+use Rattle.micro_ops.specs.declared.operation.Item.{Item}
+use Rattle.cycle_resolve.specs.Resolution.{edge_at, thread_of, slot_of, event_after, events_in}
+use Rattle.program_meaning.specs.Accesses.{Access, Visit, read, write, at_name, barriers_behind}
+use Rattle.program_meaning.specs.Executions.{Execution}
+use Rattle.program_meaning.specs.Coherence.{final_value}
+use Rattle.program_meaning.specs.Programs.{Program, IsCandidate, IsCoherentIn, accesses_in, items_in, register_in, visits_in}
+use Rattle.program_meaning.specs.Standing.{Named, AllStand, HasEvents, IsEvent, Stands, StartsFree, Observes, event_name}
+use Rattle.communication.proofs.Examples.{store_buffering, two_writes, W3O, name}
+use Rattle.communication.proofs.Decided.{some_is, candidate_means, coheres_means}
 
-some_is : {X : Type 0} (x y : X) → Some x ≡ Some y → x ≡ y
-some_is x y e = cc e
-
--- two accesses at different places
-apart : {G : Type 0} (a b : Access) → Some a ≡ Some b → (a.place ≡ b.place → ⊥) → G
-apart a b e h = absurd (h (ap (λ (o : Access). o.place) (some_is a b e)))
-
-at_two : (p q : ℕ) {c d : Access} (a b : Access) → c ≡ a → d ≡ b → a.place ≡ b.place → (c.place ≡ d.place → ⊥) → ⊥
-at_two p q a b e f same h = h (ap (λ (o : Access). o.place) e ∙ same ∙ sym (ap (λ (o : Access). o.place) f))
-
--- a read is no write
-no_write : {G : Type 0} (a b : Access) → Some a ≡ Some b → is_read a ≡ true → is_read b ≡ false → G
-no_write a b e r w = cc (sym r ∙ ap is_read (some_is a b e) ∙ w)
-
--- a relation between the elements of two lists, place by place
-abbrev AllTwo : {X Y : Type 0} → (X → Y → Type 0) → List X → List Y → Type 0
-AllTwo P [] ys = Unit {0}
-AllTwo P (x ∷ xs) [] = Unit {0}
-AllTwo P (x ∷ xs) (y ∷ ys) = P x y × AllTwo P xs ys
-
--- coherence places of two accesses that are known
-comes_before : (threads : List (List Access)) (x : Execution) (e f : AccessAt) (n m : WriteAt) (a b : Access)
-    → e.name ≡ n → e.access ≡ a → f.name ≡ m → f.access ≡ b → ComesBefore threads x e f
-    → coherence_place threads x n a < coherence_place threads x m b
-comes_before threads x e f n m a b p q r s h =
-    subst (λ o. coherence_place threads x n a < coherence_place threads x m o) s
-    (subst (λ o. coherence_place threads x n a < coherence_place threads x o f.access) r
-    (subst (λ o. coherence_place threads x n o < coherence_place threads x f.name f.access) q
-    (subst (λ o. coherence_place threads x o e.access < coherence_place threads x f.name f.access) p h)))
-
--- what holds of each element of a list holds of the one at a place
-each_of : {X : Type 0} (P : X → Type 0) (xs : List X) → AllByRecursion P xs → (k : ℕ) (x : X) → slice_get xs k ≡ Some x → P x
-each_of P [] h k x e = cc e
-each_of P (y ∷ ys) h zero x e = subst P (some_is y x e) h.0
-each_of P (y ∷ ys) h (suc k) x e = each_of P ys h.1 k x e
-
--- a list of one write is the order of its place
-one_write : (threads : List (List Access)) (place v : ℕ) (w : WriteAt) → at_name threads w ≡ Some (write place v)
-    → ((u : WriteAt) (n : ℕ) → at_name threads u ≡ Some (write place n) → w ≡ u) → IsOrderOf threads place (w ∷ [])
-one_write threads place v w made alone = record {
-  writes = each_of (λ u. (n : ℕ) × (at_name threads u ≡ Some (write place n))) (w ∷ []) ((v, made), tt);
-  each = λ u n e. (0, ap Some (alone u n e));
-  once = only;
+-- an access without a barrier or a dependency, by the name of event i
+abbrev free : List Edge → ℕ → Access → Named
+free es i access = record {
+  name = event_name es i;
+  visit = record { barriers = []; access = access; address_mask = 0; data_mask = 0; control_mask = 0 };
 }
-  where
-    only : (j k : ℕ) (u : WriteAt) → slice_get (w ∷ []) j ≡ Some u → slice_get (w ∷ []) k ≡ Some u → j ≡ k
-    only zero zero u d e = refl
-    only (suc j) k u d e = cc d
-    only zero (suc k) u d e = cc e
 
--- store buffering, as its text is read: MOV [x],$1; MOV EAX,[y] beside MOV [y],$1; MOV EAX,[x]
-abbrev buffers : Program
+-- the edge that leaves event i doesn't stand, though both its events are there
+record Fails (es : List Edge) (p : Program) (x : Execution) (i : ℕ) : Type 0 where
+  source : Named
+  target : Named
+  leaves : IsEvent es (visits_in p x) i source
+  enters : IsEvent es (visits_in p x) (event_after es i) target
+  fails : Stands (accesses_in p x) x (edge_at es i) source target → ⊥
+
+not_all : (es : List Edge) (p : Program) (x : Execution) (i : ℕ) → i < length es → Fails es p x i → AllStand es p x → ⊥
+not_all es p x i l f all = f.fails (all.stand i f.source f.target l f.leaves f.enters)
+
+-- an event is the access that is at its name
+event_is : (es : List Edge) (visits : List (List Visit)) (i : ℕ) (e : Named) (a : Access) → at_name visits (event_name es i) ≡ Some (free es i a).visit → IsEvent es visits i e → free es i a ≡ e
+event_is es visits i e a got h =
+    let n : e.name ≡ event_name es i = h.name_is in
+    let w : e.visit ≡ (free es i a).visit = some_is e.visit (free es i a).visit (sym h.visit_is ∙ ap (at_name visits) n ∙ got) in
+    sym (λ k. record { name = n k; visit = w k })
+
+-- an edge that stands between two accesses stands between the events that they are
+stands_at : (es : List Edge) (p : Program) (x : Execution) (i j : ℕ) (e f : Named) (a b : Access)
+    → at_name (visits_in p x) (event_name es i) ≡ Some (free es i a).visit → at_name (visits_in p x) (event_name es j) ≡ Some (free es j b).visit
+    → IsEvent es (visits_in p x) i e → IsEvent es (visits_in p x) j f
+    → Stands (accesses_in p x) x (edge_at es i) (free es i a) (free es j b) → Stands (accesses_in p x) x (edge_at es i) e f
+stands_at es p x i j e f a b c d g h stands =
+    subst (λ u. Stands (accesses_in p x) x (edge_at es i) u f) (event_is es (visits_in p x) i e a c g)
+    (subst (λ u. Stands (accesses_in p x) x (edge_at es i) (free es i a) u) (event_is es (visits_in p x) j f b d h) stands)
+
+-- a register of a thread holds a number at the end
+abbrev Holds : Program → Execution → ℕ → ℕ → ℕ → Type 0
+Holds p x thread register value = register_in p x thread register ≡ Some (Num value)
+
+-- a place has a value at the end
+abbrev EndsAs : Program → Execution → ℕ → ℕ → Type 0
+EndsAs p x place value = final_value (accesses_in p x) x place ≡ value
+
+-- all registers and places end alike in two executions
+record EndAlike (p : Program) (x y : Execution) : Type 0 where
+  registers : (thread register : ℕ) → register_in p x thread register ≡ register_in p y thread register
+  places : (place : ℕ) → final_value (accesses_in p x) x place ≡ final_value (accesses_in p y) y place
+
+-- Store buffering, as its text is read: MOV [x],$1; MOV EAX,[y] beside MOV [y],$1; MOV EAX,[x]. Its condition is that
+-- both registers hold 0.
+abbrev pub buffers : Program
 buffers = record {
   places = 2;
   threads =
@@ -71,85 +71,117 @@ buffers = record {
 }
 
 -- both reads read the initial value
-abbrev both_initial : Execution
+abbrev pub both_initial : Execution
 both_initial = record { reads = ((0, None) ∷ []) ∷ ((0, None) ∷ []) ∷ []; orders = (name 0 0 ∷ []) ∷ (name 1 0 ∷ []) ∷ [] }
 
 -- the first thread reads what the second writes
-abbrev one_later : Execution
+abbrev pub one_later : Execution
 one_later = record { reads = ((1, Some (name 1 0)) ∷ []) ∷ ((0, None) ∷ []) ∷ []; orders = (name 0 0 ∷ []) ∷ (name 1 0 ∷ []) ∷ [] }
 
 -- the first thread reads 1, and that is said to be the initial value
 abbrev no_source : Execution
 no_source = record { reads = ((1, None) ∷ []) ∷ ((0, None) ∷ []) ∷ []; orders = (name 0 0 ∷ []) ∷ (name 1 0 ∷ []) ∷ [] }
 
-abbrev sb_both : List (List Access)
-sb_both = (write 0 1 ∷ read 1 0 ∷ []) ∷ (write 1 1 ∷ read 0 0 ∷ []) ∷ []
-
-abbrev sb_later : List (List Access)
-sb_later = (write 0 1 ∷ read 1 1 ∷ []) ∷ (write 1 1 ∷ read 0 0 ∷ []) ∷ []
-
-both_initial-accesses : accesses_in buffers both_initial ≡ sb_both
+both_initial-accesses : accesses_in buffers both_initial ≡ (write 0 1 ∷ read 1 0 ∷ []) ∷ (write 1 1 ∷ read 0 0 ∷ []) ∷ []
 both_initial-accesses = refl
 
-one_later-accesses : accesses_in buffers one_later ≡ sb_later
+pub both_initial-candidate : IsCandidate buffers both_initial
+both_initial-candidate = candidate_means buffers both_initial refl refl
+
+pub both_initial-coherent : IsCoherentIn buffers both_initial
+both_initial-coherent = coheres_means (accesses_in buffers both_initial) both_initial refl
+
+both_initial-condition : Holds buffers both_initial 0 0 0 × Holds buffers both_initial 1 0 0
+both_initial-condition = (refl, refl)
+
+-- all four edges stand
+both_initial-events : HasEvents store_buffering buffers both_initial
+unfolding thread_of slot_of events_in event_after
+both_initial-events = record {
+  threads = omega arith;
+  counts = counts;
+  events = events;
+  observers = observers;
+  starts = starts;
+  ends = ends;
+}
+  where
+    counts : (k : ℕ) (visits : List Visit) → k < 2 → slice_get (visits_in buffers both_initial) k ≡ Some visits → length visits ≡ length (events_in store_buffering k)
+    counts zero visits l e = ap length (sym (some_is _ visits e))
+    counts (suc zero) visits l e = ap length (sym (some_is _ visits e))
+    counts (suc (suc k)) visits l e = cc e
+
+    events : (i : ℕ) → i < 4 → (e : Named) × IsEvent store_buffering (visits_in buffers both_initial) i e
+    events zero l = (free store_buffering 0 (write 0 1), record { name_is = refl; visit_is = refl; direction = refl })
+    events (suc zero) l = (free store_buffering 1 (read 1 0), record { name_is = refl; visit_is = refl; direction = refl })
+    events (suc (suc zero)) l = (free store_buffering 2 (write 1 1), record { name_is = refl; visit_is = refl; direction = refl })
+    events (suc (suc (suc zero))) l = (free store_buffering 3 (read 0 0), record { name_is = refl; visit_is = refl; direction = refl })
+    events (suc (suc (suc (suc i)))) l = absurd (omega (arith, l))
+
+    observers : (k : ℕ) (visits : List Visit) → 2 ≤ k → slice_get (visits_in buffers both_initial) k ≡ Some visits → Observes visits
+    observers zero visits l e = absurd (omega (arith, l))
+    observers (suc zero) visits l e = absurd (omega (arith, l))
+    observers (suc (suc k)) visits l e = cc e
+
+    starts : (k : ℕ) (visits : List Visit) → slice_get (visits_in buffers both_initial) k ≡ Some visits → StartsFree visits
+    starts zero visits e = subst StartsFree (some_is _ visits e) (refl, record { address = refl; stored = refl; control = refl })
+    starts (suc zero) visits e = subst StartsFree (some_is _ visits e) (refl, record { address = refl; stored = refl; control = refl })
+    starts (suc (suc k)) visits e = cc e
+
+    ends : (k : ℕ) (made : List Item) → slice_get (items_in buffers both_initial) k ≡ Some made → barriers_behind [] made ≡ []
+    ends zero made e = subst (λ items. barriers_behind [] items ≡ []) (some_is _ made e) refl
+    ends (suc zero) made e = subst (λ items. barriers_behind [] items ≡ []) (some_is _ made e) refl
+    ends (suc (suc k)) made e = cc e
+
+both_initial-all_stand : AllStand store_buffering buffers both_initial
+unfolding thread_of slot_of events_in event_after
+both_initial-all_stand = record { events = both_initial-events; stand = stand }
+  where
+    stand : (i : ℕ) (e f : Named) → i < 4 → IsEvent store_buffering (visits_in buffers both_initial) i e → IsEvent store_buffering (visits_in buffers both_initial) (event_after store_buffering i) f →
+        Stands (accesses_in buffers both_initial) both_initial (edge_at store_buffering i) e f
+    stand zero e f l g h = stands_at store_buffering buffers both_initial 0 1 e f (write 0 1) (read 1 0) refl refl g h (record {
+      joins = record { leaves = refl; enters = refl; places = λ (q : 0 ≡ 1). omega (arith, q); communicates = tt; reaches = (refl, refl) };
+      ties = record { barriers_are = refl; address_is = refl; data_is = refl; control_is = refl };
+    })
+    stand (suc zero) e f l g h = stands_at store_buffering buffers both_initial 1 2 e f (read 1 0) (write 1 1) refl refl g h (record {
+      joins = record { leaves = refl; enters = refl; places = refl; communicates = omega arith; reaches = λ (q : 0 ≡ 1). omega (arith, q) };
+      ties = tt;
+    })
+    stand (suc (suc zero)) e f l g h = stands_at store_buffering buffers both_initial 2 3 e f (write 1 1) (read 0 0) refl refl g h (record {
+      joins = record { leaves = refl; enters = refl; places = λ (q : 1 ≡ 0). omega (arith, q); communicates = tt; reaches = (refl, refl) };
+      ties = record { barriers_are = refl; address_is = refl; data_is = refl; control_is = refl };
+    })
+    stand (suc (suc (suc zero))) e f l g h = stands_at store_buffering buffers both_initial 3 0 e f (read 0 0) (write 0 1) refl refl g h (record {
+      joins = record { leaves = refl; enters = refl; places = refl; communicates = omega arith; reaches = λ (q : 1 ≡ 0). omega (arith, q) };
+      ties = tt;
+    })
+    stand (suc (suc (suc (suc i)))) e f l g h = absurd (omega (arith, l))
+
+one_later-accesses : accesses_in buffers one_later ≡ (write 0 1 ∷ read 1 1 ∷ []) ∷ (write 1 1 ∷ read 0 0 ∷ []) ∷ []
 one_later-accesses = refl
 
--- the writes of store buffering stand at their names alone, whatever the first read reads
-sb_x : (n t a v : ℕ) → at_name ((write 0 1 ∷ read 1 n ∷ []) ∷ (write 1 1 ∷ read 0 0 ∷ []) ∷ []) (name t a) ≡ Some (write 0 v) → name 0 0 ≡ name t a
-sb_x n zero zero v e = refl
-sb_x n zero (suc zero) v e = no_write (read 1 n) (write 0 v) e refl refl
-sb_x n zero (suc (suc a)) v e = cc e
-sb_x n (suc zero) zero v e = apart (write 1 1) (write 0 v) e (λ p. omega (arith, p))
-sb_x n (suc zero) (suc zero) v e = no_write (read 0 0) (write 0 v) e refl refl
-sb_x n (suc zero) (suc (suc a)) v e = cc e
-sb_x n (suc (suc t)) a v e = cc e
+pub one_later-candidate : IsCandidate buffers one_later
+one_later-candidate = candidate_means buffers one_later refl refl
 
-sb_y : (n t a v : ℕ) → at_name ((write 0 1 ∷ read 1 n ∷ []) ∷ (write 1 1 ∷ read 0 0 ∷ []) ∷ []) (name t a) ≡ Some (write 1 v) → name 1 0 ≡ name t a
-sb_y n zero zero v e = apart (write 0 1) (write 1 v) e (λ p. omega (arith, p))
-sb_y n zero (suc zero) v e = no_write (read 1 n) (write 1 v) e refl refl
-sb_y n zero (suc (suc a)) v e = cc e
-sb_y n (suc zero) zero v e = refl
-sb_y n (suc zero) (suc zero) v e = no_write (read 0 0) (write 1 v) e refl refl
-sb_y n (suc zero) (suc (suc a)) v e = cc e
-sb_y n (suc (suc t)) a v e = cc e
+pub one_later-coherent : IsCoherentIn buffers one_later
+one_later-coherent = coheres_means (accesses_in buffers one_later) one_later refl
 
--- what holds of each element of two lists holds of those at one place
-each_of_two : {X Y : Type 0} (P : X → Y → Type 0) (xs : List X) (ys : List Y) → AllTwo P xs ys
-    → (k : ℕ) (x : X) (y : Y) → slice_get xs k ≡ Some x → slice_get ys k ≡ Some y → P x y
-each_of_two P [] ys h k x y d e = cc d
-each_of_two P (u ∷ xs) [] h k x y d e = cc e
-each_of_two P (u ∷ xs) (v ∷ ys) h zero x y d e = subst (λ w. P w y) (some_is u x d) (subst (P u) (some_is v y e) h.0)
-each_of_two P (u ∷ xs) (v ∷ ys) h (suc k) x y d e = each_of_two P xs ys h.1 k x y d e
+one_later-condition_fails : Holds buffers one_later 0 0 0 → ⊥
+one_later-condition_fails h = cc h
 
-sb_orders : (n : ℕ) → (place : ℕ) (order : List WriteAt) → slice_get ((name 0 0 ∷ []) ∷ (name 1 0 ∷ []) ∷ []) place ≡ Some order
-    → IsOrderOf ((write 0 1 ∷ read 1 n ∷ []) ∷ (write 1 1 ∷ read 0 0 ∷ []) ∷ []) place order
-sb_orders n zero order e = subst (IsOrderOf ((write 0 1 ∷ read 1 n ∷ []) ∷ (write 1 1 ∷ read 0 0 ∷ []) ∷ []) 0) (some_is _ order e) (one_write ((write 0 1 ∷ read 1 n ∷ []) ∷ (write 1 1 ∷ read 0 0 ∷ []) ∷ []) 0 1 (name 0 0) refl (λ u v. sb_x n u.thread u.access v))
-sb_orders n (suc zero) order e = subst (IsOrderOf ((write 0 1 ∷ read 1 n ∷ []) ∷ (write 1 1 ∷ read 0 0 ∷ []) ∷ []) 1) (some_is _ order e) (one_write ((write 0 1 ∷ read 1 n ∷ []) ∷ (write 1 1 ∷ read 0 0 ∷ []) ∷ []) 1 1 (name 1 0) refl (λ u v. sb_y n u.thread u.access v))
-sb_orders n (suc (suc place)) order e = cc e
-
-both_initial-candidate : IsCandidate buffers both_initial
-both_initial-candidate = record {
-  ended = each_of HasEnded (runs_of buffers.threads both_initial.reads) (tt, (tt, tt));
-  execution = record {
-    read_lists = refl;
-    write_lists = refl;
-    reads = each_of_two (λ accesses reads. AreReadsOf sb_both (filter is_read accesses) reads) sb_both both_initial.reads
-        ((refl, refl, tt), ((refl, refl, tt), tt));
-    orders = sb_orders 0;
-  };
+-- where the first thread reads what the second writes, it doesn't read from before it
+one_later-edge_fails : Fails store_buffering buffers one_later 1
+unfolding thread_of slot_of event_after
+one_later-edge_fails = record {
+  source = free store_buffering 1 (read 1 1);
+  target = free store_buffering 2 (write 1 1);
+  leaves = record { name_is = refl; visit_is = refl; direction = refl };
+  enters = record { name_is = refl; visit_is = refl; direction = refl };
+  fails = λ stands. let before : 1 < 1 = stands.joins.communicates in omega (arith, before);
 }
 
-one_later-candidate : IsCandidate buffers one_later
-one_later-candidate = record {
-  ended = each_of HasEnded (runs_of buffers.threads one_later.reads) (tt, (tt, tt));
-  execution = record {
-    read_lists = refl;
-    write_lists = refl;
-    reads = each_of_two (λ accesses reads. AreReadsOf sb_later (filter is_read accesses) reads) sb_later one_later.reads
-        ((refl, refl, tt), ((refl, refl, tt), tt));
-    orders = sb_orders 1;
-  };
-}
+one_later-not_all : AllStand store_buffering buffers one_later → ⊥
+one_later-not_all = not_all store_buffering buffers one_later 1 (omega arith) one_later-edge_fails
 
 -- a read of 1 doesn't read the initial value
 no_source-refused : IsCandidate buffers no_source → ⊥
@@ -158,43 +190,87 @@ no_source-refused h = zero_is_one refl (h.execution.reads 0 (write 0 1 ∷ read 
     zero_is_one : {n : ℕ} → n ≡ 1 → n ≡ 0 → ⊥
     zero_is_one d e = omega (arith, d, e)
 
--- no thread of store buffering has two accesses at one place
-sb_coheres : (n t e f : ℕ) (a b : Access) → e < f → at_name ((write 0 1 ∷ read 1 n ∷ []) ∷ (write 1 1 ∷ read 0 0 ∷ []) ∷ []) (name t e) ≡ Some a → at_name ((write 0 1 ∷ read 1 n ∷ []) ∷ (write 1 1 ∷ read 0 0 ∷ []) ∷ []) (name t f) ≡ Some b → a.place ≡ b.place → ⊥
-sb_coheres n zero zero (suc zero) a b below d e same = at_two 0 1 a b (some_is _ a d) (some_is _ b e) same (λ p. omega (arith, p))
-sb_coheres n zero zero zero a b below d e same = omega (arith, below)
-sb_coheres n zero zero (suc (suc f)) a b below d e same = cc e
-sb_coheres n zero (suc zero) zero a b below d e same = omega (arith, below)
-sb_coheres n zero (suc zero) (suc zero) a b below d e same = omega (arith, below)
-sb_coheres n zero (suc zero) (suc (suc f)) a b below d e same = cc e
-sb_coheres n zero (suc (suc k)) f a b below d e same = cc d
-sb_coheres n (suc zero) zero (suc zero) a b below d e same = at_two 1 0 a b (some_is _ a d) (some_is _ b e) same (λ p. omega (arith, p))
-sb_coheres n (suc zero) zero zero a b below d e same = omega (arith, below)
-sb_coheres n (suc zero) zero (suc (suc f)) a b below d e same = cc e
-sb_coheres n (suc zero) (suc zero) zero a b below d e same = omega (arith, below)
-sb_coheres n (suc zero) (suc zero) (suc zero) a b below d e same = omega (arith, below)
-sb_coheres n (suc zero) (suc zero) (suc (suc f)) a b below d e same = cc e
-sb_coheres n (suc zero) (suc (suc k)) f a b below d e same = cc d
-sb_coheres n (suc (suc t)) k f a b below d e same = cc d
+-- Two writes of each of two places: MOV [x],$2; MOV [y],$1 beside MOV [y],$2; MOV [x],$1. Its condition is that both end as 2.
+abbrev pub double_writes : Program
+double_writes = record {
+  places = 2;
+  threads =
+      record { init = []; code = ops.StoreAt 0 2 ∷ ops.StoreAt 1 1 ∷ [] } ∷
+      record { init = []; code = ops.StoreAt 1 2 ∷ ops.StoreAt 0 1 ∷ [] } ∷ [];
+}
 
-both_initial-coherent : IsCoherentIn buffers both_initial
-both_initial-coherent thread e f a b below d g same = absurd (sb_coheres 0 thread e f a b below d g same)
+-- the writes of y come in the order of the second thread and then the first
+abbrev pub y_exchanged : Execution
+y_exchanged = record { reads = [] ∷ [] ∷ []; orders = (name 1 1 ∷ name 0 0 ∷ []) ∷ (name 1 0 ∷ name 0 1 ∷ []) ∷ [] }
 
-one_later-coherent : IsCoherentIn buffers one_later
-one_later-coherent thread e f a b below d g same = absurd (sb_coheres 1 thread e f a b below d g same)
+pub y_exchanged-candidate : IsCandidate double_writes y_exchanged
+y_exchanged-candidate = candidate_means double_writes y_exchanged refl refl
 
--- where the first thread reads what the second writes, it doesn't read from before it
-one_later-edge_fails : AllStand store_buffering buffers one_later → ⊥
+pub y_exchanged-coherent : IsCoherentIn double_writes y_exchanged
+y_exchanged-coherent = coheres_means (accesses_in double_writes y_exchanged) y_exchanged refl
+
+-- it meets the term of x, and not that of y
+y_exchanged-term_of_x : EndsAs double_writes y_exchanged 0 2
+y_exchanged-term_of_x = refl
+
+y_exchanged-term_of_y_fails : EndsAs double_writes y_exchanged 1 2 → ⊥
+y_exchanged-term_of_y_fails h = omega (arith, h)
+
+y_exchanged-edge_fails : Fails two_writes double_writes y_exchanged 1
 unfolding thread_of slot_of event_after
-one_later-edge_fails h =
-    let e = h.events.events 1 (omega arith) in
-    let f = h.events.events 2 (omega arith) in
-    let stands = h.stand 1 e.0 f.0 (omega arith) e.1 f.1 in
-    not_before (comes_before sb_later one_later (access_at e.0) (access_at f.0) (name 0 1) (name 1 0) (read 1 1) (write 1 1)
-    e.1.name_is (access_is _ _ (read 1 1) (sym e.1.visit_is ∙ ap (at_name (visits_in buffers one_later)) e.1.name_is) refl)
-    f.1.name_is (access_is _ _ (write 1 1) (sym f.1.visit_is ∙ ap (at_name (visits_in buffers one_later)) f.1.name_is) refl) stands.joins.communicates)
-  where
-    access_is : (v w : Visit) (a : Access) → Some v ≡ Some w → w.access ≡ a → v.access ≡ a
-    access_is v w a e h = ap (λ (o : Visit). o.access) (some_is v w e) ∙ h
+y_exchanged-edge_fails = record {
+  source = free two_writes 1 (write 1 1);
+  target = free two_writes 2 (write 1 2);
+  leaves = record { name_is = refl; visit_is = refl; direction = refl };
+  enters = record { name_is = refl; visit_is = refl; direction = refl };
+  fails = λ stands. let before : 2 < 1 = stands.joins.communicates in omega (arith, before);
+}
 
-    not_before : 1 < 1 → ⊥
-    not_before h = omega (arith, h)
+-- The threads of a cycle with three writes of y, without its observer: MOV [x],$1; MOV [y],$1 beside MOV [y],$2 and
+-- MOV [y],$3; MOV EAX,[x].
+abbrev pub unobserved : Program
+unobserved = record {
+  places = 2;
+  threads =
+      record { init = []; code = ops.StoreAt 0 1 ∷ ops.StoreAt 1 1 ∷ [] } ∷
+      record { init = []; code = ops.StoreAt 1 2 ∷ [] } ∷
+      record { init = []; code = ops.StoreAt 1 3 ∷ ops.LoadAt 0 0 ∷ [] } ∷ [];
+}
+
+-- the writes of y come in the order of their values
+abbrev pub in_order : Execution
+in_order = record { reads = [] ∷ [] ∷ ((0, None) ∷ []) ∷ []; orders = (name 0 0 ∷ []) ∷ (name 0 1 ∷ name 1 0 ∷ name 2 0 ∷ []) ∷ [] }
+
+-- the first two come the other way round
+abbrev pub exchanged : Execution
+exchanged = record { reads = [] ∷ [] ∷ ((0, None) ∷ []) ∷ []; orders = (name 0 0 ∷ []) ∷ (name 1 0 ∷ name 0 1 ∷ name 2 0 ∷ []) ∷ [] }
+
+pub in_order-candidate : IsCandidate unobserved in_order
+in_order-candidate = candidate_means unobserved in_order refl refl
+
+pub in_order-coherent : IsCoherentIn unobserved in_order
+in_order-coherent = coheres_means (accesses_in unobserved in_order) in_order refl
+
+pub exchanged-candidate : IsCandidate unobserved exchanged
+exchanged-candidate = candidate_means unobserved exchanged refl refl
+
+pub exchanged-coherent : IsCoherentIn unobserved exchanged
+exchanged-coherent = coheres_means (accesses_in unobserved exchanged) exchanged refl
+
+unobserved-end_alike : EndAlike unobserved in_order exchanged
+unobserved-end_alike = record { registers = λ thread register. refl; places = ends }
+  where
+    ends : (place : ℕ) → final_value (accesses_in unobserved in_order) in_order place ≡ final_value (accesses_in unobserved exchanged) exchanged place
+    ends zero = refl
+    ends (suc zero) = refl
+    ends (suc (suc place)) = refl
+
+exchanged-edge_fails : Fails W3O unobserved exchanged 1
+unfolding thread_of slot_of event_after
+exchanged-edge_fails = record {
+  source = free W3O 1 (write 1 1);
+  target = free W3O 2 (write 1 2);
+  leaves = record { name_is = refl; visit_is = refl; direction = refl };
+  enters = record { name_is = refl; visit_is = refl; direction = refl };
+  fails = λ stands. let before : 2 < 1 = stands.joins.communicates in omega (arith, before);
+}

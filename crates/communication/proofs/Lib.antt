@@ -19,5 +19,6 @@ pub mod Swaps
 pub mod Exchanged
 pub mod Needs
 pub mod Laws
+pub mod Decided
 pub mod Tries
 pub mod Executions

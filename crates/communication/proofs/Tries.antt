@@ -1,8 +1,7 @@
 -- Each premise of the laws is needed: all executions of small cycles, tried by computing.
-use Rattle.std.proofs.Common.{◌≡◌, ℕ, Bool, true, List, [], ◌∷◌, length, map, get_or, Some, refl, ◌||◌, ◌&&◌}
-use Rattle.std.specs.Prelude.{◌==◌, nat_lt, nat_le, not}
+use Rattle.std.proofs.Common.{◌≡◌, ℕ, Bool, true, List, [], ◌∷◌, length, map, Some, refl, ◌||◌, ◌&&◌}
+use Rattle.std.specs.Prelude.{◌==◌, nat_lt, not}
 use Rattle.std.specs.List.{filter, flat_map, list_all, list_any}
-use Rattle.relax_edges.specs.declared.kinds.Dir.{Dir}
 use Rattle.relax_edges.specs.declared.kinds.Dir.TheVariants as dirs
 use Rattle.relax_edges.specs.declared.kinds.Sd.TheVariants.{Diff}
 use Rattle.relax_edges.specs.declared.kinds.FenceKind.TheVariants as fences
@@ -20,6 +19,7 @@ use Rattle.program_meaning.specs.Coherence.{coherence_place, final_value}
 use Rattle.program_meaning.specs.Standing.{event_name}
 use Rattle.program_meaning.specs.Intended.{cycle_accesses, event_access, intended, location_order, location_numbered}
 use Rattle.communication.proofs.Examples.{PodWW, Wse, Fre, two_writes, W3, W3O, here, name}
+use Rattle.communication.proofs.Decided.{coheres}
 
 abbrev MFencedWR : Edge
 MFencedWR = edges.Fenced fences.MFence Diff dirs.W dirs.R
@@ -45,22 +45,6 @@ choices (xs ∷ more) = flat_map (λ x. map (λ l. x ∷ l) (choices more)) xs
 -- the reads of the intended execution with each order of the writes of each place
 abbrev tries : List Edge → ObsMode → List Execution
 tries es mode = map (λ orders. record { reads = (intended es mode here).reads; orders = orders }) (choices (map orders_of (intended es mode here).orders))
-
-abbrev follow_by : Dir → ℕ → ℕ → Bool
-follow_by dirs.R before after = nat_le before after
-follow_by dirs.W before after = nat_lt before after
-
--- the accesses of a thread are coherent
-abbrev thread_coheres : List (List Access) → Execution → ℕ → List Access → Bool
-thread_coheres threads x thread accesses =
-    list_all (λ f. list_all (λ e. pair_coheres e f (get_or accesses e (read 0 0)) (get_or accesses f (read 0 0))) (upto f)) (upto (length accesses))
-  where
-    pair_coheres : ℕ → ℕ → Access → Access → Bool
-    pair_coheres e f a b =
-        not (a.place == b.place) || follow_by b.dir (coherence_place threads x (name thread e) a) (coherence_place threads x (name thread f) b)
-
-abbrev coheres : List (List Access) → Execution → Bool
-coheres threads x = list_all (λ k. thread_coheres threads x k (get_or threads k [])) (upto (length threads))
 
 abbrev ends : List Edge → ObsMode → List (List Access) → Execution → Bool
 ends es mode threads x =

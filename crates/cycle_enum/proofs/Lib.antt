@@ -1,1 +1,3 @@
 pub mod Composing
+pub mod Marking
+pub mod Passing

@@ -1,3 +1,4 @@
 pub mod Alternating
 pub mod Ends
+pub mod Marks
 pub mod Walking

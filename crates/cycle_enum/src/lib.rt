@@ -1,8 +1,8 @@
 //! The cycles of a listing, one after another in order, by a walk that keeps none of them.
 #![tactic(auto)]
 
+mod alphabet;
 mod limits;
-mod raise;
 mod relaxed;
 mod walk;
 

@@ -6,9 +6,8 @@ ghost use Rattle.walk_laws.specs.Order.{IsLeast};
 ghost use Rattle.listing_laws.specs.Search.{IsCut, IsFirst, LeadsNowhere, LongerThan, OfLength};
 ghost use Rattle.cycle_enum.specs.Walking.{KnowsOf, Lists, Says, Walking};
 
+use crate::alphabet::{Alphabet, Edges};
 use crate::limits::Limits;
-use crate::raise::{Edges, extend, is_joined, raise};
-use crate::relaxed::{is_made, may_stand};
 use arrayvec::ArrayVec;
 use edge_algebra::{Cycle, cycle, may_begin};
 use relax_edges::{Edge, MAX_EDGES, Relaxes};
@@ -20,7 +19,7 @@ use std::marker::Model;
 /// cycle in normal form: the last answer or the one given to `after`.
 #[derive(Drop)]
 pub struct Walk<K, P> {
-    relaxes: Relaxes,
+    relaxes: Alphabet,
     limits: Limits,
     keep: K,
     take: P,
@@ -56,7 +55,7 @@ impl<K: Fn(&[Edge]) -> bool, P: Fn(&Cycle) -> bool> Walk<K, P> {
         ensures { result ≡ record { relaxes = relaxes; limits = limits; keep = keep; take = take; last = None } }
     {
         Walk {
-            relaxes,
+            relaxes: Alphabet::of(relaxes),
             limits,
             keep,
             take,
@@ -141,7 +140,7 @@ impl<K: Fn(&[Edge]) -> bool, P: Fn(&Cycle) -> bool> Walk<K, P> {
             return None;
         }
         let mut list = ArrayVec::new();
-        extend(&mut list);
+        self.relaxes.extend(&mut list);
         self.search(&mut list, len)
     }
 
@@ -154,7 +153,7 @@ impl<K: Fn(&[Edge]) -> bool, P: Fn(&Cycle) -> bool> Walk<K, P> {
             return None;
         }
         let mut list = self.first_refused(last.edges());
-        raise(&mut list);
+        self.relaxes.raise(&mut list);
         self.search(&mut list, last.len())
     }
 
@@ -186,13 +185,13 @@ impl<K: Fn(&[Edge]) -> bool, P: Fn(&Cycle) -> bool> Walk<K, P> {
     {
         while !list.is_empty() {
             if !self.leads_on(list.as_slice()) {
-                raise(list);
+                self.relaxes.raise(list);
             } else if list.len() < usize::from(len) {
-                extend(list);
+                self.relaxes.extend(list);
             } else {
                 match self.listed(list.as_slice()) {
                     Some(cycle) => return Some(cycle),
-                    None => raise(list),
+                    None => self.relaxes.raise(list),
                 }
             }
         }
@@ -207,16 +206,13 @@ impl<K: Fn(&[Edge]) -> bool, P: Fn(&Cycle) -> bool> Walk<K, P> {
         ensures kept { IsTrue result → Says K.Fn.post self.now.keep list.now true }
         ensures refused { IsFalse result → LeadsNowhere (Lists P.Fn.post self.now) list.now }
     {
-        if !is_joined(list) {
-            return false;
-        }
         if !may_begin(list) {
             return false;
         }
         if !self.is_kept(list) {
             return false;
         }
-        may_stand(self.relaxes.as_slice(), list)
+        self.relaxes.may_stand(list)
     }
 
     /// Whether the pruner says yes on the list.
@@ -262,7 +258,7 @@ impl<K: Fn(&[Edge]) -> bool, P: Fn(&Cycle) -> bool> Walk<K, P> {
         if !cycle.is_normal() {
             return false;
         }
-        if !is_made(self.relaxes.as_slice(), cycle) {
+        if !self.relaxes.makes(cycle) {
             return false;
         }
         (self.take)(cycle)

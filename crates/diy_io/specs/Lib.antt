@@ -7,3 +7,11 @@ pub mod SinkLaws
 pub mod StdSink
 pub mod StdSource
 pub mod SureSource
+pub mod Taken
+pub mod Wrote
+pub mod Shelf
+pub mod WroteLaws
+pub mod MemFiles
+pub mod MemEntries
+pub mod MemShelf
+pub mod DirShelf

@@ -1,9 +1,13 @@
 //! The outside of the tools: where their bytes come from and go to, and the words that they are given.
 #![tactic(auto)]
 
+mod dir_shelf;
 mod errors;
+mod mem_files;
+mod mem_shelf;
 mod mem_sink;
 mod mem_source;
+mod shelf;
 mod sink;
 mod source;
 mod std_sink;
@@ -12,11 +16,14 @@ mod sure_source;
 mod tally_sink;
 mod words;
 
+pub use dir_shelf::DirShelf;
 pub use errors::{Failed, NoMemory};
+pub use mem_shelf::MemShelf;
 pub use mem_sink::MemSink;
 pub use mem_source::MemSource;
+pub use shelf::{OpenError, Shelf};
 pub use sink::{Sink, write_pieces};
-pub use source::Source;
+pub use source::{MAX_INPUT, Source};
 pub use std_sink::StdSink;
 pub use std_source::StdSource;
 pub use sure_source::SureSource;

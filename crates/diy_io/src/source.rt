@@ -4,6 +4,9 @@ ghost use Rattle.diy_io.specs.Count.{count_of, Rose};
 
 use crate::errors::Failed;
 
+/// The most bytes of an input or a file that a tool reads: 2^40.
+pub const MAX_INPUT: u64 = 1_099_511_627_776;
+
 /// What bytes are read from: a file, a terminal, memory.
 ///
 /// A source may tell the bytes that are still to come. It counts the bytes that were taken and its

@@ -1,6 +1,9 @@
+ghost use Rattle.std.specs.Prelude.{◌≡◌};
+ghost use Rattle.diy_io.specs.Shelf.{Idle};
+
 use crate::{
-    Failed, MemSink, MemSource, Sink, Source, StdSink, StdSource, SureSource, TallySink, Words,
-    write_pieces,
+    Failed, MemShelf, MemSink, MemSource, OpenError, Shelf, Sink, Source, StdSink, StdSource,
+    SureSource, TallySink, Words, write_pieces,
 };
 use std::io;
 use std::io::{ErrorKind, Write};
@@ -108,5 +111,44 @@ fn other_sources_give_all_bytes(rt: HostRuntime) -> Result<(), Fail> {
     assert_eq!(rt; std.read(&mut buf), Ok(2));
     assert_eq!(rt; std.read(&mut buf), Ok(0));
     assert_eq!(rt; buf.as_slice(), b"12..".as_slice());
+    Ok(())
+}
+
+// Makes a file of these bytes.
+fn store(shelf: &mut MemShelf, name: &str, bytes: &[u8]) -> Result<(), Failed>
+    requires { shelf.old.mode ≡ Idle }
+    ensures { shelf.new.mode ≡ Idle }
+{
+    shelf.create(name)?;
+    shelf.append(bytes)?;
+    shelf.finish()
+}
+
+// Reads the first bytes of a file.
+fn load(shelf: &mut MemShelf, name: &str, buf: &mut [u8]) -> Result<usize, OpenError>
+    requires { shelf.old.mode ≡ Idle }
+{
+    shelf.open_file(name)?;
+    shelf.read(buf).map_err(|_| OpenError::Failed)
+}
+
+#[test]
+fn memory_shelf_keeps_files_until_it_fails(rt: HostRuntime) -> Result<(), Fail> {
+    // Call 7 fails. There are two new names, and ten bytes may be appended.
+    let fail = Vec::from_slice(rt.alloc(), &[7])?;
+    let mut shelf = MemShelf::new(rt.alloc(), 2, 10, fail)?;
+    shelf.put("old", b"abc")?;
+    assert_eq!(rt; store(&mut shelf, "new", b"12345"), Ok(()));
+    assert_eq!(rt; store(&mut shelf, "old", b"xy"), Ok(()));
+    // Half of five bytes is two. Nine are taken then, so that one more fits.
+    assert_eq!(rt; store(&mut shelf, "new", b"vwxyz"), Err(Failed));
+    assert!(rt; shelf.get("new") == Some(b"vw".as_slice()));
+    assert_eq!(rt; store(&mut shelf, "late", b"4444"), Err(Failed));
+    assert!(rt; shelf.get("late") == Some(b"4".as_slice()));
+    assert_eq!(rt; store(&mut shelf, "third", b""), Err(Failed));
+    assert!(rt; shelf.get("third").is_none());
+    let mut buf = *b"...";
+    assert_eq!(rt; load(&mut shelf, "old", &mut buf), Ok(2));
+    assert_eq!(rt; buf.as_slice(), b"xy.".as_slice());
     Ok(())
 }

@@ -1,11 +1,10 @@
-//! The program: its words, standard output and standard error, handed to `run`.
+//! The program: its words, the standard streams and the files of the folder, handed to `run`.
 #![tactic(auto)]
 
-use diy_io::{NoMemory, StdSink, Words};
+use diy_io::{DirShelf, NoMemory, StdSink, StdSource, Words};
 use diy_tools::run;
-use std::io::Write;
+use std::env;
 use std::process::ExitCode;
-use std::{env, io};
 
 /// The words that the program was called with, or the status that their want ends it with.
 fn words_of(rt: &HostRuntime) -> Result<Words, ExitCode> {
@@ -27,9 +26,19 @@ fn main(rt: HostRuntime) -> ExitCode {
     match words_of(&rt) {
         Err(code) => code,
         Ok(words) => {
+            let mut input = StdSource::new(rt.stdin());
             let mut out = StdSink::new(rt.stdout());
             let mut err = StdSink::new(rt.stderr());
-            ExitCode::from(run(rt.alloc(), &words, &mut out, &mut err).exit())
+            let mut shelf = DirShelf::new(rt.alloc(), &rt);
+            let status = run(
+                rt.alloc(),
+                &words,
+                &mut input,
+                &mut out,
+                &mut err,
+                &mut shelf,
+            );
+            ExitCode::from(status.exit())
         }
     }
 }

@@ -34,15 +34,15 @@ use Rattle.arch_riscv.specs.Laws as riscv_laws
 use Rattle.arch_riscv.specs.ReadsBack as riscv_back
 use Rattle.litmus_text.specs.Printable as printable
 use Rattle.litmus_text.specs.Printable.{IsTestName}
-use Rattle.litmus_text.specs.Wrote.{SinkSeen}
+use Rattle.diy_io.specs.Wrote.{SinkSeen}
 use Rattle.litmus_text.proofs.CutBack.{weaker}
 use Rattle.diy_words.specs.declared.usage.Usage.{Usage}
 use Rattle.diy_words.specs.Names.{is_name, is_name_byte}
-use Rattle.diy_words.specs.Requests.{Asked, TestAsked, AsksTest, AsksName, asked_of}
+use Rattle.diy_words.specs.Requests.{Asked, TestAsked, ListAsked, AsksTest, AsksName, AsksList, AsksFamilies, AsksSum, asked_of}
 use Rattle.cycle_names.specs.Names as cycles
 use Rattle.cycle_names.specs.Names.{name_of}
 use Rattle.cycle_names.proofs.NameLaws.{names_of_cycles}
-use Rattle.diy_words.proofs.NameForm.{asked_form}
+use Rattle.diy_words.proofs.RequestForm.{asked_form}
 use Rattle.test_maker.specs.declared.refusal.MakeRefusal.{MakeRefusal}
 use Rattle.test_maker.specs.Refusals.{refusal_of}
 use Rattle.test_maker.proofs.HavingTests.{accepted_has_test}
@@ -54,7 +54,12 @@ use Rattle.diy_tools.specs.declared.status.Status.{Status}
 use Rattle.diy_tools.specs.declared.status.Status.TheVariants as statuses
 use Rattle.diy_tools.specs.Machines.{Machine, machine_of}
 use Rattle.diy_tools.specs.Refused.{refused_list, refused_of, refused_of_arch, refused_composing, refused_making}
-use Rattle.diy_tools.specs.Answers.{AnswersEdges, Answers, AnswersAsked, WherePrinted, ForcesAsked, PrintedForces, cycle_text, test_name}
+use Rattle.diy_tools.specs.Answers.{AnswersEdges, Answers, AnswersAsked, WherePrinted, asked_text, plan_asked, test_name}
+use Rattle.diy_tools.specs.Devices.{Devices, OutAlone}
+use Rattle.diy_tools.specs.Forces.{ForcesAsked, PrintedForces}
+use Rattle.listed_tests.specs.Plans.{IsPlanned, is_wanted, planned_text}
+use Rattle.test_maker.specs.CycleText.{cycle_text}
+use Rattle.std.specs.Prelude.{is_none}
 
 -- what the law over the bytes asks of an architecture
 record KeepsLaws (m : Machine) : Type 0 where
@@ -151,10 +156,28 @@ test_named_so : (name : Option (List ℕ)) (es : List Edge) → IsCycle es → I
 test_named_so (Some name) es whole h = named_so name h
 test_named_so None es whole h = cycle_named_so es whole
 
--- what is answered of words whose test is printed
-pub answers_force : {Sink : Type 0} (seen : Sink → SinkSeen) (words : List (List ℕ)) (status : Status) (old new : Sink) → Answers seen words status old new → PrintedForces words status
+-- the text of the test of a cycle that has one, under a name of its form, forces the cycle
+text_forces : (arch : ArchName) (mode : ObsMode) (name : List ℕ) (es : List Edge) → IsTestName name → IsCycle es → refusal_of (machine_of arch).puts es mode ≡ None
+    → BytesForce (machine_of arch).puts.name (machine_of arch).writing (cycle_text (machine_of arch).puts (machine_of arch).writing mode name es) (turned es) mode
 unfolding cycle_text
-answers_force {Sink} seen words status old new h = of_asked (asked_of words) refl h
+text_forces arch mode name es named whole unrefused =
+    let m = machine_of arch in
+    let keeps = keeps_laws arch in
+    printed_force m.puts m.puts.name m.writing name (turned es) mode keeps.laws keeps.back keeps.cells keeps.one named
+    (accepted_has_test m.puts es mode whole unrefused)
+
+-- a cycle that is wanted in a listing has a test
+wanted_unrefused : (a : Puts) (mode : ObsMode) (threads : ℕ) (es : List Edge) → is_wanted a mode threads es ≡ true → refusal_of a es mode ≡ None
+unfolding is_wanted
+wanted_unrefused a mode threads es h = of_none (refusal_of a es mode) (and_parts (is_none (refusal_of a es mode)) _ h).0
+  where
+    of_none : (refused : Option MakeRefusal) → is_none refused ≡ true → refused ≡ None
+    of_none None h = refl
+    of_none (Some refusal) h = cc h
+
+-- what is answered of words whose test is printed, and of a listing
+pub answers_force : (words : List (List ℕ)) (status : Status) (old new : Devices) → Answers words status old new → PrintedForces words status
+answers_force words status old new h = of_asked (asked_of words) refl h
   where
     refused_says : (said : Type 0) (refusal : Refusal) (s : Status) → s ≡ statuses.Refused refusal → WherePrinted said s
     refused_says said refusal s e = subst (λ (u : Status). WherePrinted said u) (sym e) tt
@@ -163,24 +186,33 @@ answers_force {Sink} seen words status old new h = of_asked (asked_of words) ref
     where_printed said statuses.Done h = h
     where_printed said (statuses.WriteFault _) h = h
     where_printed said (statuses.Refused _) h = tt
+    where_printed said (statuses.BadText _ _ _) h = tt
+    where_printed said (statuses.NoFile _) h = tt
     where_printed said (statuses.Usage _ _) h = tt
+    where_printed said (statuses.ReadFault _) h = tt
+    where_printed said statuses.NoMemory h = tt
 
     forced : (asked : TestAsked) → asked_of words ≡ Ok (AsksTest asked) → refused_of (machine_of asked.arch).puts asked.mode asked.edges ≡ None
-        → BytesForce (machine_of asked.arch).puts.name (machine_of asked.arch).writing (cycle_text (machine_of asked.arch) asked.mode (test_name asked.name asked.edges) asked.edges) (turned asked.edges) asked.mode
+        → BytesForce (machine_of asked.arch).puts.name (machine_of asked.arch).writing (asked_text asked) (turned asked.edges) asked.mode
     forced asked e none =
-        let m = machine_of asked.arch in
-        let keeps = keeps_laws asked.arch in
-        let whole = accepted m.puts asked.mode asked.edges none in
-        printed_force m.puts m.puts.name m.writing (test_name asked.name asked.edges) (turned asked.edges) asked.mode keeps.laws keeps.back keeps.cells keeps.one
-        (test_named_so asked.name asked.edges whole.is_cycle (asked_form words (AsksTest asked) e))
-        (accepted_has_test m.puts asked.edges asked.mode whole.is_cycle whole.unrefused)
+        let whole = accepted (machine_of asked.arch).puts asked.mode asked.edges none in
+        text_forces asked.arch asked.mode (test_name asked.name asked.edges) asked.edges
+        (test_named_so asked.name asked.edges whole.is_cycle (asked_form words (AsksTest asked) e)) whole.is_cycle whole.unrefused
 
     of_refused : (asked : TestAsked) → asked_of words ≡ Ok (AsksTest asked) → (refused : Option Refusal) → refused_of (machine_of asked.arch).puts asked.mode asked.edges ≡ refused
-        → AnswersEdges seen refused (cycle_text (machine_of asked.arch) asked.mode (test_name asked.name asked.edges) asked.edges) status old new → ForcesAsked (Ok (AsksTest asked)) status
+        → AnswersEdges refused (asked_text asked) status old.out new.out → ForcesAsked (Ok (AsksTest asked)) status
     of_refused asked e (Some refusal) r h = refused_says _ refusal status h.0
     of_refused asked e None r h = where_printed _ status (forced asked e r)
 
-    of_asked : (asked : Result Asked Usage) → asked_of words ≡ asked → AnswersAsked seen asked status old new → ForcesAsked asked status
+    of_list : (asked : ListAsked) → ForcesAsked (Ok (AsksList asked)) status
+    of_list asked cycle planned =
+        text_forces asked.arch asked.mode (name_of cycle) cycle (cycle_named_so cycle planned.cycle) planned.cycle
+        (wanted_unrefused (machine_of asked.arch).puts asked.mode asked.threads cycle planned.taken)
+
+    of_asked : (asked : Result Asked Usage) → asked_of words ≡ asked → AnswersAsked words asked status old new → ForcesAsked asked status
     of_asked (Err usage) e h = tt
     of_asked (Ok (AsksName asked)) e h = tt
-    of_asked (Ok (AsksTest asked)) e h = of_refused asked e (refused_of (machine_of asked.arch).puts asked.mode asked.edges) refl h
+    of_asked (Ok (AsksList asked)) e h = of_list asked
+    of_asked (Ok (AsksFamilies arch)) e h = tt
+    of_asked (Ok AsksSum) e h = tt
+    of_asked (Ok (AsksTest asked)) e h = of_refused asked e (refused_of (machine_of asked.arch).puts asked.mode asked.edges) refl h.out

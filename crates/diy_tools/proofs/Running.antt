@@ -14,20 +14,27 @@ use Rattle.walk_laws.specs.Composable.{first_break}
 use Rattle.diy_io.specs.declared.errors.Failed.{Failed}
 use Rattle.diy_io.specs.Count.{Rose}
 use Rattle.diy_io.specs.Sink.{Told, Grew, GrewByPrefix}
-use Rattle.litmus_text.specs.Wrote.{SinkSeen, sink_seen}
-use Rattle.diy_words.specs.declared.request.EdgeList.{EdgeList}
-use Rattle.diy_words.specs.declared.request.EdgeList.TheVariants.{Whole, TooLong}
+use Rattle.diy_io.specs.Wrote.{SinkSeen, sink_seen}
+use Rattle.edge_lists.specs.declared.list.EdgeList.{EdgeList}
+use Rattle.edge_lists.specs.declared.list.EdgeList.TheVariants.{Whole, TooLong}
+use Rattle.edge_lists.specs.Kept.{kept}
+use Rattle.cycle_lines.specs.Normed.{name_line}
+use Rattle.diy_io.specs.Taken.{SourceSeen}
+use Rattle.diy_io.specs.Shelf.{ShelfSeen}
+use Rattle.diy_words.specs.declared.request.Diy.{Diy}
+use Rattle.diy_tools.specs.Devices.{Devices, devices}
+use Rattle.diy_tools.specs.Sums.{AnswersSum}
+use Rattle.test_maker.specs.CycleText.{cycle_text}
 use Rattle.diy_words.specs.declared.request.Sought.{Sought}
 use Rattle.diy_words.specs.declared.request.Sought.TheVariants as sought
-use Rattle.diy_words.specs.Requests.{Asked, AsksTest, AsksName, OfEdges, OfName, asked_of}
+use Rattle.diy_words.specs.Requests.{Asked, ListAsked, AsksTest, AsksName, AsksList, AsksFamilies, AsksSum, OfEdges, OfName, OfLines, asked_of}
 use Rattle.diy_words.specs.Requests as words
-use Rattle.diy_words.specs.Given.{IsSought, Gives}
+use Rattle.diy_words.specs.Given.{IsSought, Gives, list_kept}
 use Rattle.diy_words.specs.declared.usage.Usage.{Usage}
 use Rattle.diy_words.specs.declared.request.DiyOne.{DiyOne}
 use Rattle.diy_words.specs.declared.request.Norm.{Norm}
 use Rattle.diy_words.specs.declared.request.Request.TheVariants as requests
 use Rattle.relax_edges.specs.declared.kinds.ArchName.{ArchName}
-use Rattle.diy_words.specs.Edges.{kept}
 use Rattle.test_maker.specs.declared.refusal.MakeRefusal.{MakeRefusal}
 use Rattle.test_maker.specs.declared.refusal.MakeRefusal.TheVariants as making
 use Rattle.test_maker.specs.Refusals.{refusal_of}
@@ -38,7 +45,7 @@ use Rattle.test_maker.specs.Made as made
 use Rattle.diy_tools.specs.Machines.{Machine, machine_of}
 use Rattle.diy_tools.specs.Refused.{refused_list, refused_of, refused_of_arch, refused_composing, refused_making, making_refusal, composing_refusal}
 use Rattle.diy_tools.specs.Report.{RefusesLocation}
-use Rattle.diy_tools.specs.Answers.{Answers, AnswersAsked, AnswersEdges, AnswersName, AnswersKept, AnswersSought, TakesLine, refused_kept, refused_edges, edges_kept, name_kept, test_name, name_line, cycle_text, MakesCycle}
+use Rattle.diy_tools.specs.Answers.{Answers, AnswersAsked, AnswersEdges, AnswersName, AnswersKept, AnswersSought, AnswersList, AnswersFamilies, refused_kept, refused_edges, edges_kept, name_kept, test_name, MakesCycle}
 
 by_test : {G : Type 0} (b : Bool) → (b ≡ true → G) → (b ≡ false → G) → G
 by_test true t f = t refl
@@ -46,13 +53,6 @@ by_test false t f = f refl
 
 abbrev Answer : Type 0
 Answer = Result (Unit {0}) Failed
-
--- a sink that took the line of a status, or a front of it
-pub takes_line : (a b : Told) (m n : ℕ) (line : List ℕ) (result : Answer)
-    → OnOk result (Grew a b line) → OnErr result (GrewByPrefix a b line)
-    → OnOk result (n ≡ m) → OnErr result (Rose m n) → m ≤ n → TakesLine line (sink_seen a m) (sink_seen b n)
-takes_line a b m n line (Ok _) grew part none rose falls = inl (record { grew = grew; no_fault = none })
-takes_line a b m n line (Err _) grew part none rose falls = inr (record { grew = part; fault = rose; never_falls = falls })
 
 -- edges as they are kept are refused as those that were given, and a list of them that is kept whole is theirs
 record IsKeptSo (list : EdgeList) (es : List Edge) : Type 0 where
@@ -81,43 +81,47 @@ kept_so (e ∷ es) =
         (long (length (e ∷ es)) f)
 
 -- what is answered of edges that are kept is answered of those that were given
-edges_answered : {Sink : Type 0} (seen : Sink → SinkSeen) (list : EdgeList) (es : List Edge) (last : List Edge → Option Refusal) (text : List Edge → List ℕ) (arch : ArchName) (status : Status) (old new : Sink)
+edges_answered : (list : EdgeList) (es : List Edge) (last : List Edge → Option Refusal) (text : List Edge → List ℕ) (arch : ArchName) (status : Status) (old new : SinkSeen)
     → IsKeptSo list es
-    → AnswersEdges seen (option_or (refused_edges arch list) (last (edges_kept list))) (text (edges_kept list)) status old new
-    → AnswersEdges seen (option_or (refused_list arch es) (last es)) (text es) status old new
-edges_answered seen (Whole list) es last text arch status old new k h =
-    subst (λ us. AnswersEdges seen (option_or (refused_list arch us) (last us)) (text us) status old new) (k.same (λ e. cc e)) h
-edges_answered seen TooLong es last text arch status old new k h =
-    subst (λ r. AnswersEdges seen (option_or r (last es)) (text es) status old new) (k.refused arch) h
+    → AnswersEdges (option_or (refused_edges arch list) (last (edges_kept list))) (text (edges_kept list)) status old new
+    → AnswersEdges (option_or (refused_list arch es) (last es)) (text es) status old new
+edges_answered (Whole list) es last text arch status old new k h =
+    subst (λ us. AnswersEdges (option_or (refused_list arch us) (last us)) (text us) status old new) (k.same (λ e. cc e)) h
+edges_answered TooLong es last text arch status old new k h =
+    subst (λ r. AnswersEdges (option_or r (last es)) (text es) status old new) (k.refused arch) h
 
-pub kept_answered : {Sink : Type 0} (seen : Sink → SinkSeen) (m : Machine) (mode : ObsMode) (name : Option (List ℕ)) (es : List Edge) (status : Status) (old new : Sink)
-    → AnswersEdges seen (refused_kept m mode (kept es)) (cycle_text m mode (test_name name (edges_kept (kept es))) (edges_kept (kept es))) status old new
-    → AnswersEdges seen (refused_of m.puts mode es) (cycle_text m mode (test_name name es) es) status old new
-kept_answered seen m mode name es status old new h =
-    edges_answered seen (kept es) es (λ us. refused_making (refusal_of m.puts us mode)) (λ us. cycle_text m mode (test_name name us) us) m.puts.name status old new (kept_so es) h
+pub kept_answered : (m : Machine) (mode : ObsMode) (name : Option (List ℕ)) (es : List Edge) (status : Status) (old new : SinkSeen)
+    → AnswersEdges (refused_kept m mode (kept es)) (cycle_text m.puts m.writing mode (test_name name (edges_kept (kept es))) (edges_kept (kept es))) status old new
+    → AnswersEdges (refused_of m.puts mode es) (cycle_text m.puts m.writing mode (test_name name es) es) status old new
+kept_answered m mode name es status old new h =
+    edges_answered (kept es) es (λ us. refused_making (refusal_of m.puts us mode)) (λ us. cycle_text m.puts m.writing mode (test_name name us) us) m.puts.name status old new (kept_so es) h
 
 or_nothing : {X : Type 0} (a : Option X) → option_or a None ≡ a
 or_nothing None = refl
 or_nothing (Some x) = refl
 
-names_answered : {Sink : Type 0} (seen : Sink → SinkSeen) (arch : ArchName) (es : List Edge) (status : Status) (old new : Sink)
-    → AnswersEdges seen (refused_edges arch (kept es)) (name_line (edges_kept (kept es))) status old new
-    → AnswersEdges seen (refused_list arch es) (name_line es) status old new
-names_answered seen arch es status old new h =
-    subst (λ r. AnswersEdges seen r (name_line es) status old new) (or_nothing (refused_list arch es))
-    (edges_answered seen (kept es) es (λ us. None) name_line arch status old new (kept_so es)
-    (subst (λ r. AnswersEdges seen r (name_line (edges_kept (kept es))) status old new) (sym (or_nothing (refused_edges arch (kept es)))) h))
+names_answered : (arch : ArchName) (es : List Edge) (status : Status) (old new : SinkSeen)
+    → AnswersEdges (refused_edges arch (kept es)) (name_line (edges_kept (kept es))) status old new
+    → AnswersEdges (refused_list arch es) (name_line es) status old new
+names_answered arch es status old new h =
+    subst (λ r. AnswersEdges r (name_line es) status old new) (or_nothing (refused_list arch es))
+    (edges_answered (kept es) es (λ us. None) name_line arch status old new (kept_so es)
+    (subst (λ r. AnswersEdges r (name_line (edges_kept (kept es))) status old new) (sym (or_nothing (refused_edges arch (kept es)))) h))
 
--- what is answered of a cycle that is sought, as it is kept, is answered of the one that was asked for
-pub sought_answered : {Sink : Type 0} (seen : Sink → SinkSeen) (arch : ArchName) (cycle : Sought) (asked : words.Sought) (status : Status) (old new : Sink)
-    → IsSought cycle asked → AnswersKept seen arch cycle status old new → AnswersSought seen arch asked status old new
-sought_answered seen arch (sought.Edges list) (OfEdges es) status old new same h =
-    names_answered seen arch es status old new (subst (λ l. AnswersEdges seen (refused_edges arch l) (name_line (edges_kept l)) status old new) same h)
-sought_answered seen arch (sought.Edges list) (OfName at name) status old new same h = absurd same
-sought_answered seen arch (sought.Named source) (OfEdges es) status old new same h = absurd same
-sought_answered seen arch (sought.Named source) (OfName at name) status old new same h =
-    subst (λ n. AnswersName seen arch at n status old new) same.1
-    (subst (λ a. AnswersName seen arch a source.name.now status old new) same.0 h)
+-- what is answered of the cycles that are sought, as they are kept, is answered of those that were asked for
+pub sought_answered : (arch : ArchName) (cycle : Sought) (asked : words.Sought) (status : Status) (old new : SourceSeen) (before after : SinkSeen)
+    → IsSought cycle asked → AnswersKept arch cycle status old new before after → AnswersSought arch asked status old new before after
+sought_answered arch (sought.Edges list) (OfEdges es) status old new before after same h =
+    (h.0, names_answered arch es status before after (subst (λ l. AnswersEdges (refused_edges arch l) (name_line (edges_kept l)) status before after) same h.1))
+sought_answered arch (sought.Edges list) (OfName at name) status old new before after same h = absurd same
+sought_answered arch (sought.Edges list) OfLines status old new before after same h = absurd same
+sought_answered arch (sought.Named named) (OfEdges es) status old new before after same h = absurd same
+sought_answered arch (sought.Named named) OfLines status old new before after same h = absurd same
+sought_answered arch (sought.Named named) (OfName at name) status old new before after same h =
+    (h.0, subst (λ n. AnswersName arch at n status before after) same.1 (subst (λ a. AnswersName arch a named.name.now status before after) same.0 h.1))
+sought_answered arch sought.Lines (OfEdges es) status old new before after same h = absurd same
+sought_answered arch sought.Lines (OfName at name) status old new before after same h = absurd same
+sought_answered arch sought.Lines OfLines status old new before after same h = h
 
 -- an architecture by its two names
 pub named_refused : (a b : ArchName) (list : EdgeList) (result : Result (List Edge) Refusal) → a ≡ b
@@ -153,45 +157,96 @@ pub composed_made : (es u : List Edge) → composed es ≡ Ok u → (refused_com
 composed_made es u e = (ap refused_composing e, composed_is es u e)
 
 -- what is answered on an architecture is answered on the one with its name
-pub answered_on : {Sink : Type 0} (seen : Sink → SinkSeen) (arch a : ArchName) (mode : ObsMode) (list : EdgeList) (name : Option (List ℕ)) (status : Status) (old new : Sink)
+pub answered_on : (arch a : ArchName) (mode : ObsMode) (list : EdgeList) (name : Option (List ℕ)) (status : Status) (old new : SinkSeen)
     → arch ≡ a
-    → AnswersEdges seen (refused_kept (machine_of a) mode list) (cycle_text (machine_of a) mode (test_name name (edges_kept list)) (edges_kept list)) status old new
-    → AnswersEdges seen (refused_kept (machine_of arch) mode list) (cycle_text (machine_of arch) mode (test_name name (edges_kept list)) (edges_kept list)) status old new
-answered_on seen arch a mode list name status old new same h =
-    subst (λ (n : ArchName). AnswersEdges seen (refused_kept (machine_of n) mode list) (cycle_text (machine_of n) mode (test_name name (edges_kept list)) (edges_kept list)) status old new) (sym same) h
+    → AnswersEdges (refused_kept (machine_of a) mode list) (cycle_text (machine_of a).puts (machine_of a).writing mode (test_name name (edges_kept list)) (edges_kept list)) status old new
+    → AnswersEdges (refused_kept (machine_of arch) mode list) (cycle_text (machine_of arch).puts (machine_of arch).writing mode (test_name name (edges_kept list)) (edges_kept list)) status old new
+answered_on arch a mode list name status old new same h =
+    subst (λ (n : ArchName). AnswersEdges (refused_kept (machine_of n) mode list) (cycle_text (machine_of n).puts (machine_of n).writing mode (test_name name (edges_kept list)) (edges_kept list)) status old new) (sym same) h
 
 -- what is answered of a request for a test is answered of the words that make it
-test_asked : {Sink : Type 0} (seen : Sink → SinkSeen) (arch a : ArchName) (mode m : ObsMode) (name n : Option (List ℕ)) (list : EdgeList) (es : List Edge) (status : Status) (old new : Sink)
+test_asked : (arch a : ArchName) (mode m : ObsMode) (name n : Option (List ℕ)) (list : EdgeList) (es : List Edge) (status : Status) (old new : SinkSeen)
     → arch ≡ a → name ≡ n → mode ≡ m → list ≡ kept es
-    → AnswersEdges seen (refused_kept (machine_of arch) mode list) (cycle_text (machine_of arch) mode (test_name name (edges_kept list)) (edges_kept list)) status old new
-    → AnswersEdges seen (refused_of (machine_of a).puts m es) (cycle_text (machine_of a) m (test_name n es) es) status old new
-test_asked seen arch a mode m name n list es status old new p q r k h =
-    kept_answered seen (machine_of a) m n es status old new
-    (subst (λ l. AnswersEdges seen (refused_kept (machine_of a) m l) (cycle_text (machine_of a) m (test_name n (edges_kept l)) (edges_kept l)) status old new) k
-    (subst (λ o. AnswersEdges seen (refused_kept (machine_of a) o list) (cycle_text (machine_of a) o (test_name n (edges_kept list)) (edges_kept list)) status old new) r
-    (subst (λ o. AnswersEdges seen (refused_kept (machine_of a) mode list) (cycle_text (machine_of a) mode (test_name o (edges_kept list)) (edges_kept list)) status old new) q
-    (subst (λ (o : ArchName). AnswersEdges seen (refused_kept (machine_of o) mode list) (cycle_text (machine_of o) mode (test_name name (edges_kept list)) (edges_kept list)) status old new) p h))))
+    → AnswersEdges (refused_kept (machine_of arch) mode list) (cycle_text (machine_of arch).puts (machine_of arch).writing mode (test_name name (edges_kept list)) (edges_kept list)) status old new
+    → AnswersEdges (refused_of (machine_of a).puts m es) (cycle_text (machine_of a).puts (machine_of a).writing m (test_name n es) es) status old new
+test_asked arch a mode m name n list es status old new p q r k h =
+    kept_answered (machine_of a) m n es status old new
+    (subst (λ l. AnswersEdges (refused_kept (machine_of a) m l) (cycle_text (machine_of a).puts (machine_of a).writing m (test_name n (edges_kept l)) (edges_kept l)) status old new) k
+    (subst (λ o. AnswersEdges (refused_kept (machine_of a) o list) (cycle_text (machine_of a).puts (machine_of a).writing o (test_name n (edges_kept list)) (edges_kept list)) status old new) r
+    (subst (λ o. AnswersEdges (refused_kept (machine_of a) mode list) (cycle_text (machine_of a).puts (machine_of a).writing mode (test_name o (edges_kept list)) (edges_kept list)) status old new) q
+    (subst (λ (o : ArchName). AnswersEdges (refused_kept (machine_of o) mode list) (cycle_text (machine_of o).puts (machine_of o).writing mode (test_name name (edges_kept list)) (edges_kept list)) status old new) p h))))
 
-pub test_answered : {Sink : Type 0} (seen : Sink → SinkSeen) (words : List (List ℕ)) (request : DiyOne) (status : Status) (old new : Sink)
+pub test_answered : (words : List (List ℕ)) (request : DiyOne) (status : Status) (input : SourceSeen) (shelf : ShelfSeen) (old new : SinkSeen)
     → Gives (Ok (requests.Test request)) (asked_of words)
-    → AnswersEdges seen (refused_kept (machine_of request.arch) request.mode request.edges) (cycle_text (machine_of request.arch) request.mode (test_name (name_kept request.name) (edges_kept request.edges)) (edges_kept request.edges)) status old new
-    → Answers seen words status old new
-test_answered {Sink} seen words request status old new given h = of_asked (asked_of words) given
+    → AnswersEdges (refused_kept (machine_of request.arch) request.mode request.edges) (cycle_text (machine_of request.arch).puts (machine_of request.arch).writing request.mode (test_name (name_kept request.name) (edges_kept request.edges)) (edges_kept request.edges)) status old new
+    → Answers words status (devices input old shelf) (devices input new shelf)
+test_answered words request status input shelf old new given h = of_asked (asked_of words) given
   where
-    of_asked : (asked : Result Asked Usage) → Gives (Ok (requests.Test request)) asked → AnswersAsked seen asked status old new
+    of_asked : (asked : Result Asked Usage) → Gives (Ok (requests.Test request)) asked → AnswersAsked words asked status (devices input old shelf) (devices input new shelf)
     of_asked (Err usage) g = absurd g
     of_asked (Ok (AsksName asked)) g = absurd g
-    of_asked (Ok (AsksTest asked)) g = test_asked seen request.arch asked.arch request.mode asked.mode (name_kept request.name) asked.name request.edges asked.edges status old new g.0 g.1 g.2 g.3 h
+    of_asked (Ok (AsksList asked)) g = absurd g
+    of_asked (Ok (AsksFamilies arch)) g = absurd g
+    of_asked (Ok AsksSum) g = absurd g
+    of_asked (Ok (AsksTest asked)) g =
+        record { input = refl; shelf = refl; out = test_asked request.arch asked.arch request.mode asked.mode (name_kept request.name) asked.name request.edges asked.edges status old new g.0 g.1 g.2 g.3 h }
 
--- and what is answered of a request for a name
-pub name_answered : {Sink : Type 0} (seen : Sink → SinkSeen) (words : List (List ℕ)) (request : Norm) (status : Status) (old new : Sink)
+-- what is answered of a request for names
+pub name_answered : (words : List (List ℕ)) (request : Norm) (status : Status) (shelf : ShelfSeen) (old new : SourceSeen) (before after : SinkSeen)
     → Gives (Ok (requests.Name request)) (asked_of words)
-    → AnswersKept seen request.arch request.cycle status old new → Answers seen words status old new
-name_answered {Sink} seen words request status old new given h = of_asked (asked_of words) given
+    → AnswersKept request.arch request.cycle status old new before after → Answers words status (devices old before shelf) (devices new after shelf)
+name_answered words request status shelf old new before after given h = of_asked (asked_of words) given
   where
-    of_asked : (asked : Result Asked Usage) → Gives (Ok (requests.Name request)) asked → AnswersAsked seen asked status old new
+    of_asked : (asked : Result Asked Usage) → Gives (Ok (requests.Name request)) asked → AnswersAsked words asked status (devices old before shelf) (devices new after shelf)
     of_asked (Err usage) g = absurd g
     of_asked (Ok (AsksTest asked)) g = absurd g
+    of_asked (Ok (AsksList asked)) g = absurd g
+    of_asked (Ok (AsksFamilies arch)) g = absurd g
+    of_asked (Ok AsksSum) g = absurd g
     of_asked (Ok (AsksName asked)) g =
-        sought_answered seen asked.arch request.cycle asked.cycle status old new g.1
-        (subst (λ a. AnswersKept seen a request.cycle status old new) g.0 h)
+        record {
+          shelf = refl;
+          both = sought_answered asked.arch request.cycle asked.cycle status old new before after g.1
+              (subst (λ a. AnswersKept a request.cycle status old new before after) g.0 h);
+        }
+
+-- what is answered of a request for a listing
+pub list_answered : (words : List (List ℕ)) (request : Diy) (status : Status) (input : SourceSeen) (old new : ShelfSeen) (before after : SinkSeen)
+    → Gives (Ok (requests.List request)) (asked_of words)
+    → AnswersList (list_kept request) status old new before after → Answers words status (devices input before old) (devices input after new)
+list_answered words request status input old new before after given h = of_asked (asked_of words) given
+  where
+    of_asked : (asked : Result Asked Usage) → Gives (Ok (requests.List request)) asked → AnswersAsked words asked status (devices input before old) (devices input after new)
+    of_asked (Err usage) g = absurd g
+    of_asked (Ok (AsksTest asked)) g = absurd g
+    of_asked (Ok (AsksName asked)) g = absurd g
+    of_asked (Ok (AsksFamilies arch)) g = absurd g
+    of_asked (Ok AsksSum) g = absurd g
+    of_asked (Ok (AsksList asked)) g = record { input = refl; both = subst (λ (l : ListAsked). AnswersList l status old new before after) g h }
+
+-- what is answered of a request for families
+pub families_answered : (words : List (List ℕ)) (arch : ArchName) (status : Status) (shelf : ShelfSeen) (old new : SourceSeen) (before after : SinkSeen)
+    → Gives (Ok (requests.Families arch)) (asked_of words)
+    → AnswersFamilies arch status old new before after → Answers words status (devices old before shelf) (devices new after shelf)
+families_answered words arch status shelf old new before after given h = of_asked (asked_of words) given
+  where
+    of_asked : (asked : Result Asked Usage) → Gives (Ok (requests.Families arch)) asked → AnswersAsked words asked status (devices old before shelf) (devices new after shelf)
+    of_asked (Err usage) g = absurd g
+    of_asked (Ok (AsksTest asked)) g = absurd g
+    of_asked (Ok (AsksName asked)) g = absurd g
+    of_asked (Ok (AsksList asked)) g = absurd g
+    of_asked (Ok AsksSum) g = absurd g
+    of_asked (Ok (AsksFamilies asked)) g = record { shelf = refl; both = subst (λ (a : ArchName). AnswersFamilies a status old new before after) g h }
+
+-- what is answered of a request for a sum
+pub sum_answered : (words : List (List ℕ)) (status : Status) (old new : Devices)
+    → Gives (Ok requests.Sum) (asked_of words) → AnswersSum words status old new → Answers words status old new
+sum_answered words status old new given h = of_asked (asked_of words) given
+  where
+    of_asked : (asked : Result Asked Usage) → Gives (Ok requests.Sum) asked → AnswersAsked words asked status old new
+    of_asked (Err usage) g = absurd g
+    of_asked (Ok (AsksTest asked)) g = absurd g
+    of_asked (Ok (AsksName asked)) g = absurd g
+    of_asked (Ok (AsksList asked)) g = absurd g
+    of_asked (Ok (AsksFamilies asked)) g = absurd g
+    of_asked (Ok AsksSum) g = h

@@ -1,14 +1,20 @@
 -- The line on standard error that tells a status.
 -- Source: own.
-use Rattle.std.specs.Prelude.{ℕ, ⊤, ◌<◌, List, [], ◌++◌, codes, slice_get, Option, Some, None}
+use Rattle.std.specs.Prelude.{ℕ, ⊤, ◌<◌, List, [], ◌++◌, codes, slice_get, unwrap_or, Option, Some, None}
 use Rattle.std.specs.Fmt.{decimal}
 use Rattle.arch_trait.specs.Names.{location_name}
+use Rattle.cycle_lines.specs.declared.errors.LineKind.{LineKind}
+use Rattle.cycle_lines.specs.declared.errors.LineKind.TheVariants as lines
+use Rattle.log_sum.specs.declared.errors.LogKind.{LogKind}
+use Rattle.log_sum.specs.declared.errors.LogKind.TheVariants as logs
 use Rattle.diy_words.specs.declared.usage.UsageKind.{UsageKind}
 use Rattle.diy_words.specs.declared.usage.UsageKind.TheVariants as usages
 use Rattle.diy_tools.specs.declared.status.Status.{Status}
 use Rattle.diy_tools.specs.declared.status.Status.TheVariants as statuses
 use Rattle.diy_tools.specs.declared.status.Refusal.{Refusal}
 use Rattle.diy_tools.specs.declared.status.Refusal.TheVariants as refusals
+use Rattle.diy_tools.specs.declared.status.TextKind.{TextKind}
+use Rattle.diy_tools.specs.declared.status.TextKind.TheVariants as texts
 use Rattle.diy_tools.specs.declared.status.Device.{Device}
 use Rattle.diy_tools.specs.declared.status.Device.TheVariants as devices
 
@@ -16,8 +22,12 @@ use Rattle.diy_tools.specs.declared.status.Device.TheVariants as devices
 abbrev pub exit_of : Status → ℕ
 exit_of statuses.Done = 0
 exit_of (statuses.Refused _) = 1
+exit_of (statuses.BadText _ _ _) = 1
+exit_of (statuses.NoFile _) = 1
 exit_of (statuses.Usage _ _) = 2
+exit_of (statuses.ReadFault _) = 3
 exit_of (statuses.WriteFault _) = 3
+exit_of statuses.NoMemory = 4
 
 -- the text of a refusal
 abbrev pub refusal_text : Refusal → List ℕ
@@ -36,14 +46,49 @@ abbrev pub usage_text : UsageKind → List ℕ
 usage_text usages.UnknownTool = codes "UnknownTool"
 usage_text usages.UnknownOption = codes "UnknownOption"
 usage_text usages.MissingValue = codes "MissingValue"
+usage_text usages.BadNumber = codes "BadNumber"
 usage_text usages.UnknownArch = codes "UnknownArch"
 usage_text usages.BadMode = codes "BadMode"
 usage_text usages.BadName = codes "BadName"
+usage_text usages.BadFolder = codes "BadFolder"
 usage_text usages.UnknownEdge = codes "UnknownEdge"
+usage_text usages.BadBracket = codes "BadBracket"
+usage_text usages.RelaxTooLong = codes "RelaxTooLong"
+usage_text usages.DoesNotJoin = codes "DoesNotJoin"
+usage_text usages.TooManyRelaxes = codes "TooManyRelaxes"
 usage_text usages.UnknownName = codes "UnknownName"
+usage_text usages.BadAfter = codes "BadAfter"
 usage_text usages.StrayWord = codes "StrayWord"
 usage_text usages.MissingArch = codes "MissingArch"
+usage_text usages.MissingEdges = codes "MissingEdges"
 usage_text usages.NotBuilt = codes "NotBuilt"
+
+-- the name of what is wrong with a line of cycles, and with a line of a log
+abbrev pub line_text : LineKind → List ℕ
+line_text lines.LineTooLong = codes "LineTooLong"
+line_text lines.UnknownEdge = codes "UnknownEdge"
+line_text lines.Empty = codes "Empty"
+line_text lines.TooLong = codes "TooLong"
+line_text lines.NotOfArch = codes "NotOfArch"
+line_text lines.DoesNotCompose = codes "DoesNotCompose"
+
+abbrev pub log_text : LogKind → List ℕ
+log_text logs.Truncated = codes "Truncated"
+log_text logs.BadState = codes "BadState"
+log_text logs.BadCount = codes "BadCount"
+log_text logs.MarkDiffers = codes "MarkDiffers"
+log_text logs.HashDiffers = codes "HashDiffers"
+log_text logs.ConditionDiffers = codes "ConditionDiffers"
+log_text logs.SumTooLarge = codes "SumTooLarge"
+log_text logs.NoCounts = codes "NoCounts"
+log_text logs.KindDiffers = codes "KindDiffers"
+log_text logs.LineTooLong = codes "LineTooLong"
+
+-- the name of what is wrong with a line
+abbrev pub kind_text : TextKind → List ℕ
+kind_text (texts.Line kind) = line_text kind
+kind_text (texts.Log kind) = log_text kind
+kind_text texts.TooMuch = codes "TooMuch"
 
 -- a word that shows a fault, where there is one
 abbrev pub shown_word : Option (List ℕ) → List ℕ
@@ -52,7 +97,18 @@ shown_word None = []
 
 -- the name of a device
 abbrev pub device_text : Device → List ℕ
+device_text devices.Input = codes "input"
 device_text devices.Out = codes "out"
+device_text devices.Shelf = codes "shelf"
+
+-- the word at a place, where there is one
+abbrev pub word_at : List (List ℕ) → ℕ → List ℕ
+word_at words place = unwrap_or (slice_get words place) []
+
+-- the name of a text, which is that of the input where no word names it
+abbrev pub file_text : List (List ℕ) → Option ℕ → List ℕ
+file_text words None = codes "-"
+file_text words (Some word) = word_at words word
 
 -- the line of a refusal with this text
 abbrev pub refusal_line : List ℕ → List ℕ
@@ -68,7 +124,12 @@ status_line words statuses.Done = []
 status_line words (statuses.Refused refusal) = refusal_line (refusal_text refusal)
 status_line words (statuses.Usage word kind) =
     usage_line (usage_text kind) (shown_word (slice_get words word))
+status_line words (statuses.BadText file line kind) =
+    codes "diy: " ++ file_text words file ++ codes ":" ++ decimal line ++ codes ": " ++ kind_text kind ++ codes "\n"
+status_line words (statuses.NoFile word) = codes "diy: no file: " ++ word_at words word ++ codes "\n"
+status_line words (statuses.ReadFault device) = codes "diy: read fault: " ++ device_text device ++ codes "\n"
 status_line words (statuses.WriteFault device) = codes "diy: write fault: " ++ device_text device ++ codes "\n"
+status_line words statuses.NoMemory = codes "diy: no memory\n"
 
 -- a refusal names no location, or one that a test can have
 abbrev pub RefusesLocation : Refusal → Type 0

@@ -1,9 +1,14 @@
 //! What each tool does, and `run`, the one call that the program makes.
 #![tactic(auto)]
 
+mod edges;
+mod listing;
+mod naming;
 mod report;
 mod status;
+mod sums;
+mod testing;
 mod tools;
 
-pub use status::{Device, Refusal, Status};
+pub use status::{Device, Refusal, Status, TextKind};
 pub use tools::run;

@@ -2,8 +2,10 @@ ghost use Rattle.std.specs.Prelude.{◌≡◌};
 ghost use Rattle.diy_tools.specs.Report.{exit_of};
 ghost use Rattle.diy_tools.specs.Refused.{composing_refusal, making_refusal};
 
+use cycle_lines::LineKind;
 use diy_words::UsageKind;
 use edge_algebra::CycleError;
+use log_sum::LogKind;
 use test_maker::MakeRefusal;
 
 /// How a call of `run` ended.
@@ -13,17 +15,54 @@ pub enum Status {
     Done,
     /// The edges make no cycle, or the cycle has no test.
     Refused(Refusal),
+    /// A line of a text that was read is wrong, the first such; `file` is the place of the word that
+    /// names the text, and none where it is the input. Lines are counted from 1.
+    BadText {
+        file: Option<usize>,
+        line: u64,
+        kind: TextKind,
+    },
+    /// There is no file of the name that stands at this place among the words.
+    NoFile {
+        word: usize,
+    },
     /// The words make no request; `word` is the place of the word that shows it.
-    Usage { word: usize, kind: UsageKind },
+    Usage {
+        word: usize,
+        kind: UsageKind,
+    },
+    /// A device didn't give what was to be read.
+    ReadFault {
+        of: Device,
+    },
     /// A device didn't take what was written.
-    WriteFault { of: Device },
+    WriteFault {
+        of: Device,
+    },
+    /// There is no memory.
+    NoMemory,
 }
 
-/// A device that a tool writes to.
+/// A device that a tool reads or writes.
 #[derive(Clone, Copy, Debug, PartialEq, Eq)]
 pub enum Device {
-    /// Standard output, where tests are printed.
+    /// Standard input.
+    Input,
+    /// Standard output.
     Out,
+    /// The shelf of files.
+    Shelf,
+}
+
+/// What is wrong with a line of a text.
+#[derive(Clone, Copy, Debug, PartialEq, Eq)]
+pub enum TextKind {
+    /// It is a line of cycles.
+    Line(LineKind),
+    /// It is a line of a log.
+    Log(LogKind),
+    /// The text has more than `MAX_INPUT` bytes, the last of which stands in this line.
+    TooMuch,
 }
 
 /// Why a list of edges is refused.
@@ -48,16 +87,21 @@ pub enum Refusal {
 }
 
 impl Status {
-    /// The exit status of the program: 0 where all is done, 1 for a refusal, 2 for words that make no
-    /// request, 3 for a device that failed.
+    /// The exit status of the program: 0 where all is done, 1 for a refusal, a text that is wrong and a
+    /// file that isn't there, 2 for words that make no request, 3 for a device that failed, 4 where
+    /// there is no memory.
     pub fn exit(self) -> u8
         ensures { result ≡ exit_of self }
     {
         match self {
             Status::Done => 0,
             Status::Refused(_) => 1,
+            Status::BadText { .. } => 1,
+            Status::NoFile { .. } => 1,
             Status::Usage { .. } => 2,
+            Status::ReadFault { .. } => 3,
             Status::WriteFault { .. } => 3,
+            Status::NoMemory => 4,
         }
     }
 }

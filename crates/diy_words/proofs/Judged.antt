@@ -1,28 +1,25 @@
 -- What is held while the words are read is what the definition takes from all of them.
-use Rattle.std.proofs.Common.{◌≡◌, ℕ, zero, suc, ◌+◌, ◌<◌, ◌≤◌, Bool, true, false, List, [], ◌∷◌, ◌++◌, length, map, drop, Option, Some, None, Result, Ok, Err, refl, sym, ap, ◌∙◌, subst, arith, slice_get, nat_lt, nat_le, append_assoc, append-nil, length-append, le-leb, lit≤}
+use Rattle.std.proofs.Common.{◌≡◌, ℕ, zero, suc, ◌+◌, Bool, true, false, List, [], ◌∷◌, length, map, drop, Option, Some, None, Result, Ok, Err, refl, sym, ap, ◌∙◌, subst, arith, slice_get, lit≤}
 use Rattle.std.specs.Option.{option_or}
 use Rattle.std.proofs.lemmas.List.{drop_all}
-use Rattle.std.proofs.lemmas.Bool.Decides.{nat_tests}
-use Rattle.relax_edges.specs.declared.TheConstants.{MAX_EDGES}
 use Rattle.relax_edges.specs.declared.edge.Edge.{Edge}
 use Rattle.relax_edges.specs.declared.kinds.ArchName.{ArchName}
 use Rattle.relax_edges.specs.declared.kinds.ObsMode.{ObsMode}
-use Rattle.relax_edges.specs.declared.kinds.ObsMode.TheVariants.{Accept}
-use Rattle.diy_words.specs.declared.request.EdgeList.{EdgeList}
-use Rattle.diy_words.specs.declared.request.EdgeList.TheVariants.{Whole, TooLong}
+use Rattle.edge_lists.specs.Kept.{kept, added}
+use Rattle.edge_lists.specs.KeptLaws.{added_more, added_whole}
+use Rattle.std.specs.Prelude.{◌||◌}
+use Rattle.std.specs.List.{list_any}
 use Rattle.diy_words.specs.declared.request.Request.{Request}
 use Rattle.diy_words.specs.declared.request.Request.TheVariants as requests
 use Rattle.diy_words.specs.declared.request.Sought.{Sought}
 use Rattle.diy_words.specs.declared.request.Sought.TheVariants as sought
 use Rattle.diy_words.specs.declared.usage.Usage.{Usage}
 use Rattle.diy_words.specs.declared.options.OptionName.{OptionName}
-use Rattle.diy_words.specs.Edges.{kept}
-use Rattle.diy_words.specs.Kept.{added, pushed}
-use Rattle.diy_words.specs.Parts.{Operand, Valued, Unvalued, Waits, parts_from, parts_of, option_named, tool_named}
+use Rattle.diy_words.specs.Parts.{Alone, Valued, Unvalued, Waits, parts_from, parts_of, option_named, tool_named}
 use Rattle.diy_words.specs.declared.options.Tool.{Tool}
 use Rattle.diy_words.specs.declared.options.Tool.TheVariants as tools
-use Rattle.diy_words.specs.Requests.{Said, SaysArch, SaysName, SaysMode, SaysFrom, SaysEdges, NameAsked, AsksTest, AsksName, OfEdges, OfName, said_by, said_first, said_all, or_later, last_given, first_given, arch_in, name_in, mode_in, from_in, operand_in, edges_in, mode_or_accept, edges_given, asks, asked_with, named_with, asked_of, asked_for, tool_asked}
-use Rattle.diy_words.specs.Given.{Held, absorbed, all_absorbed, saying_from, finished, named, keeps, KeepsTest, KeepsName, tool_held, shown, shown_request, nothing_held, AskedHeld, NameHeld, SoughtHeld, HeldEdges, HeldName, sought_held, Gives, IsKept, IsSought}
+use Rattle.diy_words.specs.Requests.{Said, SaysArch, SaysName, SaysMode, SaysFrom, SaysEdges, SaysRelaxes, SaysSize, SaysExact, SaysThreads, SaysAfter, SaysFolder, SaysLog, NameAsked, ListAsked, Asked, AsksTest, AsksName, AsksList, AsksFamilies, AsksSum, OfEdges, OfName, OfLines, said_by, said_first, said_all, or_later, last_given, first_given, arch_in, name_in, mode_in, from_in, operand_in, edges_in, relaxes_in, size_in, is_exact, threads_in, after_in, folder_in, given_or, mode_or_accept, list_with, families_with, edges_given, asks, asked_with, named_with, asked_of, asked_for, tool_asked}
+use Rattle.diy_words.specs.Given.{Held, absorbed, all_absorbed, saying_from, finished, named, keeps, KeepsTest, KeepsName, KeepsList, KeepsFamilies, KeepsSum, tool_held, shown, shown_request, nothing_held, AskedHeld, NameHeld, SoughtHeld, HeldEdges, HeldName, HeldLines, sought_held, Gives, IsKept, IsSought}
 use Rattle.diy_words.specs.Requests as req
 
 drop_get : {X : Type 0} (xs : List X) (i : ℕ) (x : X) → slice_get xs i ≡ Some x → drop i xs ≡ x ∷ drop (i + 1) xs
@@ -30,39 +27,39 @@ drop_get [] i x h = cc h
 drop_get (y ∷ ys) zero x h = ap (λ z. z ∷ ys) (cc h)
 drop_get (y ∷ ys) (suc i) x h = drop_get ys i x h ∙ (let e : suc i + 1 ≡ suc (i + 1) = omega arith in rw e)
 
-operand_parts : (tool : Tool) (word : List ℕ) (at : ℕ) (rest : List (List ℕ)) (found : Option OptionName) → option_named tool word ≡ found → found ≡ None →
-    parts_of tool at (word ∷ rest) ≡ Operand at word ∷ parts_of tool (at + 1) rest
-operand_parts tool word at rest found e n = rw (e ∙ n)
+alone_parts : (tool : Tool) (word : List ℕ) (at : ℕ) (rest : List (List ℕ)) (found : Option OptionName) → option_named tool word ≡ found → found ≡ None →
+    parts_of tool at (word ∷ rest) ≡ Alone at word ∷ parts_of tool (at + 1) rest
+alone_parts tool word at rest found e n = rw (e ∙ n)
 
 option_parts : (tool : Tool) (word : List ℕ) (at : ℕ) (rest : List (List ℕ)) (option : OptionName) → option_named tool word ≡ Some option →
     parts_of tool at (word ∷ rest) ≡ parts_from tool (Waits option at) (at + 1) rest
 option_parts tool word at rest option e = rw e
 
--- an operand and what the words behind it say
-pub operand_first : (tool : Tool) (words : List (List ℕ)) (at : ℕ) (word : List ℕ) →
+-- a word that stands alone and what the words behind it say
+pub alone_first : (tool : Tool) (words : List (List ℕ)) (at : ℕ) (word : List ℕ) →
     slice_get words at ≡ Some word → option_named tool word ≡ None →
-    saying_from tool words at ≡ said_by (Operand at word) ∷ saying_from tool words (at + 1)
-operand_first tool words at word got plain =
-    ap (λ rest. map said_by (parts_of tool at rest)) (drop_get words at word got) ∙ ap (map said_by) (operand_parts tool word at (drop (at + 1) words) None plain refl)
+    saying_from tool words at ≡ said_by tool (Alone at word) ∷ saying_from tool words (at + 1)
+alone_first tool words at word got plain =
+    ap (λ rest. map (said_by tool) (parts_of tool at rest)) (drop_get words at word got) ∙ ap (map (said_by tool)) (alone_parts tool word at (drop (at + 1) words) None plain refl)
 
 -- an option with its value and what the words behind them say
 pub value_first : (tool : Tool) (words : List (List ℕ)) (at : ℕ) (word value : List ℕ) (option : OptionName) →
     slice_get words at ≡ Some word → option_named tool word ≡ Some option → slice_get words (at + 1) ≡ Some value →
-    saying_from tool words at ≡ said_by (Valued option at value) ∷ saying_from tool words (at + 2)
+    saying_from tool words at ≡ said_by tool (Valued option at value) ∷ saying_from tool words (at + 2)
 value_first tool words at word value option got named valued =
-    ap (λ rest. map said_by (parts_of tool at rest)) (drop_get words at word got) ∙
-    ap (map said_by) (option_parts tool word at (drop (at + 1) words) option named) ∙
-    ap (λ rest. map said_by (parts_from tool (Waits option at) (at + 1) rest)) (drop_get words (at + 1) value valued) ∙
+    ap (λ rest. map (said_by tool) (parts_of tool at rest)) (drop_get words at word got) ∙
+    ap (map (said_by tool)) (option_parts tool word at (drop (at + 1) words) option named) ∙
+    ap (λ rest. map (said_by tool) (parts_from tool (Waits option at) (at + 1) rest)) (drop_get words (at + 1) value valued) ∙
     (let e : at + 1 + 1 ≡ at + 2 = omega arith in rw e)
 
 -- an option that is the last word
 pub unvalued_last : (tool : Tool) (words : List (List ℕ)) (at : ℕ) (word : List ℕ) (option : OptionName) →
     slice_get words at ≡ Some word → option_named tool word ≡ Some option → at + 1 ≡ length words →
-    saying_from tool words at ≡ said_by (Unvalued option at) ∷ []
+    saying_from tool words at ≡ said_by tool (Unvalued option at) ∷ []
 unvalued_last tool words at word option got named last =
-    ap (λ rest. map said_by (parts_of tool at rest)) (drop_get words at word got) ∙
-    ap (map said_by) (option_parts tool word at (drop (at + 1) words) option named) ∙
-    ap (λ rest. map said_by (parts_from tool (Waits option at) (at + 1) rest)) (drop_all (at + 1) words (omega arith))
+    ap (λ rest. map (said_by tool) (parts_of tool at rest)) (drop_get words at word got) ∙
+    ap (map (said_by tool)) (option_parts tool word at (drop (at + 1) words) option named) ∙
+    ap (λ rest. map (said_by tool) (parts_from tool (Waits option at) (at + 1) rest)) (drop_all (at + 1) words (omega arith))
 
 fault_stays : (usage : Usage) (rest : List (Result Said Usage)) → all_absorbed (Err usage) rest ≡ Err usage
 fault_stays usage [] = refl
@@ -78,43 +75,46 @@ pub faulty : (old : Held) (usage : Usage) (said : Result Said Usage) (here rest 
     here ≡ said ∷ rest → Err usage ≡ absorbed old said → Err usage ≡ all_absorbed (Ok old) here
 faulty old usage said here rest e h = sym (fault_stays usage rest) ∙ ap (λ r. all_absorbed r rest) h ∙ ap (all_absorbed (Ok old)) (sym e)
 
--- a mode, or the later one that is given
-abbrev mode_behind : ObsMode → Option ObsMode → ObsMode
-mode_behind mode (Some later) = later
-mode_behind mode None = mode
-
-added_more : (list : EdgeList) (es fs : List Edge) → added (added list es) fs ≡ added list (es ++ fs)
-added_more list [] fs = refl
-added_more list (e ∷ es) fs = added_more (pushed list e) es fs
-
 -- what the definition takes from all words is what is held behind them
 abbrev held_behind : Held → List Said → Held
 held_behind h said = record {
   arch = or_later h.arch (last_given arch_in said);
   name = or_later h.name (last_given name_in said);
-  mode = mode_behind h.mode (last_given mode_in said);
+  mode = given_or h.mode (last_given mode_in said);
   from = or_later h.from (last_given from_in said);
   operand = option_or h.operand (first_given operand_in said);
   edges = added h.edges (edges_given said);
+  relaxes = or_later h.relaxes (last_given relaxes_in said);
+  size = given_or h.size (last_given size_in said);
+  exact = h.exact || list_any is_exact said;
+  threads = given_or h.threads (last_given threads_in said);
+  after = or_later h.after (last_given after_in said);
+  folder = or_later h.folder (last_given folder_in said);
 }
 
 later_twice : {X : Type 0} (a b c : Option X) → or_later (or_later a b) c ≡ or_later a (or_later b c)
 later_twice a b None = refl
 later_twice a b (Some x) = refl
 
-mode_twice : (mode : ObsMode) (b c : Option ObsMode) → mode_behind (mode_behind mode b) c ≡ mode_behind mode (or_later b c)
-mode_twice mode b None = refl
-mode_twice mode b (Some x) = refl
+or_given_twice : {X : Type 0} (x : X) (b c : Option X) → given_or (given_or x b) c ≡ given_or x (or_later b c)
+or_given_twice x b None = refl
+or_given_twice x b (Some y) = refl
 
 -- what is held behind one thing more
 abbrev held_with : Held → Said → Held
 held_with h said = record {
   arch = or_later h.arch (arch_in said);
   name = or_later h.name (name_in said);
-  mode = mode_behind h.mode (mode_in said);
+  mode = given_or h.mode (mode_in said);
   from = or_later h.from (from_in said);
   operand = option_or h.operand (operand_in said);
   edges = added h.edges (edges_in said);
+  relaxes = or_later h.relaxes (relaxes_in said);
+  size = given_or h.size (size_in said);
+  exact = h.exact || is_exact said;
+  threads = given_or h.threads (threads_in said);
+  after = or_later h.after (after_in said);
+  folder = or_later h.folder (folder_in said);
 }
 
 or_none : {X : Type 0} (a : Option X) → option_or a None ≡ a
@@ -125,22 +125,47 @@ or_twice : {X : Type 0} (a b c : Option X) → option_or (option_or a b) c ≡ o
 or_twice None b c = refl
 or_twice (Some x) b c = refl
 
+or_false : (b : Bool) → b || false ≡ b
+or_false true = refl
+or_false false = refl
+
+or_true : (b : Bool) → b || true ≡ true
+or_true true = refl
+or_true false = refl
+
+exact_twice : (a b c : Bool) → (a || b) || c ≡ a || (b || c)
+exact_twice true b c = refl
+exact_twice false b c = refl
+
 absorbed_one : (h : Held) (said : Said) → absorbed h (Ok said) ≡ Ok (held_with h said)
-absorbed_one h (SaysArch arch) = rw (or_none h.operand) refl
-absorbed_one h (SaysName name) = rw (or_none h.operand) refl
-absorbed_one h (SaysMode mode) = rw (or_none h.operand) refl
-absorbed_one h (SaysFrom at name) = rw (or_none h.operand) refl
-absorbed_one h (SaysEdges at edges) = refl
+absorbed_one h (SaysArch arch) = rw (or_none h.operand, or_false h.exact) refl
+absorbed_one h (SaysName name) = rw (or_none h.operand, or_false h.exact) refl
+absorbed_one h (SaysMode mode) = rw (or_none h.operand, or_false h.exact) refl
+absorbed_one h (SaysFrom at name) = rw (or_none h.operand, or_false h.exact) refl
+absorbed_one h (SaysRelaxes relaxes) = rw (or_none h.operand, or_false h.exact) refl
+absorbed_one h (SaysSize size) = rw (or_none h.operand, or_false h.exact) refl
+absorbed_one h (SaysThreads threads) = rw (or_none h.operand, or_false h.exact) refl
+absorbed_one h (SaysAfter cycle) = rw (or_none h.operand, or_false h.exact) refl
+absorbed_one h (SaysFolder folder) = rw (or_none h.operand, or_false h.exact) refl
+absorbed_one h SaysExact = rw (or_none h.operand, or_true h.exact) refl
+absorbed_one h SaysLog = rw (or_none h.operand, or_false h.exact) refl
+absorbed_one h (SaysEdges at edges) = rw (or_false h.exact) refl
 
 held_one : (h : Held) (said : Said) (rest : List Said) → held_behind (held_with h said) rest ≡ held_behind h (said ∷ rest)
 held_one h said rest =
     let arch = later_twice h.arch (arch_in said) (last_given arch_in rest) in
     let name = later_twice h.name (name_in said) (last_given name_in rest) in
-    let mode = mode_twice h.mode (mode_in said) (last_given mode_in rest) in
+    let mode = or_given_twice h.mode (mode_in said) (last_given mode_in rest) in
     let from = later_twice h.from (from_in said) (last_given from_in rest) in
     let operand = or_twice h.operand (operand_in said) (first_given operand_in rest) in
     let edges = added_more h.edges (edges_in said) (edges_given rest) in
-    cc (arch, name, mode, from, operand, edges)
+    let relaxes = later_twice h.relaxes (relaxes_in said) (last_given relaxes_in rest) in
+    let size = or_given_twice h.size (size_in said) (last_given size_in rest) in
+    let exact = exact_twice h.exact (is_exact said) (list_any is_exact rest) in
+    let threads = or_given_twice h.threads (threads_in said) (last_given threads_in rest) in
+    let after = later_twice h.after (after_in said) (last_given after_in rest) in
+    let folder = later_twice h.folder (folder_in said) (last_given folder_in rest) in
+    cc (arch, name, mode, from, operand, edges, relaxes, size, exact, threads, after, folder)
 
 abbrev held_after : Held → Result (List Said) Usage → Result Held Usage
 held_after h (Ok said) = Ok (held_behind h said)
@@ -153,43 +178,18 @@ after_first h one said (Ok list) same = ap Ok (same list)
 after_first h one said (Err usage) same = refl
 
 all_held : (h : Held) (said : List (Result Said Usage)) → all_absorbed (Ok h) said ≡ held_after h (said_all said)
-all_held h [] = rw (or_none h.operand) refl
+all_held h [] = rw (or_none h.operand, or_false h.exact) refl
 all_held h (Err usage ∷ rest) = fault_stays usage rest
 all_held h (Ok said ∷ rest) =
     ap (λ r. all_absorbed r rest) (absorbed_one h said) ∙ all_held (held_with h said) rest ∙ after_first h (held_with h said) said (said_all rest) (held_one h said)
 
-by_test : {G : Type 0} (b : Bool) → (b ≡ true → G) → (b ≡ false → G) → G
-by_test true f g = f refl
-by_test false f g = g refl
-
-kept_few : (list : List Edge) → length list ≤ MAX_EDGES → kept list ≡ Whole (record { items = list })
-kept_few list h = rw (le-leb (length list) MAX_EDGES h)
-
-kept_many : (list : List Edge) → MAX_EDGES < length list → kept list ≡ TooLong
-kept_many list h = let e : nat_le (length list) MAX_EDGES ≡ false = grind (arith, nat_tests) in rw e
-
-added_too_long : (edges : List Edge) → added TooLong edges ≡ TooLong
-added_too_long [] = refl
-added_too_long (edge ∷ edges) = added_too_long edges
-
-room_left : (list : List Edge) (edge : Edge) → nat_lt (length list) MAX_EDGES ≡ true → length (list ++ edge ∷ []) ≤ MAX_EDGES
-room_left list edge e = rw (length-append list (edge ∷ [])) (grind (arith, nat_tests, e))
-
-room_passed : (list : List Edge) (edge : Edge) (edges : List Edge) → nat_lt (length list) MAX_EDGES ≡ false → MAX_EDGES < length (list ++ edge ∷ edges)
-room_passed list edge edges e = rw (length-append list (edge ∷ edges)) (grind (arith, nat_tests, e))
-
-added_whole : (list : List Edge) (edges : List Edge) → length list ≤ MAX_EDGES →
-    added (Whole (record { items = list })) edges ≡ kept (list ++ edges)
-added_whole list [] h = sym (rw (append-nil list) (kept_few list h))
-added_whole list (edge ∷ edges) h =
-    by_test (nat_lt (length list) MAX_EDGES)
-    (λ e. rw e (added_whole (list ++ edge ∷ []) edges (room_left list edge e) ∙ ap kept (append_assoc list (edge ∷ []) edges)))
-    (λ e. rw e (added_too_long edges ∙ sym (kept_many (list ++ edge ∷ edges) (room_passed list edge edges e))))
-
 kept_test : (request : Request) (arch : ArchName) (name : Option (List ℕ)) (mode : ObsMode) (edges : List Edge) →
-    shown_request request ≡ KeepsTest (record { arch = arch; name = name; mode = mode; edges = added (Whole (record { items = [] })) edges }) →
+    shown_request request ≡ KeepsTest (record { arch = arch; name = name; mode = mode; edges = added (kept []) edges }) →
     IsKept request (AsksTest (record { arch = arch; name = name; mode = mode; edges = edges }))
 kept_test (requests.Name request) arch name mode edges h = cc h
+kept_test (requests.List request) arch name mode edges h = cc h
+kept_test (requests.Families a) arch name mode edges h = cc h
+kept_test requests.Sum arch name mode edges h = cc h
 kept_test (requests.Test request) arch name mode edges h =
     let f = fields _ _ h in (f.0, f.1, f.2, f.3 ∙ added_whole [] edges (lit≤ tt))
   where
@@ -199,19 +199,27 @@ kept_test (requests.Test request) arch name mode edges h =
 -- what is held of a cycle that is sought is what is asked for
 abbrev IsHeld : SoughtHeld → req.Sought → Type 0
 IsHeld (HeldEdges list) (OfEdges es) = list ≡ kept es
-IsHeld (HeldEdges list) (OfName at name) = ⊥
-IsHeld (HeldName word text) (OfEdges es) = ⊥
 IsHeld (HeldName word text) (OfName at name) = (word ≡ at) × (text ≡ name)
+IsHeld HeldLines OfLines = Unit {0}
+IsHeld _ _ = ⊥
 
 held_sought : (cycle : Sought) (asked : req.Sought) → IsHeld (sought_held cycle) asked → IsSought cycle asked
 held_sought (sought.Edges list) (OfEdges es) h = h
 held_sought (sought.Edges list) (OfName at name) h = h
+held_sought (sought.Edges list) OfLines h = h
 held_sought (sought.Named from) (OfEdges es) h = h
 held_sought (sought.Named from) (OfName at name) h = h
+held_sought (sought.Named from) OfLines h = h
+held_sought sought.Lines (OfEdges es) h = h
+held_sought sought.Lines (OfName at name) h = h
+held_sought sought.Lines OfLines h = h
 
 kept_name : (request : Request) (held : NameHeld) (asked : NameAsked) → shown_request request ≡ KeepsName held → held.arch ≡ asked.arch → IsHeld held.cycle asked.cycle →
     IsKept request (AsksName asked)
 kept_name (requests.Test request) held asked h a s = cc h
+kept_name (requests.List request) held asked h a s = cc h
+kept_name (requests.Families arch) held asked h a s = cc h
+kept_name requests.Sum held asked h a s = cc h
 kept_name (requests.Name request) held asked h a s =
     let same : held ≡ (let shown : NameHeld = record { arch = request.arch; cycle = sought_held request.cycle } in shown) = cc h in
     (sym (ap (λ (n : NameHeld). n.arch) same) ∙ a, held_sought request.cycle asked.cycle (subst (λ (n : NameHeld). IsHeld n.cycle asked.cycle) same s))
@@ -220,7 +228,7 @@ ok_is : {X : Type 0} (x y : X) → (let left : Result X Usage = Ok x in left) �
 ok_is x y e = cc e
 
 gives_test : (count : ℕ) (request : Result Request Usage) (arch : Option ArchName) (name : Option (List ℕ)) (mode : ObsMode) (edges : List Edge) →
-    shown request ≡ keeps KeepsTest (finished count arch name mode (added (Whole (record { items = [] })) edges)) → Gives request (asks AsksTest (asked_with count arch name mode edges))
+    shown request ≡ keeps KeepsTest (finished count arch name mode (added (kept []) edges)) → Gives request (asks AsksTest (asked_with count arch name mode edges))
 gives_test count (Ok request) None name mode edges h = cc h
 gives_test count (Err usage) None name mode edges h = cc h
 gives_test count (Ok request) (Some arch) name mode edges h =
@@ -228,10 +236,10 @@ gives_test count (Ok request) (Some arch) name mode edges h =
 gives_test count (Err usage) (Some arch) name mode edges h = cc h
 
 gives_name : (count : ℕ) (request : Result Request Usage) (arch : Option ArchName) (from : Option (ℕ × List ℕ)) (operand : Option ℕ) (edges : List Edge) →
-    shown request ≡ keeps KeepsName (named count arch from operand (added (Whole (record { items = [] })) edges)) → Gives request (asks AsksName (named_with count arch from operand edges))
+    shown request ≡ keeps KeepsName (named count arch from operand (added (kept []) edges)) → Gives request (asks AsksName (named_with count arch from operand edges))
 gives_name count (Ok request) None from operand edges h = cc h
 gives_name count (Err usage) None from operand edges h = cc h
-gives_name count (Ok request) (Some arch) None None edges h = cc h
+gives_name count (Ok request) (Some arch) None None edges h = kept_name request _ _ (ok_is _ _ h) refl tt
 gives_name count (Err usage) (Some arch) None None edges h = cc h
 gives_name count (Ok request) (Some arch) (Some from) None edges h = kept_name request _ _ (ok_is _ _ h) refl (refl, refl)
 gives_name count (Err usage) (Some arch) (Some from) None edges h = cc h
@@ -239,6 +247,43 @@ gives_name count (Ok request) (Some arch) None (Some operand) edges h = kept_nam
 gives_name count (Err usage) (Some arch) None (Some operand) edges h = cc h
 gives_name count (Ok request) (Some arch) (Some from) (Some operand) edges h = cc h
 gives_name count (Err usage) (Some arch) (Some from) (Some operand) edges h = cc h
+
+kept_list : (request : Request) (asked : ListAsked) → shown_request request ≡ KeepsList asked → IsKept request (AsksList asked)
+kept_list (requests.Test request) asked h = cc h
+kept_list (requests.Name request) asked h = cc h
+kept_list (requests.List request) asked h = cc h
+kept_list (requests.Families arch) asked h = cc h
+kept_list requests.Sum asked h = cc h
+
+gives_list : (request : Result Request Usage) (asked : Result ListAsked Usage) → shown request ≡ keeps KeepsList asked → Gives request (asks AsksList asked)
+gives_list (Ok request) (Ok asked) h = kept_list request asked (ok_is _ _ h)
+gives_list (Ok request) (Err usage) h = cc h
+gives_list (Err usage) (Ok asked) h = cc h
+gives_list (Err usage) (Err fault) h = cc h
+
+kept_families : (request : Request) (asked : ArchName) → shown_request request ≡ KeepsFamilies asked → IsKept request (AsksFamilies asked)
+kept_families (requests.Test request) asked h = cc h
+kept_families (requests.Name request) asked h = cc h
+kept_families (requests.List request) asked h = cc h
+kept_families (requests.Families arch) asked h = cc h
+kept_families requests.Sum asked h = cc h
+
+gives_families : (request : Result Request Usage) (asked : Result ArchName Usage) → shown request ≡ keeps KeepsFamilies asked → Gives request (asks AsksFamilies asked)
+gives_families (Ok request) (Ok asked) h = kept_families request asked (ok_is _ _ h)
+gives_families (Ok request) (Err usage) h = cc h
+gives_families (Err usage) (Ok asked) h = cc h
+gives_families (Err usage) (Err fault) h = cc h
+
+kept_sum : (request : Request) → shown_request request ≡ KeepsSum → IsKept request AsksSum
+kept_sum (requests.Test request) h = cc h
+kept_sum (requests.Name request) h = cc h
+kept_sum (requests.List request) h = cc h
+kept_sum (requests.Families arch) h = cc h
+kept_sum requests.Sum h = tt
+
+gives_sum : (request : Result Request Usage) → shown request ≡ Ok KeepsSum → Gives request (Ok AsksSum)
+gives_sum (Ok request) h = kept_sum request (ok_is _ _ h)
+gives_sum (Err usage) h = cc h
 
 gives_fault : (request : Result Request Usage) (usage : Usage) → shown request ≡ Err usage → Gives request (Err usage)
 gives_fault (Ok request) usage h = cc h
@@ -248,20 +293,22 @@ later_none : {X : Type 0} (a : Option X) → or_later None a ≡ a
 later_none None = refl
 later_none (Some x) = refl
 
-mode_accept : (mode : Option ObsMode) → mode_behind Accept mode ≡ mode_or_accept mode
-mode_accept None = refl
-mode_accept (Some mode) = refl
-
 -- a request from what is held is the request of the definition, as it is kept
 gives_held : (tool : Tool) (count : ℕ) (request : Result Request Usage) (said : Result (List Said) Usage) →
     shown request ≡ tool_held tool count (held_after nothing_held said) → Gives request (tool_asked tool count said)
 gives_held tool count request (Err usage) h = gives_fault request usage h
 gives_held tools.DiyOne count request (Ok said) h =
     gives_test count request _ _ _ (edges_given said)
-    (rw (sym (later_none (last_given arch_in said)), sym (later_none (last_given name_in said)), sym (mode_accept (last_given mode_in said))) h)
+    (rw (sym (later_none (last_given arch_in said)), sym (later_none (last_given name_in said))) h)
+gives_held tools.Diy count request (Ok said) h =
+    gives_list request _
+    (rw (sym (later_none (last_given arch_in said)), sym (later_none (last_given relaxes_in said)), sym (later_none (last_given after_in said)), sym (later_none (last_given folder_in said))) h)
 gives_held tools.Norm count request (Ok said) h =
     gives_name count request _ _ _ (edges_given said)
     (rw (sym (later_none (last_given arch_in said)), sym (later_none (last_given from_in said))) h)
+gives_held tools.Classify count request (Ok said) h =
+    gives_families request _ (rw (sym (later_none (last_given arch_in said))) h)
+gives_held tools.Msum count request (Ok said) h = gives_sum request h
 gives_held tools.Later count request (Ok said) h = gives_fault request _ h
 
 -- the request of a tool, where the first word names it
@@ -272,11 +319,14 @@ gives_named [] word tool request got named built h = cc got
 gives_named (first ∷ words) word tool request got named built h =
     let same : first ≡ word = cc got in
     let e : tool_named first ≡ Some tool = ap (λ w. tool_named w) same ∙ named in
-    rw e (of_tool tool built (gives_held tool (length (first ∷ words)) request (said_all (map said_by (parts_of tool 1 words)))
-    (h ∙ ap (tool_held tool (length (first ∷ words))) (all_held nothing_held (map said_by (parts_of tool 1 words))))))
+    rw e (of_tool tool built (gives_held tool (length (first ∷ words)) request (said_all (map (said_by tool) (parts_of tool 1 words)))
+    (h ∙ ap (tool_held tool (length (first ∷ words))) (all_held nothing_held (map (said_by tool) (parts_of tool 1 words))))))
   where
-    of_tool : (t : Tool) → (t ≡ tools.Later → ⊥) → Gives request (tool_asked t (length (first ∷ words)) (said_all (map said_by (parts_of t 1 words))))
+    of_tool : (t : Tool) → (t ≡ tools.Later → ⊥) → Gives request (tool_asked t (length (first ∷ words)) (said_all (map (said_by t) (parts_of t 1 words))))
         → Gives request (asked_for (Some t) (length (first ∷ words)) words)
     of_tool tools.DiyOne built g = g
+    of_tool tools.Diy built g = g
     of_tool tools.Norm built g = g
+    of_tool tools.Classify built g = g
+    of_tool tools.Msum built g = g
     of_tool tools.Later built g = absurd (built refl)

@@ -1,3 +1,4 @@
-pub mod Spelled
 pub mod Judged
-pub mod NameForm
+pub mod RequestForm
+pub mod NumberLaws
+pub mod AfterLaws

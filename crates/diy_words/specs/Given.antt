@@ -1,12 +1,19 @@
 -- What words have said so far, as it is held while they are read.
-use Rattle.std.specs.Prelude.{ℕ, ◌≡◌, ◌<◌, true, IfSome, List, [], ◌∷◌, map, drop, slice_get, Option, Some, None, Result, Ok, Err}
-use Rattle.std.specs.Option.{option_map, option_or}
+use Rattle.std.specs.Prelude.{ℕ, ◌≡◌, ◌<◌, ◌≤◌, Bool, true, false, IfSome, List, [], ◌∷◌, length, map, drop, slice_get, Option, Some, None, Result, Ok, Err}
+use Rattle.std.specs.Option.{option_map, option_or, ForSome}
 use Rattle.relax_edges.specs.declared.kinds.ArchName.{ArchName}
 use Rattle.relax_edges.specs.declared.kinds.ObsMode.{ObsMode}
 use Rattle.relax_edges.specs.declared.kinds.ObsMode.TheVariants.{Accept}
-use Rattle.diy_words.specs.declared.request.EdgeList.{EdgeList}
+use Rattle.relax_edges.specs.declared.TheConstants.{MAX_EDGES}
+use Rattle.relax_edges.specs.declared.edge.Edge.{Edge}
+use Rattle.edge_lists.specs.declared.list.EdgeList.{EdgeList}
+use Rattle.edge_lists.specs.declared.list.EdgeList.TheVariants.{Whole, TooLong}
+use Rattle.edge_lists.specs.Kept.{kept, added}
+use Rattle.edge_algebra.specs.Compose.{composed}
+use Rattle.std.specs.Result.{result_ok}
+use Rattle.diy_words.specs.declared.request.Diy.{Diy}
+use Rattle.diy_words.specs.declared.request.TheConstants.{MAX_FOLDER}
 use Rattle.diy_words.specs.declared.options.OptionName.{OptionName}
-use Rattle.diy_words.specs.declared.request.EdgeList.TheVariants.{Whole}
 use Rattle.diy_words.specs.declared.request.Request.{Request}
 use Rattle.diy_words.specs.declared.request.Request.TheVariants as requests
 use Rattle.diy_words.specs.declared.request.Sought.{Sought}
@@ -17,14 +24,12 @@ use Rattle.diy_words.specs.Names.{is_name}
 use Rattle.diy_words.specs.declared.said.Said.{Said}
 use Rattle.diy_words.specs.declared.usage.Usage.{Usage}
 use Rattle.diy_words.specs.declared.usage.UsageKind.TheVariants.{MissingArch, StrayWord, NotBuilt}
-use Rattle.diy_words.specs.Edges.{kept}
-use Rattle.diy_words.specs.Kept.{added}
 use Rattle.diy_words.specs.Parts.{parts_of, option_named}
-use Rattle.diy_words.specs.Requests.{Asked, AsksTest, AsksName, OfEdges, OfName, SaysArch, SaysName, SaysMode, SaysFrom, SaysEdges, said_by}
+use Rattle.diy_words.specs.Requests.{Asked, AsksTest, AsksName, AsksList, AsksFamilies, AsksSum, ListAsked, OfEdges, OfName, OfLines, SaysArch, SaysName, SaysMode, SaysFrom, SaysEdges, SaysRelaxes, SaysSize, SaysExact, SaysThreads, SaysAfter, SaysFolder, SaysLog, said_by, list_with, families_with}
 use Rattle.diy_words.specs.Requests as req
 
--- what is held: the last architecture, name and mode that were given, where the last value of `-from` and the first
--- operand stand, and the edges
+-- what is held: the last of each thing that was given, where the last value of `-from` and the first operand of edges
+-- stand, and the edges
 pub record Held : Type 0 where
   pub arch : Option ArchName
   pub name : Option (List ℕ)
@@ -32,14 +37,46 @@ pub record Held : Type 0 where
   pub from : Option (ℕ × List ℕ)
   pub operand : Option ℕ
   pub edges : EdgeList
+  pub relaxes : Option (List (List Edge))
+  pub size : ℕ
+  pub exact : Bool
+  pub threads : ℕ
+  pub after : Option (List Edge)
+  pub folder : Option (List ℕ)
 
 -- what the code holds
 abbrev pub held : Said → Held
-held said = record { arch = said.arch; name = option_map (λ name. name.bytes) said.name; mode = said.mode; from = option_map (λ from. (from.word, from.name.now)) said.from; operand = said.operand; edges = said.edges }
+held said = record {
+  arch = said.arch;
+  name = option_map (λ name. name.bytes) said.name;
+  mode = said.mode;
+  from = option_map (λ from. (from.word, from.name.now)) said.from;
+  operand = said.operand;
+  edges = said.edges;
+  relaxes = said.relaxes;
+  size = said.limits.size;
+  exact = said.limits.exact;
+  threads = said.threads;
+  after = said.after;
+  folder = option_map (λ folder. folder.now) said.folder;
+}
 
 -- nothing yet
 abbrev pub nothing_held : Held
-nothing_held = record { arch = None; name = None; mode = Accept; from = None; operand = None; edges = Whole (record { items = [] }) }
+nothing_held = record {
+  arch = None;
+  name = None;
+  mode = Accept;
+  from = None;
+  operand = None;
+  edges = kept [];
+  relaxes = None;
+  size = 6;
+  exact = false;
+  threads = 4;
+  after = None;
+  folder = None;
+}
 
 -- what is held after a part of the words
 abbrev pub absorbed : Held → Result req.Said Usage → Result Held Usage
@@ -48,6 +85,13 @@ absorbed h (Ok (SaysName name)) = Ok (record h { name = Some name })
 absorbed h (Ok (SaysMode mode)) = Ok (record h { mode = mode })
 absorbed h (Ok (SaysFrom at name)) = Ok (record h { from = Some (at, name) })
 absorbed h (Ok (SaysEdges at edges)) = Ok (record h { operand = option_or h.operand (Some at); edges = added h.edges edges })
+absorbed h (Ok (SaysRelaxes relaxes)) = Ok (record h { relaxes = Some relaxes })
+absorbed h (Ok (SaysSize size)) = Ok (record h { size = size })
+absorbed h (Ok SaysExact) = Ok (record h { exact = true })
+absorbed h (Ok (SaysThreads threads)) = Ok (record h { threads = threads })
+absorbed h (Ok (SaysAfter cycle)) = Ok (record h { after = Some cycle })
+absorbed h (Ok (SaysFolder folder)) = Ok (record h { folder = Some folder })
+absorbed h (Ok SaysLog) = Ok h
 absorbed h (Err usage) = Err usage
 
 -- what a call leaves held, or its fault
@@ -63,22 +107,37 @@ all_absorbed (Err usage) (said ∷ rest) = all_absorbed (Err usage) rest
 
 -- what the words from a place on say
 abbrev pub saying_from : Tool → List (List ℕ) → ℕ → List (Result req.Said Usage)
-saying_from tool words at = map said_by (parts_of tool at (drop at words))
+saying_from tool words at = map (said_by tool) (parts_of tool at (drop at words))
 
 -- the cycle that is sought, as it is kept
 abbrev pub IsSought : Sought → req.Sought → Type 0
 IsSought (sought.Edges list) (OfEdges es) = list ≡ kept es
-IsSought (sought.Edges list) (OfName at name) = ⊥
-IsSought (sought.Named from) (OfEdges es) = ⊥
 IsSought (sought.Named from) (OfName at name) = (from.word ≡ at) × (from.name.now ≡ name)
+IsSought sought.Lines OfLines = Unit {0}
+IsSought _ _ = ⊥
+
+-- a listing as it is kept
+abbrev pub list_kept : Diy → ListAsked
+list_kept request = record {
+  arch = request.arch;
+  relaxes = request.relaxes;
+  size = request.limits.size;
+  exact = request.limits.exact;
+  threads = request.threads;
+  mode = request.mode;
+  after = request.after;
+  folder = option_map (λ folder. folder.now) request.folder;
+}
 
 -- the request as it is kept
 abbrev pub IsKept : Request → Asked → Type 0
 IsKept (requests.Test request) (AsksTest asked) =
     (request.arch ≡ asked.arch) × (option_map (λ name. name.bytes) request.name ≡ asked.name) × (request.mode ≡ asked.mode) × (request.edges ≡ kept asked.edges)
-IsKept (requests.Test request) (AsksName asked) = ⊥
-IsKept (requests.Name request) (AsksTest asked) = ⊥
 IsKept (requests.Name request) (AsksName asked) = (request.arch ≡ asked.arch) × IsSought request.cycle asked.cycle
+IsKept (requests.List request) (AsksList asked) = list_kept request ≡ asked
+IsKept (requests.Families arch) (AsksFamilies asked) = arch ≡ asked
+IsKept requests.Sum AsksSum = Unit {0}
+IsKept _ _ = ⊥
 
 -- a call gives the request that words make, or their first fault
 abbrev pub Gives : Result Request Usage → Result Asked Usage → Type 0
@@ -87,10 +146,12 @@ Gives (Ok request) (Err usage) = ⊥
 Gives (Err usage) (Ok asked) = ⊥
 Gives (Err usage) (Err fault) = usage ≡ fault
 
--- the name of a test that is asked for, if one is given, has its form
-abbrev pub NamesTest : Request → Type 0
-NamesTest (requests.Test request) = IfSome request.name (λ name. is_name name.bytes ≡ true)
-NamesTest (requests.Name request) = Unit {0}
+-- the name of a test that is asked for, if one is given, has its form; the cycles of a listing have at most as many edges as
+-- there may be, and so have the bytes of its folder
+abbrev pub HasForm : Request → Type 0
+HasForm (requests.Test request) = IfSome request.name (λ name. is_name name.bytes ≡ true)
+HasForm (requests.List request) = (request.limits.size ≤ MAX_EDGES) × ForSome request.folder (λ folder. length folder.now ≤ MAX_FOLDER)
+HasForm _ = Unit {0}
 
 -- a call that takes in the part of the words at a place gives the place behind it, or the fault there: what is held
 -- after all words stays the same
@@ -114,6 +175,7 @@ finished count (Some arch) name mode edges = Ok (record { arch = arch; name = na
 pub data SoughtHeld : Type 0 where
   HeldEdges : EdgeList → SoughtHeld
   HeldName : ℕ → List ℕ → SoughtHeld
+  HeldLines : SoughtHeld
 
 pub record NameHeld : Type 0 where
   pub arch : ArchName
@@ -122,10 +184,11 @@ pub record NameHeld : Type 0 where
 abbrev pub sought_held : Sought → SoughtHeld
 sought_held (sought.Edges list) = HeldEdges list
 sought_held (sought.Named from) = HeldName from.word from.name.now
+sought_held sought.Lines = HeldLines
 
 abbrev pub named : ℕ → Option ArchName → Option (ℕ × List ℕ) → Option ℕ → EdgeList → Result NameHeld Usage
 named count None _ _ edges = Err (record { word = count; kind = MissingArch })
-named count (Some arch) None None edges = Err (record { word = count; kind = NotBuilt })
+named count (Some arch) None None edges = Ok (record { arch = arch; cycle = HeldLines })
 named count (Some arch) (Some from) None edges = Ok (record { arch = arch; cycle = HeldName from.0 from.1 })
 named count (Some arch) None (Some operand) edges = Ok (record { arch = arch; cycle = HeldEdges edges })
 named count (Some arch) (Some from) (Some operand) edges = Err (record { word = operand; kind = StrayWord })
@@ -134,23 +197,32 @@ named count (Some arch) (Some from) (Some operand) edges = Err (record { word = 
 pub data Kept : Type 0 where
   KeepsTest : AskedHeld → Kept
   KeepsName : NameHeld → Kept
+  KeepsList : ListAsked → Kept
+  KeepsFamilies : ArchName → Kept
+  KeepsSum : Kept
 
 abbrev pub keeps : {X : Type 0} → (X → Kept) → Result X Usage → Result Kept Usage
 keeps request (Ok asked) = Ok (request asked)
 keeps request (Err usage) = Err usage
 
--- the requests of diyone7 and of norm7 from what is held
+-- the requests of diyone7, norm7 and diy7 from what is held
 abbrev pub test_held : ℕ → Held → Result AskedHeld Usage
 test_held count h = finished count h.arch h.name h.mode h.edges
 
 abbrev pub name_held : ℕ → Held → Result NameHeld Usage
 name_held count h = named count h.arch h.from h.operand h.edges
 
+abbrev pub list_held : ℕ → Held → Result ListAsked Usage
+list_held count h = list_with count h.arch h.relaxes h.size h.exact h.threads h.mode h.after h.folder
+
 -- the request of a tool from what is held after all words
 abbrev pub tool_held : Tool → ℕ → Result Held Usage → Result Kept Usage
 tool_held tool count (Err usage) = Err usage
 tool_held tools.DiyOne count (Ok h) = keeps KeepsTest (test_held count h)
+tool_held tools.Diy count (Ok h) = keeps KeepsList (list_held count h)
 tool_held tools.Norm count (Ok h) = keeps KeepsName (name_held count h)
+tool_held tools.Classify count (Ok h) = keeps KeepsFamilies (families_with count h.arch)
+tool_held tools.Msum count (Ok h) = Ok KeepsSum
 tool_held tools.Later count (Ok h) = Err (record { word = 0; kind = NotBuilt })
 
 -- a request as it is shown
@@ -158,13 +230,16 @@ abbrev pub shown_request : Request → Kept
 shown_request (requests.Test request) =
     KeepsTest (record { arch = request.arch; name = option_map (λ name. name.bytes) request.name; mode = request.mode; edges = request.edges })
 shown_request (requests.Name request) = KeepsName (record { arch = request.arch; cycle = sought_held request.cycle })
+shown_request (requests.List request) = KeepsList (list_kept request)
+shown_request (requests.Families arch) = KeepsFamilies arch
+shown_request requests.Sum = KeepsSum
 
 -- what a call gives
 abbrev pub shown : Result Request Usage → Result Kept Usage
 shown (Ok request) = Ok (shown_request request)
 shown (Err usage) = Err usage
 
--- the word at a place is no option
+-- the word at a place is no option that takes a value
 abbrev pub IsPlain : Tool → List (List ℕ) → ℕ → Type 0
 IsPlain tool words at = (word : List ℕ) → slice_get words at ≡ Some word → option_named tool word ≡ None
 
@@ -173,3 +248,8 @@ pub record IsOption (tool : Tool) (words : List (List ℕ)) (at : ℕ) (option :
   pub word : List ℕ
   pub stands : slice_get words at ≡ Some word
   pub named : option_named tool word ≡ Some option
+
+-- the cycle that edges make, as they are kept, if they make one
+abbrev pub cycle_kept : EdgeList → Option (List Edge)
+cycle_kept (Whole list) = result_ok (composed list.items)
+cycle_kept TooLong = None

@@ -1,6 +1,6 @@
 pub mod Names
 pub mod Edges
+pub mod Numbers
 pub mod Parts
 pub mod Requests
-pub mod Kept
 pub mod Given

@@ -1,4 +1,4 @@
--- The words behind the tool's name: options, each with the word behind it as its value, and operands.
+-- The words behind the tool's name: options, each with the word behind it as its value, and the words that stand alone.
 use Rattle.std.specs.Prelude.{ℕ, ◌+◌, List, [], ◌∷◌, Option, Some, None, codes, if◌then◌else◌}
 use Rattle.std.specs.Str.{bytes_eq}
 use Rattle.relax_edges.specs.declared.kinds.ArchName.{ArchName}
@@ -17,13 +17,18 @@ named (row ∷ rows) text = if bytes_eq text row.0 then Some row.1 else named ro
 
 -- the tools by their names
 abbrev pub tool_named : List ℕ → Option Tool
-tool_named = named ((codes "diyone7", tools.DiyOne) ∷ (codes "diy7", tools.Later) ∷ (codes "diycross7", tools.Later) ∷
-    (codes "norm7", tools.Norm) ∷ (codes "classify7", tools.Later) ∷ (codes "msum7", tools.Later) ∷ (codes "demo", tools.Later) ∷ [])
+tool_named = named ((codes "diyone7", tools.DiyOne) ∷ (codes "diy7", tools.Diy) ∷ (codes "diycross7", tools.Later) ∷
+    (codes "norm7", tools.Norm) ∷ (codes "classify7", tools.Classify) ∷ (codes "msum7", tools.Msum) ∷ (codes "demo", tools.Later) ∷ [])
 
--- the options of a tool by their names
+-- the options of a tool that take a value, by their names
 abbrev pub options_of : Tool → List (List ℕ × OptionName)
 options_of tools.DiyOne = (codes "-arch", opts.Arch) ∷ (codes "-name", opts.Name) ∷ (codes "-obs", opts.Obs) ∷ []
+options_of tools.Diy =
+    (codes "-arch", opts.Arch) ∷ (codes "-edges", opts.Edges) ∷ (codes "-size", opts.Size) ∷ (codes "-nprocs", opts.Nprocs)
+    ∷ (codes "-obs", opts.Obs) ∷ (codes "-after", opts.After) ∷ (codes "-o", opts.Folder) ∷ []
 options_of tools.Norm = (codes "-arch", opts.Arch) ∷ (codes "-from", opts.From) ∷ []
+options_of tools.Classify = (codes "-arch", opts.Arch) ∷ []
+options_of tools.Msum = []
 options_of tools.Later = []
 
 abbrev pub option_named : Tool → List ℕ → Option OptionName
@@ -37,9 +42,9 @@ arch_named = named ((codes "X86", archs.X86) ∷ (codes "PPC", archs.PPC) ∷ (c
 abbrev pub mode_named : List ℕ → Option ObsMode
 mode_named = named ((codes "accept", modes.Accept) ∷ (codes "avoid", modes.Avoid) ∷ (codes "force", modes.Force) ∷ [])
 
--- a part of the words: an operand at its place, or an option at its place with its value, if there is one
+-- a part of the words: a word that stands alone, at its place, or an option at its place with its value, if there is one
 pub data Part : Type 0 where
-  Operand : ℕ → List ℕ → Part
+  Alone : ℕ → List ℕ → Part
   Valued : OptionName → ℕ → List ℕ → Part
   Unvalued : OptionName → ℕ → Part
 
@@ -53,10 +58,10 @@ abbrev pub waiting_at : Option OptionName → ℕ → Waiting
 waiting_at (Some option) at = Waits option at
 waiting_at None at = Ready
 
--- a word that is no option is an operand before the rest
-abbrev pub operand_before : Option OptionName → ℕ → List ℕ → List Part → List Part
-operand_before (Some _) at word rest = rest
-operand_before None at word rest = Operand at word ∷ rest
+-- a word that is no such option stands alone before the rest
+abbrev pub alone_before : Option OptionName → ℕ → List ℕ → List Part → List Part
+alone_before (Some _) at word rest = rest
+alone_before None at word rest = Alone at word ∷ rest
 
 -- the parts of the words of a tool, the first of which stands at a place, behind an option that waits
 abbrev pub parts_from : Tool → Waiting → ℕ → List (List ℕ) → List Part
@@ -64,7 +69,7 @@ parts_from tool Ready at [] = []
 parts_from tool (Waits option place) at [] = Unvalued option place ∷ []
 parts_from tool (Waits option place) at (value ∷ words) = Valued option place value ∷ parts_from tool Ready (at + 1) words
 parts_from tool Ready at (word ∷ words) =
-    operand_before (option_named tool word) at word (parts_from tool (waiting_at (option_named tool word) at) (at + 1) words)
+    alone_before (option_named tool word) at word (parts_from tool (waiting_at (option_named tool word) at) (at + 1) words)
 
 -- the parts of the words of a tool, the first of which stands at a place
 abbrev pub parts_of : Tool → ℕ → List (List ℕ) → List Part

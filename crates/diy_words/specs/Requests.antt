@@ -1,28 +1,48 @@
 -- The request that words make, or the first fault among them. Words are judged from left to right, an option with its
 -- value; then all of them. Source: own, after the command lines of the diy tools.
-use Rattle.std.specs.Prelude.{ℕ, ◌+◌, ◌==◌, Bool, false, if◌then◌else◌, List, [], ◌∷◌, ◌++◌, length, map, Option, Some, None, Result, Ok, Err}
+use Rattle.std.specs.Prelude.{ℕ, ◌+◌, ◌==◌, ◌&&◌, Bool, true, false, nat_lt, nat_le, if◌then◌else◌, List, [], ◌∷◌, ◌++◌, length, map, Option, Some, None, Result, Ok, Err, codes}
 use Rattle.std.specs.Option.{option_or}
+use Rattle.std.specs.List.{list_any}
+use Rattle.std.specs.Str.{bytes_eq}
+use Rattle.relax_edges.specs.declared.TheConstants.{MAX_EDGES}
+use Rattle.relax_edges.specs.declared.relax_error.RelaxKind.{RelaxKind}
+use Rattle.relax_edges.specs.declared.relax_error.RelaxKind.TheVariants as relaxing
+use Rattle.relax_edges.specs.declared.relax_error.RelaxError.{RelaxError}
+use Rattle.relax_edges.specs.Relaxations.{relaxes_of}
+use Rattle.edge_algebra.specs.declared.errors.CycleError.{CycleError}
+use Rattle.edge_algebra.specs.Compose.{composed}
+use Rattle.edge_lists.specs.declared.read.Separators.TheVariants.{BlanksAndCommas}
+use Rattle.edge_lists.specs.Spelled.{edges_of}
 use Rattle.relax_edges.specs.declared.kinds.ArchName.{ArchName}
 use Rattle.relax_edges.specs.declared.kinds.ObsMode.{ObsMode}
 use Rattle.relax_edges.specs.declared.kinds.ObsMode.TheVariants.{Accept}
 use Rattle.relax_edges.specs.declared.edge.Edge.{Edge}
 use Rattle.diy_words.specs.declared.usage.Usage.{Usage}
 use Rattle.diy_words.specs.declared.usage.UsageKind.{UsageKind}
-use Rattle.diy_words.specs.declared.usage.UsageKind.TheVariants.{UnknownTool, UnknownOption, MissingValue, UnknownArch, BadMode, BadName, UnknownEdge, StrayWord, MissingArch, NotBuilt}
+use Rattle.diy_words.specs.declared.usage.UsageKind.TheVariants.{UnknownTool, UnknownOption, MissingValue, BadNumber, UnknownArch, BadMode, BadName, BadFolder, UnknownEdge, BadBracket, RelaxTooLong, DoesNotJoin, TooManyRelaxes, BadAfter, StrayWord, MissingArch, MissingEdges, NotBuilt}
+use Rattle.diy_words.specs.declared.request.TheConstants.{MAX_FOLDER}
 use Rattle.diy_words.specs.declared.options.Tool.{Tool}
 use Rattle.diy_words.specs.declared.options.Tool.TheVariants as tools
 use Rattle.diy_words.specs.declared.options.OptionName.TheVariants as opts
 use Rattle.diy_words.specs.Names.{is_name}
+use Rattle.diy_words.specs.Numbers.{number_to}
 use Rattle.diy_words.specs.Edges.{operand_edges}
-use Rattle.diy_words.specs.Parts.{Part, Operand, Valued, Unvalued, parts_of, tool_named, arch_named, mode_named}
+use Rattle.diy_words.specs.Parts.{Part, Alone, Valued, Unvalued, parts_of, tool_named, arch_named, mode_named}
 
--- what a word says, an option with its value; the value of `-from` and an operand with their places
+-- what a word says, an option with its value; the value of `-from` and an operand of edges with their places
 pub data Said : Type 0 where
   SaysArch : ArchName → Said
   SaysName : List ℕ → Said
   SaysMode : ObsMode → Said
   SaysFrom : ℕ → List ℕ → Said
   SaysEdges : ℕ → List Edge → Said
+  SaysRelaxes : List (List Edge) → Said
+  SaysSize : ℕ → Said
+  SaysExact : Said
+  SaysThreads : ℕ → Said
+  SaysAfter : List Edge → Said
+  SaysFolder : List ℕ → Said
+  SaysLog : Said
 
 -- what diyone7 is asked for: a test, under a name that is given or that of its cycle
 pub record TestAsked : Type 0 where
@@ -31,20 +51,37 @@ pub record TestAsked : Type 0 where
   pub mode : ObsMode
   pub edges : List Edge
 
--- of which cycle norm7 is asked for the name: of the one that edges make, or of the one that has a name, the word at a place
+-- of which cycles norm7 is asked for the names: of the one that edges make, of the one that has a name, the word at a place,
+-- or of those that the lines of the input hold
 pub data Sought : Type 0 where
   OfEdges : List Edge → Sought
   OfName : ℕ → List ℕ → Sought
+  OfLines : Sought
 
--- what norm7 is asked for: the name and the edges of a cycle
+-- what norm7 is asked for: the names and the edges of cycles
 pub record NameAsked : Type 0 where
   pub arch : ArchName
   pub cycle : Sought
 
--- what words ask for
+-- what diy7 is asked for: the tests of the cycles of a listing, each in a file
+pub record ListAsked : Type 0 where
+  pub arch : ArchName
+  pub relaxes : List (List Edge)
+  pub size : ℕ
+  pub exact : Bool
+  pub threads : ℕ
+  pub mode : ObsMode
+  pub after : Option (List Edge)
+  pub folder : Option (List ℕ)
+
+-- what words ask for: a test; the names of cycles; the tests of a listing; the names of the cycles of the input's lines by
+-- their families; the sum of the logs that the words behind the first name, or of the input where there is none
 pub data Asked : Type 0 where
   AsksTest : TestAsked → Asked
   AsksName : NameAsked → Asked
+  AsksList : ListAsked → Asked
+  AsksFamilies : ArchName → Asked
+  AsksSum : Asked
 
 -- a fault at a word
 abbrev pub fault : ℕ → UsageKind → Result Said Usage
@@ -69,19 +106,74 @@ abbrev pub edges_said : ℕ → Option (List Edge) → Result Said Usage
 edges_said at (Some es) = Ok (SaysEdges at es)
 edges_said at None = fault at UnknownEdge
 
+-- what is wrong with relaxations, as a fault of words
+abbrev pub relax_usage : RelaxKind → UsageKind
+relax_usage relaxing.UnknownEdge = UnknownEdge
+relax_usage relaxing.BadBracket = BadBracket
+relax_usage relaxing.RelaxTooLong = RelaxTooLong
+relax_usage relaxing.DoesNotJoin = DoesNotJoin
+relax_usage relaxing.TooManyRelaxes = TooManyRelaxes
+
+-- the value of `-edges`, at its place
+abbrev pub relaxes_said : ℕ → Result (List (List Edge)) RelaxError → Result Said Usage
+relaxes_said at (Ok relaxes) = Ok (SaysRelaxes relaxes)
+relaxes_said at (Err error) = fault at (relax_usage error.kind)
+
+-- the value of `-size`, and that of `-nprocs`, at its place
+abbrev pub size_said : ℕ → Option ℕ → Result Said Usage
+size_said at (Some size) = Ok (SaysSize size)
+size_said at None = fault at BadNumber
+
+abbrev pub threads_said : ℕ → Option ℕ → Result Said Usage
+threads_said at (Some threads) = Ok (SaysThreads threads)
+threads_said at None = fault at BadNumber
+
+-- the value of `-after`, at its place: edges that make a cycle, of whatever architecture
+abbrev pub cycle_said : ℕ → Result (List Edge) CycleError → Result Said Usage
+cycle_said at (Ok cycle) = Ok (SaysAfter cycle)
+cycle_said at (Err error) = fault at BadAfter
+
+abbrev pub after_said : ℕ → Option (List Edge) → Result Said Usage
+after_said at (Some edges) = cycle_said at (composed edges)
+after_said at None = fault at UnknownEdge
+
+-- the value of `-o`, at its place
+abbrev pub folder_said : ℕ → List ℕ → Result Said Usage
+folder_said at text =
+    if nat_lt 0 (length text) && nat_le (length text) MAX_FOLDER then Ok (SaysFolder text) else fault at BadFolder
+
 -- a text begins with `-`
 abbrev pub begins_option : List ℕ → Bool
 begins_option [] = false
 begins_option (byte ∷ _) = byte == 45
 
+-- a word that begins with `-` and stands alone, at its place
+abbrev pub dashed_said : Tool → ℕ → List ℕ → Result Said Usage
+dashed_said tools.Diy at text = if bytes_eq text (codes "-exact") then Ok SaysExact else fault at UnknownOption
+dashed_said _ at text = fault at UnknownOption
+
+-- an operand of a tool, at its place
+abbrev pub operand_said : Tool → ℕ → List ℕ → Result Said Usage
+operand_said tools.DiyOne at text = edges_said at (operand_edges text)
+operand_said tools.Diy at text = fault at StrayWord
+operand_said tools.Norm at text = edges_said at (operand_edges text)
+operand_said tools.Classify at text = fault at NotBuilt
+operand_said tools.Msum at text = Ok SaysLog
+operand_said tools.Later at text = fault at NotBuilt
+
 -- what a word says, an option with its value, or what is wrong with it
-abbrev pub said_by : Part → Result Said Usage
-said_by (Operand at text) = if begins_option text then fault at UnknownOption else edges_said at (operand_edges text)
-said_by (Valued opts.Arch at value) = arch_said (at + 1) (arch_named value)
-said_by (Valued opts.Name at value) = name_said (at + 1) value
-said_by (Valued opts.Obs at value) = mode_said (at + 1) (mode_named value)
-said_by (Valued opts.From at value) = Ok (SaysFrom (at + 1) value)
-said_by (Unvalued _ at) = fault at MissingValue
+abbrev pub said_by : Tool → Part → Result Said Usage
+said_by tool (Alone at text) = if begins_option text then dashed_said tool at text else operand_said tool at text
+said_by tool (Valued opts.Arch at value) = arch_said (at + 1) (arch_named value)
+said_by tool (Valued opts.Name at value) = name_said (at + 1) value
+said_by tool (Valued opts.Obs at value) = mode_said (at + 1) (mode_named value)
+said_by tool (Valued opts.From at value) = Ok (SaysFrom (at + 1) value)
+said_by tool (Valued opts.Edges at value) = relaxes_said (at + 1) (relaxes_of value)
+said_by tool (Valued opts.Size at value) = size_said (at + 1) (number_to MAX_EDGES value)
+said_by tool (Valued opts.Nprocs at value) = threads_said (at + 1) (number_to MAX_EDGES value)
+said_by tool (Valued opts.After at value) = after_said (at + 1) (edges_of BlanksAndCommas value)
+said_by tool (Valued opts.Folder at value) = folder_said (at + 1) value
+said_by tool (Unvalued _ at) = fault at MissingValue
 
 -- something said before the rest, where the rest has no fault
 abbrev pub said_first : Said → Result (List Said) Usage → Result (List Said) Usage
@@ -120,6 +212,31 @@ abbrev pub operand_in : Said → Option ℕ
 operand_in (SaysEdges at _) = Some at
 operand_in _ = None
 
+-- the relaxations, the sizes, the cycle and the folder of a listing
+abbrev pub relaxes_in : Said → Option (List (List Edge))
+relaxes_in (SaysRelaxes relaxes) = Some relaxes
+relaxes_in _ = None
+
+abbrev pub size_in : Said → Option ℕ
+size_in (SaysSize size) = Some size
+size_in _ = None
+
+abbrev pub is_exact : Said → Bool
+is_exact SaysExact = true
+is_exact _ = false
+
+abbrev pub threads_in : Said → Option ℕ
+threads_in (SaysThreads threads) = Some threads
+threads_in _ = None
+
+abbrev pub after_in : Said → Option (List Edge)
+after_in (SaysAfter cycle) = Some cycle
+after_in _ = None
+
+abbrev pub folder_in : Said → Option (List ℕ)
+folder_in (SaysFolder folder) = Some folder
+folder_in _ = None
+
 -- the later of two, where it is there
 abbrev pub or_later : {X : Type 0} → Option X → Option X → Option X
 or_later earlier (Some later) = Some later
@@ -140,23 +257,39 @@ abbrev pub edges_given : List Said → List Edge
 edges_given [] = []
 edges_given (said ∷ rest) = edges_in said ++ edges_given rest
 
+-- what was given, or else what stands for it
+abbrev pub given_or : {X : Type 0} → X → Option X → X
+given_or other (Some given) = given
+given_or other None = other
+
 -- the mode that was given, or else `accept`
 abbrev pub mode_or_accept : Option ObsMode → ObsMode
-mode_or_accept (Some mode) = mode
-mode_or_accept None = Accept
+mode_or_accept mode = given_or Accept mode
 
 -- the request of diyone7 from what was given; `count` is the number of words
 abbrev pub asked_with : ℕ → Option ArchName → Option (List ℕ) → ObsMode → List Edge → Result TestAsked Usage
 asked_with count None name mode edges = Err (record { word = count; kind = MissingArch })
 asked_with count (Some arch) name mode edges = Ok (record { arch = arch; name = name; mode = mode; edges = edges })
 
--- the request of norm7 from what was given: `-from` or operands, and not both
+-- the request of norm7 from what was given: `-from` or operands, and not both, or else the lines of the input
 abbrev pub named_with : ℕ → Option ArchName → Option (ℕ × List ℕ) → Option ℕ → List Edge → Result NameAsked Usage
 named_with count None _ _ edges = Err (record { word = count; kind = MissingArch })
-named_with count (Some arch) None None edges = Err (record { word = count; kind = NotBuilt })
+named_with count (Some arch) None None edges = Ok (record { arch = arch; cycle = OfLines })
 named_with count (Some arch) (Some from) None edges = Ok (record { arch = arch; cycle = OfName from.0 from.1 })
 named_with count (Some arch) None (Some operand) edges = Ok (record { arch = arch; cycle = OfEdges edges })
 named_with count (Some arch) (Some from) (Some operand) edges = Err (record { word = operand; kind = StrayWord })
+
+-- the request of diy7 from what was given
+abbrev pub list_with : ℕ → Option ArchName → Option (List (List Edge)) → ℕ → Bool → ℕ → ObsMode → Option (List Edge) → Option (List ℕ) → Result ListAsked Usage
+list_with count None relaxes size exact threads mode after folder = Err (record { word = count; kind = MissingArch })
+list_with count (Some arch) None size exact threads mode after folder = Err (record { word = count; kind = MissingEdges })
+list_with count (Some arch) (Some relaxes) size exact threads mode after folder =
+    Ok (record { arch = arch; relaxes = relaxes; size = size; exact = exact; threads = threads; mode = mode; after = after; folder = folder })
+
+-- the request of classify7 from what was given
+abbrev pub families_with : ℕ → Option ArchName → Result ArchName Usage
+families_with count None = Err (record { word = count; kind = MissingArch })
+families_with count (Some arch) = Ok arch
 
 -- a request of one of the tools
 abbrev pub asks : {X : Type 0} → (X → Asked) → Result X Usage → Result Asked Usage
@@ -173,18 +306,27 @@ abbrev pub norm_asked : ℕ → List Said → Result NameAsked Usage
 norm_asked count said =
     named_with count (last_given arch_in said) (last_given from_in said) (first_given operand_in said) (edges_given said)
 
+-- the request of diy7 from what its words say; a cycle has at most 6 edges and 4 threads unless words say otherwise
+abbrev pub diy_asked : ℕ → List Said → Result ListAsked Usage
+diy_asked count said =
+    list_with count (last_given arch_in said) (last_given relaxes_in said) (given_or 6 (last_given size_in said)) (list_any is_exact said)
+    (given_or 4 (last_given threads_in said)) (mode_or_accept (last_given mode_in said)) (last_given after_in said) (last_given folder_in said)
+
 -- the request of a tool from what its words say, where no word is faulty
 abbrev pub tool_asked : Tool → ℕ → Result (List Said) Usage → Result Asked Usage
 tool_asked tool count (Err usage) = Err usage
 tool_asked tools.DiyOne count (Ok said) = asks AsksTest (diyone_asked count said)
+tool_asked tools.Diy count (Ok said) = asks AsksList (diy_asked count said)
 tool_asked tools.Norm count (Ok said) = asks AsksName (norm_asked count said)
+tool_asked tools.Classify count (Ok said) = asks AsksFamilies (families_with count (last_given arch_in said))
+tool_asked tools.Msum count (Ok said) = Ok AsksSum
 tool_asked tools.Later count (Ok said) = Err (record { word = 0; kind = NotBuilt })
 
 -- the request of a tool from its words but the first
 abbrev pub asked_for : Option Tool → ℕ → List (List ℕ) → Result Asked Usage
 asked_for None count words = Err (record { word = 0; kind = UnknownTool })
 asked_for (Some tools.Later) count words = Err (record { word = 0; kind = NotBuilt })
-asked_for (Some tool) count words = tool_asked tool count (said_all (map said_by (parts_of tool 1 words)))
+asked_for (Some tool) count words = tool_asked tool count (said_all (map (said_by tool) (parts_of tool 1 words)))
 
 -- the request that words make: the first names the tool
 abbrev pub asked_of : List (List ℕ) → Result Asked Usage

@@ -2,7 +2,7 @@
 #![tactic(auto)]
 
 mod name;
-mod operand;
+mod number;
 mod options;
 mod read;
 mod request;
@@ -10,5 +10,5 @@ mod said;
 mod usage;
 
 pub use read::read_request;
-pub use request::{DiyOne, EdgeList, MAX_NAME, Norm, Request, Sought, Source, TestName};
+pub use request::{Diy, DiyOne, MAX_FOLDER, MAX_NAME, Norm, Request, Sought, Source, TestName};
 pub use usage::{Usage, UsageKind};

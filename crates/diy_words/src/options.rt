@@ -8,18 +8,26 @@ use relax_edges::{ArchName, ObsMode};
 #[derive(Clone, Copy)]
 pub enum Tool {
     DiyOne,
+    Diy,
     Norm,
+    Classify,
+    Msum,
     /// A tool that isn't built yet.
     Later,
 }
 
-/// The options of the tools.
+/// The options of the tools that take a value.
 #[derive(Clone, Copy)]
 pub enum OptionName {
     Arch,
     Name,
     Obs,
     From,
+    Edges,
+    Size,
+    Nprocs,
+    After,
+    Folder,
 }
 
 /// The tool with this name.
@@ -28,24 +36,26 @@ pub fn tool_named(text: &str) -> Option<Tool>
 {
     match text {
         "diyone7" => Some(Tool::DiyOne),
-        "diy7" => Some(Tool::Later),
+        "diy7" => Some(Tool::Diy),
         "diycross7" => Some(Tool::Later),
         "norm7" => Some(Tool::Norm),
-        "classify7" => Some(Tool::Later),
-        "msum7" => Some(Tool::Later),
+        "classify7" => Some(Tool::Classify),
+        "msum7" => Some(Tool::Msum),
         "demo" => Some(Tool::Later),
         _ => None,
     }
 }
 
-/// The option of a tool with this name.
+/// The option of a tool with this name that takes a value.
 pub fn option_named(tool: Tool, text: &str) -> Option<OptionName>
     ensures { result ≡ option_named tool text.now }
 {
     match tool {
         Tool::DiyOne => diyone_option(text),
+        Tool::Diy => diy_option(text),
         Tool::Norm => norm_option(text),
-        Tool::Later => None,
+        Tool::Classify => classify_option(text),
+        Tool::Msum | Tool::Later => None,
     }
 }
 
@@ -56,6 +66,30 @@ fn diyone_option(text: &str) -> Option<OptionName>
         "-arch" => Some(OptionName::Arch),
         "-name" => Some(OptionName::Name),
         "-obs" => Some(OptionName::Obs),
+        _ => None,
+    }
+}
+
+fn diy_option(text: &str) -> Option<OptionName>
+    ensures { result ≡ option_named tools.Diy text.now }
+{
+    match text {
+        "-arch" => Some(OptionName::Arch),
+        "-edges" => Some(OptionName::Edges),
+        "-size" => Some(OptionName::Size),
+        "-nprocs" => Some(OptionName::Nprocs),
+        "-obs" => Some(OptionName::Obs),
+        "-after" => Some(OptionName::After),
+        "-o" => Some(OptionName::Folder),
+        _ => None,
+    }
+}
+
+fn classify_option(text: &str) -> Option<OptionName>
+    ensures { result ≡ option_named tools.Classify text.now }
+{
+    match text {
+        "-arch" => Some(OptionName::Arch),
         _ => None,
     }
 }

@@ -1,10 +1,10 @@
 ghost use Rattle.std.specs.Prelude.{◌≡◌, ◌<◌, ◌+◌, ◌^◌, length, IfOk, Ok};
-ghost use Rattle.diy_words.specs.declared.usage.UsageKind.TheVariants.{MissingArch, NotBuilt};
-ghost use Rattle.diy_words.specs.Requests.{asked_of};
-ghost use Rattle.diy_words.specs.Given.{Gives, NamesTest, Steps, IsPlain, IsOption, held, saying_from, shown, keeps, KeepsTest, KeepsName, tool_held, test_held, name_held, all_absorbed, nothing_held};
+ghost use Rattle.diy_words.specs.declared.usage.UsageKind.TheVariants.{MissingArch};
+ghost use Rattle.diy_words.specs.Requests.{asked_of, families_with};
+ghost use Rattle.diy_words.specs.Given.{Gives, HasForm, Steps, IsPlain, IsOption, held, saying_from, shown, keeps, KeepsTest, KeepsName, KeepsList, KeepsFamilies, tool_held, test_held, name_held, list_held, all_absorbed, nothing_held};
 
 use crate::options::{OptionName, Tool, option_named, tool_named};
-use crate::request::{DiyOne, Norm, Request, Sought};
+use crate::request::{Diy, DiyOne, Norm, Request, Sought};
 use crate::said::{Said, unvalued};
 use crate::usage::{Usage, UsageKind};
 use diy_io::Words;
@@ -14,8 +14,9 @@ use diy_io::Words;
 pub fn read_request(words: &Words) -> Result<Request<'_>, Usage>
     ensures given { Gives result (asked_of words.now) }
 
-    // The name of a test has its form.
-    ensures named { IfOk result NamesTest }
+    // The name of a test has its form; the cycles of a listing have at most `MAX_EDGES` edges, and its
+    // folder at most `MAX_FOLDER` bytes.
+    ensures form { IfOk result HasForm }
 {
     if words.len() == 0 {
         return Err(Usage {
@@ -29,7 +30,10 @@ pub fn read_request(words: &Words) -> Result<Request<'_>, Usage>
             kind: UsageKind::NotBuilt,
         }),
         Some(Tool::DiyOne) => read_words(Tool::DiyOne, words),
+        Some(Tool::Diy) => read_words(Tool::Diy, words),
         Some(Tool::Norm) => read_words(Tool::Norm, words),
+        Some(Tool::Classify) => read_words(Tool::Classify, words),
+        Some(Tool::Msum) => read_words(Tool::Msum, words),
         None => Err(Usage {
             word: 0,
             kind: UsageKind::UnknownTool,
@@ -60,18 +64,18 @@ fn read_part<'a>(
     ensures { Steps tool words.now at (held said.old) (held said.new) result }
 {
     match option_named(tool, words.get(at)) {
-        None => read_operand_at(tool, words, at, said),
+        None => read_alone_at(tool, words, at, said),
         Some(option) => read_option_at(tool, words, at, option, said),
     }
 }
 
-fn read_operand_at(tool: Tool, words: &Words, at: usize, said: &mut Said) -> Result<usize, Usage>
+fn read_alone_at(tool: Tool, words: &Words, at: usize, said: &mut Said) -> Result<usize, Usage>
     requires within { at < length words.now }
-    requires operand { IsPlain tool words.now at }
+    requires alone { IsPlain tool words.now at }
     ensures { Steps tool words.now at (held said.old) (held said.new) result }
 {
     let _count = words.len();
-    match said.take_operand(at, words.get(at)) {
+    match said.take_alone(tool, at, words.get(at)) {
         Ok(()) => Ok(at + 1),
         Err(usage) => Err(usage),
     }
@@ -88,12 +92,11 @@ fn read_option_at<'a>(
     requires named { IsOption tool words.now at option }
     ensures { Steps tool words.now at (held said.old) (held said.new) result }
 {
-    let _tool = tool;
     let count = words.len();
     if count - at == 1 {
-        return Err(unvalued(option, at));
+        return Err(unvalued(tool, option, at));
     }
-    match said.take_value(option, at, words.get(at + 1)) {
+    match said.take_value(tool, option, at, words.get(at + 1)) {
         Ok(()) => Ok(at + 2),
         Err(usage) => Err(usage),
     }
@@ -105,7 +108,10 @@ fn finish(tool: Tool, count: usize, said: Said<'_>) -> Result<Request<'_>, Usage
 {
     match tool {
         Tool::DiyOne => finish_test(count, said),
+        Tool::Diy => finish_list(count, said),
         Tool::Norm => finish_name(count, said),
+        Tool::Classify => finish_families(count, said),
+        Tool::Msum => Ok(Request::Sum),
         Tool::Later => Err(Usage {
             word: 0,
             kind: UsageKind::NotBuilt,
@@ -127,6 +133,51 @@ fn finish_test(count: usize, said: Said<'_>) -> Result<Request<'_>, Usage>
     }))
 }
 
+fn finish_list(count: usize, said: Said<'_>) -> Result<Request<'_>, Usage>
+    ensures { shown result ≡ keeps KeepsList (list_held count (held said.entry)) }
+{
+    let Said {
+        arch,
+        relaxes,
+        limits,
+        threads,
+        mode,
+        after,
+        folder,
+        name: _,
+        from: _,
+        operand: _,
+        edges: _,
+    } = said;
+    let Some(arch) = arch else {
+        return Err(missing_arch(count));
+    };
+    let Some(relaxes) = relaxes else {
+        return Err(Usage {
+            word: count,
+            kind: UsageKind::MissingEdges,
+        });
+    };
+    Ok(Request::List(Diy {
+        arch,
+        relaxes,
+        limits,
+        threads,
+        mode,
+        after,
+        folder,
+    }))
+}
+
+fn finish_families(count: usize, said: Said<'_>) -> Result<Request<'_>, Usage>
+    ensures { shown result ≡ keeps KeepsFamilies (families_with count (held said.entry).arch) }
+{
+    match said.arch {
+        Some(arch) => Ok(Request::Families(arch)),
+        None => Err(missing_arch(count)),
+    }
+}
+
 fn finish_name(count: usize, said: Said<'_>) -> Result<Request<'_>, Usage>
     ensures { shown result ≡ keeps KeepsName (name_held count (held said.entry)) }
 {
@@ -134,7 +185,7 @@ fn finish_name(count: usize, said: Said<'_>) -> Result<Request<'_>, Usage>
         return Err(missing_arch(count));
     };
     let cycle = match (said.from, said.operand) {
-        (None, None) => return Err(not_built(count)),
+        (None, None) => Sought::Lines,
         (Some(source), None) => Sought::Named(source),
         (None, Some(_)) => Sought::Edges(said.edges),
         (Some(_), Some(word)) => {
@@ -153,15 +204,5 @@ fn missing_arch(count: usize) -> Usage
     Usage {
         word: count,
         kind: UsageKind::MissingArch,
-    }
-}
-
-/// What `count` words ask for isn't built yet.
-fn not_built(count: usize) -> Usage
-    ensures { result ≡ record { word = count; kind = NotBuilt } }
-{
-    Usage {
-        word: count,
-        kind: UsageKind::NotBuilt,
     }
 }

@@ -1,65 +1,52 @@
-ghost use Rattle.std.specs.Prelude.{◌≡◌};
-
-use arrayvec::{ArrayString, ArrayVec};
-use relax_edges::{ArchName, Edge, MAX_EDGES, ObsMode};
+use arrayvec::ArrayString;
+use cycle_enum::Limits;
+use edge_algebra::Cycle;
+use edge_lists::EdgeList;
+use relax_edges::{ArchName, ObsMode, Relaxes};
 
 /// The most bytes that the name of a test has.
 pub const MAX_NAME: usize = 800;
 
+/// The most bytes that the name of a folder has.
+pub const MAX_FOLDER: usize = 1024;
+
 /// The name of a test.
 pub type TestName = ArrayString<MAX_NAME>;
-
-/// The edges that operands hold.
-#[derive(Drop)]
-pub enum EdgeList {
-    /// All of them.
-    Whole(ArrayVec<Edge, MAX_EDGES>),
-    /// There are more than `MAX_EDGES`.
-    TooLong,
-}
-
-impl EdgeList {
-    ghost use Rattle.diy_words.specs.Kept.{pushed};
-
-    /// Keeps one edge more.
-    pub(crate) fn push(&mut self, edge: Edge)
-        ensures { self.new ≡ pushed self.old edge }
-    {
-        if let EdgeList::Whole(list) = self {
-            if list.is_full() {
-                *self = EdgeList::TooLong;
-            } else {
-                list.push(edge);
-            }
-        }
-    }
-}
 
 /// What words ask for.
 #[derive(Drop)]
 pub enum Request<'a> {
     /// A test, of diyone7.
     Test(DiyOne),
-    /// The name of a cycle, of norm7.
+    /// The names of cycles, of norm7.
     Name(Norm<'a>),
+    /// The tests of a listing, of diy7.
+    List(Diy<'a>),
+    /// The names of the cycles of the input's lines by their families, of classify7.
+    Families(ArchName),
+    /// The sum of the logs that the words behind the first name, or of the input where there is no
+    /// such word, of msum7.
+    Sum,
 }
 
 /// What norm7 is asked for.
 #[derive(Drop)]
 pub struct Norm<'a> {
-    /// The architecture of the cycle.
+    /// The architecture of the cycles.
     pub arch: ArchName,
-    /// The cycle.
+    /// The cycles.
     pub cycle: Sought<'a>,
 }
 
-/// The cycle whose name is asked for.
+/// The cycles whose names are asked for.
 #[derive(Drop)]
 pub enum Sought<'a> {
     /// The one that these edges make.
     Edges(EdgeList),
     /// The one that has this name.
     Named(Source<'a>),
+    /// Those of the input's lines.
+    Lines,
 }
 
 /// The value of `-from`.
@@ -82,4 +69,23 @@ pub struct DiyOne {
     pub mode: ObsMode,
     /// The edges of its cycle, as given.
     pub edges: EdgeList,
+}
+
+/// What diy7 is asked for.
+#[derive(Drop)]
+pub struct Diy<'a> {
+    /// The architecture of the tests.
+    pub arch: ArchName,
+    /// The relaxations of which the cycles are made.
+    pub relaxes: Relaxes,
+    /// How many edges the cycles have.
+    pub limits: Limits,
+    /// The most threads of a cycle, those of observers not counted.
+    pub threads: u8,
+    /// When locations have observers.
+    pub mode: ObsMode,
+    /// The cycle behind which the listing begins, if it doesn't begin with the first.
+    pub after: Option<Cycle>,
+    /// The folder of the files, if one is given.
+    pub folder: Option<&'a str>,
 }

@@ -1,16 +1,24 @@
-ghost use Rattle.std.specs.Prelude.{◌≡◌};
-ghost use Rattle.diy_words.specs.Parts.{Part, Operand, Valued, Unvalued};
-ghost use Rattle.std.specs.Prelude.{◌<◌, ◌+◌, ◌^◌, Err};
-ghost use Rattle.diy_words.specs.Parts.{arch_named, mode_named};
-ghost use Rattle.diy_words.specs.Requests.{said_by, arch_said, name_said, mode_said, begins_option};
+ghost use Rattle.std.specs.Prelude.{◌≡◌, ◌<◌, ◌+◌, ◌^◌, Err};
+ghost use Rattle.relax_edges.specs.Relaxations.{relaxes_of};
+ghost use Rattle.relax_edges.specs.declared.TheConstants.{MAX_EDGES};
+ghost use Rattle.edge_lists.specs.declared.read.Separators.TheVariants.{BlanksAndCommas};
+ghost use Rattle.edge_lists.specs.Spelled.{edges_of};
+ghost use Rattle.edge_algebra.specs.Compose.{composed};
+ghost use Rattle.diy_words.specs.Edges.{operand_edges};
+ghost use Rattle.diy_words.specs.Given.{cycle_kept};
+ghost use Rattle.diy_words.specs.Numbers.{number_to};
+ghost use Rattle.diy_words.specs.Parts.{Part, Alone, Valued, Unvalued, arch_named, mode_named};
+ghost use Rattle.diy_words.specs.Requests.{said_by, arch_said, name_said, mode_said, edges_said, relaxes_said, relax_usage, size_said, threads_said, after_said, cycle_said, folder_said, dashed_said, operand_said, begins_option};
 
 use crate::name::name_of;
-use crate::operand::read_operand;
-use crate::options::{OptionName, arch_named, mode_named};
-use crate::request::{EdgeList, Source, TestName};
+use crate::number::number_to;
+use crate::options::{OptionName, Tool, arch_named, mode_named};
+use crate::request::{MAX_FOLDER, Source, TestName};
 use crate::usage::{Usage, UsageKind};
-use arrayvec::ArrayVec;
-use relax_edges::{ArchName, ObsMode};
+use cycle_enum::Limits;
+use edge_algebra::{Cycle, cycle};
+use edge_lists::{EdgeList, Separators, read_edges};
+use relax_edges::{ArchName, Edge, MAX_EDGES, ObsMode, RelaxKind, Relaxes, read_relaxes};
 
 /// What the words have said so far.
 #[derive(Drop)]
@@ -20,9 +28,14 @@ pub struct Said<'a> {
     pub mode: ObsMode,
     /// The value of `-from`.
     pub from: Option<Source<'a>>,
-    /// Where the first operand stands.
+    /// Where the first operand of edges stands.
     pub operand: Option<usize>,
     pub edges: EdgeList,
+    pub relaxes: Option<Relaxes>,
+    pub limits: Limits,
+    pub threads: u8,
+    pub after: Option<Cycle>,
+    pub folder: Option<&'a str>,
 }
 
 impl<'a> Said<'a> {
@@ -37,15 +50,30 @@ impl<'a> Said<'a> {
             mode: ObsMode::Accept,
             from: None,
             operand: None,
-            edges: EdgeList::Whole(ArrayVec::new()),
+            edges: EdgeList::new(),
+            relaxes: None,
+            limits: Limits {
+                size: 6,
+                exact: false,
+            },
+            threads: 4,
+            after: None,
+            folder: None,
         }
     }
 
-    /// Takes in an option at place `at` with its value, which stands behind it.
-    pub fn take_value(&mut self, option: OptionName, at: usize, value: &'a str) -> Result<(), Usage>
+    /// Takes in an option of a tool at place `at` with its value, which stands behind it.
+    pub fn take_value(
+        &mut self,
+        tool: Tool,
+        option: OptionName,
+        at: usize,
+        value: &'a str,
+    ) -> Result<(), Usage>
         requires { at + 1 < 2 ^ 64 }
-        ensures { left_by result (held self.new) ≡ absorbed (held self.old) (said_by (Valued option at value.now)) }
+        ensures { left_by result (held self.new) ≡ absorbed (held self.old) (said_by tool (Valued option at value.now)) }
     {
+        let _tool = tool;
         match option {
             OptionName::Arch => self.take_arch(at + 1, value),
             OptionName::Name => self.take_name(at + 1, value),
@@ -57,6 +85,11 @@ impl<'a> Said<'a> {
                 });
                 Ok(())
             }
+            OptionName::Edges => self.take_relaxes(at + 1, value),
+            OptionName::Size => self.take_size(at + 1, value),
+            OptionName::Nprocs => self.take_threads(at + 1, value),
+            OptionName::After => self.take_after(at + 1, value),
+            OptionName::Folder => self.take_folder(at + 1, value),
         }
     }
 
@@ -105,17 +138,135 @@ impl<'a> Said<'a> {
         }
     }
 
-    /// Takes in an operand at place `at`.
-    pub fn take_operand(&mut self, at: usize, text: &str) -> Result<(), Usage>
-        ensures { left_by result (held self.new) ≡ absorbed (held self.old) (said_by (Operand at text.now)) }
+    fn take_relaxes(&mut self, at: usize, value: &str) -> Result<(), Usage>
+        ensures { left_by result (held self.new) ≡ absorbed (held self.old) (relaxes_said at (relaxes_of value.now)) }
     {
-        if begins_option(text.as_bytes()) {
+        let mut relaxes = Relaxes::new();
+        match read_relaxes(value, &mut relaxes) {
+            Ok(()) => {
+                self.relaxes = Some(relaxes);
+                Ok(())
+            }
+            Err(error) => Err(Usage {
+                word: at,
+                kind: relax_usage(error.kind),
+            }),
+        }
+    }
+
+    fn take_size(&mut self, at: usize, value: &str) -> Result<(), Usage>
+        ensures { left_by result (held self.new) ≡ absorbed (held self.old) (size_said at (number_to MAX_EDGES value.now)) }
+    {
+        match number_to(MAX_EDGES as u8, value) {
+            Some(size) => {
+                self.limits.size = size;
+                Ok(())
+            }
+            None => Err(Usage {
+                word: at,
+                kind: UsageKind::BadNumber,
+            }),
+        }
+    }
+
+    fn take_threads(&mut self, at: usize, value: &str) -> Result<(), Usage>
+        ensures { left_by result (held self.new) ≡ absorbed (held self.old) (threads_said at (number_to MAX_EDGES value.now)) }
+    {
+        match number_to(MAX_EDGES as u8, value) {
+            Some(threads) => {
+                self.threads = threads;
+                Ok(())
+            }
+            None => Err(Usage {
+                word: at,
+                kind: UsageKind::BadNumber,
+            }),
+        }
+    }
+
+    fn take_after(&mut self, at: usize, value: &str) -> Result<(), Usage>
+        ensures { left_by result (held self.new) ≡ absorbed (held self.old) (after_said at (edges_of BlanksAndCommas value.now)) }
+    {
+        let mut edges = EdgeList::new();
+        match read_edges(value.as_bytes(), Separators::BlanksAndCommas, &mut edges) {
+            Ok(()) => match cycle_of(&edges) {
+                Some(cycle) => {
+                    self.after = Some(cycle);
+                    Ok(())
+                }
+                None => Err(Usage {
+                    word: at,
+                    kind: UsageKind::BadAfter,
+                }),
+            },
+            Err(_) => Err(Usage {
+                word: at,
+                kind: UsageKind::UnknownEdge,
+            }),
+        }
+    }
+
+    fn take_folder(&mut self, at: usize, value: &'a str) -> Result<(), Usage>
+        ensures { left_by result (held self.new) ≡ absorbed (held self.old) (folder_said at value.now) }
+    {
+        if value.is_empty() || value.len() > MAX_FOLDER {
             return Err(Usage {
                 word: at,
-                kind: UsageKind::UnknownOption,
+                kind: UsageKind::BadFolder,
             });
         }
-        match read_operand(text, &mut self.edges) {
+        self.folder = Some(value);
+        Ok(())
+    }
+
+    /// Takes in a word of a tool at place `at` that stands alone.
+    pub fn take_alone(&mut self, tool: Tool, at: usize, text: &str) -> Result<(), Usage>
+        ensures { left_by result (held self.new) ≡ absorbed (held self.old) (said_by tool (Alone at text.now)) }
+    {
+        if begins_option(text.as_bytes()) {
+            self.take_dashed(tool, at, text)
+        } else {
+            self.take_operand(tool, at, text)
+        }
+    }
+
+    /// Takes in a word that begins with `-`.
+    fn take_dashed(&mut self, tool: Tool, at: usize, text: &str) -> Result<(), Usage>
+        ensures { left_by result (held self.new) ≡ absorbed (held self.old) (dashed_said tool at text.now) }
+    {
+        match tool {
+            Tool::Diy if text == "-exact" => {
+                self.limits.exact = true;
+                Ok(())
+            }
+            _ => Err(Usage {
+                word: at,
+                kind: UsageKind::UnknownOption,
+            }),
+        }
+    }
+
+    fn take_operand(&mut self, tool: Tool, at: usize, text: &str) -> Result<(), Usage>
+        ensures { left_by result (held self.new) ≡ absorbed (held self.old) (operand_said tool at text.now) }
+    {
+        match tool {
+            Tool::DiyOne | Tool::Norm => self.take_edges(at, text),
+            Tool::Diy => Err(Usage {
+                word: at,
+                kind: UsageKind::StrayWord,
+            }),
+            Tool::Msum => Ok(()),
+            Tool::Classify | Tool::Later => Err(Usage {
+                word: at,
+                kind: UsageKind::NotBuilt,
+            }),
+        }
+    }
+
+    fn take_edges(&mut self, at: usize, text: &str) -> Result<(), Usage>
+        ensures { left_by result (held self.new) ≡ absorbed (held self.old) (edges_said at (operand_edges text.now)) }
+    {
+        match read_edges(text.as_bytes(), Separators::Blanks, &mut self.edges) {
             Ok(()) => {
                 self.operand = self.operand.or(Some(at));
                 Ok(())
@@ -128,11 +279,34 @@ impl<'a> Said<'a> {
     }
 }
 
-/// What is wrong with an option at place `at` that is the last word.
-pub fn unvalued(option: OptionName, at: usize) -> Usage
-    ensures { said_by (Unvalued option at) ≡ Err result }
+/// What is wrong with relaxations, as a fault of words.
+fn relax_usage(kind: RelaxKind) -> UsageKind
+    ensures { result ≡ relax_usage kind }
 {
-    let _ = option;
+    match kind {
+        RelaxKind::UnknownEdge => UsageKind::UnknownEdge,
+        RelaxKind::BadBracket => UsageKind::BadBracket,
+        RelaxKind::RelaxTooLong => UsageKind::RelaxTooLong,
+        RelaxKind::DoesNotJoin => UsageKind::DoesNotJoin,
+        RelaxKind::TooManyRelaxes => UsageKind::TooManyRelaxes,
+    }
+}
+
+/// The cycle that edges make, if they make one.
+fn cycle_of(list: &EdgeList) -> Option<Cycle>
+    ensures { result ≡ cycle_kept list.now }
+{
+    match list {
+        EdgeList::Whole(edges) => cycle(edges.as_slice()).ok(),
+        EdgeList::TooLong => None,
+    }
+}
+
+/// What is wrong with an option at place `at` that is the last word.
+pub fn unvalued(tool: Tool, option: OptionName, at: usize) -> Usage
+    ensures { said_by tool (Unvalued option at) ≡ Err result }
+{
+    let _ = (tool, option);
     Usage {
         word: at,
         kind: UsageKind::MissingValue,

@@ -15,20 +15,36 @@ pub enum UsageKind {
     UnknownOption,
     /// An option that takes a value is the last word.
     MissingValue,
+    /// A number isn't 1 to 7 digits, or is out of its range.
+    BadNumber,
     /// The value of `-arch` is no architecture.
     UnknownArch,
     /// The value of `-obs` is no observer mode.
     BadMode,
     /// The value of `-name` isn't 1 to 800 letters, digits, `+`, `-`, `.` and `_`.
     BadName,
-    /// A word among the operands is no edge.
+    /// The value of `-o` is empty, or has more than 1,024 bytes.
+    BadFolder,
+    /// A word among edges is no edge.
     UnknownEdge,
+    /// A bracket among relaxations is not closed, is empty, holds a bracket, or closes nothing.
+    BadBracket,
+    /// A bracket among relaxations has more than 8 edges.
+    RelaxTooLong,
+    /// No choice of the edges of a relaxation joins.
+    DoesNotJoin,
+    /// There are more than 64 relaxations.
+    TooManyRelaxes,
     /// No cycle of the architecture has the name that `-from` gives.
     UnknownName,
-    /// An operand stands beside `-from`.
+    /// The edges of `-after` make no cycle.
+    BadAfter,
+    /// An operand stands where the tool takes none, or beside `-from`.
     StrayWord,
     /// The tool needs `-arch`, and it isn't there.
     MissingArch,
-    /// The tool, option or value isn't built yet.
+    /// The tool needs `-edges`, and it isn't there.
+    MissingEdges,
+    /// The tool or operand isn't built yet.
     NotBuilt,
 }

@@ -6,20 +6,20 @@ use Rattle.std.proofs.lemmas.Bool.{cases_lt}
 use Rattle.relax_edges.specs.declared.edge.Edge.{Edge}
 use Rattle.walk_laws.specs.Order.{Above, Follows}
 use Rattle.listing_laws.specs.Listing.{IsNext, IsAnswer}
-use Rattle.listing_laws.specs.Search.{Reaches, ToCome, IsRaised, over, replaced, IsExtended, OfLength, LongerThan, IsFirst, IsCut}
+use Rattle.listing_laws.specs.Search.{Reaches, ToCome, StepsOver, over, replaced, IsRaised, IsExtended, OfLength, LongerThan, IsFirst, IsCut}
 use Rattle.walk_laws.proofs.Ordering.{above_longer, above_transitive}
-use Rattle.listing_laws.proofs.Searching.{reaches_cases, reaches_extended, reaches_replaced, above_replaced, none_above, above_u}
+use Rattle.listing_laws.proofs.Searching.{reaches_cases, above_replaced, above_u, to_come_reaches}
 
 module _ (listed : List Edge → Type 0) (says : List Edge → Bool → Type 0) where
-  -- all lists of n edges are to come at the first of all edges
-  pub answer_of_length : (n : ℕ) (start : List Edge) (answer : Option (List Edge)) → 0 < n → IsExtended [] start → IsFirst (OfLength n listed) start answer
+  -- all sought lists of n edges are to come where a search begins
+  pub answer_of_length : (n : ℕ) (start : List Edge) (answer : Option (List Edge)) → 0 < n → IsExtended listed [] start → IsFirst (OfLength n listed) start answer
       → IsAnswer (OfLength n listed) None answer
-  answer_of_length n start answer some x f = from_first answer (rw x.is at f)
+  answer_of_length n start answer some x f = from_first answer f
     where
-      all : (v : List Edge) → OfLength n listed v → ToCome (x.edge ∷ []) v
-      all v is = reaches_extended [] v x.edge x.first (omega (arith, is.long)) tt
+      all : (v : List Edge) → OfLength n listed v → ToCome start v
+      all v is = x.all v is.is (omega (arith, is.long)) tt
 
-      from_first : (answer : Option (List Edge)) → IsFirst (OfLength n listed) (x.edge ∷ []) answer → IsAnswer (OfLength n listed) None answer
+      from_first : (answer : Option (List Edge)) → IsFirst (OfLength n listed) start answer → IsAnswer (OfLength n listed) None answer
       from_first None f = λ v is h. f v is (all v is)
       from_first (Some m) f = record {
         is = f.is;
@@ -43,30 +43,17 @@ module _ (listed : List Edge → Type 0) (says : List Edge → Bool → Type 0) 
       front_of (x ∷ u) r [] h = h
       front_of (x ∷ u) r (y ∷ v) h = elim h [ inl less ↦ inl less | inr both ↦ inr (both.0, front_of u r v both.1) ]
 
-  to_come_raised : (list new m : List Edge) → IsRaised list new → Above list m → ToCome new m
-  to_come_raised list new m (over t e) a = absurd (none_above list m t a)
-  to_come_raised list new m (replaced front x y back u v next t) a =
-      rw v (some front y m (reaches_replaced front x y back m next t (rw u at a)))
-    where
-      some : (front : List Edge) (y : Edge) (m : List Edge) → Reaches (front ++ y ∷ []) m → ToCome (front ++ y ∷ []) m
-      some [] y m h = h
-      some (f ∷ front) y m h = h
-
-  above_raised : (last list new m : List Edge) → IsCut listed says last list → IsRaised list new → ToCome new m → Above last m
-  above_raised last list new m c (over t e) h = absurd (rw e at h)
-  above_raised last list new m c (replaced front x y back u v next t) h =
-      let up : Above list new = rw (u, v) (above_replaced front x y back next) in
-      elim (reaches_cases new m (reached new m h)) [
+  above_raised : (last list new m : List Edge) → IsCut listed says last list → StepsOver list new → ToCome new m → Above last m
+  above_raised last list new m c (over e) h = absurd (rw e at h)
+  above_raised last list new m c (replaced front x y back u v more) h =
+      let up : Above list new = rw (u, v) (above_replaced front x y back more) in
+      elim (reaches_cases new m (to_come_reaches new m h)) [
         | inl b ↦ rw (c.front, b.is) (above_longer list new c.rest b.rest up)
         | inr a ↦ rw (c.front, ← append-nil m) (above_longer list m c.rest [] (above_transitive list new m up a))
       ]
-    where
-      reached : (u m : List Edge) → ToCome u m → Reaches u m
-      reached [] m h = absurd h
-      reached (x ∷ u) m h = h
 
   -- from the last list on: the next of its length
-  pub answer_as_long : (last list new : List Edge) (answer : Option (List Edge)) → IsCut listed says last list → IsRaised list new
+  pub answer_as_long : (last list new : List Edge) (answer : Option (List Edge)) → IsCut listed says last list → IsRaised listed list new
       → IsFirst (OfLength (length last) listed) new answer → IsAnswer (OfLength (length last) listed) (Some last) answer
   answer_as_long last list new None c r f = λ v is h. f v is (later v is h)
     where
@@ -74,17 +61,17 @@ module _ (listed : List Edge → Type 0) (says : List Edge → Bool → Type 0) 
       later v is h =
           elim h [
             | inl less ↦ absurd (omega (arith, is.long))
-            | inr both ↦ to_come_raised list new v r (cut_above last list v c is.is both.1)
+            | inr both ↦ r.all v is.is (cut_above last list v c is.is both.1)
           ]
   answer_as_long last list new (Some m) c r f = record {
     is = f.is;
-    after = inr (sym f.is.long, above_raised last list new m c r f.from);
+    after = inr (sym f.is.long, above_raised last list new m c r.step f.from);
     least = λ v is h b.
         elim h [
           | inl less ↦ absurd (omega (arith, is.long))
           | inr both ↦ elim b [
             | inl less ↦ absurd (omega (arith, is.long, f.is.long))
-            | inr above ↦ f.first v is (to_come_raised list new v r (cut_above last list v c is.is both.1)) above.1
+            | inr above ↦ f.first v is (r.all v is.is (cut_above last list v c is.is both.1)) above.1
           ]
         ];
   }

@@ -7,7 +7,7 @@ use Rattle.relax_edges.specs.Order.{rank_of}
 use Rattle.relax_edges.proofs.Ranks.{rank_below}
 use Rattle.walk_laws.specs.Order.{Above}
 use Rattle.listing_laws.specs.Listing.{ComesAfter}
-use Rattle.listing_laws.specs.Search.{IsRaised, over, replaced, IsExtended}
+use Rattle.listing_laws.specs.Search.{StepsOver, over, replaced, IsRaised, IsExtended}
 use Rattle.listing_laws.specs.Counting.{lists_within, lists_behind, later}
 use Rattle.listing_laws.proofs.Searching.{above_replaced}
 
@@ -68,14 +68,14 @@ above_fewer (suc d) (x ∷ u) (y ∷ v) a b h =
           omega (arith, e, above_fewer d u v (omega arith) (omega arith) both.1)
     ])
 
--- fewer lists come behind a list with the first of all edges behind it
-pub extended_fewer : (d : ℕ) (u : List Edge) (e : Edge) → length u < d → rank_of e ≡ 0 → lists_behind d (u ++ e ∷ []) < lists_behind d u
-extended_fewer zero u e l z = absurd (omega arith)
-extended_fewer (suc d) [] e l z =
+-- fewer lists come behind a longer list
+pub longer_fewer : (d : ℕ) (u : List Edge) (e : Edge) → length u < d → lists_behind d (u ++ e ∷ []) < lists_behind d u
+longer_fewer zero u e l = absurd (omega arith)
+longer_fewer (suc d) [] e l =
     rw (behind-edge d e [], behind-nil d, behind-nil (suc d), within-suc d)
     (omega (arith, one_more (lists_within d) (EDGES - (rank_of e + 1)) EDGES (edges_left e)))
-extended_fewer (suc d) (x ∷ u) e l z =
-    rw (behind-edge d x (u ++ e ∷ []), behind-edge d x u) (omega (arith, extended_fewer d u e (omega arith) z))
+longer_fewer (suc d) (x ∷ u) e l =
+    rw (behind-edge d x (u ++ e ∷ []), behind-edge d x u) (omega (arith, longer_fewer d u e (omega arith)))
 
 -- what is left of a search that stands at a list: nothing where it is over
 abbrev pub to_go : ℕ → List Edge → ℕ
@@ -86,17 +86,23 @@ to_go_some : (n : ℕ) (u : List Edge) → 0 < length u → to_go n u ≡ suc (l
 to_go_some n [] h = absurd (omega arith)
 to_go_some n (x ∷ u) h = refl
 
-pub extended_falls : (n : ℕ) (u v : List Edge) → 0 < length u → length u < n → IsExtended u v → to_go n v < to_go n u
-extended_falls n u v some l x =
-    rw x.is
-    (omega (arith, to_go_some n u some, to_go_some n (u ++ x.edge ∷ []) (omega (arith, length-append u (x.edge ∷ []))), extended_fewer n u x.edge l x.first))
-
-pub raised_falls : (n : ℕ) (u v : List Edge) → 0 < length u → length u ≤ n → IsRaised u v → to_go n v < to_go n u
-raised_falls n u v some l (over t e) = rw (e, to_go_some n u some) (omega arith)
-raised_falls n u v some l (replaced front x y back a b next t) =
+pub steps_fall : (n : ℕ) (u v : List Edge) → 0 < length u → length u ≤ n → StepsOver u v → to_go n v < to_go n u
+steps_fall n u v some l (over e) = rw (e, to_go_some n u some) (omega arith)
+steps_fall n u v some l (replaced front x y back a b more) =
     let long : length u ≡ length front + suc (length back) = ap length a ∙ length-append front (x ∷ back) in
     let short : length v ≡ length front + 1 = ap length b ∙ length-append front (y ∷ []) in
-    omega (arith, to_go_some n u some, to_go_some n v (omega arith), above_fewer n u v (omega arith) (omega arith) (rw (a, b) (above_replaced front x y back next)))
+    omega (arith, to_go_some n u some, to_go_some n v (omega arith), above_fewer n u v (omega arith) (omega arith) (rw (a, b) (above_replaced front x y back more)))
+
+pub raised_falls : (sought : List Edge → Type 0) (n : ℕ) (u v : List Edge) → 0 < length u → length u ≤ n → IsRaised sought u v → to_go n v < to_go n u
+raised_falls sought n u v some l r = steps_fall n u v some l r.step
+
+pub extended_falls : (sought : List Edge → Type 0) (n : ℕ) (u v : List Edge) → 0 < length u → length u < n → IsExtended sought u v → to_go n v < to_go n u
+extended_falls sought n u v some l x =
+    elim x.step [
+      | inl longer ↦ rw longer.is
+          (omega (arith, to_go_some n u some, to_go_some n (u ++ longer.edge ∷ []) (omega (arith, length-append u (longer.edge ∷ []))), longer_fewer n u longer.edge l))
+      | inr step ↦ steps_fall n u v some (omega arith) step
+    ]
 
 -- the number that callers see falls
 pub later_falls : (size : ℕ) (last : Option (List Edge)) (v : List Edge) → ComesAfter last v → length v ≤ size → later size (Some v) < later size last

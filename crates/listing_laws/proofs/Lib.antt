@@ -1,5 +1,6 @@
 pub mod Cuts
 pub mod Answering
+pub mod Candidates
 pub mod Counts
 pub mod Listings
 pub mod Nowhere

@@ -1,22 +1,13 @@
 -- Why no listed cycle begins with a list.
-use Rattle.std.proofs.Common.{◌≡◌, ◌<◌, ℕ, Bool, true, false, List, ◌++◌, length, take, ◌∙◌, sym}
+use Rattle.std.proofs.Common.{◌≡◌, ◌<◌, ℕ, Bool, true, false, List, length}
 use Rattle.relax_edges.specs.declared.edge.Edge.{Edge}
 use Rattle.listing_laws.specs.Asked.{Knows}
 use Rattle.walk_laws.specs.Beginning.{may_begin}
-use Rattle.walk_laws.specs.Composable.{is_joined}
 use Rattle.listing_laws.specs.Listing.{IsListed, IsMadeOf, KeepsLimits}
 use Rattle.listing_laws.specs.Search.{LeadsNowhere, OfLength}
 use Rattle.walk_laws.proofs.Beginnings.{begins_none}
-use Rattle.walk_laws.proofs.Composing.{joined_front}
 
 module _ (takes : List Edge → Type 0) (relaxes : List (List Edge)) (size : ℕ) (exact : Bool) where
-  true_false : true ≡ false → ⊥
-  true_false h = cc
-
-  -- an edge of it doesn't join the next one
-  pub unjoined_nowhere : (u : List Edge) → is_joined u ≡ false → LeadsNowhere (IsListed takes relaxes size exact) u
-  unjoined_nowhere u h r l = true_false (sym (joined_front u r (joined_front (u ++ r) (take 1 (u ++ r)) l.cycle.closed)) ∙ h)
-
   -- a back part of it is less
   pub begins_nowhere : (u : List Edge) → may_begin u ≡ false → LeadsNowhere (IsListed takes relaxes size exact) u
   begins_nowhere u h r l = begins_none u r h l.normal

@@ -1,6 +1,5 @@
 -- A list goes on: the edges that were taken off its end, and the cut of a list.
-use Rattle.std.proofs.Common.{◌≡◌, ◌<◌, ◌≤◌, inl, inr, ℕ, zero, suc, ◌+◌, Bool, true, List, [], ◌∷◌, ◌++◌, length, drop, get_or, add-one, refl, sym, ◌∙◌, ap, arith, append_assoc, length-append}
-use Rattle.std.specs.List.{AllByRecursion}
+use Rattle.std.proofs.Common.{◌≡◌, ◌<◌, ◌≤◌, ◌⊎◌, inl, inr, ℕ, zero, suc, ◌+◌, Bool, true, Some, None, List, [], ◌∷◌, ◌++◌, length, take, drop, get_or, add-one, refl, sym, ◌∙◌, ap, arith, append_assoc, length-append}
 use Rattle.std.proofs.lemmas.List.{append-nil, take_all, take-append-le}
 use Rattle.std.proofs.lemmas.Bool.{cases_lt}
 use Rattle.relax_edges.specs.declared.order.TheConstants.{EDGES}
@@ -8,31 +7,106 @@ use Rattle.relax_edges.specs.declared.edge.Edge.{Edge}
 use Rattle.relax_edges.specs.Order.{rank_of}
 use Rattle.relax_edges.proofs.Ranks.{rank_below}
 use Rattle.listing_laws.specs.Asked.{KeptBelow, KeptWhole}
-use Rattle.listing_laws.specs.Search.{LeadsNowhere, IsTop, IsRaised, over, replaced, IsExtended, IsCut}
+use Rattle.walk_laws.specs.Order.{Above}
+use Rattle.listing_laws.specs.Search.{Reaches, ToCome, LeadsNowhere, NoneBetween, IsNextEdge, StepsOver, over, replaced, IsLonger, IsRaised, IsExtended, IsCut}
+use Rattle.listing_laws.proofs.Searching.{reaches_cases, reaches_beyond, reaches_with, reaches_to_come}
 
--- last edges of all were taken off the end of a list
-pub record Popped (u list : List Edge) : Type 0 where
-  pub back : List Edge
-  pub parts : u ≡ list ++ back
-  pub top : AllByRecursion IsTop back
+-- what is sought among less is not left out
+pub raised_within : (wide sought : List Edge → Type 0) (u v : List Edge) → ((m : List Edge) → sought m → wide m) → IsRaised wide u v → IsRaised sought u v
+raised_within wide sought u v w r = record { step = r.step; all = λ m is a. r.all m (w m is) a }
 
-pub popped_none : (u : List Edge) → Popped u u
-popped_none u = record { back = []; parts = sym (append-nil u); top = tt }
+pub extended_within : (wide sought : List Edge → Type 0) (u v : List Edge) → ((m : List Edge) → sought m → wide m) → IsExtended wide u v → IsExtended sought u v
+extended_within wide sought u v w x = record { step = x.step; all = λ m is l h. x.all m (w m is) l h }
 
-pub popped_more : (u list rest : List Edge) (x : Edge) → Popped u list → list ≡ rest ++ x ∷ [] → EDGES ≤ rank_of x + 1 → Popped u rest
-popped_more u list rest x p is l = record {
-  back = x ∷ p.back;
-  parts = p.parts ∙ rw is (append_assoc rest (x ∷ []) p.back);
-  top = (omega (arith, rank_below x), p.top);
-}
+-- m begins with `front` and an edge greater than x
+record GoesOn (front : List Edge) (x : Edge) (m : List Edge) : Type 0 where
+  edge : Edge
+  rest : List Edge
+  is : m ≡ (front ++ edge ∷ []) ++ rest
+  more : rank_of x < rank_of edge
 
-pub popped_replaced : (u list rest new : List Edge) (x y : Edge) → Popped u list → list ≡ rest ++ x ∷ [] → new ≡ rest ++ y ∷ [] → rank_of y ≡ rank_of x + 1 → IsRaised u new
-popped_replaced u list rest new x y p is to next =
-    replaced rest x y p.back (p.parts ∙ rw is (append_assoc rest (x ∷ []) p.back)) to (omega arith) p.top
+-- what is above a list is above the list without its last edge, or has a greater edge in the place of that one
+above_last : (front : List Edge) (x : Edge) (m : List Edge) → Above (front ++ x ∷ []) m → (Above front m) ⊎ (GoesOn front x m)
+above_last [] x [] a = absurd a
+above_last [] x (z ∷ m) a = elim a [ inl less ↦ inr (record { edge = z; rest = m; is = refl; more = less }) | inr both ↦ absurd both.1 ]
+above_last (f ∷ front) x [] a = absurd a
+above_last (f ∷ front) x (z ∷ m) a =
+    elim a [
+      | inl less ↦ inl (inl less)
+      | inr both ↦ elim (above_last front x m both.1) [
+        | inl b ↦ inl (inr (both.0, b))
+        | inr g ↦ inr (record { edge = g.edge; rest = g.rest; is = cc (both.0, g.is); more = g.more })
+      ]
+    ]
 
-pub popped_all : (u list new : List Edge) → Popped u list → list ≡ [] → new ≡ list → IsRaised u new
-popped_all u list new p is to =
-    over (let e : u ≡ p.back = p.parts ∙ ap (λ w. w ++ p.back) is in rw e p.top) (to ∙ is)
+module _ (sought : List Edge → Type 0) where
+  -- edges were taken off the end of a list: what is sought behind it and all that begin with it is behind what is left of it
+  pub record Popped (u list : List Edge) : Type 0 where
+    pub back : List Edge
+    pub parts : u ≡ list ++ back
+    pub all : (m : List Edge) → sought m → Above u m → Above list m
+
+  pub popped_none : (u : List Edge) → Popped u u
+  popped_none u = record { back = []; parts = sym (append-nil u); all = λ m is a. a }
+
+  pub popped_more : (u list rest : List Edge) (x : Edge) → Popped u list → list ≡ rest ++ x ∷ [] → IsNextEdge sought rest (rank_of x + 1) None → Popped u rest
+  popped_more u list rest x p is none = record {
+    back = x ∷ p.back;
+    parts = p.parts ∙ rw is (append_assoc rest (x ∷ []) p.back);
+    all = λ m s a. elim (above_last rest x m (rw is at (p.all m s a))) [
+      | inl b ↦ b
+      | inr g ↦ absurd (none g.edge (omega (arith, g.more)) (rank_below g.edge) g.rest (rw g.is at s))
+    ];
+  }
+
+  pub popped_replaced : (u list rest new : List Edge) (x y : Edge) → Popped u list → list ≡ rest ++ x ∷ [] → new ≡ rest ++ y ∷ [] → IsNextEdge sought rest (rank_of x + 1) (Some y)
+      → IsRaised sought u new
+  popped_replaced u list rest new x y p is to next = record {
+    step = replaced rest x y p.back (p.parts ∙ rw is (append_assoc rest (x ∷ []) p.back)) to (omega (arith, next.0));
+    all = λ m s a. reaches_to_come new m (omega (arith, ap length to, length-append rest (y ∷ [])))
+        (elim (above_last rest x m (rw is at (p.all m s a))) [
+          | inl b ↦ rw to (reaches_beyond rest (y ∷ []) m b)
+          | inr g ↦ rw (to, g.is) (elim (cases_lt (rank_of g.edge) (rank_of y)) [
+            | inl less ↦ absurd (next.1 g.edge (omega (arith, g.more)) less g.rest (rw g.is at s))
+            | inr more ↦ reaches_with rest y g.edge g.rest more
+          ])
+        ]);
+  }
+
+  pub popped_all : (u list new : List Edge) → Popped u list → list ≡ [] → new ≡ list → IsRaised sought u new
+  popped_all u list new p is to = record { step = over (to ∙ is); all = λ m s a. absurd (rw is at (p.all m s a)) }
+
+  -- no sought list goes on with an edge of the one or the other ranks
+  pub none_of_both : (front : List Edge) (from between to : ℕ) → NoneBetween sought front from between → NoneBetween sought front between to → NoneBetween sought front from to
+  none_of_both front from between to a b e l h = elim (cases_lt (rank_of e) between) [ inl less ↦ a e l less | inr more ↦ b e more h ]
+
+  -- what is at or behind a list, and longer, begins with it and one more edge, or is above it
+  extended_cases : (u m : List Edge) (G : Type 0) → Reaches u m → length u < length m → ((e : Edge) (rest : List Edge) → m ≡ (u ++ e ∷ []) ++ rest → G) → (Above u m → G) → G
+  extended_cases u m G h l begins beyond = elim (reaches_cases u m h) [ inl b ↦ by b.rest b.is | inr a ↦ beyond a ]
+    where
+      by : (rest : List Edge) → m ≡ u ++ rest → G
+      by [] is = absurd (omega (arith, ap length is, length-append u []))
+      by (e ∷ rest) is = begins e rest (is ∙ sym (append_assoc u (e ∷ []) rest))
+
+  pub extended_by : (u new : List Edge) (from : ℕ) (y : Edge) → NoneBetween sought u 0 from → IsNextEdge sought u from (Some y) → new ≡ u ++ y ∷ [] → IsExtended sought u new
+  extended_by u new from y low next to = record {
+    step = inl (record { edge = y; is = to });
+    all = λ m s l h. reaches_to_come new m (omega (arith, ap length to, length-append u (y ∷ [])))
+        (extended_cases u m (Reaches new m) h l
+        (λ e rest is. rw (to, is) (elim (cases_lt (rank_of e) (rank_of y)) [
+          | inl less ↦ absurd (none_of_both u 0 from (rank_of y) low next.1 e (omega arith) less rest (rw is at s))
+          | inr more ↦ reaches_with u y e rest more
+        ]))
+        (λ a. rw to (reaches_beyond u (y ∷ []) m a)));
+  }
+
+  pub extended_none : (u new : List Edge) (from : ℕ) → NoneBetween sought u 0 from → IsNextEdge sought u from None → IsRaised sought u new → IsExtended sought u new
+  extended_none u new from low none r = record {
+    step = inr r.step;
+    all = λ m s l h. extended_cases u m (ToCome new m) h l
+        (λ e rest is. absurd (none_of_both u 0 from EDGES low none e (omega arith) (rank_below e) rest (rw is at s)))
+        (λ a. r.all m s a);
+  }
 
 module _ (sought : List Edge → Type 0) (says : List Edge → Bool → Type 0) where
   -- the pruner says yes on a front part and all that are shorter
@@ -70,22 +144,38 @@ one_further list new edges i d parts h is =
     rw (is, add-one i) (append_assoc list (get_or edges i d ∷ []) (drop (suc i) edges) ∙ ap (λ w. list ++ w) (sym (drop_edge i edges d h)) ∙ parts)
 
 -- a list that went on is no longer, and the pruner said yes on its shorter front parts
-pub raised_few : (u v : List Edge) → IsRaised u v → length v ≤ length u
-raised_few u v (over t e) = rw e (omega arith)
-raised_few u v (replaced front x y back a b next t) =
+steps_few : (u v : List Edge) → StepsOver u v → length v ≤ length u
+steps_few u v (over e) = omega (arith, ap length e)
+steps_few u v (replaced front x y back a b more) =
     omega (arith, ap length a, ap length b, length-append front (x ∷ back), length-append front (y ∷ []))
 
-pub raised_kept : (says : List Edge → Bool → Type 0) (u v : List Edge) → IsRaised u v → KeptBelow says (length u) u → KeptBelow says (length v) v
-raised_kept says u v (over t e) kept k p l = absurd (omega (arith, ap length e))
-raised_kept says u v (replaced front x y back a b next t) kept k p l =
-    let short : k ≤ length front = omega (arith, ap length b, length-append front (y ∷ [])) in
-    let within : k < length u = omega (arith, ap length a, length-append front (x ∷ back)) in
-    rw (b, take-append-le k front (y ∷ []) short) (rw (a, take-append-le k front (x ∷ back) short) at (kept k p within))
+pub raised_few : (sought : List Edge → Type 0) (u v : List Edge) → IsRaised sought u v → length v ≤ length u
+raised_few sought u v r = steps_few u v r.step
+
+pub extended_few : (sought : List Edge → Type 0) (u v : List Edge) → IsExtended sought u v → length v ≤ length u + 1
+extended_few sought u v x =
+    elim x.step [ inl e ↦ omega (arith, ap length e.is, length-append u (e.edge ∷ [])) | inr o ↦ omega (arith, steps_few u v o) ]
+
+pub raised_kept : (sought : List Edge → Type 0) (says : List Edge → Bool → Type 0) (u v : List Edge) → IsRaised sought u v → KeptBelow says (length u) u → KeptBelow says (length v) v
+raised_kept sought says u v r = by r.step
+  where
+    by : StepsOver u v → KeptBelow says (length u) u → KeptBelow says (length v) v
+    by (over e) kept k p l = absurd (omega (arith, ap length e))
+    by (replaced front x y back a b more) kept k p l =
+        let short : k ≤ length front = omega (arith, ap length b, length-append front (y ∷ [])) in
+        let within : k < length u = omega (arith, ap length a, length-append front (x ∷ back)) in
+        rw (b, take-append-le k front (y ∷ []) short) (rw (a, take-append-le k front (x ∷ back) short) at (kept k p within))
 
 -- the front part that a list is cut to is no longer
 pub cut_few : (sought : List Edge → Type 0) (says : List Edge → Bool → Type 0) (u v : List Edge) → IsCut sought says u v → length v ≤ length u
 cut_few sought says u v c = omega (arith, ap length c.front, length-append v c.rest)
 
 -- of one edge there is no shorter front part
-pub kept_one : (says : List Edge → Bool → Type 0) (v : List Edge) → IsExtended [] v → KeptBelow says (length v) v
-kept_one says v x k p l = absurd (omega (arith, ap length x.is))
+pub kept_one : (sought : List Edge → Type 0) (says : List Edge → Bool → Type 0) (v : List Edge) → IsExtended sought [] v → KeptBelow says (length v) v
+kept_one sought says v x k p l = by x.step
+  where
+    by : (IsLonger [] v) ⊎ StepsOver [] v → says (take k v) true
+    by (inl e) = absurd (omega (arith, ap length e.is))
+    by (inr (over e)) = absurd (omega (arith, ap length e))
+    by (inr (replaced [] x y back a b more)) = cc
+    by (inr (replaced (f ∷ front) x y back a b more)) = cc

@@ -1,14 +1,12 @@
 -- The steps of the search for the first list in order that is sought.
 use Rattle.std.proofs.Common.{◌≡◌, ◌<◌, ◌≤◌, ◌⊎◌, inl, inr, ℕ, suc, ◌+◌, Bool, true, List, [], ◌∷◌, ◌++◌, length, None, refl, ◌∙◌, ap, arith, length-append}
-use Rattle.std.specs.List.{AllByRecursion}
 use Rattle.std.proofs.lemmas.List.{append-nil, take_at, take-append-le}
 use Rattle.std.proofs.lemmas.Bool.{cases_lt}
 use Rattle.relax_edges.specs.declared.edge.Edge.{Edge}
 use Rattle.relax_edges.specs.Order.{rank_of}
-use Rattle.relax_edges.proofs.Ranks.{rank_below}
 use Rattle.listing_laws.specs.Asked.{KeptBelow}
 use Rattle.walk_laws.specs.Order.{Above}
-use Rattle.listing_laws.specs.Search.{Reaches, ToCome, LeadsNowhere, IsTop, IsRaised, over, replaced, IsExtended, IsFirst, IsFirstFrom}
+use Rattle.listing_laws.specs.Search.{Reaches, ToCome, LeadsNowhere, StepsOver, over, replaced, IsRaised, IsExtended, IsFirst, IsFirstFrom}
 use Rattle.walk_laws.proofs.Ordering.{by_rank, above_irreflexive, above_one_way}
 
 pub reaches_itself : (u : List Edge) → Reaches u u
@@ -69,38 +67,29 @@ reaches_on (x ∷ u) (y ∷ v) (z ∷ w) h a =
       ]
     ]
 
--- the first longer list: with the first of all edges behind it
-pub reaches_extended : (u m : List Edge) (e : Edge) → rank_of e ≡ 0 → length u < length m → Reaches u m → Reaches (u ++ e ∷ []) m
-reaches_extended [] [] e z l h = absurd (omega arith)
-reaches_extended [] (y ∷ m) e z l h =
-    by_rank e y (λ less. inl less) (λ more. absurd (omega arith)) (λ same. inr (same, tt))
-reaches_extended (x ∷ u) [] e z l h = absurd h
-reaches_extended (x ∷ u) (y ∷ m) e z l h =
-    elim h [ inl less ↦ inl less | inr both ↦ inr (both.0, reaches_extended u m e z (omega arith) both.1) ]
+-- what is above a list is at or behind each longer one that begins with it
+pub reaches_beyond : (u r m : List Edge) → Above u m → Reaches (u ++ r) m
+reaches_beyond [] r m a = absurd a
+reaches_beyond (x ∷ u) r [] a = absurd a
+reaches_beyond (x ∷ u) r (y ∷ m) a = elim a [ inl less ↦ inl less | inr both ↦ inr (both.0, reaches_beyond u r m both.1) ]
 
--- nothing is above a list of last edges
-pub none_above : (u m : List Edge) → AllByRecursion IsTop u → Above u m → ⊥
-none_above [] m t h = h
-none_above (x ∷ u) [] t h = h
-none_above (x ∷ u) (y ∷ m) t h =
-    elim h [ inl less ↦ absurd (omega (arith, rank_below y, t.0)) | inr both ↦ none_above u m t.1 both.1 ]
+-- a list that goes on with the same or a greater edge is at or behind
+pub reaches_with : (front : List Edge) (y z : Edge) (r : List Edge) → rank_of y ≤ rank_of z → Reaches (front ++ y ∷ []) ((front ++ z ∷ []) ++ r)
+reaches_with [] y z r h = by_rank y z (λ l. inl l) (λ l. absurd (omega arith)) (λ s. inr (s, tt))
+reaches_with (f ∷ front) y z r h = inr (refl, reaches_with front y z r h)
 
--- what is above a list is at or behind the next one, which is above the list
-pub reaches_replaced : (front : List Edge) (x y : Edge) (back m : List Edge) → rank_of y ≡ suc (rank_of x) → AllByRecursion IsTop back
-    → Above (front ++ x ∷ back) m → Reaches (front ++ y ∷ []) m
-reaches_replaced [] x y back [] n t h = h
-reaches_replaced [] x y back (z ∷ m) n t h =
-    elim h [
-      | inl less ↦ by_rank y z (λ l. inl l) (λ l. absurd (omega arith)) (λ s. inr (s, tt))
-      | inr both ↦ absurd (none_above back m t both.1)
-    ]
-reaches_replaced (f ∷ front) x y back [] n t h = h
-reaches_replaced (f ∷ front) x y back (z ∷ m) n t h =
-    elim h [ inl less ↦ inl less | inr both ↦ inr (both.0, reaches_replaced front x y back m n t both.1) ]
-
-pub above_replaced : (front : List Edge) (x y : Edge) (back : List Edge) → rank_of y ≡ suc (rank_of x) → Above (front ++ x ∷ back) (front ++ y ∷ [])
-above_replaced [] x y back n = inl (omega arith)
+-- a list with a greater edge in the place of one is above
+pub above_replaced : (front : List Edge) (x y : Edge) (back : List Edge) → rank_of x < rank_of y → Above (front ++ x ∷ back) (front ++ y ∷ [])
+above_replaced [] x y back n = inl n
 above_replaced (f ∷ front) x y back n = inr (refl, above_replaced front x y back n)
+
+pub to_come_reaches : (u m : List Edge) → ToCome u m → Reaches u m
+to_come_reaches [] m h = absurd h
+to_come_reaches (x ∷ u) m h = h
+
+pub reaches_to_come : (u m : List Edge) → 0 < length u → Reaches u m → ToCome u m
+reaches_to_come [] m l h = absurd (omega arith)
+reaches_to_come (x ∷ u) m l h = h
 
 -- where the search stands at the list from `start` on: what is still to come, and what it may ask of the list
 module _ (sought : List Edge → Type 0) (says : List Edge → Bool → Type 0) (n : ℕ) (sized : (m : List Edge) → sought m → length m ≡ n) where
@@ -117,14 +106,6 @@ module _ (sought : List Edge → Type 0) (says : List Edge → Bool → Type 0) 
   pub search_over : (start list : List Edge) → Searching start list → list ≡ [] → IsFirst sought start None
   search_over start list s e m is h = rw e at (s.since m is h)
 
-  to_come_reaches : (u m : List Edge) → ToCome u m → Reaches u m
-  to_come_reaches [] m h = absurd h
-  to_come_reaches (x ∷ u) m h = h
-
-  reaches_to_come : (u m : List Edge) → 0 < length u → Reaches u m → ToCome u m
-  reaches_to_come [] m l h = absurd (omega arith)
-  reaches_to_come (x ∷ u) m l h = h
-
   to_come_longer : (u v r : List Edge) → ToCome u v → ToCome u (v ++ r)
   to_come_longer [] v r h = absurd h
   to_come_longer (x ∷ u) v r h = reaches_longer (x ∷ u) v r h
@@ -133,51 +114,53 @@ module _ (sought : List Edge → Type 0) (says : List Edge → Bool → Type 0) 
   to_come_on [] v w h a = absurd h
   to_come_on (x ∷ u) v w h a = reaches_on (x ∷ u) v w h a
 
-  -- the list is followed by a longer one: the pruner said yes
-  pub search_extended : (start list : List Edge) (e : Edge) → Searching start list → 0 < length list → length list < n → says list true → rank_of e ≡ 0
-      → Searching start (list ++ e ∷ [])
-  search_extended start list e s some less agreed z = record {
-    few = omega (arith, length-append list (e ∷ []));
-    kept = λ k p l. elim (cases_lt k (length list)) [
-      | inl b ↦ rw (take-append-le k list (e ∷ []) (omega arith)) (s.kept k p b)
-      | inr b ↦ rw (take_at list (e ∷ []) k (omega (arith, length-append list (e ∷ [])))) agreed
-    ];
-    since = λ m is h.
-        reaches_to_come (list ++ e ∷ []) m (omega (arith, length-append list (e ∷ [])))
-        (reaches_extended list m e z (omega (arith, sized m is)) (to_come_reaches list m (s.since m is h)));
-    from = λ l. to_come_longer start list (e ∷ []) (s.from some);
+  -- the search goes on behind all lists that begin with the list, and leaves out none that is sought
+  stepped : (start list new : List Edge) → Searching start list → 0 < length list → StepsOver list new → ((m : List Edge) → sought m → ToCome start m → ToCome new m) → Searching start new
+  stepped start list new s some (over e) since = record {
+    few = omega (arith, ap length e);
+    kept = λ k p l. absurd (omega (arith, ap length e));
+    since = since;
+    from = λ l. absurd (omega (arith, ap length e));
   }
+  stepped start list new s some (replaced front x y back u v more) since =
+      let lengths : length list ≡ length front + suc (length back) = ap length u ∙ length-append front (x ∷ back) in
+      let short : length new ≡ length front + 1 = ap length v ∙ length-append front (y ∷ []) in
+      record {
+        few = omega (arith, s.few);
+        kept = λ k p l. let within : k ≤ length front = omega arith in
+            rw (v, take-append-le k front (y ∷ []) within)
+            (rw (take-append-le k front (x ∷ back) within) at (rw u at (s.kept k p (omega arith))));
+        since = since;
+        from = λ l. rw v (to_come_on start list (front ++ y ∷ []) (s.from some) (rw u (above_replaced front x y back more)));
+      }
 
-  pub search_goes_on : (start list new : List Edge) → Searching start list → 0 < length list → length list < n → says list true → IsExtended list new → Searching start new
-  search_goes_on start list new s some less agreed x = rw x.is (search_extended start list x.edge s some less agreed x.first)
+  -- the search goes on with a longer list: the pruner said yes on the list
+  longer : (start list new : List Edge) (e : Edge) → Searching start list → 0 < length list → length list < n → says list true → new ≡ list ++ e ∷ []
+      → ((m : List Edge) → sought m → ToCome start m → ToCome new m) → Searching start new
+  longer start list new e s some less agreed is since =
+      let long : length new ≡ length list + 1 = ap length is ∙ length-append list (e ∷ []) in
+      record {
+        few = omega arith;
+        kept = λ k p l. elim (cases_lt k (length list)) [
+          | inl b ↦ rw (is, take-append-le k list (e ∷ []) (omega arith)) (s.kept k p b)
+          | inr b ↦ rw (is, take_at list (e ∷ []) k (omega arith)) agreed
+        ];
+        since = since;
+        from = λ l. rw is (to_come_longer start list (e ∷ []) (s.from some));
+      }
+
+  -- sought lists may begin with the list: the search goes on with the longer ones
+  pub search_goes_on : (start list new : List Edge) → Searching start list → 0 < length list → length list < n → says list true → IsExtended sought list new → Searching start new
+  search_goes_on start list new s some less agreed x =
+      elim x.step [ inl l ↦ longer start list new l.edge s some less agreed l.is since | inr o ↦ stepped start list new s some o since ]
+    where
+      since : (m : List Edge) → sought m → ToCome start m → ToCome new m
+      since m is h = x.all m is (omega (arith, sized m is)) (to_come_reaches list m (s.since m is h))
 
   -- no sought list begins with the list: it goes on
-  pub search_raised : (start list new : List Edge) → Searching start list → 0 < length list → LeadsNowhere sought list → IsRaised list new → Searching start new
-  search_raised start list new s some none (over t e) = rw e (record {
-    few = omega arith;
-    kept = λ k p l. absurd (omega arith);
-    since = λ m is h. none_above list m t (beyond m is h);
-    from = λ l. absurd (omega arith);
-  })
-    where
-      beyond : (m : List Edge) → sought m → ToCome start m → Above list m
-      beyond m is h = above_u list m (to_come_reaches list m (s.since m is h)) (λ r e. none r (rw e at is))
-  search_raised start list new s some none (replaced front x y back u v next t) = rw v (record {
-    few = omega (arith, s.few, lengths, length-append front (y ∷ []));
-    kept = λ k p l. let short : k ≤ length front = omega (arith, length-append front (y ∷ [])) in
-        rw (take-append-le k front (y ∷ []) short)
-        (rw (take-append-le k front (x ∷ back) short) at (rw u at (s.kept k p (omega (arith, lengths)))));
-    since = λ m is h.
-        reaches_to_come (front ++ y ∷ []) m (omega (arith, length-append front (y ∷ [])))
-        (reaches_replaced front x y back m next t (rw u at (beyond m is h)));
-    from = λ l. to_come_on start list (front ++ y ∷ []) (s.from some) (rw u (above_replaced front x y back next));
-  })
-    where
-      beyond : (m : List Edge) → sought m → ToCome start m → Above list m
-      beyond m is h = above_u list m (to_come_reaches list m (s.since m is h)) (λ r e. none r (rw e at is))
-
-      lengths : length list ≡ length front + suc (length back)
-      lengths = ap length u ∙ length-append front (x ∷ back)
+  pub search_raised : (start list new : List Edge) → Searching start list → 0 < length list → LeadsNowhere sought list → IsRaised sought list new → Searching start new
+  search_raised start list new s some none r =
+      stepped start list new s some r.step (λ m is h. r.all m is (above_u list m (to_come_reaches list m (s.since m is h)) (λ w e. none w (rw e at is))))
 
   -- the list has all edges and is sought: it is the first
   pub search_found : (start list : List Edge) → Searching start list → 0 < length list → sought list → IsFirstFrom sought start list

@@ -6,6 +6,7 @@ use Rattle.relax_edges.specs.declared.edge.Edge.{Edge}
 use Rattle.listing_laws.specs.Asked.{KeptBelow, KeptWhole}
 use Rattle.listing_laws.specs.Search.{LeadsNowhere, OfLength, IsRaised, IsExtended, IsFirstFrom}
 use Rattle.listing_laws.proofs.Searching.{Searching, search_begins, search_raised, search_goes_on, search_found, nowhere_whole}
+use Rattle.listing_laws.proofs.Raising.{raised_within, extended_within}
 
 module _ (listed : List Edge → Type 0) (says : List Edge → Bool → Type 0) (n : ℕ) where
   -- where the search stands
@@ -15,18 +16,19 @@ module _ (listed : List Edge → Type 0) (says : List Edge → Bool → Type 0) 
   pub stands_first : (start : List Edge) → length start ≤ n → KeptBelow says (length start) start → Standing start start
   stands_first start few kept = search_begins (OfLength n listed) says n (λ m is. is.long) start few kept
 
-  pub stands_raised : (start list new : List Edge) → Standing start list → 0 < length list → LeadsNowhere listed list → IsRaised list new → Standing start new
+  pub stands_raised : (start list new : List Edge) → Standing start list → 0 < length list → LeadsNowhere listed list → IsRaised listed list new → Standing start new
   stands_raised start list new s some none r =
-      search_raised (OfLength n listed) says n (λ m is. is.long) start list new s some (λ b o. none b o.is) r
+      search_raised (OfLength n listed) says n (λ m is. is.long) start list new s some (λ b o. none b o.is) (raised_within listed (OfLength n listed) list new (λ m o. o.is) r)
 
-  pub stands_extended : (start list new : List Edge) → Standing start list → 0 < length list → length list < n → says list true → IsExtended list new → Standing start new
+  pub stands_extended : (start list new : List Edge) → Standing start list → 0 < length list → length list < n → says list true → IsExtended listed list new → Standing start new
   stands_extended start list new s some less agreed x =
-      search_goes_on (OfLength n listed) says n (λ m is. is.long) start list new s some less agreed x
+      search_goes_on (OfLength n listed) says n (λ m is. is.long) start list new s some less agreed (extended_within listed (OfLength n listed) list new (λ m o. o.is) x)
 
-  pub stands_past : (start list new : List Edge) → Standing start list → 0 < length list → n ≤ length list → (listed list → ⊥) → IsRaised list new → Standing start new
+  pub stands_past : (start list new : List Edge) → Standing start list → 0 < length list → n ≤ length list → (listed list → ⊥) → IsRaised listed list new → Standing start new
   stands_past start list new s some long none r =
       search_raised (OfLength n listed) says n (λ m is. is.long) start list new s some
-      (nowhere_whole (OfLength n listed) says n (λ m is. is.long) list (omega (arith, s.few)) (λ o. none o.is)) r
+      (nowhere_whole (OfLength n listed) says n (λ m is. is.long) list (omega (arith, s.few)) (λ o. none o.is))
+      (raised_within listed (OfLength n listed) list new (λ m o. o.is) r)
 
   pub stands_found : (start list m : List Edge) → Standing start list → 0 < length list → n ≤ length list → m ≡ list → listed m → IsFirstFrom (OfLength n listed) start m
   stands_found start list m s some long e is =

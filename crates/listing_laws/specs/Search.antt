@@ -1,11 +1,12 @@
 -- The search for the first list of edges in order that is sought: which lists are still to come.
 -- Source: own.
-use Rattle.std.specs.Prelude.{◌≡◌, ◌<◌, ◌⊎◌, ⊤, ℕ, suc, ◌+◌, Bool, Option, Some, None, List, [], ◌∷◌, ◌++◌, length}
+use Rattle.std.specs.Prelude.{◌≡◌, ◌<◌, ◌≤◌, ◌⊎◌, ⊤, ℕ, Bool, true, Option, Some, None, List, [], ◌∷◌, ◌++◌, length}
 use Rattle.std.specs.List.{AllByRecursion}
 use Rattle.relax_edges.specs.declared.order.TheConstants.{EDGES}
 use Rattle.relax_edges.specs.declared.edge.Edge.{Edge}
 use Rattle.relax_edges.specs.Order.{rank_of}
-use Rattle.walk_laws.specs.Order.{Above}
+use Rattle.walk_laws.specs.Composable.{is_joined}
+use Rattle.walk_laws.specs.Order.{Above, IsNormal}
 use Rattle.listing_laws.specs.Asked.{KeptBelow}
 
 -- m comes at or behind u: it begins with u, or has the greater edge at the first place where they differ, which both have
@@ -44,16 +45,46 @@ abbrev pub IsFirst : (List Edge → Type 0) → List Edge → Option (List Edge)
 IsFirst sought u None = (v : List Edge) → sought v → ToCome u v → ⊥
 IsFirst sought u (Some m) = IsFirstFrom sought u m
 
--- the last edge of all
-abbrev pub IsTop : Edge → Type 0
-IsTop x = rank_of x + 1 ≡ EDGES
+-- an edge stands in a list
+abbrev pub StandsIn : List Edge → Edge → Type 0
+StandsIn [] e = ⊥
+StandsIn (x ∷ u) e = (x ≡ e) ⊎ StandsIn u e
 
--- a list goes on to v where all that begin with it are passed over: behind some last edges of all, which go, one edge is
--- replaced by the next
-pub data IsRaised (u v : List Edge) : Type 0 where
-  over : AllByRecursion IsTop u → v ≡ [] → IsRaised u v
-  replaced : (front : List Edge) (x y : Edge) (back : List Edge) → u ≡ front ++ x ∷ back → v ≡ front ++ y ∷ [] → rank_of y ≡ suc (rank_of x)
-      → AllByRecursion IsTop back → IsRaised u v
+-- an edge occurs in a relaxation
+abbrev pub OccursIn : List (List Edge) → Edge → Type 0
+OccursIn [] e = ⊥
+OccursIn (r ∷ rs) e = (StandsIn r e) ⊎ OccursIn rs e
+
+-- a relaxation has one edge
+abbrev pub IsSingle : List Edge → Type 0
+IsSingle r = length r ≡ 1
+
+-- what each listed cycle is: a normal form of edges that occur in relaxations, of which each joins the next
+pub record IsCandidate (relaxes : List (List Edge)) (u : List Edge) : Type 0 where
+  pub joined : is_joined u ≡ true
+  pub occurs : AllByRecursion (OccursIn relaxes) u
+  pub normal : IsNormal u
+
+-- no sought list begins with `front` and then an edge of rank `from` or more, and below `to`
+abbrev pub NoneBetween : (List Edge → Type 0) → List Edge → ℕ → ℕ → Type 0
+NoneBetween sought front from to = (e : Edge) → from ≤ rank_of e → rank_of e < to → LeadsNowhere sought (front ++ e ∷ [])
+
+-- the answer is an edge of rank `from` or more, with no edge before it behind which a sought list goes on from `front`; where it
+-- is none there is no such edge at all
+abbrev pub IsNextEdge : (List Edge → Type 0) → List Edge → ℕ → Option Edge → Type 0
+IsNextEdge sought front from None = NoneBetween sought front from EDGES
+IsNextEdge sought front from (Some e) = (from ≤ rank_of e) × NoneBetween sought front from (rank_of e)
+
+-- from a list to one behind it and all that begin with it: to none, or to a front part of it with a greater edge in the place of
+-- the next one
+pub data StepsOver (u v : List Edge) : Type 0 where
+  over : v ≡ [] → StepsOver u v
+  replaced : (front : List Edge) (x y : Edge) (back : List Edge) → u ≡ front ++ x ∷ back → v ≡ front ++ y ∷ [] → rank_of x < rank_of y → StepsOver u v
+
+-- a list goes on to v where all that begin with it are passed over: no sought list behind these is left out
+pub record IsRaised (sought : List Edge → Type 0) (u v : List Edge) : Type 0 where
+  pub step : StepsOver u v
+  pub all : (m : List Edge) → sought m → Above u m → ToCome v m
 
 -- a front part of a list: the whole, or the shortest with which no sought list begins
 pub record IsCut (sought : List Edge → Type 0) (says : List Edge → Bool → Type 0) (u v : List Edge) : Type 0 where
@@ -62,8 +93,12 @@ pub record IsCut (sought : List Edge → Type 0) (says : List Edge → Bool → 
   pub kept : KeptBelow says (length v) v
   pub whole : (rest ≡ []) ⊎ LeadsNowhere sought v
 
--- a list goes on to the first that begins with it and is longer: the first of all edges stands behind it
-pub record IsExtended (u v : List Edge) : Type 0 where
+-- v is u with one more edge
+pub record IsLonger (u v : List Edge) : Type 0 where
   pub edge : Edge
   pub is : v ≡ u ++ edge ∷ []
-  pub first : rank_of edge ≡ 0
+
+-- a list goes on to v where the longer ones that begin with it are looked at, or passed over: no sought list is left out
+pub record IsExtended (sought : List Edge → Type 0) (u v : List Edge) : Type 0 where
+  pub step : (IsLonger u v) ⊎ StepsOver u v
+  pub all : (m : List Edge) → sought m → length u < length m → Reaches u m → ToCome v m

@@ -15,7 +15,7 @@ use Rattle.litmus_text.specs.TestText.{column_of, columns_of, width_of, cell_tex
 use Rattle.arch_trait.specs.Codes.{thread_of}
 use Rattle.std.proofs.lemmas.List.FromFn.{length-enumerate_from, length-range_with_len, get_or-range_with_len}
 use Rattle.std.proofs.Math.ListN.{replicate}
-use Rattle.litmus_text.specs.Wrote.{SinkSeen, WroteAll, WrotePart, Wrote}
+use Rattle.diy_io.specs.Wrote.{SinkSeen, WroteAll, WrotePart, Wrote}
 use Rattle.litmus_text.proofs.WroteLaws.{each_step, each_stop}
 use Rattle.litmus_text.proofs.ElementLaws.{numbered_at}
 

@@ -1,6 +1,6 @@
 pub mod TestText
 pub mod Tests
-pub mod Wrote
+pub mod Separators
 pub mod Parts
 pub mod Lines
 pub mod Cuts

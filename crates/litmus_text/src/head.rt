@@ -2,7 +2,8 @@ ghost use Rattle.std.specs.Prelude.{◌++◌, codes};
 ghost use Rattle.std.specs.List.{join_by};
 ghost use Rattle.relax_edges.specs.Words.{word_of};
 ghost use Rattle.litmus_text.specs.TestText.{header_line, edges_line, ended};
-ghost use Rattle.litmus_text.specs.Wrote.{Wrote, sink_seen, separator_at};
+ghost use Rattle.diy_io.specs.Wrote.{Wrote, sink_seen};
+ghost use Rattle.litmus_text.specs.Separators.{separator_at};
 
 use crate::write::{separator, write, write_three, write_two};
 use arrayvec::ArrayString;

@@ -3,7 +3,8 @@ ghost use Rattle.std.specs.List.{All, list_all, flat_map, join_by, enumerate_fro
 ghost use Rattle.litmus_text.specs.TestText.{item_text, items_lines, initial_lines, ended};
 ghost use Rattle.litmus_text.specs.Tests.{IsPrintable};
 ghost use Rattle.arch_trait.specs.Codes.{thread_of};
-ghost use Rattle.litmus_text.specs.Wrote.{Wrote, sink_seen, separator_at};
+ghost use Rattle.diy_io.specs.Wrote.{Wrote, sink_seen};
+ghost use Rattle.litmus_text.specs.Separators.{separator_at};
 
 use crate::write::{separator, write, write_two};
 use arch_trait::{Arch, Code, Places};

@@ -7,7 +7,7 @@ ghost use Rattle.final_cond.specs.CondText.{cond_text};
 ghost use Rattle.litmus_text.specs.TestText.{test_text, ended};
 ghost use Rattle.litmus_text.specs.Tests.{IsPrintable, test_seen};
 ghost use Rattle.litmus_text.specs.Parts.{code_text};
-ghost use Rattle.litmus_text.specs.Wrote.{Wrote, sink_seen};
+ghost use Rattle.diy_io.specs.Wrote.{Wrote, sink_seen};
 
 use crate::head::{print_edges, print_header};
 use crate::initial::print_initial;
@@ -22,7 +22,7 @@ use final_cond::{Cond, print_cond};
 /// the architecture's, its place has a name and its label is below 64; each address register is the
 /// architecture's and holds a place that has a name. Where the sink fails, it has taken a front of
 /// the text.
-#[tactic(auto, using(crate::proofs::WroteLaws::wrote_grew, crate::proofs::WroteLaws::wrote_front, crate::proofs::WroteLaws::wrote_no_fault, crate::proofs::WroteLaws::wrote_fault, crate::proofs::WroteLaws::wrote_never_falls))]
+#[tactic(auto, using(diy_io::specs::WroteLaws::wrote_grew, diy_io::specs::WroteLaws::wrote_front, diy_io::specs::WroteLaws::wrote_no_fault, diy_io::specs::WroteLaws::wrote_fault, diy_io::specs::WroteLaws::wrote_never_falls))]
 pub fn print_test<A: Arch, O: Sink>(test: &Test, name: &str, out: &mut O) -> Result<(), Failed>
     requires { All (λ code. IsPrintable A.puts.has A.REGISTERS (length test.now.places) code) test.now.threads.items }
     ensures ok { OnOk result (Grew (O.told out.old) (O.told out.new) (test_text A.NAME A.writing name.now (test_seen test.now))) }
@@ -62,7 +62,7 @@ fn print_condition<O: Sink>(cond: &Cond, out: &mut O) -> Result<(), Failed>
     write(out, b"\n")
 }
 
-#[tactic(auto, using(crate::proofs::WroteLaws::wrote_clauses))]
+#[tactic(auto, using(diy_io::specs::WroteLaws::wrote_clauses))]
 fn print_terms<O: Sink>(cond: &Cond, out: &mut O) -> Result<(), Failed>
     ensures { Wrote (sink_seen (O.told out.old) (O.faults out.old)) (sink_seen (O.told out.new) (O.faults out.new)) (cond_text (cond_view cond.now)) result }
 {

@@ -4,7 +4,8 @@ ghost use Rattle.std.specs.List.{All, flat_map, join_by};
 ghost use Rattle.litmus_text.specs.TestText.{column_of, columns_of, width_of, cell_text, row_line, table_lines, ended};
 ghost use Rattle.litmus_text.specs.Tests.{IsPrintable};
 ghost use Rattle.arch_trait.specs.Codes.{thread_of};
-ghost use Rattle.litmus_text.specs.Wrote.{Wrote, sink_seen, separator_at};
+ghost use Rattle.diy_io.specs.Wrote.{Wrote, sink_seen};
+ghost use Rattle.litmus_text.specs.Separators.{separator_at};
 
 use crate::column::{Cell, row_count, set_cell, widths_of};
 use crate::write::{separator, write, write_three};

@@ -1,10 +1,11 @@
 ghost use Rattle.std.specs.Prelude.{◌≡◌, ◌++◌};
-ghost use Rattle.litmus_text.specs.Wrote.{Wrote, sink_seen, separator_at};
+ghost use Rattle.diy_io.specs.Wrote.{Wrote, sink_seen};
+ghost use Rattle.litmus_text.specs.Separators.{separator_at};
 
 use diy_io::{Failed, Sink};
 
 /// Writes a text.
-#[tactic(auto, using(crate::proofs::WroteLaws::wrote_clauses))]
+#[tactic(auto, using(diy_io::specs::WroteLaws::wrote_clauses))]
 pub(crate) fn write<O: Sink>(out: &mut O, text: &[u8]) -> Result<(), Failed>
     ensures { Wrote (sink_seen (O.told out.old) (O.faults out.old)) (sink_seen (O.told out.new) (O.faults out.new)) text.now result }
 {

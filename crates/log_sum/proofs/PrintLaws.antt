@@ -90,7 +90,7 @@ texts_of test (name ∷ names) = ap (λ t. test_text name (test name) ++ t) (tex
 pub sum_is : (kept : Kept) (files : List (List ℕ)) (bytes : List ℕ) (s : StandsFor kept files bytes) → kept_text kept ≡ sum_text s.seen.entries
 unfolding sum_text
 sum_is kept files bytes s =
-    ap (flat_map (λ (row : List ℕ × Summed). test_text row.0 row.1)) s.tests ∙ texts_of (λ name. summed (facts_of name s.seen.entries)) (tests_of s.seen.entries)
+    ap (flat_map (λ (row : List ℕ × Summed). test_text row.0 row.1)) s.reading.tests ∙ texts_of (λ name. summed (facts_of name s.seen.entries)) (tests_of s.seen.entries)
 
 -- two summers that stand for the same input have the same sum, however its bytes were cut
 pub same_sum : (one other : Kept) (files : List (List ℕ)) (bytes : List ℕ) → StandsFor one files bytes → StandsFor other files bytes → kept_text one ≡ kept_text other

@@ -11,6 +11,7 @@ use Rattle.log_sum.specs.Facts.{Fact, Entry, facts_of, tests_of, with_name}
 use Rattle.log_sum.specs.Summed.{Summed, summed}
 use Rattle.log_sum.specs.Standing.{table_of}
 use Rattle.log_sum.specs.Reading.{Seen, ◌>>=◌, lines_judged, line_judged, lines_of, rest_of, but_last, last_of, bytes_judged, rest_judged, file_judged, files_judged, input_judged, nothing_seen}
+use Rattle.log_sum.specs.Feeding.{entry_of}
 use Rattle.log_sum.proofs.RunLaws.{by_test}
 
 abbrev is_feed : ℕ → Bool
@@ -94,7 +95,49 @@ pub rest_ended : (bytes : List ℕ) → rest_of (bytes ++ 10 ∷ []) ≡ []
 unfolding rest_of
 rest_ended bytes = ap last_of (split_ended bytes) ∙ last_split (slice_split is_feed bytes) []
 
+-- where a line feed stands, a line ends and the others follow
+split_cut : (bytes rest : List ℕ) → slice_split is_feed (bytes ++ 10 ∷ rest) ≡ slice_split is_feed bytes ++ slice_split is_feed rest
+split_cut [] rest = refl
+split_cut (byte ∷ bytes) rest =
+    let first = first_line bytes in
+    by_test (is_feed byte) (λ e. rw e (ap (λ t. [] ∷ t) (split_cut bytes rest))) (λ e. rw e (ap (onto_first byte) (split_cut bytes rest) ∙ rw first.is refl))
+
+but_last_both : (lines : List (List ℕ)) (line : List ℕ) (more : List (List ℕ)) → but_last (lines ++ line ∷ more) ≡ lines ++ but_last (line ∷ more)
+but_last_both [] line more = refl
+but_last_both (l ∷ []) line more = refl
+but_last_both (l ∷ m ∷ lines) line more = ap (λ t. l ∷ t) (but_last_both (m ∷ lines) line more)
+
+last_both : (lines : List (List ℕ)) (line : List ℕ) (more : List (List ℕ)) → last_of (lines ++ line ∷ more) ≡ last_of (line ∷ more)
+last_both [] line more = refl
+last_both (l ∷ []) line more = refl
+last_both (l ∷ m ∷ lines) line more = last_both (m ∷ lines) line more
+
+pub lines_cut : (bytes rest : List ℕ) → lines_of (bytes ++ 10 ∷ rest) ≡ (lines_of bytes ++ rest_of bytes ∷ []) ++ lines_of rest
+unfolding lines_of rest_of
+lines_cut bytes rest =
+    let first = first_line bytes in
+    let behind = first_line rest in
+    ap but_last (split_cut bytes rest)
+    ∙ ap (λ t. but_last (slice_split is_feed bytes ++ t)) behind.is ∙ but_last_both (slice_split is_feed bytes) behind.line behind.rest
+    ∙ ap (λ t. slice_split is_feed bytes ++ but_last t) (sym behind.is)
+    ∙ ap (λ t. t ++ but_last (slice_split is_feed rest)) (whole_split (slice_split is_feed bytes) first.line first.rest first.is)
+
+pub rest_cut : (bytes rest : List ℕ) → rest_of (bytes ++ 10 ∷ rest) ≡ rest_of rest
+unfolding rest_of
+rest_cut bytes rest =
+    let behind = first_line rest in
+    ap last_of (split_cut bytes rest) ∙ ap (λ t. last_of (slice_split is_feed bytes ++ t)) behind.is ∙ last_both (slice_split is_feed bytes) behind.line behind.rest ∙ ap last_of (sym behind.is)
+
 -- lines are judged one after another
+pub lines_both : (seen : Seen) (lines more : List (List ℕ)) → lines_judged seen (lines ++ more) ≡ (lines_judged seen lines >>= (λ next. lines_judged next more))
+lines_both seen [] more = refl
+lines_both seen (l ∷ lines) more = by_result (λ next. lines_both next lines more) (line_judged seen l)
+  where
+    by_result : ((next : Seen) → lines_judged next (lines ++ more) ≡ (lines_judged next lines >>= (λ x. lines_judged x more))) → (r : Result Seen LogError)
+        → (r >>= (λ next. lines_judged next (lines ++ more))) ≡ ((r >>= (λ next. lines_judged next lines)) >>= (λ x. lines_judged x more))
+    by_result law (Ok x) = law x
+    by_result law (Err e) = refl
+
 lines_then : (seen : Seen) (lines : List (List ℕ)) (line : List ℕ) → lines_judged seen (lines ++ line ∷ []) ≡ (lines_judged seen lines >>= (λ next. line_judged next line))
 lines_then seen [] line = by_result (line_judged seen line)
   where
@@ -151,9 +194,6 @@ read_on seen (file ∷ files) bytes = by_result (λ next. read_on next files byt
 map_more : {A B : Type 0} (f : A → B) (xs : List A) (x : A) → map f (xs ++ x ∷ []) ≡ map f xs ++ f x ∷ []
 map_more f [] x = refl
 map_more f (y ∷ xs) x = ap (λ t. f y ∷ t) (map_more f xs x)
-
-abbrev pub entry_of : List ℕ → Fact → Entry
-entry_of test fact = record { test = test; fact = fact }
 
 bytes_same : (t : List ℕ) → bytes_eq t t ≡ true
 bytes_same t = (bytes_eq-Decides t t).1 refl

@@ -27,6 +27,7 @@ use Rattle.log_sum.specs.Counts.{last_count}
 use Rattle.log_sum.specs.Facts.{Row, Fact, a_kind, a_row, a_condition, a_hash, kinds, rows, conditions, hashes, first_of, same_kind, same_mark, marked_sum, state_sum, states_of, mark_in, verdicts, says_validated, is_other, fault_if, fault_of}
 use Rattle.log_sum.specs.Summed.{Summed, StateSummed, or_else, state_by, summed}
 use Rattle.log_sum.specs.Steps.{or_this, marked, with_marked, known_state, count_known, with_row, fact_to}
+use Rattle.log_sum.specs.Feeding.{Marked}
 use Rattle.log_sum.proofs.RunLaws.{by_test}
 
 -- the facts of a sort, with a fact more
@@ -37,7 +38,7 @@ kinds_more (a_row row ∷ facts) fact = kinds_more facts fact
 kinds_more (a_condition text verdict ∷ facts) fact = kinds_more facts fact
 kinds_more (a_hash text ∷ facts) fact = kinds_more facts fact
 
-rows_more : (facts : List Fact) (fact : Fact) → rows (facts ++ fact ∷ []) ≡ rows facts ++ rows (fact ∷ [])
+pub rows_more : (facts : List Fact) (fact : Fact) → rows (facts ++ fact ∷ []) ≡ rows facts ++ rows (fact ∷ [])
 rows_more [] fact = refl
 rows_more (a_kind kind ∷ facts) fact = rows_more facts fact
 rows_more (a_row row ∷ facts) fact = ap (λ t. row ∷ t) (rows_more facts fact)
@@ -257,10 +258,6 @@ known_is k rs =
     by_mark : (o : Option Mark) → cond {A = Option (Mark × ℕ)} (is_some o) (Some (or_else Plain o, state_sum k rs)) None ≡ option_map (λ m. (m, state_sum k rs)) o
     by_mark None = refl
     by_mark (Some m) = refl
-
--- each row of a state has its mark
-pub record Marked (rs : List Row) : Type 0 where
-  pub same : (k : List ℕ) (m : Mark) → mark_in k rs ≡ Some m → list_all (λ r. not (bytes_eq r.state k) || same_mark r.mark m) rs ≡ true
 
 pub none_marked : Marked []
 none_marked = record { same = λ k m h. refl }

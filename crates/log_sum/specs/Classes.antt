@@ -5,7 +5,7 @@ use Rattle.std.specs.BTreeSet.{BTreeSet}
 use Rattle.std.specs.Borrow.{Bor}
 use Rattle.log_sum.specs.declared.errors.LogKind.{LogKind}
 use Rattle.log_sum.specs.declared.errors.Fault.{Fault}
-use Rattle.log_sum.specs.declared.errors.Fault.TheVariants.{Wrong, NoMemory}
+pub use Rattle.log_sum.specs.Faults.{IsFault}
 use Rattle.std.specs.Char.{is_ascii_digit}
 use Rattle.log_sum.specs.declared.texts.Class.{Class}
 use Rattle.log_sum.specs.declared.texts.Class.TheVariants as classes
@@ -17,9 +17,13 @@ use Rattle.std.specs.declared.vec.Vec.{Vec}
 use Rattle.std.specs.declared.alloc.Global.{Global}
 use Rattle.log_sum.specs.declared.test_sum.StateSum.{StateSum}
 use Rattle.log_sum.specs.declared.test_sum.TestSum.{TestSum}
+use Rattle.log_sum.specs.declared.table.Table.{Table}
+use Rattle.log_sum.specs.declared.reading.Reading.{Reading}
 use Rattle.log_sum.specs.Summed.{Summed, StateSummed}
 use Rattle.log_sum.specs.Facts.{Row}
-use Rattle.log_sum.specs.Lines.{Said, passed_over, begins, counts, a_state, judged, conditioned, hashed, ends}
+use Rattle.log_sum.specs.Standing.{Progress}
+use Rattle.log_sum.specs.States.{form_read}
+use Rattle.log_sum.specs.Lines.{Said, row_of, row_said, passed_over, begins, counts, judged, conditioned, hashed, ends}
 use Rattle.log_sum.specs.Texts.{is_blank, is_inked, words}
 
 -- whether a byte is of a class
@@ -38,11 +42,6 @@ abbrev pub Gives : {X Y : Type 0} → (X → Y) → Result X LogKind → Result 
 Gives view (Ok x) read = read ≡ Ok (view x)
 Gives view (Err kind) read = read ≡ Err kind
 
--- a fault is the one of the definition; where there was no memory, nothing is known
-abbrev pub IsFault : {Y : Type 0} → Fault → Result Y LogKind → Type 0
-IsFault (Wrong kind) read = read ≡ Err kind
-IsFault NoMemory read = Unit {0}
-
 -- an answer is what the definition gives, where there may be no memory
 abbrev pub GivesOr : {X Y : Type 0} → (X → Y) → Result X Fault → Result Y LogKind → Type 0
 GivesOr view (Ok x) read = read ≡ Ok (view x)
@@ -52,22 +51,31 @@ GivesOr view (Err fault) read = IsFault fault read
 abbrev pub count_and_rest : ℕ × Bor (List ℕ) → ℕ × List ℕ
 count_and_rest counted = (counted.0, counted.1.now)
 
--- what the code says of a row, a condition and a line, as the definitions see it
-abbrev pub row_view : RowCode → Row
-row_view row = record { state = row.state.items; mark = row.mark; count = row.count }
+-- what the code says of a row, whose state isn't read yet, of a condition and of a line, as the definitions see it
+abbrev pub row_read : RowCode → Result Row LogKind
+row_read row = row_of row.count row.mark (form_read row.text.now)
 
 abbrev pub condition_view : Vec ℕ Global × Verdict → List ℕ × Verdict
 condition_view condition = (condition.0.items, condition.1)
 
-abbrev pub said_view : SaidCode → Said
-said_view code.PassedOver = passed_over
-said_view (code.Begins name kind) = begins name.now kind
-said_view (code.Counts states) = counts states
-said_view (code.State row) = a_state (row_view row)
-said_view code.Judged = judged
-said_view (code.Conditioned text verdict) = conditioned text.items verdict
-said_view (code.Hashed text) = hashed text.now
-said_view code.Ends = ends
+abbrev pub said_read : SaidCode → Result Said LogKind
+said_read code.PassedOver = Ok passed_over
+said_read (code.Begins name kind) = Ok (begins name.now kind)
+said_read (code.Counts states) = Ok (counts states)
+said_read (code.State row) = row_said (row_read row)
+said_read code.Judged = Ok judged
+said_read (code.Conditioned text verdict) = Ok (conditioned text.items verdict)
+said_read (code.Hashed text) = Ok (hashed text.now)
+said_read code.Ends = Ok ends
+
+-- an answer of which the rest is read later is what the definition gives
+abbrev pub Reads : {X Y : Type 0} → (X → Result Y LogKind) → Result X LogKind → Result Y LogKind → Type 0
+Reads view (Ok x) read = read ≡ view x
+Reads view (Err kind) read = read ≡ Err kind
+
+abbrev pub ReadsOr : {X Y : Type 0} → (X → Result Y LogKind) → Result X Fault → Result Y LogKind → Type 0
+ReadsOr view (Ok x) read = read ≡ view x
+ReadsOr view (Err fault) read = IsFault fault read
 
 -- the texts of a set
 abbrev pub texts_of : BTreeSet (Vec ℕ Global) → List (List ℕ)
@@ -91,3 +99,15 @@ test_view test = record {
 
 abbrev pub named_view : Vec ℕ Global × TestSum → List ℕ × Summed
 named_view test = (test.0.items, test_view test.1)
+
+abbrev pub tests_view : Table → List (List ℕ × Summed)
+tests_view table = map named_view table.tests.entries
+
+-- how far a reading is
+abbrev pub progress_view : Reading → Progress
+progress_view reading = record {
+  tests = tests_view reading.table;
+  place = reading.place;
+  test = reading.table.running;
+  line = reading.line;
+}

@@ -23,6 +23,9 @@ pub record Row : Type 0 where
   pub mark : Mark
   pub count : ℕ
 
+abbrev pub row_with : List ℕ → Mark → ℕ → Row
+row_with state mark count = record { state = state; mark = mark; count = count }
+
 -- what a line says of a test
 pub data Fact : Type 0 where
   a_kind : (kind : Kind) → Fact

@@ -1,3 +1,4 @@
+pub mod Faults
 pub mod Classes
 pub mod Texts
 pub mod Counts
@@ -7,5 +8,7 @@ pub mod Lines
 pub mod Reading
 pub mod Summed
 pub mod Standing
+pub mod Feeding
+pub mod Forms
 pub mod Steps
 pub mod SumText

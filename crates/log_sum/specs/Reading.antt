@@ -58,11 +58,16 @@ abbrev pub at_next_line : Seen → Result Seen LogError
 at_next_line seen = Ok (record seen { line = next_line seen.line })
 
 -- what a line said, put to what was seen
-abbrev pub said_put : Seen → Result Said LogKind → Result Seen LogError
-said_put seen (Err kind) = fault_at seen.line kind
-said_put seen (Ok said) =
+abbrev pub said_to : Seen → Said → Result Seen LogError
+said_to seen said =
     fact_put (record seen { test = test_after seen.test said; place = place_after seen.place said }) (fact_said said)
-    >>= at_next_line
+
+abbrev pub said_judged : Seen → Result Said LogKind → Result Seen LogError
+said_judged seen (Err kind) = fault_at seen.line kind
+said_judged seen (Ok said) = said_to seen said
+
+abbrev pub said_put : Seen → Result Said LogKind → Result Seen LogError
+said_put seen said = said_judged seen said >>= at_next_line
 
 -- a line without its end
 unfoldable pub text_judged : Seen → List ℕ → Result Seen LogError

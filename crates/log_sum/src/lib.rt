@@ -3,11 +3,15 @@
 
 mod counts;
 mod errors;
+mod forms;
 mod kinds;
 mod lines;
+mod places;
 mod print;
+mod reading;
 mod states;
 mod summer;
+mod table;
 mod test_sum;
 mod texts;
 

@@ -1,13 +1,12 @@
 ghost use Rattle.std.specs.Prelude.{◌≡◌, option_map, take, IfOk};
 ghost use Rattle.std.specs.Borrow.{Bor};
-ghost use Rattle.log_sum.specs.Classes.{Gives, GivesOr, row_view, said_view, condition_view};
+ghost use Rattle.log_sum.specs.Classes.{Gives, Reads, ReadsOr, row_read, said_read, condition_view};
 ghost use Rattle.log_sum.specs.Lines.{kind_of, test_line, is_states, are_states, after_histogram, histogram_line, mark_of, mark_read, row_line, is_judgement, verdict_cut, condition_line, quantifier, hash_line, hash_said, condition_said, rest_said, is_observation, line_said};
 ghost use Rattle.log_sum.specs.Texts.{words, joined_words};
 
 use crate::counts::read_count;
 use crate::errors::{Fault, LogKind};
 use crate::kinds::{Kind, Mark, Place, Verdict};
-use crate::states::read_state;
 use crate::texts::{next_word, trimmed, without_blanks};
 use diy_io::NoMemory;
 use std::alloc::Global;
@@ -18,17 +17,17 @@ pub(crate) enum Said<'a> {
     PassedOver,
     Begins(&'a [u8], Kind),
     Counts(u64),
-    State(Row),
+    State(Row<'a>),
     Judged,
     Conditioned(Vec<u8>, Verdict),
     Hashed(&'a [u8]),
     Ends,
 }
 
-/// A state by its printed form, its mark, and how often it was seen.
-#[derive(Drop)]
-pub(crate) struct Row {
-    pub(crate) state: Vec<u8>,
+/// A state by the text that writes it, its mark, and how often it was seen.
+#[derive(Clone, Copy)]
+pub(crate) struct Row<'a> {
+    pub(crate) text: &'a [u8],
     pub(crate) mark: Mark,
     pub(crate) count: u64,
 }
@@ -139,15 +138,14 @@ fn read_mark(text: &[u8]) -> Option<(Mark, &[u8])>
 
 /// The line of a state.
 #[tactic(auto, unfolding(crate::specs::Lines::row_line))]
-fn read_row(alloc: Global, line: &[u8]) -> Result<Row, Fault>
-    ensures { GivesOr row_view result (row_line line.now) }
+fn read_row(line: &[u8]) -> Result<Row<'_>, LogKind>
+    ensures { Reads row_read result (row_line line.now) }
 {
     let (count, rest) = read_count(trimmed(line))?;
-    let Some((mark, text)) = read_mark(without_blanks(rest)) else {
-        return Err(Fault::Wrong(LogKind::BadState));
-    };
-    let state = read_state(alloc, text)?;
-    Ok(Row { state, mark, count })
+    match read_mark(without_blanks(rest)) {
+        Some((mark, text)) => Ok(Row { text, mark, count }),
+        None => Err(LogKind::BadState),
+    }
 }
 
 /// `Ok` or `No`.
@@ -237,7 +235,7 @@ fn read_hash(line: &[u8]) -> Option<&[u8]>
 
 /// What a line says that ends no block and begins none.
 fn read_other(alloc: Global, kind: Kind, line: &[u8]) -> Result<Said<'_>, Fault>
-    ensures { GivesOr said_view result (condition_said kind (condition_line (words line.now)) (hash_said (hash_line line.now))) }
+    ensures { ReadsOr said_read result (condition_said kind (condition_line (words line.now)) (hash_said (hash_line line.now))) }
 {
     match read_condition(alloc, line)? {
         Some((text, verdict)) => {
@@ -256,7 +254,7 @@ fn read_other(alloc: Global, kind: Kind, line: &[u8]) -> Result<Said<'_>, Fault>
 
 /// What a line says that ends no block.
 fn read_rest(alloc: Global, kind: Kind, line: &[u8]) -> Result<Said<'_>, Fault>
-    ensures { GivesOr said_view result (rest_said kind line.now) }
+    ensures { ReadsOr said_read result (rest_said kind line.now) }
 {
     match read_test(line) {
         Some(_) => Err(Fault::Wrong(LogKind::Truncated)),
@@ -277,7 +275,7 @@ fn is_observation(line: &[u8]) -> bool
 /// What a line says at a place, or what is wrong with it there.
 #[tactic(auto, unfolding(crate::specs::Lines::line_said))]
 pub(crate) fn read_line(alloc: Global, place: Place, line: &[u8]) -> Result<Said<'_>, Fault>
-    ensures { GivesOr said_view result (line_said place line.now) }
+    ensures { ReadsOr said_read result (line_said place line.now) }
 {
     match place {
         Place::Outside => Ok(match read_test(line) {
@@ -285,7 +283,7 @@ pub(crate) fn read_line(alloc: Global, place: Place, line: &[u8]) -> Result<Said
             None => Said::PassedOver,
         }),
         Place::Histogram(_) => Ok(Said::Counts(read_histogram(line)?)),
-        Place::States(_, _) => Ok(Said::State(read_row(alloc, line)?)),
+        Place::States(_, _) => Ok(Said::State(read_row(line)?)),
         Place::Judgement(_) => {
             if is_judgement(line) {
                 Ok(Said::Judged)

@@ -1,18 +1,15 @@
-ghost use Rattle.std.specs.Prelude.{◌≡◌, ◌≤◌, [], IfOk, OnOk, OnErr};
+ghost use Rattle.std.specs.Prelude.{◌≡◌, ◌≤◌, ℕ, List, [], ◌++◌, Some, None, IfOk, IfErr, OnOk, OnErr};
 ghost use Rattle.diy_io.specs.Count.{Rose};
 ghost use Rattle.diy_io.specs.Sink.{Grew, GrewByPrefix};
-ghost use Rattle.log_sum.specs.Lines.{states_left, kind_at, after_state, left_at};
-ghost use Rattle.log_sum.specs.Reading.{without_return};
-ghost use Rattle.log_sum.specs.Standing.{Kept, StandsFor, GivenAgain, kept_text};
+ghost use Rattle.log_sum.specs.Reading.{Seen, without_return, line_judged, rest_judged};
+ghost use Rattle.log_sum.specs.Standing.{Kept, StandsFor, FedTo, EndedTo, IsKept, GivenAgain, kept_text};
+ghost use Rattle.log_sum.specs.Feeding.{Follows, ReadTo, PieceTo, EndTo, refusal_of};
 
 use crate::errors::{Fault, LogError, LogKind, SumError};
-use crate::kinds::{Kind, Place};
-use crate::lines::{Said, read_line};
 use crate::print::print_sum;
-use crate::test_sum::TestSum;
+use crate::reading::Reading;
 use crate::texts::cut;
 use diy_io::{Failed, NoMemory, Sink};
-use indexmap::IndexMap;
 use std::alloc::Global;
 use std::marker::Model;
 
@@ -22,32 +19,22 @@ pub const MAX_LINE: usize = 65_536;
 /// Sums the logs of litmus tests, which it is fed in pieces.
 #[derive(Drop)]
 pub struct Summer {
-    alloc: Global,
-    /// The tests by name, in the order in which each was first seen.
-    tests: IndexMap<Vec<u8>, TestSum>,
-    /// The place in the running log, and the test of the running block.
-    place: Place,
-    test: usize,
-    /// The number of the running line, and what has come of it.
-    line: u64,
+    reading: Reading,
+    /// What has come of the running line.
     held: Vec<u8>,
     /// What was refused.
     refusal: Option<SumError>,
 }
 
 impl Model for Summer {
-    ghost use Rattle.std.specs.Prelude.{◌≤◌, length, map};
+    ghost use Rattle.std.specs.Prelude.{◌≤◌, length};
     ghost use Rattle.log_sum.specs.Standing.{Kept};
+    ghost use Rattle.log_sum.specs.Classes.{progress_view};
 
     ghost Value = { Kept };
 
-    ghost use Rattle.log_sum.specs.Classes.{named_view};
-
     ghost view = { λ s. record {
-      tests = map named_view s.tests.entries;
-      place = s.place;
-      test = s.test;
-      line = s.line;
+      progress = progress_view s.reading;
       held = s.held.items;
       refusal = s.refusal;
     } };
@@ -66,76 +53,44 @@ fn without_return(line: &[u8]) -> &[u8]
     }
 }
 
-fn states_left(kind: Kind, left: u64) -> Place
-    ensures { result ≡ states_left kind left }
-{
-    if left == 0 {
-        Place::Judgement(kind)
-    } else {
-        Place::States(kind, left)
-    }
-}
-
-/// The kind of the block that a place is in.
-fn kind_at(place: Place) -> Kind
-    ensures { result ≡ kind_at place }
-{
-    match place {
-        Place::Outside => Kind::Allowed,
-        Place::Histogram(kind) => kind,
-        Place::States(kind, _) => kind,
-        Place::Judgement(kind) => kind,
-        Place::Rest(kind) => kind,
-        Place::Conditioned(kind) => kind,
-    }
-}
-
-#[tactic(auto, using(crate::proofs::ReturnLaws::one_state_less))]
-fn after_state(place: Place) -> Place
-    ensures { result ≡ after_state (kind_at place) (left_at place) }
-{
-    match place {
-        Place::States(kind, left) => states_left(kind, left.saturating_sub(1)),
-        _ => Place::Judgement(kind_at(place)),
-    }
-}
-
 impl Summer {
     /// A summer that was fed nothing yet.
     pub fn new(alloc: Global) -> Result<Summer, NoMemory>
         ensures { IfOk result (λ summer. StandsFor summer [] []) }
     {
         Ok(Summer {
-            alloc,
-            tests: IndexMap::new(alloc),
-            place: Place::Outside,
-            test: 0,
-            line: 1,
+            reading: Reading::new(alloc),
             held: Vec::with_capacity(alloc, MAX_LINE)?,
             refusal: None,
         })
     }
 
-    /// Feeds a piece of the running log.
+    /// Feeds a piece of the running log, which may end anywhere.
+    ///
+    /// The answer is the first fault of the logs as far as they have come, or that there is no memory; the summer is
+    /// spent then, and answers the same again.
     pub fn feed(&mut self, piece: &[u8]) -> Result<(), SumError>
-        ensures { GivenAgain self.old self.new result }
+        ensures fed { (files : List (List ℕ)) (bytes : List ℕ) → StandsFor self.old files bytes → FedTo self.new files (bytes ++ piece.now) result }
+        ensures kept { IsKept self.new result }
+        ensures given_again { GivenAgain self.old self.new result }
     {
-        if let Some(refusal) = self.refusal {
-            return Err(refusal);
-        }
+        self.going()?;
         match self.feed_lines(piece) {
             Ok(()) => Ok(()),
             Err(fault) => Err(self.refuse(fault)),
         }
     }
 
-    /// Ends the running log.
+    /// Ends the running log; what is fed next is the next log, from line 1.
+    ///
+    /// The answer is the first fault of the logs that have ended, or that there is no memory; the summer is spent
+    /// then, and answers the same again.
     pub fn end_file(&mut self) -> Result<(), SumError>
-        ensures { GivenAgain self.old self.new result }
+        ensures ended { (files : List (List ℕ)) (bytes : List ℕ) → StandsFor self.old files bytes → EndedTo self.new files bytes result }
+        ensures kept { IsKept self.new result }
+        ensures given_again { GivenAgain self.old self.new result }
     {
-        if let Some(refusal) = self.refusal {
-            return Err(refusal);
-        }
+        self.going()?;
         match self.end_line() {
             Ok(()) => Ok(()),
             Err(fault) => Err(self.refuse(fault)),
@@ -150,16 +105,31 @@ impl Summer {
         ensures fault { OnErr result (Rose (O.faults out.old) (O.faults out.new)) }
         ensures never_falls { O.faults out.old ≤ O.faults out.new }
     {
-        for (name, test) in &self.tests {
+        for (name, test) in &self.reading.table.tests {
             print_sum(name.as_slice(), test, out)?;
         }
         Ok(())
     }
 
-    fn refuse(&mut self, fault: Fault) -> SumError {
+    /// Whether the summer goes on, or its refusal.
+    fn going(&self) -> Result<(), SumError>
+        ensures ok { OnOk result (self.now.refusal ≡ None) }
+        ensures err { IfErr result (λ refusal. self.now.refusal ≡ Some refusal) }
+    {
+        match self.refusal {
+            Some(refusal) => Err(refusal),
+            None => Ok(()),
+        }
+    }
+
+    /// Keeps a fault of the running line, and answers it.
+    fn refuse(&mut self, fault: Fault) -> SumError
+        ensures refusal { result ≡ refusal_of self.old.progress.line fault }
+        ensures kept { self.new ≡ record self.old { refusal = Some result } }
+    {
         let refusal = match fault {
             Fault::Wrong(kind) => SumError::Log(LogError {
-                line: self.line,
+                line: self.reading.line,
                 kind,
             }),
             Fault::NoMemory => SumError::NoMemory,
@@ -168,7 +138,9 @@ impl Summer {
         refusal
     }
 
-    fn feed_lines(&mut self, piece: &[u8]) -> Result<(), Fault> {
+    fn feed_lines(&mut self, piece: &[u8]) -> Result<(), Fault>
+        ensures { (files : List (List ℕ)) (bytes : List ℕ) → StandsFor self.old files bytes → PieceTo self.new files (bytes ++ piece.now) result }
+    {
         let mut rest = piece;
         while let Some((front, behind)) = cut(b'\n', rest) {
             self.feed_line(front)?;
@@ -178,20 +150,29 @@ impl Summer {
     }
 
     /// The end of the running line, which a line feed follows.
-    fn feed_line(&mut self, front: &[u8]) -> Result<(), Fault> {
+    fn feed_line(&mut self, front: &[u8]) -> Result<(), Fault>
+        ensures judged { (seen : Seen) → Follows self.old.progress seen → ReadTo self.new.progress (line_judged seen (self.old.held ++ front.now)) result }
+        ensures held { OnOk result (self.new.held ≡ []) }
+        ensures refusal { self.new.refusal ≡ self.old.refusal }
+    {
         if self.held.is_empty() {
             if front.len() > MAX_LINE {
                 return Err(Fault::Wrong(LogKind::LineTooLong));
             }
-            return self.judge(without_return(front));
+            return self.reading.judge(without_return(front));
         }
         self.hold(front)?;
-        let held = std::mem::replace(&mut self.held, Vec::new(self.alloc));
-        self.judge(without_return(held.as_slice()))
+        self.reading.judge(without_return(self.held.as_slice()))?;
+        self.held.clear();
+        Ok(())
     }
 
     /// Holds a part of the running line.
-    fn hold(&mut self, part: &[u8]) -> Result<(), Fault> {
+    fn hold(&mut self, part: &[u8]) -> Result<(), Fault>
+        ensures judged { (seen : Seen) → Follows self.old.progress seen → ReadTo self.new.progress (rest_judged seen (self.old.held ++ part.now)) result }
+        ensures held { OnOk result (self.new ≡ record self.old { held = self.old.held ++ part.now }) }
+        ensures refusal { self.new.refusal ≡ self.old.refusal }
+    {
         if part.len() > MAX_LINE - self.held.len() {
             return Err(Fault::Wrong(LogKind::LineTooLong));
         }
@@ -200,77 +181,13 @@ impl Summer {
     }
 
     /// A last line that no line feed ends, and the end of the log.
-    fn end_line(&mut self) -> Result<(), Fault> {
+    fn end_line(&mut self) -> Result<(), Fault>
+        ensures { (files : List (List ℕ)) (bytes : List ℕ) → StandsFor self.old files bytes → EndTo self.new files bytes result }
+    {
         if !self.held.is_empty() {
-            let held = std::mem::replace(&mut self.held, Vec::new(self.alloc));
-            self.judge(held.as_slice())?;
+            self.reading.judge(self.held.as_slice())?;
+            self.held.clear();
         }
-        match self.place {
-            Place::Outside => {
-                self.line = 1;
-                Ok(())
-            }
-            _ => Err(Fault::Wrong(LogKind::Truncated)),
-        }
-    }
-
-    /// A line without its end.
-    fn judge(&mut self, text: &[u8]) -> Result<(), Fault> {
-        let said = read_line(self.alloc, self.place, text)?;
-        self.put(said)?;
-        self.line = self.line.saturating_add(1);
-        Ok(())
-    }
-
-    fn put(&mut self, said: Said<'_>) -> Result<(), Fault> {
-        let kind = kind_at(self.place);
-        match said {
-            Said::PassedOver => {}
-            Said::Begins(name, kind) => {
-                self.begin(name, kind)?;
-                self.place = Place::Histogram(kind);
-            }
-            Said::Counts(states) => self.place = states_left(kind, states),
-            Said::State(row) => {
-                if let Some(test) = self.tests.get_index_mut(self.test) {
-                    test.put_row(row)?;
-                }
-                self.place = after_state(self.place);
-            }
-            Said::Judged => self.place = Place::Rest(kind),
-            Said::Conditioned(text, verdict) => {
-                if let Some(test) = self.tests.get_index_mut(self.test) {
-                    test.put_condition(text, verdict)?;
-                }
-                self.place = Place::Conditioned(kind);
-            }
-            Said::Hashed(text) => {
-                if let Some(test) = self.tests.get_index_mut(self.test) {
-                    test.put_hash(self.alloc, text)?;
-                }
-            }
-            Said::Ends => self.place = Place::Outside,
-        }
-        Ok(())
-    }
-
-    fn begin(&mut self, name: &[u8], kind: Kind) -> Result<(), Fault> {
-        match self.tests.get_index_of(name) {
-            Some(i) => {
-                if let Some((_, test)) = self.tests.get_index(i) {
-                    test.put_kind(kind)?;
-                }
-                self.test = i;
-                Ok(())
-            }
-            None => {
-                let name = Vec::from_slice(self.alloc, name)?;
-                let (i, _) = self
-                    .tests
-                    .insert_full(name, TestSum::new(self.alloc, kind))?;
-                self.test = i;
-                Ok(())
-            }
-        }
+        self.reading.end()
     }
 }

@@ -1,11 +1,10 @@
 ghost use Rattle.std.specs.Prelude.{◌≡◌, option_map};
-ghost use Rattle.log_sum.specs.Classes.{Gives, GivesOr, test_view, row_view};
-ghost use Rattle.log_sum.specs.Facts.{same_kind, same_mark, is_other, a_kind, a_condition, a_hash, a_row};
+ghost use Rattle.log_sum.specs.Classes.{Gives, GivesOr, test_view};
+ghost use Rattle.log_sum.specs.Facts.{same_kind, same_mark, is_other, a_kind, a_condition, a_hash, a_row, row_with};
 ghost use Rattle.log_sum.specs.Steps.{fact_to, of_kind, with_verdict, marked, with_marked, known_state, count_known};
 
 use crate::errors::{Fault, LogKind};
 use crate::kinds::{Kind, Mark, Verdict};
-use crate::lines::Row;
 use std::alloc::Global;
 use std::collections::BTreeMap;
 
@@ -168,11 +167,16 @@ impl TestSum {
     }
 
     /// A state with a mark, seen so often.
-    pub(crate) fn put_row(&mut self, row: Row) -> Result<(), Fault>
-        ensures { GivesOr (λ _. test_view self.new) result (fact_to (test_view self.old) (a_row (row_view row))) }
+    pub(crate) fn put_row(
+        &mut self,
+        alloc: Global,
+        state: &[u8],
+        mark: Mark,
+        count: u64,
+    ) -> Result<(), Fault>
+        ensures { GivesOr (λ _. test_view self.new) result (fact_to (test_view self.old) (a_row (row_with state.now mark count))) }
     {
-        let Row { state, mark, count } = row;
-        let known = self.known(state.as_slice());
+        let known = self.known(state);
         if has_other_mark(known, mark) {
             return Err(Fault::Wrong(LogKind::MarkDiffers));
         }
@@ -184,7 +188,8 @@ impl TestSum {
             mark,
             count: count_of(known).saturating_add(count),
         };
-        self.states.insert(state, state_sum)?;
+        self.states
+            .insert(Vec::from_slice(alloc, state)?, state_sum)?;
         self.set_marked(mark, sum + count);
         Ok(())
     }

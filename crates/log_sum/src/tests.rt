@@ -100,6 +100,61 @@ fn first_fault_is_answered(rt: HostRuntime) -> Result<(), Fail> {
     Ok(())
 }
 
+/// From each length up to the next row's, the answer to the first log cut there.
+const CUTS: [(usize, Option<(u64, LogKind)>); 36] = [
+    (0, None),
+    (15, Some((2, LogKind::Truncated))),
+    (17, Some((2, LogKind::BadState))),
+    (36, Some((3, LogKind::Truncated))),
+    (38, Some((3, LogKind::BadState))),
+    (45, Some((4, LogKind::Truncated))),
+    (46, Some((3, LogKind::BadState))),
+    (53, Some((4, LogKind::Truncated))),
+    (55, Some((3, LogKind::BadState))),
+    (62, Some((4, LogKind::Truncated))),
+    (64, Some((4, LogKind::BadState))),
+    (71, Some((5, LogKind::Truncated))),
+    (72, Some((4, LogKind::BadState))),
+    (79, Some((5, LogKind::Truncated))),
+    (81, Some((4, LogKind::BadState))),
+    (88, Some((5, LogKind::Truncated))),
+    (90, Some((5, LogKind::BadState))),
+    (97, Some((6, LogKind::Truncated))),
+    (98, Some((5, LogKind::BadState))),
+    (105, Some((6, LogKind::Truncated))),
+    (107, Some((5, LogKind::BadState))),
+    (114, Some((6, LogKind::Truncated))),
+    (116, Some((6, LogKind::BadState))),
+    (123, Some((7, LogKind::Truncated))),
+    (124, Some((6, LogKind::BadState))),
+    (131, Some((7, LogKind::Truncated))),
+    (133, Some((6, LogKind::BadState))),
+    (140, Some((7, LogKind::Truncated))),
+    (142, Some((7, LogKind::BadState))),
+    (143, Some((8, LogKind::Truncated))),
+    (145, Some((9, LogKind::Truncated))),
+    (146, Some((10, LogKind::Truncated))),
+    (156, Some((11, LogKind::Truncated))),
+    (187, Some((12, LogKind::Truncated))),
+    (238, Some((13, LogKind::Truncated))),
+    (248, None),
+];
+
+#[test]
+fn log_cut_anywhere_has_its_answer(rt: HostRuntime) -> Result<(), Fail> {
+    let mut wanted = Ok(());
+    for length in 0..=A_LOG.len() {
+        if let Some((_, cut)) = CUTS.iter().find(|cut| cut.0 == length) {
+            wanted = match cut {
+                Some((line, kind)) => fault(*line, *kind),
+                None => Ok(()),
+            };
+        }
+        assert_eq!(rt; answer(rt.alloc(), &A_LOG[..length], 4096)?, wanted);
+    }
+    Ok(())
+}
+
 #[test]
 fn a_long_line_is_refused_for_ever(rt: HostRuntime) -> Result<(), Fail> {
     let mut summer = Summer::new(rt.alloc())?;

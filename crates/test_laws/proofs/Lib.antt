@@ -15,3 +15,4 @@ pub mod RegisterNames
 pub mod Meeting
 pub mod Asking
 pub mod Headline
+mod Tries

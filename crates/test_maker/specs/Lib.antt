@@ -1,3 +1,4 @@
 pub mod Refusals
 pub mod Made
 pub mod Terms
+pub mod CycleText

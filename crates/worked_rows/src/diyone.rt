@@ -1,4 +1,4 @@
-use crate::ran::{ran, ran_on, words_of};
+use crate::ran::{empty_shelf, ran, ran_on, source_of, words_of};
 use diy_io::{MemSink, Words};
 use diy_tools::run;
 use std::test::Fail;
@@ -108,7 +108,7 @@ pub const TESTS: [(&str, &str); 25] = [
 ];
 
 /// Words that are refused or make no request, with the exit status and the line on `err`.
-const REFUSED: [(&str, u8, &str); 25] = [
+const REFUSED: [(&str, u8, &str); 36] = [
     (
         "diyone7 -arch X86 -name W3O -obs avoid PodWW Wse Wse PodWR Fre",
         1,
@@ -185,7 +185,46 @@ const REFUSED: [(&str, u8, &str); 25] = [
         "diy: refused TooManyRegisters 1\n",
     ),
     ("diyone7 -obs all -arch X86", 2, "diy: usage BadMode: all\n"),
-    ("norm7 -arch X86", 2, "diy: usage NotBuilt\n"),
+    ("diy7 -arch X86", 2, "diy: usage MissingEdges\n"),
+    ("diy7 -edges PodWR -size 7", 2, "diy: usage MissingArch\n"),
+    ("diy7 -arch X86 -size 25", 2, "diy: usage BadNumber: 25\n"),
+    ("diy7 -arch X86 -nprocs 0", 2, "diy: usage BadNumber: 0\n"),
+    (
+        "diy7 -arch X86 -edges [PodWR",
+        2,
+        "diy: usage BadBracket: [PodWR\n",
+    ),
+    (
+        "diy7 -arch X86 -edges [PodWR,Rfe]",
+        2,
+        "diy: usage DoesNotJoin: [PodWR,Rfe]\n",
+    ),
+    (
+        "diy7 -arch X86 -edges Hat",
+        2,
+        "diy: usage UnknownEdge: Hat\n",
+    ),
+    (
+        "diy7 -arch X86 -after PodWR,Rfe",
+        2,
+        "diy: usage BadAfter: PodWR,Rfe\n",
+    ),
+    (
+        "diy7 -arch X86 -after Foo",
+        2,
+        "diy: usage UnknownEdge: Foo\n",
+    ),
+    (
+        "diy7 -exact -arch X86 PodWR",
+        2,
+        "diy: usage StrayWord: PodWR\n",
+    ),
+    (
+        "classify7 -arch X86 a.litmus",
+        2,
+        "diy: usage NotBuilt: a.litmus\n",
+    ),
+    ("demo -arch X86 1", 2, "diy: usage NotBuilt: demo\n"),
     (
         "norm7 -arch X86 -from SB+po+mfence",
         2,
@@ -297,7 +336,17 @@ fn an_err_without_room_changes_no_status(rt: HostRuntime) -> Result<(), Fail> {
     for (line, exit, _) in REFUSED {
         let mut out = MemSink::new(rt.alloc(), 4096)?;
         let mut err = MemSink::new(rt.alloc(), 0)?;
-        let status = run(rt.alloc(), &words_of(rt.alloc(), line)?, &mut out, &mut err);
+        let words = words_of(rt.alloc(), line)?;
+        let mut input = source_of(rt.alloc(), b"", 1)?;
+        let mut shelf = empty_shelf(rt.alloc(), 0)?;
+        let status = run(
+            rt.alloc(),
+            &words,
+            &mut input,
+            &mut out,
+            &mut err,
+            &mut shelf,
+        );
         assert_eq!(rt; status.exit(), exit, "{line}");
         assert_eq!(rt; err.bytes(), b"".as_slice(), "{line}");
     }

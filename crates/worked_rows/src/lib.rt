@@ -4,7 +4,11 @@
 #[cfg(test)]
 mod diyone;
 #[cfg(test)]
-mod norm;
+mod lines;
+#[cfg(test)]
+mod listings;
+#[cfg(test)]
+mod logs;
 #[cfg(test)]
 mod ran;
 #[cfg(test)]

@@ -1,8 +1,11 @@
-use diy_io::{MemSink, NoMemory, Words};
+ghost use Rattle.std.specs.Prelude.{◌≡◌, ◌≤◌, IfOk};
+ghost use Rattle.diy_io.specs.Shelf.{Idle};
+
+use diy_io::{MemShelf, MemSink, MemSource, NoMemory, Words};
 use diy_tools::{Status, run};
 use std::alloc::Global;
 
-/// A call of `run` on words, and what it left.
+/// A call of `run`, and what it left.
 #[derive(Drop)]
 pub struct Outcome {
     pub status: Status,
@@ -21,6 +24,20 @@ pub fn words_of(alloc: Global, line: &str) -> Result<Words, NoMemory> {
     Ok(words)
 }
 
+/// A shelf with no files and some room, whose calls don't fail.
+pub fn empty_shelf(alloc: Global, room: usize) -> Result<MemShelf, NoMemory>
+    ensures { IfOk result (λ shelf. shelf.mode ≡ Idle) }
+{
+    MemShelf::new(alloc, 64, room, Vec::new(alloc))
+}
+
+/// A source of a text in pieces, whose calls don't fail.
+pub fn source_of(alloc: Global, text: &[u8], piece: usize) -> Result<MemSource, NoMemory>
+    requires { 1 ≤ piece }
+{
+    Ok(MemSource::new(Vec::from_slice(alloc, text)?, piece, Vec::new(alloc)))
+}
+
 /// Calls `run` on words that blanks separate, with a sink of so much room.
 pub fn ran(alloc: Global, line: &str, room: usize) -> Result<Outcome, NoMemory> {
     ran_on(alloc, &words_of(alloc, line)?, room)
@@ -28,8 +45,23 @@ pub fn ran(alloc: Global, line: &str, room: usize) -> Result<Outcome, NoMemory> 
 
 /// Calls `run` on words, with a sink of so much room.
 pub fn ran_on(alloc: Global, words: &Words, room: usize) -> Result<Outcome, NoMemory> {
+    let mut input = source_of(alloc, b"", 1)?;
+    let mut shelf = empty_shelf(alloc, 0)?;
+    with_devices(alloc, words, &mut input, &mut shelf, room)
+}
+
+/// Calls `run` on words, an input and a shelf, with a sink of so much room.
+pub fn with_devices(
+    alloc: Global,
+    words: &Words,
+    input: &mut MemSource,
+    shelf: &mut MemShelf,
+    room: usize,
+) -> Result<Outcome, NoMemory>
+    requires { shelf.old.mode ≡ Idle }
+{
     let mut out = MemSink::new(alloc, room)?;
     let mut err = MemSink::new(alloc, 4096)?;
-    let status = run(alloc, words, &mut out, &mut err);
+    let status = run(alloc, words, input, &mut out, &mut err, shelf);
     Ok(Outcome { status, out, err })
 }

@@ -2,7 +2,7 @@ use Rattle.std.proofs.Common.{◌≡◌, ◌∷◌, ◌++◌, [], List, ℕ, cod
 use Rattle.std.specs.List.{join_by}
 use Rattle.relax_edges.specs.Words.{word_of}
 use Rattle.litmus_text.specs.TestText.{edges_line}
-use Rattle.litmus_text.proofs.WroteLaws.{then_wrote, part_wrote, wrote_same}
+use Rattle.diy_io.specs.WroteLaws.{then_wrote, part_wrote, wrote_same}
 use Rattle.litmus_text.proofs.head.print_edges.Goals as goal
 
 -- the words between quotes, as they are written

@@ -1,7 +1,7 @@
 use Rattle.std.proofs.Common.{◌≡◌, ◌∷◌, ◌++◌, []}
 use Rattle.relax_edges.specs.Architectures.{arch_word}
 use Rattle.litmus_text.specs.TestText.{header_line}
-use Rattle.litmus_text.proofs.WroteLaws.{then_wrote, part_wrote, wrote_same}
+use Rattle.diy_io.specs.WroteLaws.{then_wrote, part_wrote, wrote_same}
 use Rattle.litmus_text.proofs.head.print_header.Goals as goal
 
 pub returns-in_err-write_three : goal.returns-in_err-write_three

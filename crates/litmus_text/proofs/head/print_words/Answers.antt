@@ -1,6 +1,7 @@
 use Rattle.std.proofs.Common.{arith, codes}
 use Rattle.relax_edges.specs.Words.{word_of}
-use Rattle.litmus_text.proofs.WroteLaws.{join_step, join_stop, wrote_err, nothing_wrote}
+use Rattle.diy_io.specs.WroteLaws.{wrote_err, nothing_wrote}
+use Rattle.litmus_text.proofs.WroteLaws.{join_step, join_stop}
 use Rattle.litmus_text.proofs.head.print_words.Goals as goal
 
 pub loop-i-init : goal.loop-i-init

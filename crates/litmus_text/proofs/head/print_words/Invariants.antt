@@ -1,7 +1,7 @@
 use Rattle.std.proofs.Common.{take, codes}
 use Rattle.std.specs.List.{join_by}
 use Rattle.relax_edges.specs.Words.{word_of}
-use Rattle.litmus_text.specs.Wrote.{WroteAll, sink_seen}
+use Rattle.diy_io.specs.Wrote.{WroteAll, sink_seen}
 use Rattle.litmus_text.proofs.head.print_words.Given as goal
 
 -- the words so far are written

@@ -3,7 +3,7 @@ use Rattle.std.specs.List.{flat_map, enumerate_from}
 use Rattle.litmus_text.specs.TestText.{items_lines, ended}
 use Rattle.arch_trait.specs.Codes.{thread_of}
 use Rattle.litmus_text.proofs.InitialLaws.{initial_is}
-use Rattle.litmus_text.proofs.WroteLaws.{three_first, three_second, three_third}
+use Rattle.diy_io.specs.WroteLaws.{three_first, three_second, three_third}
 use Rattle.litmus_text.proofs.initial.print_initial.Goals as goal
 
 pub returns-in_err-write : goal.returns-in_err-write

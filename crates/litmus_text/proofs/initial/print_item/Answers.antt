@@ -1,8 +1,8 @@
 use Rattle.std.proofs.Common.{◌≡◌, ◌++◌, ◌∙◌, codes, refl}
 use Rattle.litmus_text.specs.TestText.{item_text}
-use Rattle.litmus_text.specs.Wrote.{separator_at}
+use Rattle.litmus_text.specs.Separators.{separator_at}
 use Rattle.litmus_text.proofs.InitialLaws.{item_built}
-use Rattle.litmus_text.proofs.WroteLaws.{wrote_same}
+use Rattle.diy_io.specs.WroteLaws.{wrote_same}
 use Rattle.litmus_text.proofs.initial.print_item.Goals as goal
 
 pub returns : goal.returns

@@ -1,6 +1,6 @@
 use Rattle.std.proofs.Common.{◌≡◌, ◌≢◌, codes, length}
 use Rattle.litmus_text.proofs.InitialLaws.{no_items, some_items, empty_from, some_from}
-use Rattle.litmus_text.proofs.WroteLaws.{then_wrote, part_wrote, wrote_same, wrote_nothing}
+use Rattle.diy_io.specs.WroteLaws.{then_wrote, part_wrote, wrote_same, wrote_nothing}
 use Rattle.litmus_text.proofs.initial.print_item_line.Goals as goal
 
 pub returns-then-is_empty : goal.returns-then-is_empty

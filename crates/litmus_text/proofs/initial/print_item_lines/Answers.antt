@@ -2,7 +2,8 @@ use Rattle.std.proofs.Common.{arith}
 use Rattle.std.specs.List.{flat_map}
 use Rattle.litmus_text.specs.TestText.{items_lines, ended}
 use Rattle.arch_trait.specs.Codes.{thread_of}
-use Rattle.litmus_text.proofs.WroteLaws.{numbered_step, numbered_stop, numbered_end, wrote_err, nothing_wrote}
+use Rattle.diy_io.specs.WroteLaws.{wrote_err, nothing_wrote}
+use Rattle.litmus_text.proofs.WroteLaws.{numbered_step, numbered_stop, numbered_end}
 use Rattle.litmus_text.proofs.initial.print_item_lines.Goals as goal
 
 pub loop-thread-init : goal.loop-thread-init

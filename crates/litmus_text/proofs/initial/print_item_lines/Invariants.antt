@@ -2,7 +2,7 @@ use Rattle.std.proofs.Common.{take, map}
 use Rattle.std.specs.List.{flat_map, enumerate_from}
 use Rattle.litmus_text.specs.TestText.{items_lines, ended}
 use Rattle.arch_trait.specs.Codes.{thread_of}
-use Rattle.litmus_text.specs.Wrote.{WroteAll, sink_seen}
+use Rattle.diy_io.specs.Wrote.{WroteAll, sink_seen}
 use Rattle.litmus_text.proofs.initial.print_item_lines.Given as goal
 
 -- the lines so far are written

@@ -1,7 +1,8 @@
 use Rattle.std.proofs.Common.{arith, codes}
 use Rattle.litmus_text.specs.TestText.{item_text}
 use Rattle.litmus_text.proofs.ElementLaws.{below_at}
-use Rattle.litmus_text.proofs.WroteLaws.{join_step, join_stop, wrote_err, nothing_wrote}
+use Rattle.diy_io.specs.WroteLaws.{wrote_err, nothing_wrote}
+use Rattle.litmus_text.proofs.WroteLaws.{join_step, join_stop}
 use Rattle.litmus_text.proofs.initial.print_items.Goals as goal
 
 pub loop-i-init : goal.loop-i-init

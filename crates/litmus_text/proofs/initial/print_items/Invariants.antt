@@ -1,7 +1,7 @@
 use Rattle.std.proofs.Common.{take, codes}
 use Rattle.std.specs.List.{join_by}
 use Rattle.litmus_text.specs.TestText.{item_text}
-use Rattle.litmus_text.specs.Wrote.{WroteAll, sink_seen}
+use Rattle.diy_io.specs.Wrote.{WroteAll, sink_seen}
 use Rattle.litmus_text.proofs.initial.print_items.Given as goal
 
 -- the items so far are written

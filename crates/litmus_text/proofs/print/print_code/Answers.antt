@@ -5,7 +5,7 @@ use Rattle.final_cond.specs.Conditions.{cond_view}
 use Rattle.final_cond.specs.CondText.{cond_text}
 use Rattle.litmus_text.specs.TestText.{initial_lines, columns_of, table_lines, ended}
 use Rattle.litmus_text.specs.Parts.{code_text}
-use Rattle.litmus_text.proofs.WroteLaws.{three_first, three_second, three_third, wrote_same}
+use Rattle.diy_io.specs.WroteLaws.{three_first, three_second, three_third, wrote_same}
 use Rattle.litmus_text.proofs.print.print_code.Goals as goal
 
 pub returns-in_err-print_initial : goal.returns-in_err-print_initial

@@ -1,4 +1,4 @@
-use Rattle.litmus_text.proofs.WroteLaws.{then_wrote, part_wrote}
+use Rattle.diy_io.specs.WroteLaws.{then_wrote, part_wrote}
 use Rattle.litmus_text.proofs.print.print_condition.Goals as goal
 
 pub returns-in_err-print_terms : goal.returns-in_err-print_terms

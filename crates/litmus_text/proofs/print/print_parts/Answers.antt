@@ -3,7 +3,7 @@ use Rattle.litmus_text.specs.TestText.{header_line, edges_line, ended}
 use Rattle.litmus_text.specs.Tests.{test_seen}
 use Rattle.litmus_text.specs.Parts.{code_text}
 use Rattle.litmus_text.proofs.PartLaws.{parts_are}
-use Rattle.litmus_text.proofs.WroteLaws.{three_first, three_second, three_third, wrote_same}
+use Rattle.diy_io.specs.WroteLaws.{three_first, three_second, three_third, wrote_same}
 use Rattle.litmus_text.proofs.print.print_parts.Goals as goal
 
 pub returns-in_err-print_header : goal.returns-in_err-print_header

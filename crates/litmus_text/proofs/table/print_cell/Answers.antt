@@ -1,8 +1,8 @@
 use Rattle.std.proofs.Common.{◌≡◌, ◌-◌, ◌++◌, ◌∙◌, length, take, codes, ap, arith}
 use Rattle.std.proofs.Math.ListN.{replicate}
 use Rattle.std.proofs.lemmas.List.{take-replicate}
-use Rattle.litmus_text.specs.Wrote.{separator_at}
-use Rattle.litmus_text.proofs.WroteLaws.{wrote_same}
+use Rattle.litmus_text.specs.Separators.{separator_at}
+use Rattle.diy_io.specs.WroteLaws.{wrote_same}
 use Rattle.litmus_text.proofs.table.print_cell.Goals as goal
 
 pub returns : goal.returns

@@ -1,9 +1,10 @@
 use Rattle.std.proofs.Common.{◌++◌, ◌∙◌, codes, ap, map, arith, get_or, []}
 use Rattle.litmus_text.specs.TestText.{columns_of, column_of, cell_text}
 use Rattle.arch_trait.specs.Codes.{thread_of}
-use Rattle.litmus_text.specs.Wrote.{separator_at}
+use Rattle.litmus_text.specs.Separators.{separator_at}
 use Rattle.litmus_text.proofs.TableLaws.{width_at, cell_is, length_columns, widths_long, cell_within}
-use Rattle.litmus_text.proofs.WroteLaws.{nothing_wrote, wrote_err, wrote_same, join_step, join_stop, join_end}
+use Rattle.diy_io.specs.WroteLaws.{nothing_wrote, wrote_err, wrote_same}
+use Rattle.litmus_text.proofs.WroteLaws.{join_step, join_stop, join_end}
 use Rattle.litmus_text.proofs.table.print_cells.Goals as goal
 
 pub loop-thread-init : goal.loop-thread-init

@@ -2,7 +2,7 @@ use Rattle.std.proofs.Common.{take, codes, map}
 use Rattle.std.specs.List.{join_by}
 use Rattle.litmus_text.specs.TestText.{columns_of, cell_text}
 use Rattle.arch_trait.specs.Codes.{thread_of}
-use Rattle.litmus_text.specs.Wrote.{WroteAll, sink_seen}
+use Rattle.diy_io.specs.Wrote.{WroteAll, sink_seen}
 use Rattle.litmus_text.proofs.table.print_cells.Given as goal
 
 -- the cells so far are written

@@ -3,7 +3,7 @@ use Rattle.std.specs.List.{join_by}
 use Rattle.litmus_text.specs.TestText.{columns_of, cell_text}
 use Rattle.arch_trait.specs.Codes.{thread_of}
 use Rattle.litmus_text.proofs.TableLaws.{row_is}
-use Rattle.litmus_text.proofs.WroteLaws.{three_first, three_second, three_third}
+use Rattle.diy_io.specs.WroteLaws.{three_first, three_second, three_third}
 use Rattle.litmus_text.proofs.table.print_row.Goals as goal
 
 pub returns-in_err-write : goal.returns-in_err-write

@@ -1,7 +1,7 @@
 use Rattle.std.proofs.Common.{arith, map}
 use Rattle.litmus_text.specs.TestText.{columns_of}
 use Rattle.arch_trait.specs.Codes.{thread_of}
-use Rattle.litmus_text.proofs.WroteLaws.{nothing_wrote, wrote_err, wrote_same}
+use Rattle.diy_io.specs.WroteLaws.{nothing_wrote, wrote_err, wrote_same}
 use Rattle.litmus_text.proofs.TableLaws.{row_step, row_stop, row_end, table_is, written_row}
 use Rattle.litmus_text.proofs.table.print_table.Goals as goal
 

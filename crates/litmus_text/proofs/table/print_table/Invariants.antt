@@ -2,7 +2,7 @@ use Rattle.std.proofs.Common.{take, map}
 use Rattle.std.specs.List.{flat_map, range_with_len}
 use Rattle.litmus_text.specs.TestText.{columns_of}
 use Rattle.arch_trait.specs.Codes.{thread_of}
-use Rattle.litmus_text.specs.Wrote.{WroteAll, sink_seen}
+use Rattle.diy_io.specs.Wrote.{WroteAll, sink_seen}
 use Rattle.litmus_text.proofs.TableLaws.{written_row}
 use Rattle.litmus_text.proofs.table.print_table.Given as goal
 

@@ -1,4 +1,4 @@
-use Rattle.litmus_text.proofs.WroteLaws.{then_wrote, part_wrote}
+use Rattle.diy_io.specs.WroteLaws.{then_wrote, part_wrote}
 use Rattle.litmus_text.proofs.write.write_three.Goals as goal
 
 pub returns-in_err-write : goal.returns-in_err-write

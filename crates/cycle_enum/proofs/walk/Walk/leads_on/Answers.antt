@@ -1,15 +1,9 @@
 use Rattle.std.proofs.Common.{◌≡◌, false, rules, IsFalse}
 use Rattle.walk_laws.specs.Beginning.{may_begin}
-use Rattle.walk_laws.specs.Composable.{is_joined}
 use Rattle.listing_laws.specs.Listing.{IsMadeOf}
 use Rattle.listing_laws.specs.Search.{LeadsNowhere}
-use Rattle.listing_laws.proofs.Nowhere.{unjoined_nowhere, begins_nowhere, unmade_nowhere}
+use Rattle.listing_laws.proofs.Nowhere.{begins_nowhere, unmade_nowhere}
 use Rattle.cycle_enum.proofs.walk.Walk.leads_on.Goals as goal
-
-pub returns-then-not-is_joined-clause-refused : goal.returns-then-not-is_joined-clause-refused
-returns-then-not-is_joined-clause-refused g c _ =
-    let h : is_joined c.args.list.now ≡ false = cc (c.is_joined.ensures, c.if-not-is_joined.true) in
-    unjoined_nowhere _ _ _ _ c.args.list.now h
 
 pub returns-then-not-may_begin-clause-refused : goal.returns-then-not-may_begin-clause-refused
 returns-then-not-may_begin-clause-refused g c _ =

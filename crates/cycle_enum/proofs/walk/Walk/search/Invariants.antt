@@ -3,8 +3,8 @@ use Rattle.listing_laws.proofs.Stepping.{Standing}
 use Rattle.cycle_enum.specs.Walking.{Says, Lists}
 use Rattle.cycle_enum.proofs.walk.Walk.search.Given as goal
 
-abbrev pub invariant-loop-list : goal.invariant-loop-list
-invariant-loop-list g l = Standing (Lists g.P.Fn.post l.self) (Says g.K.Fn.post l.self.keep) l.len l.fn.list.items l.list.items
+abbrev pub invariant-loop-self : goal.invariant-loop-self
+invariant-loop-self g l = Standing (Lists g.P.Fn.post l.self) (Says g.K.Fn.post l.self.keep) l.len l.fn.list.items l.list.items
 
-abbrev pub decreases-loop-list : goal.decreases-loop-list
-decreases-loop-list g l = to_go l.len l.list.items
+abbrev pub decreases-loop-self : goal.decreases-loop-self
+decreases-loop-self g l = to_go l.len l.list.items

@@ -1,5 +1,4 @@
-use Rattle.std.proofs.Common.{◌≡◌, [], refl, ap, ◌∙◌, map, Ok}
-use Rattle.log_sum.specs.Classes.{named_view}
+use Rattle.std.proofs.Common.{◌≡◌, [], refl, ◌∙◌, Ok}
 use Rattle.log_sum.specs.Reading.{nothing_seen, input_judged, bytes_judged, lines_of, rest_of, rest_judged}
 use Rattle.log_sum.proofs.summer.Summer.new.Goals as goal
 
@@ -15,10 +14,7 @@ pub returns : goal.returns
 returns c = record {
   seen = nothing_seen;
   judged = nothing_judged;
-  tests = ap (map named_view) c.new.ensures.empty;
-  place = refl;
-  test = tt;
-  line = refl;
+  reading = c.new.ensures.reading;
   held = c.in_ok-with_capacity.ensures.items ∙ nothing_held;
   going = refl;
 }

@@ -28,7 +28,7 @@ pub loop-name-init : goal.loop-name-init
 loop-name-init g c = record {
   grew = grew_nothing (g.O.Sink.told c.args.out.now);
   faults = refl;
-  covers = let e : c.into_iter-name-iterator.result ≡ c.self.inside.tests.entries = c.into_iter-name-iterator.ensures.into_iter_gives.0 in ap (map named_view) e ∙ ap (λ (k : Kept). k.tests) c.self.view_is;
+  covers = let e : c.into_iter-name-iterator.result ≡ c.self.inside.reading.table.tests.entries = c.into_iter-name-iterator.ensures.into_iter_gives.0 in ap (map named_view) e ∙ ap (λ (k : Kept). k.progress.tests) c.self.view_is;
 }
 
 pub loop-name-preserved : goal.loop-name-preserved
@@ -36,14 +36,14 @@ loop-name-preserved g c = record {
   grew = states_go shown text_of (g.O.Sink.told c.args.out.now) (g.O.Sink.told c.loop-name.out) (g.O.Sink.told c.print_sum.new.out) c.loop-name.yielded (c.in-Some.name, c.in-Some.test) c.loop-name.invariant.grew
       (grew_as _ _ _ _ (ap (λ t. test_text t (test_view c.in-Some.test.now)) c.as_slice.ensures.value) c.in_ok-print_sum.ensures.ok);
   faults = c.in_ok-print_sum.ensures.no_fault ∙ c.loop-name.invariant.faults;
-  covers = covers_next shown named_view c.loop-name.yielded c.loop-name.name-iterator c.next.new.self (c.in-Some.name, c.in-Some.test) (c.in-Some.name.now, c.in-Some.test.now) c.args.self.now.tests
+  covers = covers_next shown named_view c.loop-name.yielded c.loop-name.name-iterator c.next.new.self (c.in-Some.name, c.in-Some.test) (c.in-Some.name.now, c.in-Some.test.now) c.args.self.now.progress.tests
       refl c.in-Some.ensures.steps c.loop-name.invariant.covers;
 }
 
 pub returns-in_err-print_sum-clause-failed : goal.returns-in_err-print_sum-clause-failed
 returns-in_err-print_sum-clause-failed g c =
     on_err c.from_residual.result (states_stop shown text_of (g.O.Sink.told c.args.out.now) (g.O.Sink.told c.loop-name.out) (g.O.Sink.told c.print_sum.new.out) c.loop-name.yielded (c.in-Some.name, c.in-Some.test)
-    (map named_view c.next.new.self) c.args.self.now.tests c.loop-name.invariant.grew
+    (map named_view c.next.new.self) c.args.self.now.progress.tests c.loop-name.invariant.grew
     (front_as _ _ _ _ (ap (λ t. test_text t (test_view c.in-Some.test.now)) c.as_slice.ensures.value) c.in_err-print_sum.ensures.failed)
-    (covers_this shown named_view c.loop-name.yielded c.loop-name.name-iterator c.next.new.self (c.in-Some.name, c.in-Some.test) (c.in-Some.name.now, c.in-Some.test.now) c.args.self.now.tests
+    (covers_this shown named_view c.loop-name.yielded c.loop-name.name-iterator c.next.new.self (c.in-Some.name, c.in-Some.test) (c.in-Some.name.now, c.in-Some.test.now) c.args.self.now.progress.tests
     refl c.in-Some.ensures.steps c.loop-name.invariant.covers))

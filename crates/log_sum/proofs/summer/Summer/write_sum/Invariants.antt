@@ -11,5 +11,5 @@ abbrev pub invariant-loop-name : goal.invariant-loop-name
 invariant-loop-name g l = record {
   grew : Grew (g.O.Sink.told l.fn.out) (g.O.Sink.told l.out) (flat_map (λ (test : List ℕ × Summed). test_text test.0 test.1) (map (λ e. (e.0.now.items, test_view e.1.now)) l.yielded));
   faults : g.O.Sink.faults l.out ≡ g.O.Sink.faults l.fn.out;
-  covers : map (λ e. (e.0.now.items, test_view e.1.now)) l.yielded ++ map named_view l.name-iterator ≡ l.fn.self.tests;
+  covers : map (λ e. (e.0.now.items, test_view e.1.now)) l.yielded ++ map named_view l.name-iterator ≡ l.fn.self.progress.tests;
 }

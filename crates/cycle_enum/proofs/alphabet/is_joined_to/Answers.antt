@@ -1,0 +1,7 @@
+use Rattle.std.proofs.Common.{◌∷◌, [], sym, ◌∙◌, arith}
+use Rattle.walk_laws.proofs.Composing.{last_joins_at}
+use Rattle.cycle_enum.proofs.alphabet.is_joined_to.Goals as goal
+
+pub returns-in-len1-up : goal.returns-in-len1-up
+returns-in-len1-up c =
+    c.joins.ensures ∙ sym (last_joins_at c.args.list.now (c.args.edge ∷ []) _ c.args.edge c.in-len1-up.len_at_least (omega arith))

@@ -1,0 +1,191 @@
+ghost use Rattle.std.specs.Prelude.{◌≡◌, ◌<◌, ◌≤◌, ◌↔◌, ◌∷◌, [], IsTrue, IsFalse, IfSome, length, true};
+ghost use Rattle.std.specs.List.{AllByRecursion};
+ghost use Rattle.walk_laws.specs.Composable.{last_joins};
+ghost use Rattle.listing_laws.specs.Listing.{IsMadeOf};
+ghost use Rattle.listing_laws.specs.Search.{IsCandidate, IsExtended, IsNextEdge, IsRaised, IsSingle, LeadsNowhere, OccursIn};
+ghost use Rattle.cycle_enum.specs.Marks.{MarksAlphabet, MarksAlso, least_rank};
+
+use crate::relaxed::{is_made, may_stand};
+use arrayvec::ArrayVec;
+use edge_algebra::Cycle;
+use relax_edges::{EDGES, Edge, MAX_EDGES, Relax, Relaxes};
+use std::marker::Model;
+
+const RANKS: usize = EDGES as usize;
+
+/// A list of edges that a walk goes through.
+pub(crate) type Edges = ArrayVec<Edge, MAX_EDGES>;
+
+/// Relaxations, and which edges occur in them: a walk passes over all other edges.
+///
+/// Contracts see the relaxations.
+#[derive(Drop)]
+pub(crate) struct Alphabet {
+    relaxes: Relaxes,
+    /// Whether the edge of a rank occurs in a relaxation.
+    marks: [bool; RANKS],
+    /// Whether each relaxation has one edge, so that lists of edges that occur are concatenations.
+    all_single: bool,
+}
+
+impl Model for Alphabet {
+    ghost use Rattle.std.specs.Prelude.{List};
+    ghost use Rattle.relax_edges.specs.declared.edge.Edge.{Edge as EdgeValue};
+    ghost use Rattle.cycle_enum.specs.Marks.{IsAlphabet};
+
+    ghost Value = { List (List EdgeValue) };
+
+    ghost view = { λ a. a.relaxes };
+
+    ghost invariant = { λ a. IsAlphabet a.relaxes a.marks a.all_single };
+}
+
+impl Alphabet {
+    /// Finds the edges that occur in the relaxations.
+    pub(crate) fn of(relaxes: Relaxes) -> Alphabet
+        ensures { result ≡ relaxes }
+    {
+        let mut marks = [false; RANKS];
+        mark_relaxes(&mut marks, relaxes.as_slice());
+        let all_single = are_single(relaxes.as_slice());
+        Alphabet {
+            relaxes,
+            marks,
+            all_single,
+        }
+    }
+
+    /// Passes over the list and all that begin with it: goes on to the first list in order behind
+    /// these whose last edge may stand behind the others. The list is empty where there is none.
+    pub(crate) fn raise(&self, list: &mut Edges)
+        ensures { IsRaised (IsCandidate self.now) list.old.items list.new.items }
+    {
+        let _room = list.len();
+        while let Some(edge) = list.pop() {
+            match self.next_edge(list.as_slice(), edge.rank() + 1) {
+                Some(next) => {
+                    list.push(next);
+                    return;
+                }
+                None => {}
+            }
+        }
+    }
+
+    /// Goes on to the list with the first edge that may stand behind it, none before the first edge of
+    /// the list. Where there is no such edge, it passes over all that begin with the list.
+    pub(crate) fn extend(&self, list: &mut Edges)
+        requires { length list.old.items < MAX_EDGES }
+        ensures { IsExtended (IsCandidate self.now) list.old.items list.new.items }
+    {
+        match self.next_edge(list.as_slice(), least_rank(list.as_slice())) {
+            Some(edge) => list.push(edge),
+            None => self.raise(list),
+        }
+    }
+
+    /// The first edge of this rank or a greater one that may stand behind a list: it occurs in a
+    /// relaxation, and the last edge of the list joins it.
+    fn next_edge(&self, list: &[Edge], from: u8) -> Option<Edge>
+        requires { from ≤ EDGES }
+        ensures next { IsNextEdge (IsCandidate self.now) list.now from result }
+        ensures occurs { IfSome result (OccursIn self.now) }
+        ensures joined { IfSome result (λ edge. last_joins list.now (edge ∷ []) ≡ true) }
+    {
+        for rank in from..EDGES {
+            if self.marks[usize::from(rank)] {
+                let edge = Edge::at_rank(rank);
+                if is_joined_to(list, edge) {
+                    return Some(edge);
+                }
+            }
+        }
+        None
+    }
+
+    /// Whether a list may stand in a concatenation of relaxations, if its edges occur in them.
+    pub(crate) fn may_stand(&self, list: &[Edge]) -> bool
+        requires { length list.now ≤ MAX_EDGES }
+        ensures { IsFalse result → LeadsNowhere (IsMadeOf self.now) list.now }
+    {
+        self.all_single || may_stand(self.relaxes.as_slice(), list)
+    }
+
+    /// Whether some rotation of a cycle is a concatenation of relaxations.
+    pub(crate) fn makes(&self, cycle: &Cycle) -> bool
+        ensures { IsTrue result ↔ IsMadeOf self.now cycle.now }
+    {
+        if self.all_single {
+            self.has_all(cycle.edges())
+        } else {
+            is_made(self.relaxes.as_slice(), cycle)
+        }
+    }
+
+    /// Whether each edge of a list occurs in a relaxation.
+    fn has_all(&self, edges: &[Edge]) -> bool
+        ensures { IsTrue result ↔ AllByRecursion (OccursIn self.now) edges.now }
+    {
+        match edges {
+            [] => true,
+            [first, rest @ ..] => self.marks[usize::from(first.rank())] && self.has_all(rest),
+        }
+    }
+}
+
+/// The least rank of the edges of a normal form that begins with a list: that of its first edge.
+fn least_rank(list: &[Edge]) -> u8
+    ensures value { result ≡ least_rank list.now }
+    ensures within { result < EDGES }
+{
+    match list {
+        [] => 0,
+        [first, ..] => first.rank(),
+    }
+}
+
+/// Whether the last edge of a list, if there is one, joins the edge.
+fn is_joined_to(list: &[Edge], edge: Edge) -> bool
+    ensures { result ≡ last_joins list.now (edge ∷ []) }
+{
+    match list {
+        [] => true,
+        [.., last] => last.joins(edge),
+    }
+}
+
+/// Whether each relaxation has one edge.
+fn are_single(relaxes: &[Relax]) -> bool
+    ensures { IsTrue result ↔ AllByRecursion IsSingle relaxes.now }
+{
+    match relaxes {
+        [] => true,
+        [first, rest @ ..] => first.edges().len() == 1 && are_single(rest),
+    }
+}
+
+/// Marks the edges of relaxations, beside those that are marked.
+fn mark_relaxes(marks: &mut [bool; RANKS], relaxes: &[Relax])
+    ensures { MarksAlphabet marks.old relaxes.now marks.new }
+{
+    match relaxes {
+        [] => {}
+        [first, rest @ ..] => {
+            mark_edges(marks, first.edges());
+            mark_relaxes(marks, rest);
+        }
+    }
+}
+
+/// Marks the edges of a list, beside those that are marked.
+fn mark_edges(marks: &mut [bool; RANKS], edges: &[Edge])
+    ensures { MarksAlso marks.old edges.now marks.new }
+{
+    match edges {
+        [] => {}
+        [first, rest @ ..] => {
+            marks[usize::from(first.rank())] = true;
+            mark_edges(marks, rest);
+        }
+    }
+}

@@ -1,0 +1,6 @@
+pub mod Words
+pub mod LineLaws
+pub mod Cuts
+pub mod ReadLaws
+pub mod NormLaws
+pub mod TableLaws

@@ -1,0 +1,218 @@
+-- How the lines of a text follow from those of its parts.
+use Rattle.std.proofs.Common.{◌≡◌, ◌==◌, ℕ, zero, suc, ◌+◌, ◌<◌, ◌≤◌, List, [], ◌∷◌, ◌++◌, length, true, false, refl, sym, ap, ◌∙◌, arith, append-nil, append_assoc, length-append}
+use Rattle.std.specs.Prelude.{Bool, map}
+use Rattle.std.specs.List.{slice_split, onto_first}
+use Rattle.std.proofs.lemmas.List.{map-append}
+use Rattle.std.proofs.lemmas.List.Splits.{slice_split_at, slice_split_none, length-slice_split}
+use Rattle.std.proofs.lemmas.Bool.Decides.{nat_tests}
+use Rattle.diy_io.specs.Sink.{line_feed_count}
+use Rattle.cycle_lines.specs.Lines.{is_line_feed, without_return, but_last, last_of, ended_lines, unended, last_line, lines_of}
+use Rattle.cycle_lines.specs.Cycles.{is_too_long}
+use Rattle.cycle_lines.specs.Steps.{Without}
+
+pub by_test : {G : Type 0} (b : Bool) → (b ≡ true → G) → (b ≡ false → G) → G
+by_test true p q = p refl
+by_test false p q = q refl
+
+-- a split has a first piece
+pub record FirstLine (text : List ℕ) : Type 0 where
+  pub line : List ℕ
+  pub rest : List (List ℕ)
+  pub is : slice_split is_line_feed text ≡ line ∷ rest
+
+pub first_line : (text : List ℕ) → FirstLine text
+first_line [] = record { line = []; rest = []; is = refl }
+first_line (byte ∷ text) =
+    let further = first_line text in
+    by_test (is_line_feed byte)
+    (λ e. record { line = []; rest = slice_split is_line_feed text; is = rw e refl })
+    (λ e. record { line = byte ∷ further.line; rest = further.rest; is = rw (e, further.is) refl })
+
+by_rest : (byte : ℕ) (line : List ℕ) (rest : List (List ℕ)) (l : List ℕ) (ls : List (List ℕ)) →
+    onto_first byte (but_last (line ∷ rest) ++ (last_of (line ∷ rest) ++ l) ∷ ls) ≡ but_last ((byte ∷ line) ∷ rest) ++ (last_of ((byte ∷ line) ∷ rest) ++ l) ∷ ls
+by_rest byte line [] l ls = refl
+by_rest byte line (next ∷ rest) l ls = refl
+
+-- the pieces of a text and then another: the last of the one and the first of the other are one piece
+split_append : (a b l : List ℕ) (ls : List (List ℕ)) → slice_split is_line_feed b ≡ l ∷ ls →
+    slice_split is_line_feed (a ++ b) ≡ but_last (slice_split is_line_feed a) ++ (last_of (slice_split is_line_feed a) ++ l) ∷ ls
+split_append [] b l ls h = h
+split_append (byte ∷ a) b l ls h =
+    let further = split_append a b l ls h in
+    let first = first_line a in
+    by_test (is_line_feed byte)
+    (λ e. rw e (rw (further, first.is) refl))
+    (λ e. rw e (rw (further, first.is) (by_rest byte first.line first.rest l ls)))
+
+but_last_behind : (xs : List (List ℕ)) (y : List ℕ) (ys : List (List ℕ)) → but_last (xs ++ y ∷ ys) ≡ xs ++ but_last (y ∷ ys)
+but_last_behind [] y ys = refl
+but_last_behind (x ∷ []) y ys = refl
+but_last_behind (x ∷ z ∷ xs) y ys = ap (λ t. x ∷ t) (but_last_behind (z ∷ xs) y ys)
+
+last_behind : (xs : List (List ℕ)) (y : List ℕ) (ys : List (List ℕ)) → last_of (xs ++ y ∷ ys) ≡ last_of (y ∷ ys)
+last_behind [] y ys = refl
+last_behind (x ∷ []) y ys = refl
+last_behind (x ∷ z ∷ xs) y ys = last_behind (z ∷ xs) y ys
+
+-- behind a line feed new lines begin
+split_behind : (a b : List ℕ) (l : List ℕ) (ls : List (List ℕ)) → unended a ≡ [] → slice_split is_line_feed b ≡ l ∷ ls →
+    slice_split is_line_feed (a ++ b) ≡ but_last (slice_split is_line_feed a) ++ l ∷ ls
+unfolding unended
+split_behind a b l ls e h =
+    split_append a b l ls h ∙ ap (λ t. but_last (slice_split is_line_feed a) ++ (t ++ l) ∷ ls) e
+
+pub ended_behind : (a b : List ℕ) → unended a ≡ [] → ended_lines (a ++ b) ≡ ended_lines a ++ ended_lines b
+unfolding ended_lines
+ended_behind a b e =
+    let first = first_line b in
+    ap (λ t. map without_return (but_last t)) (split_behind a b first.line first.rest e first.is)
+    ∙ ap (map without_return) (but_last_behind (but_last (slice_split is_line_feed a)) first.line first.rest)
+    ∙ map-append without_return (but_last (slice_split is_line_feed a)) (but_last (first.line ∷ first.rest))
+    ∙ ap (λ t. map without_return (but_last (slice_split is_line_feed a)) ++ map without_return (but_last t)) (sym first.is)
+
+pub unended_behind : (a b : List ℕ) → unended a ≡ [] → unended (a ++ b) ≡ unended b
+unfolding unended
+unended_behind a b e =
+    let first = first_line b in
+    ap last_of (split_behind a b first.line first.rest e first.is)
+    ∙ last_behind (but_last (slice_split is_line_feed a)) first.line first.rest ∙ ap last_of (sym first.is)
+
+pub lines_behind : (a b : List ℕ) → unended a ≡ [] → lines_of (a ++ b) ≡ ended_lines a ++ lines_of b
+lines_behind a b e =
+    ap (λ t. t ++ last_line (unended (a ++ b))) (ended_behind a b e)
+    ∙ ap (λ t. (ended_lines a ++ ended_lines b) ++ last_line t) (unended_behind a b e)
+    ∙ append_assoc (ended_lines a) (ended_lines b) (last_line (unended b))
+
+-- bytes that a text doesn't hold
+pub without_nil : (sign : ℕ) → Without sign []
+without_nil sign k d l = absurd (omega arith)
+
+pub without_cons : (sign byte : ℕ) (text : List ℕ) → (byte == sign) ≡ false → Without sign text → Without sign (byte ∷ text)
+without_cons sign byte text e h zero d l = e
+without_cons sign byte text e h (suc k) d l = h k d (omega arith)
+
+pub without_first : (sign byte : ℕ) (text : List ℕ) → Without sign (byte ∷ text) → (byte == sign) ≡ false
+without_first sign byte text h = h 0 byte (omega arith)
+
+pub without_rest : (sign byte : ℕ) (text : List ℕ) → Without sign (byte ∷ text) → Without sign text
+without_rest sign byte text h = λ k d l. h (suc k) d (omega arith)
+
+-- a text without a line feed
+pub ended_none : (text : List ℕ) → Without 10 text → ended_lines text ≡ []
+unfolding ended_lines
+ended_none text h = ap (λ t. map without_return (but_last t)) (slice_split_none is_line_feed text h)
+
+pub unended_all : (text : List ℕ) → Without 10 text → unended text ≡ text
+unfolding unended
+unended_all text h = ap last_of (slice_split_none is_line_feed text h)
+
+pub ended_nil : ended_lines [] ≡ []
+ended_nil = ended_none [] (without_nil 10)
+
+pub unended_nil : unended [] ≡ []
+unended_nil = unended_all [] (without_nil 10)
+
+-- a line, its line feed, and what stands behind
+pub ended_cut : (line rest : List ℕ) → Without 10 line → ended_lines (line ++ 10 ∷ rest) ≡ without_return line ∷ ended_lines rest
+unfolding ended_lines
+ended_cut line rest h =
+    let first = first_line rest in
+    ap (λ t. map without_return (but_last t)) (slice_split_at is_line_feed line 10 rest h refl)
+    ∙ rw first.is refl
+
+pub unended_cut : (line rest : List ℕ) → Without 10 line → unended (line ++ 10 ∷ rest) ≡ unended rest
+unfolding unended
+unended_cut line rest h =
+    let first = first_line rest in
+    ap last_of (slice_split_at is_line_feed line 10 rest h refl) ∙ rw first.is refl
+
+pub lines_cut : (line rest : List ℕ) → Without 10 line → lines_of (line ++ 10 ∷ rest) ≡ without_return line ∷ lines_of rest
+lines_cut line rest h =
+    ap (λ t. t ++ last_line (unended (line ++ 10 ∷ rest))) (ended_cut line rest h)
+    ∙ ap (λ t. (without_return line ∷ ended_lines rest) ++ last_line t) (unended_cut line rest h)
+
+-- what the return takes off
+return_short : (text : List ℕ) → length (without_return text) ≤ length text
+unfolding without_return
+return_short [] = omega arith
+return_short (b ∷ []) = by_test (b == 13) (λ e. rw e (omega arith)) (λ e. rw e (omega arith))
+return_short (b ∷ c ∷ text) = let further = return_short (c ∷ text) in omega arith
+
+return_one : (text : List ℕ) → length text ≤ length (without_return text) + 1
+unfolding without_return
+return_one [] = omega arith
+return_one (b ∷ []) = by_test (b == 13) (λ e. rw e (omega arith)) (λ e. rw e (omega arith))
+return_one (b ∷ c ∷ text) = let further = return_one (c ∷ text) in omega arith
+
+-- a line that isn't too long without its return is hardly longer with it
+pub short_pending : (text : List ℕ) → is_too_long (without_return text) ≡ false → length text ≤ 4097
+short_pending text h = let one = return_one text in grind (arith, nat_tests, one, h)
+
+pub is_long : (text line : List ℕ) → line ≡ text → 4096 < length line → is_too_long text ≡ true
+is_long text line e h = let k = ap length e in grind (arith, nat_tests, k, h)
+
+pub is_short : (text line : List ℕ) → line ≡ text → length line ≤ 4096 → is_too_long text ≡ false
+is_short text line e h = let k = ap length e in grind (arith, nat_tests, k, h)
+
+-- a line that is too long
+pub record LongFirst (lines : List (List ℕ)) : Type 0 where
+  pub line : List ℕ
+  pub behind : List (List ℕ)
+  pub is : lines ≡ line ∷ behind
+  pub long : is_too_long line ≡ true
+
+long_by : (a b : List ℕ) → length a ≤ length b → is_too_long a ≡ true → is_too_long b ≡ true
+long_by a b h e = grind (arith, nat_tests, h, e)
+
+some_line : (text : List ℕ) → is_too_long text ≡ true → last_line text ≡ text ∷ []
+some_line [] h = cc h
+some_line (b ∷ text) h = refl
+
+-- a text that stands on one line and is too long: so is the first line of all that goes on with it
+pub long_first : (text rest : List ℕ) → Without 10 text → is_too_long (without_return text) ≡ true → LongFirst (lines_of (text ++ rest))
+unfolding ended_lines unended
+long_first text rest h long =
+    let first = first_line rest in
+    let alone = slice_split_none is_line_feed text h in
+    let split : slice_split is_line_feed (text ++ rest) ≡ (text ++ first.line) ∷ first.rest =
+    split_append text rest first.line first.rest first.is ∙ ap (λ t. but_last t ++ (last_of t ++ first.line) ∷ first.rest) alone in
+    by_rest first.line first.rest split
+  where
+    kept : (line : List ℕ) → is_too_long (text ++ line) ≡ true
+    kept line = long_by (without_return text) (text ++ line) (omega (arith, return_short text, length-append text line)) long
+
+    kept_return : (line : List ℕ) → is_too_long (without_return (text ++ line)) ≡ true
+    kept_return [] = ap (λ t. is_too_long (without_return t)) (append-nil text) ∙ long
+    kept_return (b ∷ line) =
+        long_by (without_return text) (without_return (text ++ b ∷ line))
+        (omega (arith, return_short text, return_one (text ++ b ∷ line), length-append text (b ∷ line))) long
+
+    by_rest : (line : List ℕ) (behind : List (List ℕ)) → slice_split is_line_feed (text ++ rest) ≡ (text ++ line) ∷ behind → LongFirst (lines_of (text ++ rest))
+    by_rest line [] split = record {
+      line = text ++ line;
+      behind = [];
+      is = rw split (some_line (text ++ line) (kept line));
+      long = kept line;
+    }
+    by_rest line (next ∷ behind) split = record {
+      line = without_return (text ++ line);
+      behind = map without_return (but_last (next ∷ behind)) ++ last_line (last_of (next ∷ behind));
+      is = rw split refl;
+      long = kept_return line;
+    }
+
+but_last_length : (line : List ℕ) (rest : List (List ℕ)) → length (but_last (line ∷ rest)) ≡ length rest
+but_last_length line [] = refl
+but_last_length line (next ∷ rest) = ap suc (but_last_length next rest)
+
+map_length : {A B : Type 0} (f : A → B) (xs : List A) → length (map f xs) ≡ length xs
+map_length f [] = refl
+map_length f (x ∷ xs) = ap suc (map_length f xs)
+
+-- as many lines have ended as there are line feeds
+pub ended_count : (text : List ℕ) → length (ended_lines text) ≡ line_feed_count text
+unfolding ended_lines
+ended_count text =
+    let first = first_line text in
+    let all : length (first.line ∷ first.rest) ≡ line_feed_count text + 1 = ap length (sym first.is) ∙ length-slice_split is_line_feed text in
+    map_length without_return (but_last (slice_split is_line_feed text)) ∙ ap (λ t. length (but_last t)) first.is ∙ but_last_length first.line first.rest ∙ omega arith

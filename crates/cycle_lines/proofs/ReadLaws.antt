@@ -1,0 +1,476 @@
+-- How what was read of a source goes on.
+use Rattle.std.proofs.Common.{◌≡◌, ◌==◌, ℕ, zero, suc, ◌+◌, ◌-◌, ◌<◌, ◌≤◌, List, [], ◌∷◌, ◌++◌, length, take, drop, Option, Some, None, Result, Ok, Err, true, false, refl, sym, ap, inl, inr, ◌∙◌, subst, arith, append-nil, append_assoc, length-append}
+use Rattle.std.specs.Prelude.{unwrap_or, MatchOption}
+use Rattle.std.specs.Result.{result_err}
+use Rattle.std.specs.List.{take_while}
+use Rattle.std.specs.Io.KnownBytes.{Consumes, IsAtEnd, Keeps}
+use Rattle.std.proofs.lemmas.List.{drop-drop}
+use Rattle.std.proofs.lemmas.List.Folds.{list_all-append}
+use Rattle.std.proofs.lemmas.List.Sums.{take_while-cons}
+use Rattle.std.proofs.lemmas.Grind.{flat_map-append}
+use Rattle.diy_io.specs.declared.source.TheConstants.{MAX_INPUT}
+use Rattle.diy_io.specs.Count.{Rose, count_of, last_count}
+use Rattle.diy_io.specs.Sink.{line_feed_count}
+use Rattle.diy_io.specs.Taken.{SourceSeen, Took}
+use Rattle.relax_edges.specs.declared.kinds.ArchName.{ArchName}
+use Rattle.relax_edges.specs.declared.edge.Edge.{Edge}
+use Rattle.cycle_lines.specs.declared.errors.LineKind.{LineKind}
+use Rattle.cycle_lines.specs.declared.errors.LineKind.TheVariants.{LineTooLong}
+use Rattle.cycle_lines.specs.declared.errors.LinesError.{LinesError}
+use Rattle.cycle_lines.specs.declared.reader.Found.{Found}
+use Rattle.cycle_lines.specs.declared.reader.Found.TheVariants.{Next, Last}
+use Rattle.cycle_lines.specs.declared.reader.Line.{Line}
+use Rattle.cycle_lines.specs.Lines.{without_return, ended_lines, unended, last_line, lines_of}
+use Rattle.cycle_lines.specs.Cycles.{line_said, fault_of, is_sound, are_sound, cycle_said, cycles_of, is_too_long}
+use Rattle.cycle_lines.specs.Reading.{TookUpTo, Untouched, ReadAll, ReadToFault, ReadToLimit, ReadToStop, ReadSome, whole_of, cycles_before}
+use Rattle.cycle_lines.specs.Steps.{Without, CutsAt, ReaderSeen, HasRead, GivesLine, GivesNext, said_by, work, Fills, Ended, Stops, Ends, LessToDo, Continues, last_cycle}
+use Rattle.cycle_lines.proofs.LineLaws.{by_test, ended_behind, unended_behind, lines_behind, ended_none, unended_all, ended_nil, unended_nil, ended_cut, unended_cut, lines_cut, long_first, ended_count}
+
+-- bytes that are taken one after another
+consumes_both : (a b c : Option (List ℕ)) (x y : List ℕ) → Consumes a b x → Consumes b c y → Consumes a c (x ++ y)
+consumes_both None b c x y h k = tt
+consumes_both (Some a) None c x y h k = absurd h
+consumes_both (Some a) (Some b) None x y h k = absurd k
+consumes_both (Some a) (Some b) (Some c) x y h k = h ∙ ap (λ t. x ++ t) k ∙ sym (append_assoc x y c)
+
+count_both : (n x y : ℕ) → count_of (count_of (n + x) + y) ≡ count_of (n + (x + y))
+count_both n x y = omega arith
+
+pub took_both : (a b c : SourceSeen) (x y : List ℕ) → Took a b x → Took b c y → Took a c (x ++ y)
+took_both a b c x y h k = record {
+  consumed = consumes_both a.left b.left c.left x y h.consumed k.consumed;
+  counted =
+      k.counted ∙ ap (λ n. count_of (n + length y)) h.counted ∙ count_both a.taken (length x) (length y)
+      ∙ ap (λ n. count_of (a.taken + n)) (sym (length-append x y));
+}
+
+kept_then : (a b c : Option (List ℕ)) (y : List ℕ) → Keeps a b → Consumes b c y → Consumes a c y
+kept_then None b c y h k = tt
+kept_then (Some a) None c y h k = absurd h
+kept_then (Some a) (Some b) None y h k = absurd k
+kept_then (Some a) (Some b) (Some c) y h k = sym h ∙ k
+
+then_kept : (a b c : Option (List ℕ)) (x : List ℕ) → Consumes a b x → Keeps b c → Consumes a c x
+then_kept None b c x h k = tt
+then_kept (Some a) None c x h k = absurd h
+then_kept (Some a) (Some b) None x h k = absurd k
+then_kept (Some a) (Some b) (Some c) x h k = h ∙ ap (λ t. x ++ t) (sym k)
+
+kept_both : (a b c : Option (List ℕ)) → Keeps a b → Keeps b c → Keeps a c
+kept_both None b c h k = tt
+kept_both (Some a) None c h k = absurd h
+kept_both (Some a) (Some b) None h k = absurd k
+kept_both (Some a) (Some b) (Some c) h k = k ∙ h
+
+pub kept_same : (a : Option (List ℕ)) → Keeps a a
+kept_same None = tt
+kept_same (Some a) = refl
+
+kept_consumes : (a b : Option (List ℕ)) → Keeps a b → Consumes a b []
+kept_consumes None b h = tt
+kept_consumes (Some a) None h = absurd h
+kept_consumes (Some a) (Some b) h = sym h
+
+pub took_then : (a b c : SourceSeen) (x y : List ℕ) → TookUpTo a b x → Took b c y → Took a c (x ++ y)
+took_then a b c x y (inl h) k = took_both a b c x y h k
+took_then a b c x y (inr h) k =
+    subst (λ t. Took a c (t ++ y)) (sym h.none)
+    (record { consumed = kept_then a.left b.left c.left y h.kept k.consumed; counted = k.counted ∙ ap (λ n. count_of (n + length y)) h.taken_is })
+
+pub took_stays : (a b c : SourceSeen) (x : List ℕ) → TookUpTo a b x → Untouched b c [] → TookUpTo a c x
+took_stays a b c x (inl h) k = inl (record { consumed = then_kept a.left b.left c.left x h.consumed k.kept; counted = k.taken_is ∙ h.counted })
+took_stays a b c x (inr h) k = inr (record { none = h.none; kept = kept_both a.left b.left c.left h.kept k.kept; taken_is = k.taken_is ∙ h.taken_is })
+
+pub took_some : (a b : SourceSeen) (x : List ℕ) → TookUpTo a b x → 0 < length x → Took a b x
+took_some a b x (inl h) some = h
+took_some a b x (inr h) some = absurd (let e = ap length h.none in omega arith)
+
+pub took_counted : (a b : SourceSeen) (x : List ℕ) → TookUpTo a b x → b.taken ≤ last_count → Took a b x
+took_counted a b x (inl h) counted = h
+took_counted a b x (inr h) counted =
+    subst (Took a b) (sym h.none) (record { consumed = kept_consumes a.left b.left h.kept; counted = let e = h.taken_is in omega arith })
+
+-- a reader that has read nothing
+pub nothing_read : (arch : ArchName) (s : SourceSeen) → HasRead arch s s (record { pending = []; line = 1; taken = 0 }) []
+nothing_read arch s = record {
+  given = [];
+  took = inr (record { none = refl; kept = kept_same s.left; taken_is = refl });
+  no_fault = refl;
+  ended = unended_nil;
+  sound = ap (are_sound arch) ended_nil;
+  cycles_are = ap (cycles_of arch) (sym ended_nil);
+  line_is = ap (λ ls. length ls + 1) (sym ended_nil);
+  taken_is = refl;
+  few = omega arith;
+}
+
+-- soundness and cycles of lines one after another
+sound_both : (arch : ArchName) (xs ys : List (List ℕ)) → are_sound arch xs ≡ true → are_sound arch ys ≡ true → are_sound arch (xs ++ ys) ≡ true
+sound_both arch xs ys h k = list_all-append (is_sound arch) xs ys ∙ rw (h, k) refl
+
+cycles_both : (arch : ArchName) (xs ys : List (List ℕ)) → cycles_of arch (xs ++ ys) ≡ cycles_of arch xs ++ cycles_of arch ys
+cycles_both arch xs ys = flat_map-append (λ line. cycle_said (line_said arch line)) xs ys
+
+one_sound : (arch : ArchName) (line : List ℕ) (said : Option (List Edge)) → Ok said ≡ line_said arch line → are_sound arch (line ∷ []) ≡ true
+one_sound arch line said e = rw (sym e) refl
+
+last_said : (said : Option (List Edge)) → cycle_said (Ok said) ++ [] ≡ last_cycle said
+last_said None = refl
+last_said (Some c) = refl
+
+one_cycle : (arch : ArchName) (line : List ℕ) (said : Option (List Edge)) → Ok said ≡ line_said arch line → cycles_of arch (line ∷ []) ≡ last_cycle said
+one_cycle arch line said e = rw (sym e) (last_said said)
+
+one_fault : (arch : ArchName) (line : List ℕ) (kind : LineKind) → Err kind ≡ line_said arch line → fault_of arch line ≡ Some kind
+one_fault arch line kind e = ap result_err (sym e)
+
+-- a line that was given, without a fault
+pub line_given : (arch : ArchName) (s t : SourceSeen) (r q : ReaderSeen) (cycles : List (List Edge)) (said : Option (List Edge)) →
+    HasRead arch s t r cycles → GivesLine arch r q (Ok said) → HasRead arch s t q (cycles ++ last_cycle said)
+line_given arch s t r q cycles said h g =
+    let line = without_return g.bytes in
+    let ended_line : ended_lines (g.bytes ++ 10 ∷ []) ≡ line ∷ [] = ended_cut g.bytes [] g.cut.without ∙ ap (λ t. line ∷ t) ended_nil in
+    let ended_is : ended_lines (h.given ++ (g.bytes ++ 10 ∷ [])) ≡ ended_lines h.given ++ line ∷ [] =
+    ended_behind h.given (g.bytes ++ 10 ∷ []) h.ended ∙ ap (λ t. ended_lines h.given ++ t) ended_line in
+    let bytes_are : h.given ++ r.pending ≡ (h.given ++ (g.bytes ++ 10 ∷ [])) ++ q.pending =
+    ap (λ t. h.given ++ t) (g.cut.parts ∙ sym (append_assoc g.bytes (10 ∷ []) q.pending))
+    ∙ sym (append_assoc h.given (g.bytes ++ 10 ∷ []) q.pending) in
+    record {
+      given = h.given ++ (g.bytes ++ 10 ∷ []);
+      took = subst (TookUpTo s t) bytes_are h.took;
+      no_fault = h.no_fault;
+      ended = unended_behind h.given (g.bytes ++ 10 ∷ []) h.ended ∙ unended_cut g.bytes [] g.cut.without ∙ unended_nil;
+      sound = ap (are_sound arch) ended_is ∙ sound_both arch (ended_lines h.given) (line ∷ []) h.sound (one_sound arch line said g.says);
+      cycles_are =
+          ap (λ t. t ++ last_cycle said) h.cycles_are ∙ ap (λ t. cycles_of arch (ended_lines h.given) ++ t) (sym (one_cycle arch line said g.says))
+          ∙ sym (cycles_both arch (ended_lines h.given) (line ∷ [])) ∙ ap (cycles_of arch) (sym ended_is);
+      line_is = let e = ap length ended_is in let f = length-append (ended_lines h.given) (line ∷ []) in omega (arith, e, f, g.line_is, h.line_is);
+      taken_is = g.taken_is ∙ h.taken_is ∙ ap length bytes_are;
+      few = subst (λ n. n ≤ MAX_INPUT) (sym g.taken_is) h.few;
+    }
+
+-- no cycle more
+pub no_cycle_given : (arch : ArchName) (s t : SourceSeen) (r q : ReaderSeen) (cycles : List (List Edge)) →
+    HasRead arch s t r cycles → GivesLine arch r q (Ok None) → HasRead arch s t q cycles
+no_cycle_given arch s t r q cycles h g =
+    subst (HasRead arch s t q) (append-nil cycles) (line_given arch s t r q cycles None h g)
+
+took_pending : (arch : ArchName) (s t : SourceSeen) (r : ReaderSeen) (cycles : List (List Edge)) (h : HasRead arch s t r cycles) → 0 < length r.pending → Took s t (h.given ++ r.pending)
+took_pending arch s t r cycles h some = took_some s t (h.given ++ r.pending) h.took (omega (arith, some, length-append h.given r.pending))
+
+-- lines before a fault
+fault_first : (arch : ArchName) (s t : SourceSeen) (r : ReaderSeen) (cycles : List (List Edge)) (line : List ℕ) (behind : List (List ℕ)) (kind : LineKind) (h : HasRead arch s t r cycles) →
+    Took s t (h.given ++ r.pending) → lines_of (r.pending ++ unwrap_or t.left []) ≡ line ∷ behind → fault_of arch line ≡ Some kind → ReadToFault arch s t cycles r.line kind
+fault_first arch s t r cycles line behind kind h took e f = record {
+  text = h.given ++ r.pending;
+  before = ended_lines h.given;
+  took = took;
+  few = subst (λ n. n ≤ MAX_INPUT) h.taken_is h.few;
+  no_fault = h.no_fault;
+  first = record {
+    line = line;
+    behind = behind;
+    parts =
+        ap lines_of (append_assoc h.given r.pending (unwrap_or t.left [])) ∙ lines_behind h.given (r.pending ++ unwrap_or t.left []) h.ended
+        ∙ ap (λ ls. ended_lines h.given ++ ls) e;
+    sound = h.sound;
+    fault = f;
+    number_is = h.line_is;
+  };
+  cycles_are = h.cycles_are;
+}
+
+-- a line that was given has a fault
+pub fault_given : (arch : ArchName) (s t : SourceSeen) (r q : ReaderSeen) (cycles : List (List Edge)) (line : ℕ) (kind : LineKind) →
+    HasRead arch s t r cycles → GivesLine arch r q (Err kind) → line ≡ r.line → ReadToFault arch s t cycles line kind
+fault_given arch s t r q cycles line kind h g e =
+    let number : r.line ≡ line = sym e in
+    let some : 0 < length r.pending = omega (arith, ap length g.cut.parts, length-append g.bytes (10 ∷ q.pending)) in
+    subst (λ n. ReadToFault arch s t cycles n kind) number
+    (fault_first arch s t r cycles (without_return g.bytes) (lines_of (q.pending ++ unwrap_or t.left [])) kind h (took_pending arch s t r cycles h some)
+    (ap (λ b. lines_of (b ++ unwrap_or t.left [])) g.cut.parts ∙ ap lines_of (append_assoc g.bytes (10 ∷ q.pending) (unwrap_or t.left []))
+    ∙ lines_cut g.bytes (q.pending ++ unwrap_or t.left []) g.cut.without)
+    (one_fault arch (without_return g.bytes) kind g.says))
+
+long_fault : (arch : ArchName) (line : List ℕ) → is_too_long line ≡ true → fault_of arch line ≡ Some LineTooLong
+unfolding line_said
+long_fault arch line h = rw h refl
+
+some_long : (text : List ℕ) → is_too_long (without_return text) ≡ true → 0 < length text
+unfolding without_return
+some_long [] h = cc h
+some_long (b ∷ text) h = omega arith
+
+-- a line that goes on is too long already
+pub long_given : (arch : ArchName) (s t : SourceSeen) (r : ReaderSeen) (cycles : List (List Edge)) →
+    HasRead arch s t r cycles → Without 10 r.pending → is_too_long (without_return r.pending) ≡ true → ReadToFault arch s t cycles r.line LineTooLong
+long_given arch s t r cycles h one long =
+    let first = long_first r.pending (unwrap_or t.left []) one long in
+    fault_first arch s t r cycles first.line first.behind LineTooLong h (took_pending arch s t r cycles h (some_long r.pending long)) first.is (long_fault arch first.line first.long)
+
+-- more bytes are pending
+pub more_read : (arch : ArchName) (s t u : SourceSeen) (r q : ReaderSeen) (cycles : List (List Edge)) (count : ℕ) →
+    HasRead arch s t r cycles → Fills t u r q count → HasRead arch s u q cycles
+more_read arch s t u r q cycles count h f =
+    let bytes_are : (h.given ++ r.pending) ++ f.bytes ≡ h.given ++ q.pending =
+    append_assoc h.given r.pending f.bytes ∙ ap (λ b. h.given ++ b) (sym f.pending) in
+    record {
+      given = h.given;
+      took = inl (subst (Took s u) bytes_are (took_then s t u (h.given ++ r.pending) f.bytes h.took f.took));
+      no_fault = f.no_fault ∙ h.no_fault;
+      ended = h.ended;
+      sound = h.sound;
+      cycles_are = h.cycles_are;
+      line_is = f.line_is ∙ h.line_is;
+      taken_is = f.taken_is ∙ ap (λ n. n + length f.bytes) h.taken_is ∙ sym (length-append (h.given ++ r.pending) f.bytes) ∙ ap length bytes_are;
+      few = f.few;
+    }
+
+-- what has ended is what was given where no line feed is pending
+ended_given : (arch : ArchName) (s t : SourceSeen) (r : ReaderSeen) (cycles : List (List Edge)) (h : HasRead arch s t r cycles) →
+    Without 10 r.pending → ended_lines (h.given ++ r.pending) ≡ ended_lines h.given
+ended_given arch s t r cycles h one =
+    ended_behind h.given r.pending h.ended ∙ ap (λ ls. ended_lines h.given ++ ls) (ended_none r.pending one) ∙ append-nil (ended_lines h.given)
+
+unended_given : (arch : ArchName) (s t : SourceSeen) (r : ReaderSeen) (cycles : List (List Edge)) (h : HasRead arch s t r cycles) →
+    Without 10 r.pending → unended (h.given ++ r.pending) ≡ r.pending
+unended_given arch s t r cycles h one = unended_behind h.given r.pending h.ended ∙ unended_all r.pending one
+
+-- the source stopped
+pub stopped_there : (arch : ArchName) (s t u : SourceSeen) (r : ReaderSeen) (cycles : List (List Edge)) →
+    HasRead arch s t r cycles → Without 10 r.pending → is_too_long (without_return r.pending) ≡ false → Stops t u → ReadToStop arch s u cycles
+stopped_there arch s t u r cycles h one short stop =
+    let ended = ended_given arch s t r cycles h one in
+    record {
+      text = h.given ++ r.pending;
+      took = took_stays s t u (h.given ++ r.pending) h.took stop.took;
+      few = subst (λ n. n ≤ MAX_INPUT) h.taken_is h.few;
+      fault = subst (λ n. Rose n u.faults) h.no_fault stop.fault;
+      never_falls = subst (λ n. n ≤ u.faults) h.no_fault stop.never_falls;
+      sound = ap (are_sound arch) ended ∙ h.sound;
+      short = ap (λ b. is_too_long (without_return b)) (unended_given arch s t r cycles h one) ∙ short;
+      cycles_are = h.cycles_are ∙ ap (cycles_of arch) (sym ended);
+    }
+
+take_front : (xs ys : List ℕ) → take (length xs) (xs ++ ys) ≡ xs
+take_front [] ys = refl
+take_front (x ∷ xs) ys = ap (λ t. x ∷ t) (take_front xs ys)
+
+-- one byte more than is read
+pub past_limit : (arch : ArchName) (s t u : SourceSeen) (r : ReaderSeen) (cycles : List (List Edge)) (bytes : List ℕ) →
+    HasRead arch s t r cycles → Without 10 r.pending → is_too_long (without_return r.pending) ≡ false → r.taken ≡ MAX_INPUT →
+    Took t u bytes → 0 < length bytes → u.faults ≡ t.faults → ReadToLimit arch s u cycles r.line
+past_limit arch s t u r cycles bytes h one short full took some no_fault =
+    let text = h.given ++ r.pending in
+    let size : length text ≡ MAX_INPUT = sym h.taken_is ∙ full in
+    let front : take MAX_INPUT (text ++ bytes) ≡ text = ap (λ n. take n (text ++ bytes)) (sym size) ∙ take_front text bytes in
+    let ended = ended_given arch s t r cycles h one in
+    record {
+      text = text ++ bytes;
+      took = took_then s t u text bytes h.took took;
+      many = omega (arith, size, some, length-append text bytes);
+      no_fault = no_fault ∙ h.no_fault;
+      sound = ap (λ b. are_sound arch (ended_lines b)) front ∙ ap (are_sound arch) ended ∙ h.sound;
+      short = ap (λ b. is_too_long (without_return (unended b))) front ∙ ap (λ b. is_too_long (without_return b)) (unended_given arch s t r cycles h one) ∙ short;
+      line_is = h.line_is ∙ ap (λ ls. length ls + 1) (sym ended) ∙ ap (λ n. n + 1) (ended_count text) ∙ ap (λ b. line_feed_count b + 1) (sym front);
+      cycles_are = h.cycles_are ∙ ap (cycles_of arch) (sym ended) ∙ ap (λ b. cycles_of arch (ended_lines b)) (sym front);
+    }
+
+-- nothing was taken
+pub none_taken : (arch : ArchName) (s t u : SourceSeen) (r : ReaderSeen) (cycles : List (List Edge)) (bytes : List ℕ) →
+    HasRead arch s t r cycles → Took t u bytes → length bytes ≡ 0 → u.faults ≡ t.faults → HasRead arch s u r cycles
+none_taken arch s t u r cycles [] h took none no_fault = record {
+  given = h.given;
+  took = inl (subst (Took s u) (append-nil (h.given ++ r.pending)) (took_then s t u (h.given ++ r.pending) [] h.took took));
+  no_fault = no_fault ∙ h.no_fault;
+  ended = h.ended;
+  sound = h.sound;
+  cycles_are = h.cycles_are;
+  line_is = h.line_is;
+  taken_is = h.taken_is;
+  few = h.few;
+}
+none_taken arch s t u r cycles (b ∷ bytes) h took none no_fault = absurd (omega arith)
+
+-- the end of the source
+lines_at_end : (arch : ArchName) (s t : SourceSeen) (r : ReaderSeen) (cycles : List (List Edge)) (h : HasRead arch s t r cycles) →
+    Without 10 r.pending → lines_of (h.given ++ r.pending) ≡ ended_lines h.given ++ last_line r.pending
+lines_at_end arch s t r cycles h one =
+    lines_behind h.given r.pending h.ended ∙ ap (λ ls. ended_lines h.given ++ ls) (ap (λ ls. ls ++ last_line (unended r.pending)) (ended_none r.pending one) ∙ ap last_line (unended_all r.pending one))
+
+all_read : (arch : ArchName) (s t : SourceSeen) (r : ReaderSeen) (cycles more : List (List Edge)) →
+    HasRead arch s t r cycles → Without 10 r.pending → Ended t → are_sound arch (last_line r.pending) ≡ true → more ≡ cycles_of arch (last_line r.pending) →
+    ReadAll arch s t (cycles ++ more)
+all_read arch s t r cycles more h one at_end sound e =
+    let lines = lines_at_end arch s t r cycles h one in
+    record {
+      text = h.given ++ r.pending;
+      took = took_counted s t (h.given ++ r.pending) h.took at_end.counted;
+      at_end = at_end.at_end;
+      few = subst (λ n. n ≤ MAX_INPUT) h.taken_is h.few;
+      no_fault = h.no_fault;
+      sound = ap (are_sound arch) lines ∙ sound_both arch (ended_lines h.given) (last_line r.pending) h.sound sound;
+      cycles_are =
+          ap (λ cs. cs ++ more) h.cycles_are ∙ ap (λ cs. cycles_of arch (ended_lines h.given) ++ cs) e
+          ∙ sym (cycles_both arch (ended_lines h.given) (last_line r.pending)) ∙ ap (cycles_of arch) (sym lines);
+    }
+
+-- without a last line
+pub none_last : (arch : ArchName) (s t : SourceSeen) (r : ReaderSeen) (cycles : List (List Edge)) →
+    HasRead arch s t r cycles → length r.pending ≡ 0 → Ended t → Without 10 r.pending → ReadAll arch s t (cycles ++ [])
+none_last arch s t r cycles h e at_end one =
+    let none : last_line r.pending ≡ [] = empty r.pending e in
+    all_read arch s t r cycles [] h one at_end (ap (are_sound arch) none) (ap (cycles_of arch) (sym none))
+  where
+    empty : (text : List ℕ) → length text ≡ 0 → last_line text ≡ []
+    empty [] e = refl
+    empty (b ∷ text) e = absurd (omega arith)
+
+some_last : (text : List ℕ) → 0 < length text → last_line text ≡ text ∷ []
+some_last [] h = absurd (omega arith)
+some_last (b ∷ text) h = refl
+
+-- with one that says a cycle, or nothing
+pub said_last : (arch : ArchName) (s t : SourceSeen) (r : ReaderSeen) (cycles : List (List Edge)) (said : Option (List Edge)) →
+    HasRead arch s t r cycles → 0 < length r.pending → Ended t → Without 10 r.pending → Ok said ≡ line_said arch r.pending → ReadAll arch s t (cycles ++ last_cycle said)
+said_last arch s t r cycles said h some at_end one e =
+    let line = some_last r.pending some in
+    all_read arch s t r cycles (last_cycle said) h one at_end
+    (ap (are_sound arch) line ∙ one_sound arch r.pending said e)
+    (sym (ap (cycles_of arch) line ∙ one_cycle arch r.pending said e))
+
+none_left : (left : Option (List ℕ)) → IsAtEnd left → unwrap_or left [] ≡ []
+none_left None h = refl
+none_left (Some xs) h = h
+
+-- with one that has a fault
+pub fault_last : (arch : ArchName) (s t : SourceSeen) (r : ReaderSeen) (cycles : List (List Edge)) (kind : LineKind) →
+    HasRead arch s t r cycles → 0 < length r.pending → Ended t → Without 10 r.pending → Err kind ≡ line_said arch r.pending → ReadToFault arch s t cycles r.line kind
+fault_last arch s t r cycles kind h some at_end one e =
+    fault_first arch s t r cycles r.pending [] kind h
+    (took_pending arch s t r cycles h some)
+    (ap (λ b. lines_of (r.pending ++ b)) (none_left t.left at_end.at_end) ∙ ap lines_of (append-nil r.pending)
+    ∙ ap (λ ls. ls ++ last_line (unended r.pending)) (ended_none r.pending one) ∙ ap last_line (unended_all r.pending one) ∙ some_last r.pending some)
+    (one_fault arch r.pending kind e)
+
+-- sound lines stand before the first that has a fault
+sound_front : (arch : ArchName) (xs ys : List (List ℕ)) → are_sound arch xs ≡ true → take_while (is_sound arch) (xs ++ ys) ≡ xs ++ take_while (is_sound arch) ys
+sound_front arch [] ys h = refl
+sound_front arch (x ∷ xs) ys h =
+    by_test (is_sound arch x)
+    (λ e. take_while-cons (is_sound arch) x (xs ++ ys) ∙ rw e (ap (λ ls. x ∷ ls) (sound_front arch xs ys (rw e at h))))
+    (λ e. let k = rw e at h in absurd (cc))
+
+-- the cycles that were given stand before the first fault
+pub record Before (arch : ArchName) (s t : SourceSeen) (cycles : List (List Edge)) : Type 0 where
+  pub text : List ℕ
+  pub read : ReadSome s t text
+  pub more : List (List Edge)
+  pub before : cycles_before arch (whole_of text t) ≡ cycles ++ more
+
+no_cycles : (cycles : List (List Edge)) (cycle : List Edge) → cycles ++ cycle ∷ [] ≡ [] → ⊥
+no_cycles [] cycle e = cc e
+no_cycles (c ∷ cycles) cycle e = cc e
+
+-- where a cycle was given, bytes were taken
+took_cycle : (arch : ArchName) (s t : SourceSeen) (r : ReaderSeen) (cycles : List (List Edge)) (cycle : List Edge) (h : HasRead arch s t r (cycles ++ cycle ∷ [])) →
+    Took s t (h.given ++ r.pending)
+took_cycle arch s t r cycles cycle h = by_given h.given h.cycles_are (took_some s t (h.given ++ r.pending) h.took)
+  where
+    by_given : (given : List ℕ) → cycles ++ cycle ∷ [] ≡ cycles_of arch (ended_lines given) → (0 < length (given ++ r.pending) → Took s t (h.given ++ r.pending)) → Took s t (h.given ++ r.pending)
+    by_given [] e k = absurd (no_cycles cycles cycle (e ∙ ap (cycles_of arch) ended_nil))
+    by_given (b ∷ given) e k = k (omega arith)
+
+pub given_before : (arch : ArchName) (s t : SourceSeen) (r : ReaderSeen) (cs : List (List Edge)) (c : List Edge) → HasRead arch s t r (cs ++ c ∷ []) → Before arch s t (cs ++ c ∷ [])
+given_before arch s t r cs c h =
+    let behind = lines_of (r.pending ++ unwrap_or t.left []) in
+    record {
+      text = h.given ++ r.pending;
+      read = record { took = took_cycle arch s t r cs c h; few = subst (λ n. n ≤ MAX_INPUT) h.taken_is h.few; no_fault = h.no_fault };
+      more = cycles_of arch (take_while (is_sound arch) behind);
+      before =
+          ap (λ b. cycles_before arch b) (append_assoc h.given r.pending (unwrap_or t.left []))
+          ∙ ap (λ ls. cycles_of arch (take_while (is_sound arch) ls)) (lines_behind h.given (r.pending ++ unwrap_or t.left []) h.ended)
+          ∙ ap (cycles_of arch) (sound_front arch (ended_lines h.given) behind h.sound)
+          ∙ cycles_both arch (ended_lines h.given) (take_while (is_sound arch) behind)
+          ∙ ap (λ cs. cs ++ cycles_of arch (take_while (is_sound arch) behind)) (sym h.cycles_are);
+    }
+
+pub all_before : (arch : ArchName) (s t : SourceSeen) (cycles : List (List Edge)) → ReadAll arch s t cycles → Before arch s t cycles
+all_before arch s t cycles h = record {
+  text = h.text;
+  read = record { took = h.took; few = h.few; no_fault = h.no_fault };
+  more = [];
+  before =
+      ap (λ b. cycles_before arch (h.text ++ b)) (none_left t.left h.at_end) ∙ ap (cycles_before arch) (append-nil h.text)
+      ∙ ap (λ ls. cycles_of arch (take_while (is_sound arch) ls)) (sym (append-nil (lines_of h.text)))
+      ∙ ap (cycles_of arch) (sound_front arch (lines_of h.text) [] h.sound) ∙ ap (cycles_of arch) (append-nil (lines_of h.text))
+      ∙ sym h.cycles_are ∙ sym (append-nil cycles);
+}
+
+-- what is left of a buffer behind a line that is taken off
+drop_all_front : (xs ys : List ℕ) (n : ℕ) → n ≡ length xs → drop n (xs ++ ys) ≡ ys
+drop_all_front [] ys zero e = refl
+drop_all_front [] ys (suc n) e = absurd (omega arith)
+drop_all_front (x ∷ xs) ys zero e = absurd (omega arith)
+drop_all_front (x ∷ xs) ys (suc n) e = drop_all_front xs ys n (omega arith)
+
+take_none : (n : ℕ) → ◌≡◌ {A = List ℕ} (take n []) []
+take_none zero = refl
+take_none (suc n) = refl
+
+drop_take : (xs : List ℕ) (k m : ℕ) → drop k (take m xs) ≡ take (m - k) (drop k xs)
+drop_take xs zero m = let e : m - 0 ≡ m = omega arith in ap (λ n. take n xs) (sym e)
+drop_take [] (suc k) m = ap (drop (suc k)) (take_none m) ∙ sym (take_none (m - suc k))
+drop_take (x ∷ xs) (suc k) zero = let e : zero - suc k ≡ 0 = omega arith in rw e
+drop_take (x ∷ xs) (suc k) (suc m) = let e : suc m - suc k ≡ m - k = omega arith in rw e (drop_take xs k m)
+
+pub buffer_left : (buffer pending bytes behind : List ℕ) (start end next : ℕ) → pending ≡ take (end - start) (drop start buffer) → CutsAt 10 pending bytes behind →
+    next ≡ start + (length bytes + 1) → take (end - next) (drop next buffer) ≡ behind
+buffer_left buffer pending bytes behind start end next e cut n =
+    let k = length bytes + 1 in
+    let behind_is : drop (length bytes + 1) pending ≡ behind =
+    ap (drop (length bytes + 1)) (cut.parts ∙ sym (append_assoc bytes (10 ∷ []) behind)) ∙ drop_all_front (bytes ++ 10 ∷ []) behind (length bytes + 1) (sym (length-append bytes (10 ∷ []))) in
+    let size : end - next ≡ (end - start) - (length bytes + 1) = omega arith in
+    ap (λ t. take t (drop next buffer)) size ∙ ap (λ t. take ((end - start) - (length bytes + 1)) (drop t buffer)) n
+    ∙ ap (take ((end - start) - (length bytes + 1))) (sym (drop-drop (length bytes + 1) start buffer))
+    ∙ sym (drop_take (drop start buffer) (length bytes + 1) (end - start)) ∙ ap (drop (length bytes + 1)) (sym e) ∙ behind_is
+
+pub given_next : (arch : ArchName) (r q : ReaderSeen) (line : Line) (said : Result (Option (List Edge)) LineKind) → said_by line ≡ Some said → GivesLine arch r q said → GivesNext arch r q line
+given_next arch r q line said e h = subst (λ o. MatchOption o (Without 10 r.pending × (q ≡ r)) (λ said. GivesLine arch r q said)) (sym e) h
+
+-- a line falls off the work
+pub line_less : (arch : ArchName) (r q : ReaderSeen) (said : Result (Option (List Edge)) LineKind) → GivesLine arch r q said → work q < work r
+line_less arch r q said g = omega (arith, g.taken_is, ap length g.cut.parts, length-append g.bytes (10 ∷ q.pending))
+
+pub given_line : (arch : ArchName) (r q : ReaderSeen) (bytes behind : List ℕ) (said : Result (Option (List Edge)) LineKind) → CutsAt 10 r.pending bytes behind → q.pending ≡ behind →
+    said ≡ line_said arch (without_return bytes) → q.line ≡ r.line + 1 → q.taken ≡ r.taken → GivesLine arch r q said
+given_line arch r q bytes behind said cut e says line taken = record { bytes = bytes; cut = subst (CutsAt 10 r.pending bytes) (sym e) cut; says = says; line_is = line; taken_is = taken }
+
+-- a text that was read is not empty
+pub some_read : (buffer : List ℕ) (count : ℕ) → (count ≡ 0 → ⊥) → length buffer ≡ 1 → 0 < length (take count buffer)
+some_read buffer zero h e = absurd (h refl)
+some_read [] (suc n) h e = absurd (omega arith)
+some_read (b ∷ buffer) (suc n) h e = omega arith
+
+not_zero : (n : ℕ) → false ≡ (n == 0) → n ≡ 0 → ⊥
+not_zero n h e = let k : (n == 0) ≡ true = ap (λ m. m == 0) e in cc
+
+pub some_if : (text pending : List ℕ) → text ≡ pending → false ≡ (length text == 0) → 0 < length pending
+some_if text pending e h = by_length (length pending) refl
+  where
+    by_length : (n : ℕ) → length pending ≡ n → 0 < length pending
+    by_length zero k = absurd (not_zero (length text) h (ap length e ∙ k))
+    by_length (suc n) k = omega arith
+
+pub ends_less : (old new : ℕ) (result : Result Found LinesError) → Ends result → LessToDo old new result
+ends_less old new (Ok (Next cycle)) h = absurd h
+ends_less old new (Ok (Last cycle)) h = tt
+ends_less old new (Err error) h = tt
+
+-- what was found, taken apart
+pub found_next : (arch : ArchName) (s t : SourceSeen) (r : ReaderSeen) (cycles : List (List Edge)) (found : Found) (cycle : List Edge) → found ≡ Next cycle → Continues arch s t r cycles (Ok found) → HasRead arch s t r (cycles ++ cycle ∷ [])
+found_next arch s t r cycles found cycle e h = subst (λ f. Continues arch s t r cycles (Ok f)) e h
+
+pub found_last : (arch : ArchName) (s t : SourceSeen) (r : ReaderSeen) (cycles : List (List Edge)) (found : Found) (cycle : Option (List Edge)) → found ≡ Last cycle → Continues arch s t r cycles (Ok found) → ReadAll arch s t (cycles ++ last_cycle cycle)
+found_last arch s t r cycles found cycle e h = subst (λ f. Continues arch s t r cycles (Ok f)) e h

@@ -1,0 +1,252 @@
+-- The names of cycles by their families, as they are kept and written.
+use Rattle.std.proofs.Common.{◌≡◌, ◌≤◌, ◌<◌, ◌+◌, ℕ, zero, suc, List, [], ◌∷◌, ◌++◌, length, take, get_or, Option, Some, None, Ok, Err, true, false, refl, sym, ap, inl, inr, ◌∙◌, subst, arith, append-nil, append_assoc}
+use Rattle.std.specs.Prelude.{cond, map, filter, fold, codes, Result, OnOk, IsTrue, ◌↔◌, slice_set}
+use Rattle.std.specs.List.{flat_map}
+use Rattle.std.specs.Ordering.{nat_cmp, match_ordering}
+use Rattle.std.specs.declared.cmp.Ordering.{Ordering}
+use Rattle.std.specs.declared.cmp.Ordering.TheVariants.{Less, Equal, Greater}
+use Rattle.std.specs.Cmp.Lexicographic.{slice_cmp}
+use Rattle.std.specs.BTreeSet.{BTreeSet, btree_set_len, insert_key}
+use Rattle.std.specs.Borrow.{Bor}
+use Rattle.std.specs.declared.vec.Vec.{Vec}
+use Rattle.std.specs.declared.alloc.Global.{Global}
+use Rattle.std.proofs.lemmas.List.Elements.{filter-append}
+use Rattle.std.proofs.lemmas.List.Sums.{fold-append}
+use Rattle.std.proofs.lemmas.List.Folds.{flat_map-map}
+use Rattle.std.proofs.lemmas.Grind.{flat_map-append}
+use Rattle.diy_io.specs.declared.source.TheConstants.{MAX_INPUT}
+use Rattle.diy_io.specs.SinkLaws.{each_written, each_stopped}
+use Rattle.diy_io.specs.Taken.{SourceSeen}
+use Rattle.diy_io.specs.Wrote.{SinkSeen, WroteAll, WrotePart}
+use Rattle.diy_io.specs.WroteLaws.{all_then_all, all_then_part, part_more}
+use Rattle.relax_edges.specs.declared.kinds.ArchName.{ArchName}
+use Rattle.relax_edges.specs.declared.edge.Edge.{Edge}
+use Rattle.cycle_names.specs.declared.family.Family.{Family}
+use Rattle.cycle_names.specs.declared.family.Family.TheVariants as families
+use Rattle.cycle_names.specs.Families.{family_word}
+use Rattle.cycle_names.specs.Names.{name_of}
+use Rattle.cycle_names.specs.Rotations.{family_of}
+use Rattle.cycle_lines.specs.declared.errors.ClassifyError.{ClassifyError}
+use Rattle.cycle_lines.specs.declared.errors.ClassifyError.TheVariants.{Lines, OutFault, NoMemory}
+use Rattle.cycle_lines.specs.declared.table.FamilyNames.{FamilyNames}
+use Rattle.cycle_lines.specs.Reading.{ReadAll}
+use Rattle.cycle_lines.specs.Classified.{families_in_order, is_family, with_text, family_names, name_entry, family_text, families_text, ReadsPart, ClassifiedAll, ClassifiedPart}
+use Rattle.cycle_lines.specs.Tables.{place_of, texts_of, Entry, entry_view, entry_text, table_of, Holds, entry_with, name_put, Adds, PutsLast, Gathered, Gathers}
+use Rattle.cycle_lines.specs.Steps.{ReaderSeen, HasRead, last_cycle}
+use Rattle.cycle_lines.proofs.LineLaws.{by_test}
+use Rattle.cycle_lines.proofs.ReadLaws.{nothing_read, kept_same}
+
+map_more : {A B : Type 0} (f : A → B) (xs : List A) (x : A) → map f (xs ++ x ∷ []) ≡ map f xs ++ f x ∷ []
+map_more f [] x = refl
+map_more f (y ∷ xs) x = ap (λ t. f y ∷ t) (map_more f xs x)
+
+-- the names of a family with a cycle more
+names_more : (f : Family) (cycles : List (List Edge)) (c : List Edge) →
+    family_names f (cycles ++ c ∷ []) ≡ cond (is_family (family_of c) f) (with_text (family_names f cycles) (name_of c)) (family_names f cycles)
+unfolding family_names
+names_more f cycles c =
+    let is_here = λ (cycle : List Edge). is_family (family_of cycle) f in
+    ap (λ cs. fold with_text [] (map name_of cs)) (filter-append is_here cycles (c ∷ []))
+    ∙ by_test (is_family (family_of c) f)
+    (λ e. rw e (ap (fold with_text []) (map_more name_of (filter is_here cycles) c) ∙ fold-append with_text [] (map name_of (filter is_here cycles)) (name_of c ∷ [])))
+    (λ e. rw e (ap (λ cs. fold with_text [] (map name_of cs)) (append-nil (filter is_here cycles))))
+
+put_by : (g : Family) (names : Family → List (List ℕ)) (name : List ℕ) →
+    ◌≡◌ {A = List Entry} (name_put (place_of g) name (map (λ f. (f, names f)) families_in_order)) (map (λ f. (f, cond (is_family g f) (with_text (names f) name) (names f))) families_in_order)
+put_by families.SB names name = refl
+put_by families.MP names name = refl
+put_by families.LB names name = refl
+put_by families.R names name = refl
+put_by families.S names name = refl
+put_by families.W2 names name = refl
+put_by families.WRC names name = refl
+put_by families.RWC names name = refl
+put_by families.ISA2 names name = refl
+put_by families.IRIW names name = refl
+put_by families.WRWC names name = refl
+put_by families.SB3 names name = refl
+put_by families.LB3 names name = refl
+put_by families.W3 names name = refl
+put_by families.Other names name = refl
+
+entries_by : (u v : Family → List (List ℕ)) → ((f : Family) → u f ≡ v f) → (fs : List Family) → ◌≡◌ {A = List Entry} (map (λ f. (f, u f)) fs) (map (λ f. (f, v f)) fs)
+entries_by u v h [] = refl
+entries_by u v h (f ∷ fs) = rw (h f, entries_by u v h fs) refl
+
+table_more : (cycles : List (List Edge)) (c : List Edge) → ◌≡◌ {A = List Entry} (name_put (place_of (family_of c)) (name_of c) (table_of cycles)) (table_of (cycles ++ c ∷ []))
+table_more cycles c =
+    put_by (family_of c) (λ f. family_names f cycles) (name_of c)
+    ∙ entries_by (λ f. cond (is_family (family_of c) f) (with_text (family_names f cycles) (name_of c)) (family_names f cycles)) (λ f. family_names f (cycles ++ c ∷ []))
+    (λ f. sym (names_more f cycles c)) families_in_order
+
+-- a cycle more is kept
+pub adds_cycle : (old new : List FamilyNames) (c : List Edge) (place : ℕ) (name : List ℕ) → place ≡ place_of (family_of c) → name ≡ name_of c →
+    ◌≡◌ {A = List Entry} (map entry_view new) (name_put place name (map entry_view old)) → Adds old new c
+adds_cycle old new c place name e f h = λ cycles holds.
+    h ∙ ap (λ table. name_put place name table) holds ∙ ap (λ p. name_put p name (table_of cycles)) e ∙ ap (λ n. name_put (place_of (family_of c)) n (table_of cycles)) f ∙ table_more cycles c
+
+-- a set in which a text is put
+shown_insert : (cmp : Vec ℕ Global → Vec ℕ Global → Ordering) → ((x y : Vec ℕ Global) → cmp x y ≡ slice_cmp nat_cmp x.items y.items) → (keys : List (Vec ℕ Global)) (key : Vec ℕ Global)
+    → map (λ text. text.items) (insert_key cmp keys key) ≡ insert_key (slice_cmp nat_cmp) (map (λ text. text.items) keys) key.items
+shown_insert cmp same [] key = refl
+shown_insert cmp same (x ∷ keys) key =
+    rw (same key x) (by_ordering (shown_insert cmp same keys key) (slice_cmp nat_cmp key.items x.items))
+  where
+    by_ordering : map (λ text. text.items) (insert_key cmp keys key) ≡ insert_key (slice_cmp nat_cmp) (map (λ text. text.items) keys) key.items → (o : Ordering)
+        → map (λ (text : Vec ℕ Global). text.items) (match_ordering o (key ∷ x ∷ keys) (x ∷ keys) (x ∷ insert_key cmp keys key))
+        ≡ match_ordering o (key.items ∷ x.items ∷ map (λ text. text.items) keys) (x.items ∷ map (λ text. text.items) keys) (x.items ∷ insert_key (slice_cmp nat_cmp) (map (λ text. text.items) keys) key.items)
+    by_ordering further Less = refl
+    by_ordering further Equal = refl
+    by_ordering further Greater = ap (λ t. x.items ∷ t) further
+
+pub set_shown : (old new : BTreeSet (Vec ℕ Global)) (cmp : Vec ℕ Global → Vec ℕ Global → Ordering) (key : Vec ℕ Global) → ((x y : Vec ℕ Global) → cmp x y ≡ slice_cmp nat_cmp x.items y.items) →
+    new.keys ≡ insert_key cmp old.keys key → texts_of new ≡ with_text (texts_of old) key.items
+set_shown old new cmp key same e = ap (map (λ text. text.items)) e ∙ shown_insert cmp same old.keys key
+
+-- a table in which a name is put
+put_entry : (old new : FamilyNames) (name : List ℕ) → new.family ≡ old.family → texts_of new.names ≡ with_text (texts_of old.names) name → ◌≡◌ {A = Entry} (entry_view new) (entry_with name (entry_view old))
+put_entry old new name e f = rw (e, f) refl
+
+pub put_shown : (table : List FamilyNames) (place : ℕ) (old new : FamilyNames) (name : List ℕ) → place < length table → old ≡ get_or table place old → new.family ≡ old.family → texts_of new.names ≡ with_text (texts_of old.names) name →
+    ◌≡◌ {A = List Entry} (map entry_view (slice_set table place new)) (name_put place name (map entry_view table))
+put_shown [] place old new name h is e f = absurd (omega arith)
+put_shown (x ∷ table) zero old new name h is e f =
+    ap (λ (entry : Entry). entry ∷ map entry_view table) (put_entry old new name e f ∙ ap (λ (x : FamilyNames). entry_with name (entry_view x)) is)
+put_shown (x ∷ table) (suc k) old new name h is e f = ap (λ (t : List Entry). entry_view x ∷ t) (put_shown table k old new name (omega arith) is e f)
+
+pub ok_then : {A E P Q : Type 0} (r : Result A E) → (P → Q) → OnOk r P → OnOk r Q
+ok_then (Ok x) f h = f h
+ok_then (Err e) f h = tt
+
+-- names that are written one after another
+entry_as : (a b : SinkSeen) (s t : List ℕ) → s ≡ t → WroteAll a b (name_entry s) → WroteAll a b (name_entry t)
+entry_as a b s t e h = subst (λ x. WroteAll a b (name_entry x)) e h
+
+names_then : (names : List (List ℕ)) (name : List ℕ) → flat_map name_entry (names ++ name ∷ []) ≡ flat_map name_entry names ++ name_entry name
+names_then names name = flat_map-append name_entry names (name ∷ []) ∙ ap (λ t. flat_map name_entry names ++ t) (append-nil (name_entry name))
+
+pub names_go : (a b c : SinkSeen) (ys : List (Bor (Vec ℕ Global))) (x : Bor (Vec ℕ Global)) (text : List ℕ) → text ≡ x.now.items →
+    WroteAll a b (flat_map name_entry (map (λ name. name.now.items) ys)) → WroteAll b c (name_entry text) → WroteAll a c (flat_map name_entry (map (λ name. name.now.items) (ys ++ x ∷ [])))
+names_go a b c ys x text e h k =
+    let shown = map (λ (name : Bor (Vec ℕ Global)). name.now.items) ys in
+    subst (WroteAll a c) (sym (ap (flat_map name_entry) (map_more (λ (name : Bor (Vec ℕ Global)). name.now.items) ys x) ∙ names_then shown x.now.items))
+    (all_then_all a b c (flat_map name_entry shown) (name_entry x.now.items) h (entry_as b c text x.now.items e k))
+
+pub names_cover : (ys : List (Bor (Vec ℕ Global))) (it rest : List (Vec ℕ Global)) (x : Bor (Vec ℕ Global)) (all : List (List ℕ)) → it ≡ x.now ∷ rest →
+    map (λ name. name.now.items) ys ++ map (λ name. name.items) it ≡ all → map (λ name. name.now.items) (ys ++ x ∷ []) ++ map (λ name. name.items) rest ≡ all
+names_cover ys it rest x all h k =
+    let f = λ (name : Bor (Vec ℕ Global)). name.now.items in
+    let g = λ (name : Vec ℕ Global). name.items in
+    ap (λ t. t ++ map g rest) (map_more f ys x) ∙ append_assoc (map f ys) (f x ∷ []) (map g rest) ∙ ap (λ t. map f ys ++ map g t) (sym h) ∙ k
+
+pub names_stop : (a b c : SinkSeen) (ys : List (Bor (Vec ℕ Global))) (it rest : List (Vec ℕ Global)) (x : Bor (Vec ℕ Global)) (text : List ℕ) (all : List (List ℕ)) → text ≡ x.now.items → it ≡ x.now ∷ rest →
+    map (λ name. name.now.items) ys ++ map (λ name. name.items) it ≡ all → WroteAll a b (flat_map name_entry (map (λ name. name.now.items) ys)) → WrotePart b c (name_entry text) → WrotePart a c (flat_map name_entry all)
+names_stop a b c ys it rest x text all e h k w p =
+    let shown = map (λ (name : Bor (Vec ℕ Global)). name.now.items) ys in
+    let left = map (λ (name : Vec ℕ Global). name.items) rest in
+    let here = subst (λ t. WrotePart b c (name_entry t)) e p in
+    let part = part_more a c (flat_map name_entry shown ++ name_entry x.now.items) (flat_map name_entry left) (all_then_part a b c (flat_map name_entry shown) (name_entry x.now.items) w here) in
+    subst (WrotePart a c)
+    (ap (λ t. t ++ flat_map name_entry left) (sym (names_then shown x.now.items) ∙ ap (flat_map name_entry) (sym (map_more (λ (name : Bor (Vec ℕ Global)). name.now.items) ys x)))
+    ∙ sym (flat_map-append name_entry (map (λ (name : Bor (Vec ℕ Global)). name.now.items) (ys ++ x ∷ [])) left) ∙ ap (flat_map name_entry) (names_cover ys it rest x all h k))
+    part
+
+pub names_done : (ys : List (Bor (Vec ℕ Global))) (it : List (Vec ℕ Global)) (all : List (List ℕ)) → it ≡ [] → map (λ name. name.now.items) ys ++ map (λ name. name.items) it ≡ all → map (λ name. name.now.items) ys ≡ all
+names_done ys it all e k =
+    sym (append-nil (map (λ name. name.now.items) ys)) ∙ ap (λ t. map (λ (name : Bor (Vec ℕ Global)). name.now.items) ys ++ map (λ (name : Vec ℕ Global). name.items) t) (sym e) ∙ k
+
+-- texts that are written one after another
+pub each_all : {X : Type 0} (f : X → List ℕ) (a b c : SinkSeen) (xs : List X) (i : ℕ) (d : X) → i < length xs → WroteAll a b (flat_map f (take i xs)) → WroteAll b c (f (get_or xs i d)) → WroteAll a c (flat_map f (take (i + 1) xs))
+each_all f a b c xs i d h p q = record { grew = each_written f a.told b.told c.told xs i d h p.grew q.grew; no_fault = q.no_fault ∙ p.no_fault }
+
+pub each_part : {X : Type 0} (f : X → List ℕ) (a b c : SinkSeen) (xs : List X) (i : ℕ) (d : X) → i < length xs → WroteAll a b (flat_map f (take i xs)) → WrotePart b c (f (get_or xs i d)) → WrotePart a c (flat_map f xs)
+each_part f a b c xs i d h p q =
+    let part = all_then_part a b c (flat_map f (take i xs)) (f (get_or xs i d)) p q in
+    record { grew = each_stopped f a.told b.told c.told xs i d h p.grew q.grew; fault = part.fault; never_falls = part.never_falls }
+
+pub each_entry : (a b c : SinkSeen) (table : List FamilyNames) (i : ℕ) (entry : FamilyNames) → i < length table → entry ≡ get_or table i entry →
+    WroteAll a b (flat_map (λ e. entry_text (entry_view e)) (take i table)) → WroteAll b c (entry_text (entry_view entry)) → WroteAll a c (flat_map (λ e. entry_text (entry_view e)) (take (i + 1) table))
+each_entry a b c table i entry h is p q = each_all (λ e. entry_text (entry_view e)) a b c table i entry h p (subst (λ e. WroteAll b c (entry_text (entry_view e))) is q)
+
+pub part_entry : (a b c : SinkSeen) (table : List FamilyNames) (i : ℕ) (entry : FamilyNames) → i < length table → entry ≡ get_or table i entry →
+    WroteAll a b (flat_map (λ e. entry_text (entry_view e)) (take i table)) → WrotePart b c (entry_text (entry_view entry)) → WrotePart a c (flat_map (λ e. entry_text (entry_view e)) table)
+part_entry a b c table i entry h is p q = each_part (λ e. entry_text (entry_view e)) a b c table i entry h p (subst (λ e. WrotePart b c (entry_text (entry_view e))) is q)
+
+-- the text of a family
+pub no_text : (f : Family) (names : List (List ℕ)) → length names ≡ 0 → family_text f names ≡ []
+unfolding family_text
+no_text f [] h = refl
+no_text f (n ∷ names) h = absurd (omega arith)
+
+pub some_text : (f : Family) (names : List (List ℕ)) → 0 < length names → (family_word f ++ codes ":\n") ++ flat_map name_entry names ≡ family_text f names
+unfolding family_text
+some_text f [] h = absurd (omega arith)
+some_text f (n ∷ names) h = refl
+
+map_length : {A B : Type 0} (f : A → B) (xs : List A) → length (map f xs) ≡ length xs
+map_length f [] = refl
+map_length f (x ∷ xs) = ap suc (map_length f xs)
+
+texts_length : (set : BTreeSet (Vec ℕ Global)) → length (texts_of set) ≡ btree_set_len set
+texts_length set = map_length (λ text. text.items) set.keys
+
+pub empty_set : (set : BTreeSet (Vec ℕ Global)) → IsTrue true ↔ (btree_set_len set ≡ 0) → length (texts_of set) ≡ 0
+empty_set set h = texts_length set ∙ h.0 refl
+
+pub some_set : (set : BTreeSet (Vec ℕ Global)) → IsTrue false ↔ (btree_set_len set ≡ 0) → 0 < length (texts_of set)
+some_set set h = by_length (length (texts_of set)) refl
+  where
+    by_length : (n : ℕ) → length (texts_of set) ≡ n → 0 < length (texts_of set)
+    by_length zero e = let k : IsTrue false = h.1 (sym (texts_length set) ∙ e) in absurd (cc)
+    by_length (suc n) e = omega arith
+
+-- all that is written
+all_text : (table : List FamilyNames) (cycles : List (List Edge)) → Holds table cycles → flat_map (λ entry. entry_text (entry_view entry)) table ≡ families_text cycles
+unfolding families_text
+all_text table cycles h =
+    sym (flat_map-map entry_text entry_view table) ∙ ap (flat_map entry_text) h ∙ flat_map-map entry_text (λ f. (f, family_names f cycles)) families_in_order
+
+table_text : (table items : List FamilyNames) (cycles : List (List Edge)) → table ≡ items → Holds items cycles → flat_map (λ entry. entry_text (entry_view entry)) table ≡ families_text cycles
+table_text table items cycles e h = ap (flat_map (λ entry. entry_text (entry_view entry))) e ∙ all_text items cycles h
+
+pub classified : (arch : ArchName) (s t : SourceSeen) (a b : SinkSeen) (table items : List FamilyNames) → table ≡ items → Gathered arch s t items → WroteAll a b (flat_map (λ entry. entry_text (entry_view entry)) table) → ClassifiedAll arch s t a b
+classified arch s t a b table items e h w = record { cycles = h.cycles; read = h.read; wrote = subst (WroteAll a b) (table_text table items h.cycles e h.holds) w }
+
+pub classified_part : (arch : ArchName) (s t : SourceSeen) (a b : SinkSeen) (table items : List FamilyNames) → table ≡ items → Gathered arch s t items → WrotePart a b (flat_map (λ entry. entry_text (entry_view entry)) table) → ClassifiedPart arch s t a b
+classified_part arch s t a b table items e h w = record { cycles = h.cycles; read = h.read; wrote = subst (WrotePart a b) (table_text table items h.cycles e h.holds) w }
+
+-- nothing is kept yet
+pub none_held : (table : List FamilyNames) → ◌≡◌ {A = List Entry} (map entry_view table) (map (λ f. (f, [])) families_in_order) → Holds table []
+unfolding family_names
+none_held table e = e
+
+-- a source was read up to where there is no memory
+pub part_read : (arch : ArchName) (s t : SourceSeen) (r : ReaderSeen) (cycles : List (List Edge)) → HasRead arch s t r cycles → ReadsPart s t
+part_read arch s t r cycles h = record { text = h.given ++ r.pending; took = h.took; few = subst (λ n. n ≤ MAX_INPUT) h.taken_is h.few; no_fault = h.no_fault }
+
+pub whole_read : (arch : ArchName) (s t : SourceSeen) (cycles : List (List Edge)) → ReadAll arch s t cycles → ReadsPart s t
+whole_read arch s t cycles h = record { text = h.text; took = inl h.took; few = h.few; no_fault = h.no_fault }
+
+pub unread : (s : SourceSeen) → ReadsPart s s
+unread s = record { text = []; took = inr (record { none = refl; kept = kept_same s.left; taken_is = refl }); few = omega arith; no_fault = refl }
+
+-- the names of the cycles that were given are kept
+pub record Gathering (arch : ArchName) (first now : SourceSeen) (reader : ReaderSeen) (table : List FamilyNames) : Type 0 where
+  pub cycles : List (List Edge)
+  pub read : HasRead arch first now reader cycles
+  pub holds : Holds table cycles
+  pub whole : length table ≡ 15
+
+pub nothing_gathered : (arch : ArchName) (s : SourceSeen) (r : ReaderSeen) (table : List FamilyNames) → r ≡ record { pending = []; line = 1; taken = 0 } → Holds table [] → length table ≡ 15 → Gathering arch s s r table
+nothing_gathered arch s r table e h w = subst (λ r. Gathering arch s s r table) (sym e) (record { cycles = []; read = nothing_read arch s; holds = h; whole = w })
+
+-- the last one
+pub gathered_last : (arch : ArchName) (s t : SourceSeen) (cycles : List (List Edge)) (cycle : Option (List Edge)) (table : List FamilyNames) (result : Result (Vec FamilyNames Global) ClassifyError) →
+    ReadAll arch s t (cycles ++ last_cycle cycle) → Holds table cycles → PutsLast table cycle result → Gathers arch s t result
+gathered_last arch s t cycles (Some cycle) table (Ok new) h held puts = record { cycles = cycles ++ cycle ∷ []; read = h; holds = puts cycles held }
+gathered_last arch s t cycles None table (Ok new) h held puts = record { cycles = cycles; read = subst (ReadAll arch s t) (append-nil cycles) h; holds = ap (map entry_view) puts ∙ held }
+gathered_last arch s t cycles cycle table (Err NoMemory) h held puts = whole_read arch s t (cycles ++ last_cycle cycle) h
+gathered_last arch s t cycles (Some cycle) table (Err (Lines error)) h held puts = absurd puts
+gathered_last arch s t cycles None table (Err (Lines error)) h held puts = absurd puts
+gathered_last arch s t cycles (Some cycle) table (Err OutFault) h held puts = absurd puts
+gathered_last arch s t cycles None table (Err OutFault) h held puts = absurd puts

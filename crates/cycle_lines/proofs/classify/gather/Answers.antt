@@ -1,0 +1,30 @@
+use Rattle.std.proofs.Common.{[], ◌∷◌, ◌++◌}
+use Rattle.cycle_lines.proofs.ReadLaws.{found_next, found_last}
+use Rattle.cycle_lines.proofs.TableLaws.{nothing_gathered, part_read, gathered_last}
+use Rattle.cycle_lines.proofs.classify.gather.Goals as goal
+
+pub loop-cycle-init : goal.loop-cycle-init
+loop-cycle-init g c = nothing_gathered c.args.arch _ c.new-reader.result c.in-Ok.table.items c.new-reader.ensures c.in-Ok.ensures.holds c.in-Ok.ensures.whole
+
+pub loop-cycle-preserved : goal.loop-cycle-preserved
+loop-cycle-preserved g c =
+    let given = c.loop-cycle.invariant in
+    record {
+      cycles = given.cycles ++ c.in-Ok-Next.cycle ∷ [];
+      read = found_next c.args.arch _ _ _ given.cycles c.in-Ok-Next.field-0 c.in-Ok-Next.cycle c.in-Ok-Next.field-0-is (c.in-Ok-Next.ensures.reads _ given.cycles given.read);
+      holds = c.in-Ok-put_cycle.ensures.adds given.cycles given.holds;
+      whole = c.in-Ok-put_cycle.ensures.whole;
+    }
+
+pub returns-in-Err-put_cycle : goal.returns-in-Err-put_cycle
+returns-in-Err-put_cycle g c =
+    let given = c.loop-cycle.invariant in
+    part_read c.args.arch _ _ _ (given.cycles ++ c.in-Ok-Next.cycle ∷ [])
+    (found_next c.args.arch _ _ _ given.cycles c.in-Ok-Next.field-0 c.in-Ok-Next.cycle c.in-Ok-Next.field-0-is (c.in-Ok-Next.ensures.reads _ given.cycles given.read))
+
+pub returns-in-Ok-Last : goal.returns-in-Ok-Last
+returns-in-Ok-Last g c =
+    let given = c.loop-cycle.invariant in
+    gathered_last c.args.arch _ _ given.cycles c.in-Ok-Last.cycle c.loop-cycle.table.items c.put_last.result
+    (found_last c.args.arch _ _ _ given.cycles c.in-Ok-Last.field-0 c.in-Ok-Last.cycle c.in-Ok-Last.field-0-is (c.in-Ok-Last.ensures.reads _ given.cycles given.read))
+    given.holds c.put_last.ensures

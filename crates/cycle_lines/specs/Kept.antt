@@ -1,0 +1,14 @@
+-- What is made of the edges of a line as they are kept.
+use Rattle.std.specs.Prelude.{List, Option, Result, Err}
+use Rattle.relax_edges.specs.declared.kinds.ArchName.{ArchName}
+use Rattle.relax_edges.specs.declared.edge.Edge.{Edge}
+use Rattle.edge_lists.specs.declared.list.EdgeList.{EdgeList}
+use Rattle.edge_lists.specs.declared.list.EdgeList.TheVariants.{Whole, TooLong}
+use Rattle.cycle_lines.specs.declared.errors.LineKind.{LineKind}
+use Rattle.cycle_lines.specs.declared.errors.LineKind.TheVariants as kinds
+use Rattle.cycle_lines.specs.Cycles.{cycle_made}
+
+-- the cycle of an architecture that edges make as they are kept, or their first fault
+abbrev pub made_kept : ArchName → EdgeList → Result (Option (List Edge)) LineKind
+made_kept arch (Whole list) = cycle_made arch list.items
+made_kept arch TooLong = Err kinds.TooLong

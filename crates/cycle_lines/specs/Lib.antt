@@ -1,0 +1,9 @@
+pub mod Lines
+pub mod Cycles
+pub mod Reading
+pub mod ReadingLaws
+pub mod Normed
+pub mod Kept
+pub mod Steps
+pub mod Classified
+pub mod Tables

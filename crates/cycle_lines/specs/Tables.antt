@@ -1,0 +1,87 @@
+-- The names of cycles by their families, as they are kept.
+use Rattle.std.specs.Prelude.{◌≡◌, ℕ, List, [], ◌∷◌, ◌++◌, map, slice_set, slice_index_or, Option, Some, None, Result, Ok, Err}
+use Rattle.std.specs.BTreeSet.{BTreeSet}
+use Rattle.std.specs.declared.vec.Vec.{Vec}
+use Rattle.std.specs.declared.alloc.Global.{Global}
+use Rattle.diy_io.specs.Taken.{SourceSeen}
+use Rattle.relax_edges.specs.declared.kinds.ArchName.{ArchName}
+use Rattle.relax_edges.specs.declared.edge.Edge.{Edge}
+use Rattle.cycle_names.specs.declared.family.Family.{Family}
+use Rattle.cycle_names.specs.declared.family.Family.TheVariants as families
+use Rattle.cycle_lines.specs.declared.errors.ClassifyError.{ClassifyError}
+use Rattle.cycle_lines.specs.declared.errors.ClassifyError.TheVariants.{Lines, OutFault, NoMemory}
+use Rattle.cycle_lines.specs.declared.table.FamilyNames.{FamilyNames}
+use Rattle.cycle_lines.specs.Reading.{ReadAll}
+use Rattle.cycle_lines.specs.Classified.{families_in_order, family_names, family_text, with_text, ReadsUpTo, ReadsPart}
+
+-- the place of a family
+abbrev pub place_of : Family → ℕ
+place_of families.SB = 0
+place_of families.MP = 1
+place_of families.LB = 2
+place_of families.R = 3
+place_of families.S = 4
+place_of families.W2 = 5
+place_of families.WRC = 6
+place_of families.RWC = 7
+place_of families.ISA2 = 8
+place_of families.IRIW = 9
+place_of families.WRWC = 10
+place_of families.SB3 = 11
+place_of families.LB3 = 12
+place_of families.W3 = 13
+place_of families.Other = 14
+
+-- the texts of a set
+abbrev pub texts_of : BTreeSet (Vec ℕ Global) → List (List ℕ)
+texts_of set = map (λ text. text.items) set.keys
+
+-- a family and the names that are kept of it
+abbrev pub Entry : Type 0
+Entry = Family × List (List ℕ)
+
+abbrev pub entry_view : FamilyNames → Entry
+entry_view entry = (entry.family, texts_of entry.names)
+
+abbrev pub entry_text : Entry → List ℕ
+entry_text entry = family_text entry.0 entry.1
+
+-- the names of cycles by their families
+abbrev pub table_of : List (List Edge) → List Entry
+table_of cycles = map (λ f. (f, family_names f cycles)) families_in_order
+
+-- these are kept
+abbrev pub Holds : List FamilyNames → List (List Edge) → Type 0
+Holds table cycles = ◌≡◌ {A = List Entry} (map entry_view table) (table_of cycles)
+
+-- one name more at a place
+abbrev pub entry_with : List ℕ → Entry → Entry
+entry_with name entry = (entry.0, with_text entry.1 name)
+
+abbrev pub name_put : ℕ → List ℕ → List Entry → List Entry
+name_put place name table = slice_set table place (entry_with name (slice_index_or table place (families.SB, [])))
+
+-- a cycle more is kept
+abbrev pub Adds : List FamilyNames → List FamilyNames → List Edge → Type 0
+Adds old new cycle = (cycles : List (List Edge)) → Holds old cycles → Holds new (cycles ++ cycle ∷ [])
+
+-- the name of a last cycle is kept, if there is one, unless there is no memory
+abbrev pub PutsLast : List FamilyNames → Option (List Edge) → Result (Vec FamilyNames Global) ClassifyError → Type 0
+PutsLast old (Some cycle) (Ok new) = Adds old new.items cycle
+PutsLast old None (Ok new) = new.items ≡ old
+PutsLast old cycle (Err NoMemory) = Unit {0}
+PutsLast old cycle (Err (Lines error)) = ⊥
+PutsLast old cycle (Err OutFault) = ⊥
+
+-- a source was read to its end, and the names of its cycles are kept
+pub record Gathered (arch : ArchName) (old new : SourceSeen) (table : List FamilyNames) : Type 0 where
+  pub cycles : List (List Edge)
+  pub read : ReadAll arch old new cycles
+  pub holds : Holds table cycles
+
+-- the names of the cycles of a source are kept, or there is a reason why they can't be
+abbrev pub Gathers : ArchName → SourceSeen → SourceSeen → Result (Vec FamilyNames Global) ClassifyError → Type 0
+Gathers arch old new (Ok table) = Gathered arch old new table.items
+Gathers arch old new (Err (Lines error)) = ReadsUpTo arch old new error
+Gathers arch old new (Err NoMemory) = ReadsPart old new
+Gathers arch old new (Err OutFault) = ⊥

@@ -1,0 +1,80 @@
+ghost use Rattle.std.specs.Prelude.{◌≡◌, length};
+ghost use Rattle.diy_io.specs.Taken.{source_seen};
+ghost use Rattle.diy_io.specs.Wrote.{sink_seen};
+ghost use Rattle.cycle_lines.specs.Classified.{Classifies};
+ghost use Rattle.cycle_lines.specs.Tables.{Gathers, PutsLast};
+
+use crate::errors::ClassifyError;
+use crate::reader::{Found, LineReader};
+use crate::table::{FamilyNames, no_names, put_cycle, write_families};
+use diy_io::{Failed, NoMemory, Sink, Source};
+use edge_algebra::Cycle;
+use relax_edges::ArchName;
+use std::alloc::Global;
+
+/// Reads lines of cycles of an architecture, as `norm_lines` does, and then writes for each family
+/// that has a cycle, in the order of `Family`, a line of its name and a colon, and the names of its
+/// cycles, each once and behind two blanks, in byte order.
+///
+/// Where the lines can't be read to the end, or there is no memory, nothing is written. Where the
+/// sink fails, it has taken a front of the text.
+pub fn classify_lines<I: Source, O: Sink>(
+    alloc: Global,
+    arch: ArchName,
+    input: &mut I,
+    out: &mut O,
+) -> Result<(), ClassifyError>
+    ensures { Classifies (λ sink. sink_seen (O.told sink) (O.faults sink)) arch (source_seen (I.left input.old) (I.taken input.old) (I.faults input.old)) (source_seen (I.left input.new) (I.taken input.new) (I.faults input.new)) out.old out.new result }
+{
+    match gather(alloc, arch, input) {
+        Ok(table) => match write_families(table.as_slice(), out) {
+            Ok(()) => Ok(()),
+            Err(Failed) => Err(ClassifyError::OutFault),
+        },
+        Err(error) => Err(error),
+    }
+}
+
+/// The names of the cycles of a source's lines, by their families.
+fn gather<I: Source>(
+    alloc: Global,
+    arch: ArchName,
+    input: &mut I,
+) -> Result<Vec<FamilyNames>, ClassifyError>
+    ensures { Gathers arch (source_seen (I.left input.old) (I.taken input.old) (I.faults input.old)) (source_seen (I.left input.new) (I.taken input.new) (I.faults input.new)) result }
+{
+    let mut table = match no_names(alloc) {
+        Ok(table) => table,
+        Err(NoMemory) => return Err(ClassifyError::NoMemory),
+    };
+    let mut reader = LineReader::new();
+    loop {
+        match reader.next_cycle(arch, input) {
+            Ok(Found::Next(cycle)) => match put_cycle(alloc, &mut table, &cycle) {
+                Ok(()) => {}
+                Err(NoMemory) => return Err(ClassifyError::NoMemory),
+            },
+            Ok(Found::Last(cycle)) => return put_last(alloc, table, &cycle),
+            Err(error) => return Err(ClassifyError::Lines(error)),
+        }
+    }
+}
+
+/// Keeps the name of a last cycle, if there is one.
+fn put_last(
+    alloc: Global,
+    table: Vec<FamilyNames>,
+    cycle: &Option<Cycle>,
+) -> Result<Vec<FamilyNames>, ClassifyError>
+    requires { length table.items ≡ 15 }
+    ensures { PutsLast table.items cycle.now result }
+{
+    let mut table = table;
+    match cycle {
+        Some(cycle) => match put_cycle(alloc, &mut table, cycle) {
+            Ok(()) => Ok(table),
+            Err(NoMemory) => Err(ClassifyError::NoMemory),
+        },
+        None => Ok(table),
+    }
+}

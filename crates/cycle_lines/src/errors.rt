@@ -1,0 +1,64 @@
+use thiserror::Error;
+
+/// What is wrong with a line of cycles: the first of these that applies, in this order.
+#[derive(Clone, Copy, Debug, PartialEq, Eq, Error)]
+pub enum LineKind {
+    /// It has more than `MAX_LINE` bytes.
+    #[error("the line has too many bytes")]
+    LineTooLong,
+    /// A word of it spells no edge.
+    #[error("a word of the line is no edge")]
+    UnknownEdge,
+    /// It has a label, and no edge.
+    #[error("the line has no edge")]
+    Empty,
+    /// It has more than `MAX_EDGES` edges.
+    #[error("the line has too many edges")]
+    TooLong,
+    /// An edge isn't of the architecture.
+    #[error("an edge of the line isn't of the architecture")]
+    NotOfArch,
+    /// The edges compose to no cycle.
+    #[error("the edges of the line compose to no cycle")]
+    DoesNotCompose,
+}
+
+/// Why the lines of a source weren't read to its end.
+#[derive(Clone, Copy, Debug, PartialEq, Eq, Error)]
+pub enum LinesError {
+    /// The line of this number, counted from 1, has a fault, and no line before it has one.
+    #[error("line {line}: {kind}")]
+    Wrong { line: u64, kind: LineKind },
+    /// There are more than `MAX_INPUT` bytes. The line is the one behind the last line feed among the first of these,
+    /// and no line before it has a fault.
+    #[error("line {line}: there are too many bytes")]
+    TooMuch { line: u64 },
+    /// The source failed.
+    #[error("the source failed")]
+    InputFault,
+}
+
+/// Why the names of cycles weren't all written.
+#[derive(Clone, Copy, Debug, PartialEq, Eq, Error)]
+pub enum NormError {
+    /// The lines weren't read to the end.
+    #[error("{0}")]
+    Lines(LinesError),
+    /// The sink failed.
+    #[error("the sink failed")]
+    OutFault,
+}
+
+/// Why the families of cycles weren't all written.
+#[derive(Clone, Copy, Debug, PartialEq, Eq, Error)]
+pub enum ClassifyError {
+    /// The lines weren't read to the end.
+    #[error("{0}")]
+    Lines(LinesError),
+    /// The sink failed.
+    #[error("the sink failed")]
+    OutFault,
+    /// There is no memory.
+    #[error("no memory")]
+    NoMemory,
+}

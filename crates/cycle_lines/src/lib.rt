@@ -1,0 +1,20 @@
+//! Lines of cycles: each is read as a cycle, and the names of the cycles are written.
+#![tactic(auto)]
+
+mod classify;
+mod edges;
+mod errors;
+mod line;
+mod norm;
+mod reader;
+mod table;
+
+pub use classify::classify_lines;
+pub use errors::{ClassifyError, LineKind, LinesError, NormError};
+pub use norm::{norm_lines, write_name_line};
+
+/// The most bytes of a line, neither its line feed nor a carriage return right before that counted: 4,096.
+pub const MAX_LINE: usize = 4_096;
+
+#[cfg(test)]
+mod tests;

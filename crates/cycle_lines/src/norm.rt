@@ -1,0 +1,89 @@
+ghost use Rattle.diy_io.specs.Taken.{source_seen};
+ghost use Rattle.diy_io.specs.Wrote.{sink_seen, Wrote};
+ghost use Rattle.cycle_lines.specs.Normed.{name_line, Norms, WritesLast, last_lines};
+
+use crate::errors::NormError;
+use crate::reader::{Found, LineReader};
+use arrayvec::ArrayString;
+use cycle_names::{MAX_NAME, name_and_rotation, push_words};
+use diy_io::{Failed, Sink, Source};
+use edge_algebra::Cycle;
+use relax_edges::ArchName;
+
+/// The most bytes of the line of a cycle: its name, a colon and a blank, its edges and a line feed.
+const MAX_NAME_LINE: usize = 2 * MAX_NAME + 3;
+
+/// Reads lines of cycles of an architecture, and writes for each cycle the line of its name and its
+/// edges, in order. Each is written before more is read, and no memory is taken.
+///
+/// A line ends with a line feed, and a carriage return right before that is dropped; a last line
+/// without a line feed counts if it has a byte. A line of blanks alone is passed over; else all up
+/// to its first colon is dropped, and the rest is edges, which blanks (spaces and tabs) separate.
+///
+/// Where a line has a fault, where there are more than `MAX_INPUT` bytes, or where the source fails,
+/// the lines of the cycles before that are written. Where the sink fails, it has taken a front of
+/// them.
+pub fn norm_lines<I: Source, O: Sink>(
+    arch: ArchName,
+    input: &mut I,
+    out: &mut O,
+) -> Result<(), NormError>
+    ensures { Norms arch (source_seen (I.left input.old) (I.taken input.old) (I.faults input.old)) (source_seen (I.left input.new) (I.taken input.new) (I.faults input.new)) (sink_seen (O.told out.old) (O.faults out.old)) (sink_seen (O.told out.new) (O.faults out.new)) result }
+{
+    let mut reader = LineReader::new();
+    let mut words: ArrayString<MAX_NAME> = ArrayString::new();
+    let mut line: ArrayString<MAX_NAME_LINE> = ArrayString::new();
+    loop {
+        match reader.next_cycle(arch, input) {
+            Ok(Found::Next(cycle)) => match write_line(&cycle, &mut words, &mut line, out) {
+                Ok(()) => {}
+                Err(Failed) => return Err(NormError::OutFault),
+            },
+            Ok(Found::Last(cycle)) => return write_last(&cycle, out),
+            Err(error) => return Err(NormError::Lines(error)),
+        }
+    }
+}
+
+fn write_last<O: Sink>(cycle: &Option<Cycle>, out: &mut O) -> Result<(), NormError>
+    ensures { WritesLast (last_lines cycle.now) (sink_seen (O.told out.old) (O.faults out.old)) (sink_seen (O.told out.new) (O.faults out.new)) result }
+{
+    match cycle {
+        Some(cycle) => match write_name_line(cycle, out) {
+            Ok(()) => Ok(()),
+            Err(Failed) => Err(NormError::OutFault),
+        },
+        None => Ok(()),
+    }
+}
+
+/// Writes the line of a cycle: its name, a colon and a blank, and its edges in the rotation that it
+/// is named from, joined by blanks. Where the sink fails, it has taken a front of the line.
+pub fn write_name_line<O: Sink>(cycle: &Cycle, out: &mut O) -> Result<(), Failed>
+    ensures { Wrote (sink_seen (O.told out.old) (O.faults out.old)) (sink_seen (O.told out.new) (O.faults out.new)) (name_line cycle.now) result }
+{
+    let mut words: ArrayString<MAX_NAME> = ArrayString::new();
+    let mut line: ArrayString<MAX_NAME_LINE> = ArrayString::new();
+    write_line(cycle, &mut words, &mut line, out)
+}
+
+/// Writes the line of a cycle, which is made in `line`; its name and its edges are made in `words`
+/// before. What they held doesn't count.
+fn write_line<O: Sink>(
+    cycle: &Cycle,
+    words: &mut ArrayString<MAX_NAME>,
+    line: &mut ArrayString<MAX_NAME_LINE>,
+    out: &mut O,
+) -> Result<(), Failed>
+    ensures { Wrote (sink_seen (O.told out.old) (O.faults out.old)) (sink_seen (O.told out.new) (O.faults out.new)) (name_line cycle.now) result }
+{
+    let rotation = name_and_rotation(cycle, words);
+    line.clear();
+    line.push_str(words.as_str());
+    line.push_str(": ");
+    words.clear();
+    push_words(rotation.edges(), " ", words);
+    line.push_str(words.as_str());
+    line.push_str("\n");
+    out.write_all(line.as_str().as_bytes())
+}

@@ -1,0 +1,233 @@
+ghost use Rattle.std.specs.Prelude.{◌≡◌, ◌≤◌, ◌<◌, ℕ, ◌+◌, ◌-◌, [], false, length, take, drop, Some, IfOk, OnErr};
+ghost use Rattle.diy_io.specs.Taken.{source_seen};
+ghost use Rattle.cycle_lines.specs.Cycles.{is_too_long};
+ghost use Rattle.cycle_lines.specs.Lines.{without_return};
+ghost use Rattle.cycle_lines.specs.Steps.{ReaderSeen, Without, GivesNext, said_by, Fills, FillsBuffer, Stops, ReadsOn, Refills, LessToDo, ReadsLast, Ends, work};
+
+use crate::MAX_LINE;
+use crate::errors::{LineKind, LinesError};
+use crate::line::{cut, read_line, without_return};
+use diy_io::{Failed, MAX_INPUT, Source};
+use edge_algebra::Cycle;
+use relax_edges::ArchName;
+use std::marker::Model;
+
+/// How many bytes are read ahead at most.
+const BUFFER: usize = 32_768;
+
+/// What is found behind the lines that were given.
+#[derive(Drop)]
+pub(crate) enum Found {
+    /// The next cycle.
+    Next(Cycle),
+    /// The end, and the cycle of a last line that no line feed ends, if there is one.
+    Last(Option<Cycle>),
+}
+
+/// What the next line says.
+#[derive(Drop)]
+enum Line {
+    /// A cycle.
+    Cycle(Cycle),
+    /// Nothing.
+    Blank,
+    /// It has a fault.
+    Wrong(LineKind),
+    /// It isn't pending as a whole.
+    Unended,
+}
+
+/// Reads the lines of a source.
+///
+/// Contracts see the bytes that were taken and aren't given yet, the number of the line that they
+/// begin with, and how many bytes were taken.
+#[derive(Drop)]
+pub(crate) struct LineReader {
+    buffer: [u8; BUFFER],
+    start: usize,
+    end: usize,
+    line: u64,
+    taken: u64,
+}
+
+impl Model for LineReader {
+    ghost use Rattle.std.specs.Prelude.{◌+◌, ◌-◌, ◌≤◌, take, drop};
+    ghost use Rattle.diy_io.specs.declared.source.TheConstants.{MAX_INPUT};
+    ghost use Rattle.cycle_lines.specs.declared.reader.TheConstants.{BUFFER};
+    ghost use Rattle.cycle_lines.specs.Steps.{ReaderSeen};
+
+    ghost Value = { ReaderSeen };
+
+    ghost view = { λ r. record { pending = take (r.end - r.start) (drop r.start r.buffer); line = r.line; taken = r.taken } };
+
+    ghost invariant = { λ r. (r.start ≤ r.end) × (r.end ≤ BUFFER) × (r.line + (r.end - r.start) ≤ r.taken + 1) × (r.taken ≤ MAX_INPUT) };
+}
+
+impl LineReader {
+    /// A reader that has read nothing yet.
+    pub(crate) fn new() -> LineReader
+        ensures { result ≡ record { pending = []; line = 1; taken = 0 } }
+    {
+        LineReader {
+            buffer: [0; BUFFER],
+            start: 0,
+            end: 0,
+            line: 1,
+            taken: 0,
+        }
+    }
+
+    /// The next cycle of the source's lines, or their end, or why they can't be read on.
+    pub(crate) fn next_cycle<I: Source>(
+        &mut self,
+        arch: ArchName,
+        input: &mut I,
+    ) -> Result<Found, LinesError>
+        ensures reads { ReadsOn arch (source_seen (I.left input.old) (I.taken input.old) (I.faults input.old)) (source_seen (I.left input.new) (I.taken input.new) (I.faults input.new)) self.old self.new result }
+        ensures less { LessToDo (work self.old) (work self.new) result }
+    {
+        loop {
+            let line = self.line;
+            match self.next_line(arch) {
+                Line::Cycle(cycle) => return Ok(Found::Next(cycle)),
+                Line::Blank => {}
+                Line::Wrong(kind) => return Err(LinesError::Wrong { line, kind }),
+                Line::Unended => match self.refill(input) {
+                    Ok(0) => return self.last_cycle(arch),
+                    Ok(_) => {}
+                    Err(error) => return Err(error),
+                },
+            }
+        }
+    }
+
+    /// The bytes that were taken and aren't given yet.
+    fn pending(&self) -> &[u8]
+        ensures { result.now ≡ self.now.pending }
+    {
+        &self.buffer[self.start..self.end]
+    }
+
+    /// What the next line says, which is given then, if all of it is pending.
+    fn next_line(&mut self, arch: ArchName) -> Line
+        ensures { GivesNext arch self.old self.new result }
+    {
+        let Some((bytes, _)) = cut(b'\n', self.pending()) else {
+            return Line::Unended;
+        };
+        let length = bytes.len();
+        let line = line_of(read_line(arch, without_return(bytes)));
+        self.start += length + 1;
+        self.line += 1;
+        line
+    }
+
+    /// What the last line says, which no line feed ends.
+    fn last_cycle(&self, arch: ArchName) -> Result<Found, LinesError>
+        requires { Without 10 self.now.pending }
+        ensures reads { ReadsLast arch self.now result }
+        ensures ends { Ends result }
+    {
+        if self.pending().is_empty() {
+            return Ok(Found::Last(None));
+        }
+        match read_line(arch, self.pending()) {
+            Ok(cycle) => Ok(Found::Last(cycle)),
+            Err(kind) => Err(LinesError::Wrong {
+                line: self.line,
+                kind,
+            }),
+        }
+    }
+
+    /// Reads bytes behind those that are pending, none only at the end of the source.
+    fn refill<I: Source>(&mut self, input: &mut I) -> Result<usize, LinesError>
+        requires { Without 10 self.old.pending }
+        ensures refills { Refills (source_seen (I.left input.old) (I.taken input.old) (I.faults input.old)) (source_seen (I.left input.new) (I.taken input.new) (I.faults input.new)) self.old self.new result }
+        ensures pending { IfOk result (λ count. count ≡ 0 → Without 10 self.new.pending) }
+        ensures less { IfOk result (λ count. 0 < count → work self.new < work self.old) }
+    {
+        if without_return(self.pending()).len() > MAX_LINE {
+            return Err(LinesError::Wrong {
+                line: self.line,
+                kind: LineKind::LineTooLong,
+            });
+        }
+        if self.taken == MAX_INPUT {
+            return self.end_at_limit(input);
+        }
+        match self.fill(input) {
+            Ok(count) => Ok(count),
+            Err(Failed) => Err(LinesError::InputFault),
+        }
+    }
+
+    /// Whether a source ends where no more of it is read.
+    fn end_at_limit<I: Source>(&self, input: &mut I) -> Result<usize, LinesError>
+        requires one_line { Without 10 self.now.pending }
+        requires short { is_too_long (without_return self.now.pending) ≡ false }
+        requires full { self.now.taken ≡ MAX_INPUT }
+        ensures refills { Refills (source_seen (I.left input.old) (I.taken input.old) (I.faults input.old)) (source_seen (I.left input.new) (I.taken input.new) (I.faults input.new)) self.now self.now result }
+        ensures none { IfOk result (λ count. count ≡ 0) }
+    {
+        let mut byte = [0];
+        match read_part(input, &mut byte, 0, 1) {
+            Ok(0) => Ok(0),
+            Ok(_) => Err(LinesError::TooMuch { line: self.line }),
+            Err(Failed) => Err(LinesError::InputFault),
+        }
+    }
+
+    /// Reads bytes behind those that are pending.
+    fn fill<I: Source>(&mut self, input: &mut I) -> Result<usize, Failed>
+        requires short { length self.old.pending ≤ MAX_LINE + 1 }
+        requires few { self.old.taken < MAX_INPUT }
+        ensures filled { IfOk result (λ count. Fills (source_seen (I.left input.old) (I.taken input.old) (I.faults input.old)) (source_seen (I.left input.new) (I.taken input.new) (I.faults input.new)) self.old self.new count) }
+        ensures stopped { OnErr result (Stops (source_seen (I.left input.old) (I.taken input.old) (I.faults input.old)) (source_seen (I.left input.new) (I.taken input.new) (I.faults input.new)) × (self.new ≡ self.old)) }
+    {
+        self.end = move_to_front(&mut self.buffer, self.start, self.end);
+        self.start = 0;
+        let room = (BUFFER - self.end).min((MAX_INPUT - self.taken) as usize);
+        let count = read_part(input, &mut self.buffer, self.end, room)?;
+        self.end += count;
+        self.taken += count as u64;
+        Ok(count)
+    }
+}
+
+fn line_of(said: Result<Option<Cycle>, LineKind>) -> Line
+    ensures { said_by result ≡ Some said }
+{
+    match said {
+        Ok(Some(cycle)) => Line::Cycle(cycle),
+        Ok(None) => Line::Blank,
+        Err(kind) => Line::Wrong(kind),
+    }
+}
+
+/// Moves a part of a buffer to its front, and says where it ends there.
+fn move_to_front(buffer: &mut [u8], start: usize, end: usize) -> usize
+    requires order { start ≤ end }
+    requires within { end ≤ length buffer.old }
+    ensures end { result ≡ end - start }
+    ensures moved { take result buffer.new ≡ take (end - start) (drop start buffer.old) }
+{
+    buffer.copy_within(start..end, 0);
+    end - start
+}
+
+/// Reads bytes into a part of a buffer.
+fn read_part<I: Source>(
+    input: &mut I,
+    buffer: &mut [u8],
+    start: usize,
+    room: usize,
+) -> Result<usize, Failed>
+    requires within { start + room ≤ length buffer.old }
+    requires some { 0 < room }
+    ensures front { take start buffer.new ≡ take start buffer.old }
+    ensures filled { IfOk result (λ count. FillsBuffer (source_seen (I.left input.old) (I.taken input.old) (I.faults input.old)) (source_seen (I.left input.new) (I.taken input.new) (I.faults input.new)) buffer.new start room count) }
+    ensures stopped { OnErr result (Stops (source_seen (I.left input.old) (I.taken input.old) (I.faults input.old)) (source_seen (I.left input.new) (I.taken input.new) (I.faults input.new))) }
+{
+    input.read(&mut buffer[start..start + room])
+}

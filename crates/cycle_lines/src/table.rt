@@ -1,0 +1,145 @@
+ghost use Rattle.std.specs.Prelude.{◌≡◌, ◌<◌, [], ◌++◌, codes, length, map, IfOk, OnOk};
+ghost use Rattle.std.specs.List.{flat_map};
+ghost use Rattle.diy_io.specs.Wrote.{sink_seen, Wrote};
+ghost use Rattle.cycle_names.specs.Families.{family_word};
+ghost use Rattle.cycle_lines.specs.Classified.{name_entry};
+ghost use Rattle.cycle_lines.specs.Tables.{place_of, texts_of, entry_view, entry_text, Holds, Adds, name_put};
+
+use arrayvec::ArrayString;
+use cycle_names::{Family, MAX_NAME, family_of, name_of};
+use diy_io::{Failed, NoMemory, Sink, write_pieces};
+use edge_algebra::Cycle;
+use std::alloc::Global;
+use std::collections::BTreeSet;
+
+/// The families of the table, and that of the cycles of none.
+const FAMILIES: [Family; 15] = [
+    Family::SB,
+    Family::MP,
+    Family::LB,
+    Family::R,
+    Family::S,
+    Family::W2,
+    Family::WRC,
+    Family::RWC,
+    Family::ISA2,
+    Family::IRIW,
+    Family::WRWC,
+    Family::SB3,
+    Family::LB3,
+    Family::W3,
+    Family::Other,
+];
+
+/// The names of the cycles of a family, each once, in byte order.
+#[derive(Drop)]
+pub(crate) struct FamilyNames {
+    pub(crate) family: Family,
+    pub(crate) names: BTreeSet<Vec<u8>>,
+}
+
+/// The place of a family in the table.
+fn place_of(family: Family) -> usize
+    ensures place { result ≡ place_of family }
+    ensures within { result < 15 }
+{
+    match family {
+        Family::SB => 0,
+        Family::MP => 1,
+        Family::LB => 2,
+        Family::R => 3,
+        Family::S => 4,
+        Family::W2 => 5,
+        Family::WRC => 6,
+        Family::RWC => 7,
+        Family::ISA2 => 8,
+        Family::IRIW => 9,
+        Family::WRWC => 10,
+        Family::SB3 => 11,
+        Family::LB3 => 12,
+        Family::W3 => 13,
+        Family::Other => 14,
+    }
+}
+
+/// No names of any family.
+pub(crate) fn no_names(alloc: Global) -> Result<Vec<FamilyNames>, NoMemory>
+    ensures holds { IfOk result (λ table. Holds table.items []) }
+    ensures whole { IfOk result (λ table. length table.items ≡ 15) }
+{
+    let mut table = Vec::new(alloc);
+    for family in &FAMILIES {
+        table.push(FamilyNames {
+            family: *family,
+            names: BTreeSet::new(alloc),
+        })?;
+    }
+    Ok(table)
+}
+
+/// Keeps the name of a cycle.
+pub(crate) fn put_cycle(
+    alloc: Global,
+    table: &mut Vec<FamilyNames>,
+    cycle: &Cycle,
+) -> Result<(), NoMemory>
+    requires { length table.old.items ≡ 15 }
+    ensures adds { OnOk result (Adds table.old.items table.new.items cycle.now) }
+    ensures whole { OnOk result (length table.new.items ≡ 15) }
+{
+    let mut name: ArrayString<MAX_NAME> = ArrayString::new();
+    name_of(cycle, &mut name);
+    let name = Vec::from_slice(alloc, name.as_str().as_bytes())?;
+    put_name(table, place_of(family_of(cycle)), name)
+}
+
+fn put_name(table: &mut Vec<FamilyNames>, place: usize, name: Vec<u8>) -> Result<(), NoMemory>
+    requires { place < length table.old.items }
+    ensures put { OnOk result (map entry_view table.new.items ≡ name_put place name.items (map entry_view table.old.items)) }
+    ensures whole { OnOk result (length table.new.items ≡ length table.old.items) }
+{
+    table[place].names.insert(name)?;
+    Ok(())
+}
+
+/// Writes the lines of the families that have a name. Where the sink fails, it has taken a front of
+/// them.
+pub(crate) fn write_families<O: Sink>(table: &[FamilyNames], out: &mut O) -> Result<(), Failed>
+    ensures { Wrote (sink_seen (O.told out.old) (O.faults out.old)) (sink_seen (O.told out.new) (O.faults out.new)) (flat_map (λ entry. entry_text (entry_view entry)) table.now) result }
+{
+    for entry in table {
+        write_family(entry, out)?;
+    }
+    Ok(())
+}
+
+fn write_family<O: Sink>(entry: &FamilyNames, out: &mut O) -> Result<(), Failed>
+    ensures { Wrote (sink_seen (O.told out.old) (O.faults out.old)) (sink_seen (O.told out.new) (O.faults out.new)) (entry_text (entry_view entry.now)) result }
+{
+    if entry.names.is_empty() {
+        return Ok(());
+    }
+    write_title(entry.family, out)?;
+    write_names(&entry.names, out)
+}
+
+fn write_title<O: Sink>(family: Family, out: &mut O) -> Result<(), Failed>
+    ensures { Wrote (sink_seen (O.told out.old) (O.faults out.old)) (sink_seen (O.told out.new) (O.faults out.new)) (family_word family ++ codes ":\n") result }
+{
+    write_pieces(out, &[family.word().as_bytes(), b":\n"])
+}
+
+fn write_names<O: Sink>(names: &BTreeSet<Vec<u8>>, out: &mut O) -> Result<(), Failed>
+    ensures { Wrote (sink_seen (O.told out.old) (O.faults out.old)) (sink_seen (O.told out.new) (O.faults out.new)) (flat_map name_entry (texts_of names.now)) result }
+{
+    for name in names {
+        write_name(name.as_slice(), out)?;
+    }
+    Ok(())
+}
+
+fn write_name<O: Sink>(name: &[u8], out: &mut O) -> Result<(), Failed>
+    ensures { Wrote (sink_seen (O.told out.old) (O.faults out.old)) (sink_seen (O.told out.new) (O.faults out.new)) (name_entry name.now) result }
+{
+    write_pieces(out, &[b"  ", name, b"\n"])
+}

@@ -1,0 +1,120 @@
+use crate::{ClassifyError, LineKind, LinesError, NormError, classify_lines, norm_lines};
+use diy_io::{MemSink, MemSource, SureSource};
+use relax_edges::ArchName;
+use std::alloc::Global;
+use std::test::Fail;
+
+const POWER_LINES: &[u8] =
+    b"LwSyncdWW Rfe DpAddrdR Fre\na: Rfe DpAddrdR Fre LwSyncdWW\r\nSyncdWW Rfe LwSyncdRR Fre\n\tLwSyncdWW Coe PodWR Fre \n\nPodWW Foo";
+
+const POWER_NAMES: &[u8] =
+    b"MP+lwsync+addr: LwSyncdWW Rfe DpAddrdR Fre\nMP+lwsync+addr: LwSyncdWW Rfe DpAddrdR Fre\nMP+sync+lwsync: SyncdWW Rfe LwSyncdRR Fre\nR+lwsync+po: LwSyncdWW Wse PodWR Fre\n";
+
+const X86_LINES: &[u8] =
+    b"PodWR Fre PodWR Fre\na: Rfe PodRR Fre PodWW\nMFencedWR Fre PodWR Fre\nPodWW Wsi Wse PodWR Fre\nFre PodWR Fre PodWR";
+
+const X86_FAMILIES: &[u8] =
+    b"SB:\n  SB\n  SB+mfence+po\nMP:\n  MP\nOTHER:\n  C+Fre-PodWW-Wsi-Wse-PodWR\n";
+
+fn wrong(line: u64, kind: LineKind) -> Result<(), NormError> {
+    Err(NormError::Lines(LinesError::Wrong { line, kind }))
+}
+
+/// The answer of `norm_lines` to lines for Power, which come in pieces, and what it writes.
+fn normed(
+    alloc: Global,
+    lines: &[u8],
+    piece: usize,
+) -> Result<(Result<(), NormError>, MemSink), Fail> {
+    let mut input = SureSource::new(Vec::from_slice(alloc, lines)?, piece.max(1));
+    let mut out = MemSink::new(alloc, 1000)?;
+    let answer = norm_lines(ArchName::PPC, &mut input, &mut out);
+    Ok((answer, out))
+}
+
+#[test]
+fn names_are_written_up_to_the_first_faulty_line(rt: HostRuntime) -> Result<(), Fail> {
+    for piece in [1, 4096] {
+        let (answer, out) = normed(rt.alloc(), POWER_LINES, piece)?;
+        assert_eq!(rt; answer, wrong(6, LineKind::UnknownEdge));
+        assert_eq!(rt; out.bytes(), POWER_NAMES);
+    }
+    Ok(())
+}
+
+#[test]
+fn families_are_written_in_order(rt: HostRuntime) -> Result<(), Fail> {
+    for piece in [1, 4096] {
+        let mut input = SureSource::new(Vec::from_slice(rt.alloc(), X86_LINES)?, piece);
+        let mut out = MemSink::new(rt.alloc(), 1000)?;
+        let answer = classify_lines(rt.alloc(), ArchName::X86, &mut input, &mut out);
+        assert_eq!(rt; answer, Ok(()));
+        assert_eq!(rt; out.bytes(), X86_FAMILIES);
+    }
+    Ok(())
+}
+
+#[test]
+fn lines_have_at_most_4096_bytes(rt: HostRuntime) -> Result<(), Fail> {
+    let mut lines = Vec::new(rt.alloc());
+    for _ in 0..4096 {
+        lines.push(b' ')?;
+    }
+    lines.extend_from_slice(b"\r\n\n")?;
+    assert_eq!(rt; normed(rt.alloc(), lines.as_slice(), 4096)?.0, Ok(()));
+    for _ in 0..4096 {
+        lines.push(b' ')?;
+    }
+    lines.push(b'\r')?;
+    assert_eq!(rt;
+        normed(rt.alloc(), lines.as_slice(), 4096)?.0,
+        wrong(3, LineKind::LineTooLong)
+    );
+    Ok(())
+}
+
+#[test]
+fn each_fault_has_its_kind(rt: HostRuntime) -> Result<(), Fail> {
+    let alloc = rt.alloc();
+    assert_eq!(rt; normed(alloc, b"a:\n", 9)?.0, wrong(1, LineKind::Empty));
+    assert_eq!(rt;
+        normed(alloc, b"MFencedWR Fre\n", 9)?.0,
+        wrong(1, LineKind::NotOfArch)
+    );
+    assert_eq!(rt;
+        normed(alloc, b"\nPodWW Fre", 9)?.0,
+        wrong(2, LineKind::DoesNotCompose)
+    );
+    Ok(())
+}
+
+#[test]
+fn a_source_that_fails_ends_the_names(rt: HostRuntime) -> Result<(), Fail> {
+    let fail = Vec::from_slice(rt.alloc(), &[40])?;
+    let mut input = MemSource::new(Vec::from_slice(rt.alloc(), POWER_LINES)?, 1, fail);
+    let mut out = MemSink::new(rt.alloc(), 1000)?;
+    let answer = norm_lines(ArchName::PPC, &mut input, &mut out);
+    assert_eq!(rt; answer, Err(NormError::Lines(LinesError::InputFault)));
+    assert_eq!(rt;
+        out.bytes(),
+        b"MP+lwsync+addr: LwSyncdWW Rfe DpAddrdR Fre\n".as_slice()
+    );
+    Ok(())
+}
+
+#[test]
+fn no_family_is_written_where_a_line_is_wrong(rt: HostRuntime) -> Result<(), Fail> {
+    let mut input = SureSource::new(
+        Vec::from_slice(rt.alloc(), b"PodWR Fre PodWR Fre\nFre:Fre")?,
+        5,
+    );
+    let mut out = MemSink::new(rt.alloc(), 1000)?;
+    let answer = classify_lines(rt.alloc(), ArchName::X86, &mut input, &mut out);
+    let error = LinesError::Wrong {
+        line: 2,
+        kind: LineKind::DoesNotCompose,
+    };
+    assert_eq!(rt; answer, Err(ClassifyError::Lines(error)));
+    assert_eq!(rt; out.bytes(), b"".as_slice());
+    Ok(())
+}

@@ -1,0 +1,43 @@
+use Rattle.std.proofs.Common.{◌≡◌, ap, sym, ◌∙◌, refl, [], Some, set}
+use Rattle.std.specs.Prelude.{ℕ}
+use Rattle.diy_io.specs.Count.{next_count}
+use Rattle.diy_io.specs.MemFiles.{MemFilesState, place_of, name_at}
+use Rattle.diy_io.specs.MemShelf.{MemShelfState, mode_of}
+use Rattle.diy_io.specs.declared.mem_shelf.Work.TheVariants as works
+use Rattle.diy_io.specs.declared.mem_shelf.MemShelf.TheInside.{Inside}
+use Rattle.diy_io.proofs.EntriesLaws.{on_ok_is}
+use Rattle.diy_io.proofs.ShelfLaws.{is_place, stays_at, begins_again}
+use Rattle.diy_io.proofs.mem_shelf.MemShelfShelf.create.Goals as goal
+
+-- the shelf after a file was begun
+abbrev after_begun : Inside → MemFilesState → ℕ → MemShelfState
+after_begun inside held file = record {
+  held = held;
+  mode = mode_of held.files (works.Writing file);
+  fail = inside.fail.items;
+  calls = inside.calls;
+  faults = inside.faults;
+  taken = inside.taken;
+  opened = inside.opened;
+}
+
+pub invariant_of-self : goal.invariant_of-self
+invariant_of-self c =
+    let there : place_of c.as_bytes.result.now c.self.inside.held.files ≡ Some c.in-Some.file = sym c.place_of.ensures.place ∙ c.in-Some.is in
+    stays_at c.self.inside.held.files c.clear.new.self.files c.in-Some.file [] (is_place _ c.self.inside.held.files c.in-Some.file there)
+    (ap (λ h. h.files) c.clear.ensures)
+
+pub returns-in-Some-clause-ok : goal.returns-in-Some-clause-ok
+returns-in-Some-clause-ok c =
+    let begun : c.begin_call.new.self ≡ record c.args.self.now { calls = next_count c.args.self.now.calls } =
+    on_ok_is _ _ _ c.begin_call.ensures.ok c.in_ok-begin_call.was in
+    let held : c.self.inside.held ≡ c.args.self.now.held = ap (λ s. s.held) (c.self.view_is ∙ begun) in
+    let there : place_of c.args.name.now c.args.self.now.held.files ≡ Some c.in-Some.file =
+    ap (λ h. place_of c.args.name.now h.files) (sym held)
+    ∙ ap (λ n. place_of n c.self.inside.held.files) (sym c.as_bytes.ensures.value) ∙ sym c.place_of.ensures.place ∙ c.in-Some.is in
+    begins_again c.args.self.now (after_begun c.self.inside c.clear.new.self c.in-Some.file) c.args.name.now c.in-Some.file there
+    (ap (λ h. h.files) c.clear.ensures ∙ ap (λ h. set h.files c.in-Some.file (name_at c.in-Some.file h.files, [])) held)
+    refl
+    (ap (λ s. s.faults) (c.self.view_is ∙ begun))
+    (ap (λ s. s.taken) (c.self.view_is ∙ begun))
+    (ap (λ s. s.opened) (c.self.view_is ∙ begun))

@@ -1,0 +1,27 @@
+-- The memory of files in memory.
+use Rattle.std.specs.Prelude.{ℕ, ◌+◌, ◌≤◌, All, vec_len, vec_capacity, ◌≡◌, []}
+use Rattle.std.specs.declared.vec.Vec.{Vec}
+use Rattle.std.specs.declared.alloc.Global.{Global}
+use Rattle.diy_io.specs.declared.mem_files.Entry.{Entry}
+use Rattle.diy_io.specs.MemFiles.{Named}
+
+-- a file by its name and its bytes
+abbrev pub entry_view : Entry → Named
+entry_view entry = (entry.name.items, entry.bytes.items)
+
+-- a file has memory for so many bytes more
+abbrev pub HasRoom : ℕ → Entry → Type 0
+HasRoom room entry = vec_len entry.bytes + room ≤ vec_capacity entry.bytes
+
+-- a file to come: it has no name and no bytes, and memory for both
+pub record IsSpare (room : ℕ) (entry : Entry) : Type 0 where
+  pub unnamed : entry.name.items ≡ []
+  pub empty : entry.bytes.items ≡ []
+  pub name_room : vec_len entry.name + 1300 ≤ vec_capacity entry.name
+  pub bytes_room : HasRoom room entry
+
+-- there is memory for the files to come, and in each file for the bytes to come
+pub record AreMemFiles (entries spare : Vec Entry Global) (room : ℕ) : Type 0 where
+  pub with_room : All (HasRoom room) entries.items
+  pub to_come : All (IsSpare room) spare.items
+  pub places : vec_len entries + vec_len spare ≤ vec_capacity entries

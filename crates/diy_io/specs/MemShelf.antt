@@ -1,0 +1,53 @@
+-- A shelf in memory that fails at chosen calls.
+use Rattle.std.specs.Prelude.{◌≡◌, ◌≤◌, ℕ, List, drop, length, Some}
+use Rattle.diy_io.specs.Count.{next_count}
+use Rattle.diy_io.specs.Shelf.{Mode, Idle, Reading, Writing, ShelfSeen}
+use Rattle.diy_io.specs.MemFiles.{Named, MemFilesState, place_of, name_at, bytes_at, files_of}
+use Rattle.diy_io.specs.declared.mem_shelf.Work.{Work}
+use Rattle.diy_io.specs.declared.mem_shelf.Work.TheVariants as works
+
+-- what it holds, what it is at, the numbers of the calls that fail, the number of the next call, and its counts
+pub record MemShelfState : Type 0 where
+  pub held : MemFilesState
+  pub mode : Mode
+  pub fail : List ℕ
+  pub calls : ℕ
+  pub faults : ℕ
+  pub taken : ℕ
+  pub opened : ℕ
+
+-- what it tells
+abbrev pub mem_shelf_seen : MemShelfState → ShelfSeen
+mem_shelf_seen shelf = record {
+  files = Some (files_of shelf.held.files);
+  mode = shelf.mode;
+  faults = shelf.faults;
+  taken = shelf.taken;
+  opened = shelf.opened;
+}
+
+-- a call was numbered
+pub record Called (old new : MemShelfState) : Type 0 where
+  pub calls : new.calls ≡ next_count old.calls
+  pub fail : new.fail ≡ old.fail
+
+-- no call was numbered
+pub record SameCall (old new : MemShelfState) : Type 0 where
+  pub calls : new.calls ≡ old.calls
+  pub fail : new.fail ≡ old.fail
+
+-- the mode by the place of the file that is read or written
+abbrev pub mode_of : List Named → Work → Mode
+mode_of files works.Idle = Idle
+mode_of files (works.Reading file at') = Reading (name_at file files) (Some (drop at' (bytes_at file files)))
+mode_of files (works.Writing file) = Writing (name_at file files)
+
+-- a place is that of the first file with its name
+abbrev pub IsPlace : ℕ → List Named → Type 0
+IsPlace place files = place_of (name_at place files) files ≡ Some place
+
+-- the file that is read or written is there
+abbrev pub IsAt : List Named → Work → Type 0
+IsAt files works.Idle = Unit {0}
+IsAt files (works.Reading file at') = IsPlace file files × (at' ≤ length (bytes_at file files))
+IsAt files (works.Writing file) = IsPlace file files

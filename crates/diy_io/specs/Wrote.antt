@@ -1,0 +1,29 @@
+-- What a function that writes a text to a sink tells of it.
+use Rattle.std.specs.Prelude.{◌≡◌, ◌≤◌, ℕ, List, Result, OnOk, OnErr}
+use Rattle.diy_io.specs.declared.errors.Failed.{Failed}
+use Rattle.diy_io.specs.Count.{Rose}
+use Rattle.diy_io.specs.Sink.{Told, Grew, GrewByPrefix}
+
+-- what a sink tells, and its count of faults
+pub record SinkSeen : Type 0 where
+  pub told : Told
+  pub faults : ℕ
+
+abbrev pub sink_seen : Told → ℕ → SinkSeen
+sink_seen told faults = record { told = told; faults = faults }
+
+-- a sink grew by the whole text, without a fault
+pub record WroteAll (old new : SinkSeen) (text : List ℕ) : Type 0 where
+  pub grew : Grew old.told new.told text
+  pub no_fault : new.faults ≡ old.faults
+
+-- a sink failed and grew by a front of the text
+pub record WrotePart (old new : SinkSeen) (text : List ℕ) : Type 0 where
+  pub grew : GrewByPrefix old.told new.told text
+  pub fault : Rose old.faults new.faults
+  pub never_falls : old.faults ≤ new.faults
+
+-- the one where the writing succeeded, the other where it failed
+pub record Wrote (old new : SinkSeen) (text : List ℕ) (result : Result (Unit {0}) Failed) : Type 0 where
+  pub ok : OnOk result (WroteAll old new text)
+  pub failed : OnErr result (WrotePart old new text)

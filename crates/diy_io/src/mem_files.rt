@@ -1,0 +1,164 @@
+ghost use Rattle.std.specs.Prelude.{◌≡◌, ◌+◌, ◌-◌, ◌<◌, ◌≤◌, ◌++◌, ◌∷◌, ℕ, [], length, vec_len, vec_capacity, map, All, slice_set, IfOk, IfSome, OnOk, OnErr};
+ghost use Rattle.diy_io.specs.MemFiles.{MemFilesState, PutIn, place_of, name_at, bytes_at};
+
+use crate::errors::NoMemory;
+use std::alloc::Global;
+use std::marker::Model;
+
+/// The most bytes that the name of a file in memory has.
+pub(crate) const MAX_NAME: usize = 1_300;
+
+/// A file.
+#[derive(Debug, Drop)]
+pub(crate) struct Entry {
+    name: Vec<u8>,
+    bytes: Vec<u8>,
+}
+
+/// Files in memory, to be found by their names.
+///
+/// They take their memory when they are made, and none when new files are added and bytes appended.
+#[derive(Debug, Drop)]
+pub(crate) struct MemFiles {
+    entries: Vec<Entry>,
+    /// Files to come, with memory for a name and for all bytes.
+    spare: Vec<Entry>,
+    room: usize,
+}
+
+impl Model for MemFiles {
+    ghost use Rattle.std.specs.Prelude.{map, vec_len};
+    ghost use Rattle.diy_io.specs.MemEntries.{entry_view, AreMemFiles};
+    ghost use Rattle.diy_io.specs.MemFiles.{MemFilesState};
+
+    ghost Value = { MemFilesState };
+
+    ghost view = { λ m. record { files = map entry_view m.entries.items; room = m.room; names = vec_len m.spare } };
+
+    ghost invariant = { λ m. AreMemFiles m.entries m.spare m.room };
+}
+
+impl Entry {
+    ghost use Rattle.diy_io.specs.MemEntries.{IsSpare, entry_view};
+
+    /// A file with no name and no byte, and memory for both.
+    fn spare(alloc: Global, room: usize) -> Result<Entry, NoMemory>
+        ensures { IfOk result (IsSpare room) }
+    {
+        Ok(Entry {
+            name: Vec::with_capacity(alloc, MAX_NAME)?,
+            bytes: Vec::with_capacity(alloc, room)?,
+        })
+    }
+
+    /// The place of the first file that has a name.
+    fn place_of(entries: &[Entry], name: &[u8]) -> Option<usize>
+        ensures { result ≡ place_of name.now (map entry_view entries.now) }
+    {
+        for (place, entry) in entries.iter().enumerate() {
+            if entry.name.as_slice() == name {
+                return Some(place);
+            }
+        }
+        None
+    }
+}
+
+impl MemFiles {
+    /// No files yet, with memory for `files` new ones and for `room` bytes that are appended, in all.
+    pub(crate) fn new(alloc: Global, files: usize, room: usize) -> Result<MemFiles, NoMemory>
+        ensures { IfOk result (λ held. held ≡ record { files = []; room = room; names = files }) }
+    {
+        let mut spare = Vec::with_capacity(alloc, files)?;
+        for _ in 0..files {
+            spare.push(Entry::spare(alloc, room)?)?;
+        }
+        Ok(MemFiles {
+            entries: Vec::with_capacity(alloc, files)?,
+            spare,
+            room,
+        })
+    }
+
+    /// How many bytes may still be appended.
+    pub(crate) fn room(&self) -> usize
+        ensures { result ≡ self.now.room }
+    {
+        self.room
+    }
+
+    /// How many new files may still be added.
+    pub(crate) fn names(&self) -> usize
+        ensures { result ≡ self.now.names }
+    {
+        self.spare.len()
+    }
+
+    /// The place of the first file that has a name.
+    pub(crate) fn place_of(&self, name: &[u8]) -> Option<usize>
+        ensures place { result ≡ place_of name.now self.now.files }
+        ensures inside { IfSome result (λ place. place < length self.now.files) }
+    {
+        Entry::place_of(self.entries.as_slice(), name)
+    }
+
+    /// The bytes of the file at a place.
+    pub(crate) fn bytes_at(&self, place: usize) -> &[u8]
+        requires { place < length self.now.files }
+        ensures { result.now ≡ bytes_at place self.now.files }
+    {
+        self.entries[place].bytes.as_slice()
+    }
+
+    /// Adds a file that has no bytes, and says its place.
+    pub(crate) fn add(&mut self, name: &[u8]) -> usize
+        requires names { 0 < self.old.names }
+        requires short { length name.now ≤ 1300 }
+        ensures place { result ≡ length self.old.files }
+        ensures added { self.new ≡ record { files = self.old.files ++ (name.now, []) ∷ []; room = self.old.room; names = self.old.names - 1 } }
+    {
+        let place = self.entries.len();
+        let mut entry = self.spare.pop().unwrap();
+        entry.name.extend_from_slice(name).unwrap();
+        self.entries.push_reserved(entry);
+        place
+    }
+
+    /// Takes all bytes from the file at a place.
+    pub(crate) fn clear(&mut self, place: usize)
+        requires { place < length self.old.files }
+        ensures { self.new ≡ record self.old { files = slice_set self.old.files place (name_at place self.old.files, []) } }
+    {
+        self.entries[place].bytes.clear();
+    }
+
+    /// Appends bytes to the file at a place.
+    pub(crate) fn append(&mut self, place: usize, bytes: &[u8])
+        requires there { place < length self.old.files }
+        requires fits { length bytes.now ≤ self.old.room }
+        ensures { self.new ≡ record self.old { files = slice_set self.old.files place (name_at place self.old.files, bytes_at place self.old.files ++ bytes.now); room = self.old.room - length bytes.now } }
+    {
+        self.entries[place].bytes.extend_from_slice(bytes).unwrap();
+        self.room -= bytes.len();
+    }
+
+    /// Puts a file, whatever was there, with memory for all bytes that may still be appended.
+    pub(crate) fn put(&mut self, alloc: Global, name: &[u8], bytes: &[u8]) -> Result<(), NoMemory>
+        ensures ok { OnOk result (PutIn self.old self.new name.now bytes.now) }
+        ensures err { OnErr result (self.new ≡ self.old) }
+    {
+        let capacity = bytes.len().checked_add(self.room).ok_or(NoMemory)?;
+        let mut copy = Vec::with_capacity(alloc, capacity)?;
+        copy.extend_from_slice(bytes)?;
+        match self.place_of(name) {
+            Some(place) => self.entries[place].bytes = copy,
+            None => {
+                let name = Vec::from_slice(alloc, name)?;
+                let places = self.spare.len().checked_add(1).ok_or(NoMemory)?;
+                self.entries.reserve(places)?;
+                self.entries.push_reserved(Entry { name, bytes: copy });
+            }
+        }
+        Ok(())
+    }
+}

@@ -1,0 +1,61 @@
+ghost use Rattle.std.specs.Prelude.{◌≡◌, ◌≤◌, Err, length, take, IfOk, OnOk, OnErr};
+ghost use Rattle.diy_io.specs.declared.shelf.OpenError.TheVariants as open_errors;
+ghost use Rattle.diy_io.specs.Shelf.{ShelfSeen, Idle, name_written, IsReading, IsWriting, IsBusy, Opened, NotThere, Stopped, Gave, Created, NotCreated, Appended, AppendedPart, Finished};
+
+use crate::errors::Failed;
+
+/// Why a file isn't open.
+#[derive(Clone, Copy, Debug, PartialEq, Eq)]
+pub enum OpenError {
+    /// There is no file of that name.
+    Missing,
+    /// The shelf failed.
+    Failed,
+}
+
+/// Where files are kept by their names: a folder, memory.
+///
+/// One file at a time is read or written. A shelf may tell its files. It counts its faults, the bytes
+/// that were taken of the file that it opened last, and the files that it opened, each up to the last
+/// value of 64 bits. After each failure it is at nothing.
+pub trait Shelf {
+    // What the shelf tells of its files, what it is at, and its counts.
+    ghost seen: { Self → ShelfSeen };
+
+    /// Opens a file, to be read from its first byte.
+    ///
+    /// Where the shelf tells its files, it is `Missing` exactly where none has the name; else that,
+    /// too, counts as a fault.
+    fn open_file(&mut self, name: &str) -> Result<(), OpenError>
+        requires { (seen self.old).mode ≡ Idle }
+        ensures ok { OnOk result (Opened (seen self.old) (seen self.new) name.now) }
+        ensures missing { result ≡ Err open_errors.Missing → NotThere (seen self.old) (seen self.new) name.now }
+        ensures failed { result ≡ Err open_errors.Failed → Stopped (seen self.old) (seen self.new) };
+
+    /// Reads bytes of the file that is open into the front of `buf`, and says how many. With a `buf`
+    /// that is not empty none means the end of the file.
+    fn read(&mut self, buf: &mut [u8]) -> Result<usize, Failed>
+        requires { IsReading (seen self.old).mode }
+        ensures bound { IfOk result (λ n. n ≤ length buf.new) }
+        ensures ok { IfOk result (λ n. Gave (seen self.old) (seen self.new) (take n buf.new) (length buf.new)) }
+        ensures failed { OnErr result (Stopped (seen self.old) (seen self.new)) };
+
+    /// Begins a file, which has no bytes then, whatever it had.
+    fn create(&mut self, name: &str) -> Result<(), Failed>
+        requires { (seen self.old).mode ≡ Idle }
+        ensures ok { OnOk result (Created (seen self.old) (seen self.new) name.now) }
+        ensures failed { OnErr result (NotCreated (seen self.old) (seen self.new) name.now) };
+
+    /// Appends bytes to the file that is being written. Where the shelf fails, it has taken a front
+    /// of them.
+    fn append(&mut self, bytes: &[u8]) -> Result<(), Failed>
+        requires { IsWriting (seen self.old).mode }
+        ensures ok { OnOk result (Appended (seen self.old) (seen self.new) (name_written (seen self.old).mode) bytes.now) }
+        ensures failed { OnErr result (AppendedPart (seen self.old) (seen self.new) (name_written (seen self.old).mode) bytes.now) };
+
+    /// Closes the file that is read or written.
+    fn finish(&mut self) -> Result<(), Failed>
+        requires { IsBusy (seen self.old).mode }
+        ensures ok { OnOk result (Finished (seen self.old) (seen self.new)) }
+        ensures failed { OnErr result (Stopped (seen self.old) (seen self.new)) };
+}

@@ -1,0 +1,37 @@
+-- What a listing leaves, as the answers see it.
+use Rattle.std.proofs.Common.{◌≡◌, Option, refl, sym, ap, subst}
+use Rattle.relax_edges.specs.declared.edge.Edge.{Edge}
+use Rattle.relax_edges.specs.declared.kinds.ArchName.{ArchName}
+use Rattle.diy_io.specs.Shelf.{ShelfSeen}
+use Rattle.diy_io.specs.Wrote.{SinkSeen}
+use Rattle.diy_words.specs.Requests.{ListAsked}
+use Rattle.listed_tests.specs.declared.ending.ListingEnd.{ListingEnd}
+use Rattle.listed_tests.specs.declared.ending.ListingEnd.TheVariants as ends
+use Rattle.listed_tests.specs.declared.listing.Listing.{Listing}
+use Rattle.listed_tests.specs.Ends.{EndsBehind, EndsListing}
+use Rattle.listed_tests.specs.Plans.{Plan, plan_of}
+use Rattle.std.specs.Prelude.{List}
+use Rattle.diy_tools.specs.declared.status.Status.{Status}
+use Rattle.diy_tools.specs.Answers.{AnswersList, EndsOn, plan_asked}
+use Rattle.diy_tools.specs.Machines.{machine_of}
+use Rattle.diy_tools.specs.Statuses.{listing_status}
+
+-- what is said of a sink is said of what it tells
+behind_seen : {Sink : Type 0} (seen : Sink → SinkSeen) (plan : Plan) (given : Option (List Edge)) (end : ListingEnd) (old new : ShelfSeen) (out after : Sink)
+    → EndsBehind seen plan given end old new out after → EndsBehind (λ (sink : SinkSeen). sink) plan given end old new (seen out) (seen after)
+behind_seen seen plan given ends.Done old new out after h = h
+behind_seen seen plan given ends.OutFault old new out after h = h
+behind_seen seen plan given ends.ShelfFault old new out after h = (ap seen h.0, h.1)
+
+-- what a listing leaves on an architecture is what it leaves on the one with its name
+pub ends_on : {Sink : Type 0} (seen : Sink → SinkSeen) (arch named : ArchName) (listing : Listing) (end : ListingEnd) (old new : ShelfSeen) (out after : Sink) → arch ≡ named
+    → EndsListing seen (plan_of (machine_of named).puts (machine_of named).writing (record { threads = listing.threads; mode = listing.mode; folder = listing.folder }) listing.relaxes listing.limits) listing.after end old new out after
+    → EndsOn (machine_of arch) listing end old new (seen out) (seen after)
+ends_on seen arch named listing end old new out after same h =
+    subst (λ (a : ArchName). EndsOn (machine_of a) listing end old new (seen out) (seen after)) (sym same)
+    (record { given = h.given; begins = h.begins; ends = behind_seen seen _ h.given end old new out after h.ends })
+
+-- and what is answered of it
+pub list_answered : (asked : ListAsked) (end : ListingEnd) (status : Status) (old new : ShelfSeen) (before after : SinkSeen)
+    → EndsListing (λ (sink : SinkSeen). sink) (plan_asked asked) asked.after end old new before after → status ≡ listing_status end → AnswersList asked status old new before after
+list_answered asked end status old new before after h e = record { end = end; ends = h; status_is = e }

@@ -1,0 +1,31 @@
+-- What a call sees of its devices before it and after it.
+-- Source: own.
+use Rattle.std.specs.Prelude.{◌≡◌}
+use Rattle.diy_io.specs.Taken.{SourceSeen}
+use Rattle.diy_io.specs.Shelf.{ShelfSeen}
+use Rattle.diy_io.specs.Wrote.{SinkSeen}
+
+-- the input, standard output and the shelf
+pub record Devices : Type 0 where
+  pub input : SourceSeen
+  pub out : SinkSeen
+  pub shelf : ShelfSeen
+
+abbrev pub devices : SourceSeen → SinkSeen → ShelfSeen → Devices
+devices input out shelf = record { input = input; out = out; shelf = shelf }
+
+-- the input and the shelf stay as they were, and this is said of standard output
+pub record OutAlone (Says : SinkSeen → SinkSeen → Type 0) (old new : Devices) : Type 0 where
+  pub input : new.input ≡ old.input
+  pub shelf : new.shelf ≡ old.shelf
+  pub out : Says old.out new.out
+
+-- the shelf stays as it was, and this is said of the input and standard output
+pub record InputAndOut (Says : SourceSeen → SourceSeen → SinkSeen → SinkSeen → Type 0) (old new : Devices) : Type 0 where
+  pub shelf : new.shelf ≡ old.shelf
+  pub both : Says old.input new.input old.out new.out
+
+-- the input stays as it was, and this is said of the shelf and standard output
+pub record ShelfAndOut (Says : ShelfSeen → ShelfSeen → SinkSeen → SinkSeen → Type 0) (old new : Devices) : Type 0 where
+  pub input : new.input ≡ old.input
+  pub both : Says old.shelf new.shelf old.out new.out

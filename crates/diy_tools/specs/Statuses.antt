@@ -1,0 +1,40 @@
+-- The statuses that the ends of the tools' work give.
+-- Source: own.
+use Rattle.std.specs.Prelude.{Option, Some, None, Result, Ok, Err}
+use Rattle.cycle_lines.specs.declared.errors.LinesError.{LinesError}
+use Rattle.cycle_lines.specs.declared.errors.LinesError.TheVariants as lines
+use Rattle.cycle_lines.specs.declared.errors.NormError.{NormError}
+use Rattle.cycle_lines.specs.declared.errors.NormError.TheVariants as norms
+use Rattle.cycle_lines.specs.declared.errors.ClassifyError.{ClassifyError}
+use Rattle.cycle_lines.specs.declared.errors.ClassifyError.TheVariants as classifies
+use Rattle.listed_tests.specs.declared.ending.ListingEnd.{ListingEnd}
+use Rattle.listed_tests.specs.declared.ending.ListingEnd.TheVariants as listings
+use Rattle.diy_tools.specs.declared.status.Status.{Status}
+use Rattle.diy_tools.specs.declared.status.Status.TheVariants.{Done, BadText, ReadFault, WriteFault, NoMemory}
+use Rattle.diy_tools.specs.declared.status.TextKind.TheVariants.{Line, TooMuch}
+use Rattle.diy_tools.specs.declared.status.Device.TheVariants.{Input, Out, Shelf}
+
+-- the status where the lines of the input weren't read to its end
+abbrev pub lines_status : LinesError → Status
+lines_status (lines.Wrong line kind) = BadText None line (Line kind)
+lines_status (lines.TooMuch line) = BadText None line TooMuch
+lines_status lines.InputFault = ReadFault Input
+
+-- the status of norm7 over lines
+abbrev pub norm_status : Result (Unit {0}) NormError → Status
+norm_status (Ok _) = Done
+norm_status (Err (norms.Lines error)) = lines_status error
+norm_status (Err norms.OutFault) = WriteFault Out
+
+-- the status of classify7 over lines
+abbrev pub classify_status : Result (Unit {0}) ClassifyError → Status
+classify_status (Ok _) = Done
+classify_status (Err (classifies.Lines error)) = lines_status error
+classify_status (Err classifies.OutFault) = WriteFault Out
+classify_status (Err classifies.NoMemory) = NoMemory
+
+-- the status of diy7
+abbrev pub listing_status : ListingEnd → Status
+listing_status listings.Done = Done
+listing_status listings.ShelfFault = WriteFault Shelf
+listing_status listings.OutFault = WriteFault Out

@@ -1,0 +1,60 @@
+ghost use Rattle.std.specs.Prelude.{◌≡◌, ◌≤◌, not, length, IfErr};
+ghost use Rattle.std.specs.List.{position_from};
+ghost use Rattle.relax_edges.specs.EdgeTable.{is_of_arch};
+ghost use Rattle.edge_algebra.specs.Compose.{composed};
+ghost use Rattle.diy_tools.specs.Answers.{MakesCycle, edges_kept, refused_edges};
+ghost use Rattle.diy_tools.specs.Refused.{refused_list, refused_composing};
+ghost use Rattle.diy_tools.specs.Report.{RefusesLocation};
+
+use crate::status::Refusal;
+use edge_algebra::{Cycle, cycle};
+use edge_lists::EdgeList;
+use relax_edges::{ArchName, Edge, MAX_EDGES};
+
+/// The cycle of an architecture that edges make, or why they make none.
+pub(crate) fn cycle_of_edges(list: &EdgeList, arch: ArchName) -> Result<Cycle, Refusal>
+    ensures made { MakesCycle (refused_edges arch list.now) (edges_kept list.now) result }
+    ensures location { IfErr result RefusesLocation }
+{
+    match list {
+        EdgeList::TooLong => Err(Refusal::TooLong),
+        EdgeList::Whole(edges) => cycle_in(edges.as_slice(), arch),
+    }
+}
+
+fn cycle_in(edges: &[Edge], arch: ArchName) -> Result<Cycle, Refusal>
+    requires { length edges.now ≤ MAX_EDGES }
+    ensures made { MakesCycle (refused_list arch edges.now) edges.now result }
+    ensures location { IfErr result RefusesLocation }
+{
+    if edges.is_empty() {
+        return Err(Refusal::Empty);
+    }
+    match first_foreign(edges, arch) {
+        Some(at) => Err(Refusal::NotOfArch { at }),
+        None => composed(edges),
+    }
+}
+
+/// The place of the first edge that isn't of the architecture.
+fn first_foreign(edges: &[Edge], arch: ArchName) -> Option<u8>
+    requires { length edges.now ≤ MAX_EDGES }
+    ensures { result ≡ position_from (λ e. not (is_of_arch e arch)) 0 edges.now }
+{
+    for (at, edge) in edges.iter().enumerate() {
+        if !edge.of_arch(arch) {
+            return Some(at as u8);
+        }
+    }
+    None
+}
+
+fn composed(edges: &[Edge]) -> Result<Cycle, Refusal>
+    ensures made { MakesCycle (refused_composing (composed edges.now)) edges.now result }
+    ensures location { IfErr result RefusesLocation }
+{
+    match cycle(edges) {
+        Ok(cycle) => Ok(cycle),
+        Err(error) => Err(Refusal::from(error)),
+    }
+}

@@ -1,0 +1,81 @@
+ghost use Rattle.std.specs.Prelude.{◌≡◌, ◌≤◌, length};
+ghost use Rattle.std.specs.Option.{ForSome};
+ghost use Rattle.relax_edges.specs.declared.TheConstants.{MAX_EDGES};
+ghost use Rattle.diy_io.specs.Shelf.{Idle};
+ghost use Rattle.diy_io.specs.Wrote.{sink_seen};
+ghost use Rattle.diy_words.specs.Given.{HasForm, list_kept};
+ghost use Rattle.diy_words.specs.declared.request.Request.TheVariants.{List};
+ghost use Rattle.diy_tools.specs.Answers.{AnswersList, EndsOn};
+ghost use Rattle.diy_tools.specs.Machines.{machine_of};
+ghost use Rattle.diy_tools.specs.Report.{NamesLocation};
+ghost use Rattle.diy_tools.specs.Statuses.{listing_status};
+
+use crate::status::{Device, Status};
+use arch_aarch64::A64;
+use arch_power::Power;
+use arch_riscv::Riscv;
+use arch_x86::X86;
+use diy_io::{Shelf, Sink};
+use diy_words::Diy;
+use listed_tests::{Listing, ListingEnd, MAX_FOLDER, list_tests};
+use relax_edges::ArchName;
+
+/// Writes the tests of a listing, each in a file.
+#[tactic(auto, using(crate::proofs::Listed::list_answered))]
+pub(crate) fn list<H: Shelf, O: Sink>(request: Diy, shelf: &mut H, out: &mut O) -> Status
+    requires idle { (H.seen shelf.old).mode ≡ Idle }
+    requires form { HasForm (List request) }
+    ensures answers { AnswersList (list_kept request.entry) result (H.seen shelf.old) (H.seen shelf.new) (sink_seen (O.told out.old) (O.faults out.old)) (sink_seen (O.told out.new) (O.faults out.new)) }
+    ensures location { NamesLocation result }
+{
+    let Diy {
+        arch,
+        relaxes,
+        limits,
+        threads,
+        mode,
+        after,
+        folder,
+    } = request;
+    let listing = Listing {
+        relaxes,
+        limits,
+        threads,
+        mode,
+        after,
+        folder,
+    };
+    let end = list_on(arch, listing, shelf, out);
+    listing_status(end)
+}
+
+/// Writes the tests of a listing on an architecture, each in a file.
+fn list_on<H: Shelf, O: Sink>(
+    arch: ArchName,
+    listing: Listing,
+    shelf: &mut H,
+    out: &mut O,
+) -> ListingEnd
+    requires idle { (H.seen shelf.old).mode ≡ Idle }
+    requires size { listing.limits.size ≤ MAX_EDGES }
+    requires folder { ForSome listing.folder (λ folder. length folder.now ≤ MAX_FOLDER) }
+    ensures { EndsOn (machine_of arch) listing.entry result (H.seen shelf.old) (H.seen shelf.new) (sink_seen (O.told out.old) (O.faults out.old)) (sink_seen (O.told out.new) (O.faults out.new)) }
+{
+    match arch {
+        ArchName::X86 => list_tests::<X86, H, O>(listing, shelf, out),
+        ArchName::PPC => list_tests::<Power, H, O>(listing, shelf, out),
+        ArchName::AArch64 => list_tests::<A64, H, O>(listing, shelf, out),
+        ArchName::RISCV => list_tests::<Riscv, H, O>(listing, shelf, out),
+    }
+}
+
+fn listing_status(end: ListingEnd) -> Status
+    ensures status { result ≡ listing_status end }
+    ensures location { NamesLocation result }
+{
+    match end {
+        ListingEnd::Done => Status::Done,
+        ListingEnd::ShelfFault => Status::WriteFault { of: Device::Shelf },
+        ListingEnd::OutFault => Status::WriteFault { of: Device::Out },
+    }
+}

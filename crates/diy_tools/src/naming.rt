@@ -1,0 +1,130 @@
+ghost use Rattle.std.specs.Prelude.{◌≡◌};
+ghost use Rattle.diy_io.specs.Taken.{source_seen};
+ghost use Rattle.diy_io.specs.Wrote.{sink_seen};
+ghost use Rattle.cycle_lines.specs.Normed.{Norms, name_line};
+ghost use Rattle.diy_tools.specs.Answers.{AnswersEdges, AnswersFamilies, AnswersKept, AnswersLines, AnswersName, Prints, edges_kept, refused_edges};
+ghost use Rattle.diy_tools.specs.Report.{NamesLocation};
+ghost use Rattle.diy_tools.specs.Statuses.{classify_status, lines_status, norm_status};
+
+use crate::edges::cycle_of_edges;
+use crate::status::{Device, Status, TextKind};
+use cycle_lines::{
+    ClassifyError, LinesError, NormError, classify_lines, norm_lines, write_name_line,
+};
+use cycle_names::{NotAName, cycle_of};
+use diy_io::{Failed, Sink, Source};
+use diy_words::{Norm, Sought, Source as Named, UsageKind};
+use edge_algebra::Cycle;
+use edge_lists::EdgeList;
+use relax_edges::ArchName;
+use std::alloc::Global;
+
+/// Prints the names of the cycles that are sought, and their edges.
+pub(crate) fn norm<I: Source, O: Sink>(request: &Norm, input: &mut I, out: &mut O) -> Status
+    ensures answers { AnswersKept request.now.arch request.now.cycle result (source_seen (I.left input.old) (I.taken input.old) (I.faults input.old)) (source_seen (I.left input.new) (I.taken input.new) (I.faults input.new)) (sink_seen (O.told out.old) (O.faults out.old)) (sink_seen (O.told out.new) (O.faults out.new)) }
+    ensures location { NamesLocation result }
+{
+    match &request.cycle {
+        Sought::Edges(list) => norm_edges(list, request.arch, out),
+        Sought::Named(named) => norm_named(*named, request.arch, out),
+        Sought::Lines => norm_input(request.arch, input, out),
+    }
+}
+
+fn norm_edges<O: Sink>(list: &EdgeList, arch: ArchName, out: &mut O) -> Status
+    ensures answers { AnswersEdges (refused_edges arch list.now) (name_line (edges_kept list.now)) result (sink_seen (O.told out.old) (O.faults out.old)) (sink_seen (O.told out.new) (O.faults out.new)) }
+    ensures location { NamesLocation result }
+{
+    match cycle_of_edges(list, arch) {
+        Err(refusal) => Status::Refused(refusal),
+        Ok(cycle) => print_line(&cycle, out),
+    }
+}
+
+fn norm_named<O: Sink>(named: Named, arch: ArchName, out: &mut O) -> Status
+    ensures answers { AnswersName arch named.entry.word named.entry.name.now result (sink_seen (O.told out.old) (O.faults out.old)) (sink_seen (O.told out.new) (O.faults out.new)) }
+    ensures location { NamesLocation result }
+{
+    match cycle_of(named.name, arch) {
+        Ok(cycle) => print_line(&cycle, out),
+        Err(NotAName) => Status::Usage {
+            word: named.word,
+            kind: UsageKind::UnknownName,
+        },
+    }
+}
+
+/// Prints the line of a cycle: its name, and its edges in the rotation that it is named from.
+fn print_line<O: Sink>(cycle: &Cycle, out: &mut O) -> Status
+    ensures prints { Prints (name_line cycle.now) result (sink_seen (O.told out.old) (O.faults out.old)) (sink_seen (O.told out.new) (O.faults out.new)) }
+    ensures location { NamesLocation result }
+{
+    match write_name_line(cycle, out) {
+        Ok(()) => Status::Done,
+        Err(Failed) => Status::WriteFault { of: Device::Out },
+    }
+}
+
+/// Prints the names of the cycles of the input's lines, and their edges.
+fn norm_input<I: Source, O: Sink>(arch: ArchName, input: &mut I, out: &mut O) -> Status
+    ensures answers { AnswersLines arch result (source_seen (I.left input.old) (I.taken input.old) (I.faults input.old)) (source_seen (I.left input.new) (I.taken input.new) (I.faults input.new)) (sink_seen (O.told out.old) (O.faults out.old)) (sink_seen (O.told out.new) (O.faults out.new)) }
+    ensures location { NamesLocation result }
+{
+    norm_status(norm_lines(arch, input, out))
+}
+
+fn norm_status(end: Result<(), NormError>) -> Status
+    ensures status { result ≡ norm_status end }
+    ensures location { NamesLocation result }
+{
+    match end {
+        Ok(()) => Status::Done,
+        Err(NormError::Lines(error)) => lines_status(error),
+        Err(NormError::OutFault) => Status::WriteFault { of: Device::Out },
+    }
+}
+
+/// Prints the names of the cycles of the input's lines by their families.
+pub(crate) fn families<I: Source, O: Sink>(
+    alloc: Global,
+    arch: ArchName,
+    input: &mut I,
+    out: &mut O,
+) -> Status
+    ensures answers { AnswersFamilies arch result (source_seen (I.left input.old) (I.taken input.old) (I.faults input.old)) (source_seen (I.left input.new) (I.taken input.new) (I.faults input.new)) (sink_seen (O.told out.old) (O.faults out.old)) (sink_seen (O.told out.new) (O.faults out.new)) }
+    ensures location { NamesLocation result }
+{
+    classify_status(classify_lines(alloc, arch, input, out))
+}
+
+fn classify_status(end: Result<(), ClassifyError>) -> Status
+    ensures status { result ≡ classify_status end }
+    ensures location { NamesLocation result }
+{
+    match end {
+        Ok(()) => Status::Done,
+        Err(ClassifyError::Lines(error)) => lines_status(error),
+        Err(ClassifyError::OutFault) => Status::WriteFault { of: Device::Out },
+        Err(ClassifyError::NoMemory) => Status::NoMemory,
+    }
+}
+
+/// The status where the lines of the input weren't read to its end.
+fn lines_status(error: LinesError) -> Status
+    ensures status { result ≡ lines_status error }
+    ensures location { NamesLocation result }
+{
+    match error {
+        LinesError::Wrong { line, kind } => Status::BadText {
+            file: None,
+            line,
+            kind: TextKind::Line(kind),
+        },
+        LinesError::TooMuch { line } => Status::BadText {
+            file: None,
+            line,
+            kind: TextKind::TooMuch,
+        },
+        LinesError::InputFault => Status::ReadFault { of: Device::Input },
+    }
+}

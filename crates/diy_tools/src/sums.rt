@@ -1,0 +1,76 @@
+ghost use Rattle.std.specs.Prelude.{◌≡◌, ◌<◌, length};
+ghost use Rattle.diy_io.specs.Shelf.{Idle};
+ghost use Rattle.diy_io.specs.Taken.{source_seen};
+ghost use Rattle.diy_io.specs.Wrote.{sink_seen};
+ghost use Rattle.diy_tools.specs.Devices.{devices};
+ghost use Rattle.diy_tools.specs.Report.{NamesLocation};
+ghost use Rattle.diy_tools.specs.Sums.{AnswersSum, SumsFiles, SumsInput, sum_status};
+
+use crate::status::{Device, Status, TextKind};
+use diy_io::{Shelf, Sink, Source, Words};
+use std::alloc::Global;
+use summed_logs::{SumEnd, sum_files, sum_input};
+
+/// Sums the logs that the words behind the first name, or the input where there is no such word.
+#[tactic(auto, using(crate::proofs::Summed::files_answered, crate::proofs::Summed::input_answered))]
+pub(crate) fn sum<I: Source, O: Sink, H: Shelf>(
+    alloc: Global,
+    words: &Words,
+    input: &mut I,
+    shelf: &mut H,
+    out: &mut O,
+) -> Status
+    requires { (H.seen shelf.old).mode ≡ Idle }
+    ensures answers { AnswersSum words.now result (devices (source_seen (I.left input.old) (I.taken input.old) (I.faults input.old)) (sink_seen (O.told out.old) (O.faults out.old)) (H.seen shelf.old)) (devices (source_seen (I.left input.new) (I.taken input.new) (I.faults input.new)) (sink_seen (O.told out.new) (O.faults out.new)) (H.seen shelf.new)) }
+    ensures idle { (H.seen shelf.new).mode ≡ Idle }
+    ensures location { NamesLocation result }
+{
+    if words.len() > 1 {
+        sum_logs(alloc, words, shelf, out)
+    } else {
+        sum_one(alloc, input, out)
+    }
+}
+
+/// Sums the logs that the words behind the first name.
+fn sum_logs<H: Shelf, O: Sink>(alloc: Global, words: &Words, shelf: &mut H, out: &mut O) -> Status
+    requires idle { (H.seen shelf.old).mode ≡ Idle }
+    requires some { 1 < length words.now }
+    ensures sums { SumsFiles words.now result (H.seen shelf.old) (H.seen shelf.new) (sink_seen (O.told out.old) (O.faults out.old)) (sink_seen (O.told out.new) (O.faults out.new)) }
+    ensures idle { (H.seen shelf.new).mode ≡ Idle }
+    ensures location { NamesLocation result }
+{
+    sum_status(sum_files(alloc, words, 1, shelf, out))
+}
+
+/// Sums the input.
+fn sum_one<I: Source, O: Sink>(alloc: Global, input: &mut I, out: &mut O) -> Status
+    ensures sums { SumsInput result (source_seen (I.left input.old) (I.taken input.old) (I.faults input.old)) (source_seen (I.left input.new) (I.taken input.new) (I.faults input.new)) (sink_seen (O.told out.old) (O.faults out.old)) (sink_seen (O.told out.new) (O.faults out.new)) }
+    ensures location { NamesLocation result }
+{
+    sum_status(sum_input(alloc, input, out))
+}
+
+fn sum_status(end: SumEnd) -> Status
+    ensures status { result ≡ sum_status end }
+    ensures location { NamesLocation result }
+{
+    match end {
+        SumEnd::Done => Status::Done,
+        SumEnd::Wrong { file, line, kind } => Status::BadText {
+            file,
+            line,
+            kind: TextKind::Log(kind),
+        },
+        SumEnd::TooMuch { file, line } => Status::BadText {
+            file,
+            line,
+            kind: TextKind::TooMuch,
+        },
+        SumEnd::NoFile { word } => Status::NoFile { word },
+        SumEnd::InputFault => Status::ReadFault { of: Device::Input },
+        SumEnd::ShelfFault => Status::ReadFault { of: Device::Shelf },
+        SumEnd::OutFault => Status::WriteFault { of: Device::Out },
+        SumEnd::NoMemory => Status::NoMemory,
+    }
+}

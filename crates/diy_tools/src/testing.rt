@@ -1,0 +1,121 @@
+ghost use Rattle.std.specs.Prelude.{◌≡◌, IfOk, IfErr};
+ghost use Rattle.litmus_text.specs.Tests.{test_seen};
+ghost use Rattle.litmus_text.specs.TestText.{test_text};
+ghost use Rattle.diy_io.specs.Wrote.{sink_seen};
+ghost use Rattle.test_maker.specs.CycleText.{cycle_text};
+ghost use Rattle.test_maker.specs.Made.{CanPrint};
+ghost use Rattle.test_maker.specs.Refusals.{refusal_of};
+ghost use Rattle.diy_tools.specs.Answers.{AnswersEdges, MakesCycle, MakesTestOf, Prints, edges_kept, name_kept, refused_edges, refused_kept, test_name};
+ghost use Rattle.diy_tools.specs.Machines.{machine, machine_of};
+ghost use Rattle.diy_tools.specs.Refused.{refused_making};
+ghost use Rattle.diy_tools.specs.Report.{NamesLocation, RefusesLocation};
+
+use crate::edges::cycle_of_edges;
+use crate::status::{Device, Refusal, Status};
+use arch_aarch64::A64;
+use arch_power::Power;
+use arch_riscv::Riscv;
+use arch_trait::Arch;
+use arch_x86::X86;
+use cycle_names::name_of;
+use diy_io::{Failed, Sink};
+use diy_words::{DiyOne, TestName};
+use edge_algebra::Cycle;
+use edge_lists::EdgeList;
+use litmus_text::{Test, print_test};
+use relax_edges::{ArchName, ObsMode};
+use test_maker::make;
+
+/// Prints the test that is asked for.
+pub(crate) fn diyone<O: Sink>(request: &DiyOne, out: &mut O) -> Status
+    ensures answers { AnswersEdges (refused_kept (machine_of request.now.arch) request.now.mode request.now.edges) (cycle_text (machine_of request.now.arch).puts (machine_of request.now.arch).writing request.now.mode (test_name (name_kept request.now.name) (edges_kept request.now.edges)) (edges_kept request.now.edges)) result (sink_seen (O.told out.old) (O.faults out.old)) (sink_seen (O.told out.new) (O.faults out.new)) }
+    ensures location { NamesLocation result }
+{
+    match request.arch {
+        ArchName::X86 => diyone_on::<X86, O>(request, out),
+        ArchName::PPC => diyone_on::<Power, O>(request, out),
+        ArchName::AArch64 => diyone_on::<A64, O>(request, out),
+        ArchName::RISCV => diyone_on::<Riscv, O>(request, out),
+    }
+}
+
+/// Prints the test that is asked for, on an architecture.
+fn diyone_on<A: Arch, O: Sink>(request: &DiyOne, out: &mut O) -> Status
+    ensures answers { AnswersEdges (refused_kept (machine A.puts A.writing) request.now.mode request.now.edges) (cycle_text A.puts A.writing request.now.mode (test_name (name_kept request.now.name) (edges_kept request.now.edges)) (edges_kept request.now.edges)) result (sink_seen (O.told out.old) (O.faults out.old)) (sink_seen (O.told out.new) (O.faults out.new)) }
+    ensures location { NamesLocation result }
+{
+    match cycle_on::<A>(&request.edges) {
+        Err(refusal) => Status::Refused(refusal),
+        Ok(cycle) => answer_cycle::<A, O>(&cycle, request.mode, &request.name, out),
+    }
+}
+
+/// The cycle of an architecture that edges make, or why they make none.
+#[tactic(auto, using(crate::proofs::Running::named_refused))]
+fn cycle_on<A: Arch>(list: &EdgeList) -> Result<Cycle, Refusal>
+    ensures made { MakesCycle (refused_edges A.puts.name list.now) (edges_kept list.now) result }
+    ensures location { IfErr result RefusesLocation }
+{
+    cycle_of_edges(list, A::NAME)
+}
+
+/// Prints the test of a cycle.
+#[tactic(auto, unfolding(test_maker::specs::CycleText::cycle_text))]
+fn answer_cycle<A: Arch, O: Sink>(
+    cycle: &Cycle,
+    mode: ObsMode,
+    name: &Option<TestName>,
+    out: &mut O,
+) -> Status
+    ensures answers { AnswersEdges (refused_making (refusal_of A.puts cycle.now mode)) (cycle_text A.puts A.writing mode (test_name (name_kept name.now) cycle.now) cycle.now) result (sink_seen (O.told out.old) (O.faults out.old)) (sink_seen (O.told out.new) (O.faults out.new)) }
+    ensures location { NamesLocation result }
+{
+    match test_of::<A>(cycle, mode) {
+        Err(refusal) => Status::Refused(refusal),
+        Ok(test) => print_named::<A, O>(&test, cycle, name, out),
+    }
+}
+
+fn test_of<A: Arch>(cycle: &Cycle, mode: ObsMode) -> Result<Test, Refusal>
+    ensures made { MakesTestOf (machine A.puts A.writing) mode cycle.now result }
+    ensures printable { IfOk result (CanPrint A.puts A.REGISTERS) }
+    ensures location { IfErr result RefusesLocation }
+{
+    match make::<A>(cycle, mode) {
+        Ok(test) => Ok(test),
+        Err(refusal) => Err(Refusal::from(refusal)),
+    }
+}
+
+/// Prints the test of a cycle under the name that is given, or else under that of the cycle.
+fn print_named<A: Arch, O: Sink>(
+    test: &Test,
+    cycle: &Cycle,
+    name: &Option<TestName>,
+    out: &mut O,
+) -> Status
+    requires { CanPrint A.puts A.REGISTERS test.now }
+    ensures prints { Prints (test_text A.puts.name A.writing (test_name (name_kept name.now) cycle.now) (test_seen test.now)) result (sink_seen (O.told out.old) (O.faults out.old)) (sink_seen (O.told out.new) (O.faults out.new)) }
+    ensures location { NamesLocation result }
+{
+    match name {
+        Some(name) => print::<A, O>(test, name.as_str(), out),
+        None => {
+            let mut name = TestName::new();
+            name_of(cycle, &mut name);
+            print::<A, O>(test, name.as_str(), out)
+        }
+    }
+}
+
+/// Prints a test.
+fn print<A: Arch, O: Sink>(test: &Test, name: &str, out: &mut O) -> Status
+    requires { CanPrint A.puts A.REGISTERS test.now }
+    ensures prints { Prints (test_text A.puts.name A.writing name.now (test_seen test.now)) result (sink_seen (O.told out.old) (O.faults out.old)) (sink_seen (O.told out.new) (O.faults out.new)) }
+    ensures location { NamesLocation result }
+{
+    match print_test::<A, O>(test, name, out) {
+        Ok(()) => Status::Done,
+        Err(Failed) => Status::WriteFault { of: Device::Out },
+    }
+}

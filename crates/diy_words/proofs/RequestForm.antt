@@ -1,0 +1,311 @@
+-- What a request has of its own form: the name of a test, and the size and the folder of a listing.
+use Rattle.std.proofs.Common.{◌≡◌, ◌≤◌, ℕ, ap, arith, lit≤, nat_lt, nat_le, Bool, true, false, List, [], ◌∷◌, map, Option, Some, None, Result, Ok, Err, refl, sym, subst, length}
+use Rattle.std.specs.Prelude.{if◌then◌else◌, IfOk, IfSome, ◌&&◌, codes}
+use Rattle.std.specs.Str.{bytes_eq}
+use Rattle.std.specs.Str.Parse.{digits_value}
+use Rattle.std.proofs.lemmas.Bool.Decides.{nat_tests}
+use Rattle.std.specs.Option.{option_map}
+use Rattle.std.specs.List.{AllByRecursion, list_any}
+use Rattle.relax_edges.specs.declared.edge.Edge.{Edge}
+use Rattle.relax_edges.specs.declared.TheConstants.{MAX_EDGES}
+use Rattle.relax_edges.specs.declared.relax_error.RelaxError.{RelaxError}
+use Rattle.relax_edges.specs.Relaxations.{relaxes_of}
+use Rattle.edge_algebra.specs.declared.errors.CycleError.{CycleError}
+use Rattle.edge_algebra.specs.Compose.{composed}
+use Rattle.edge_lists.specs.declared.read.Separators.TheVariants.{BlanksAndCommas}
+use Rattle.edge_lists.specs.Spelled.{edges_of}
+use Rattle.diy_words.specs.declared.request.TheConstants.{MAX_FOLDER}
+use Rattle.diy_words.specs.declared.request.Diy.{Diy}
+use Rattle.std.specs.Option.{ForSome}
+use Rattle.std.specs.Borrow.{Bor}
+use Rattle.relax_edges.specs.declared.kinds.ArchName.{ArchName}
+use Rattle.relax_edges.specs.declared.kinds.ObsMode.{ObsMode}
+use Rattle.diy_words.specs.declared.request.Request.{Request}
+use Rattle.diy_words.specs.declared.request.Request.TheVariants as requests
+use Rattle.diy_words.specs.declared.usage.Usage.{Usage}
+use Rattle.diy_words.specs.declared.usage.UsageKind.TheVariants.{UnknownOption, BadName, BadFolder}
+use Rattle.diy_words.specs.declared.options.Tool.{Tool}
+use Rattle.diy_words.specs.declared.options.Tool.TheVariants as tools
+use Rattle.diy_words.specs.declared.options.OptionName.TheVariants as opts
+use Rattle.diy_words.specs.Names.{is_name}
+use Rattle.diy_words.specs.Edges.{operand_edges}
+use Rattle.diy_words.specs.Parts.{Part, Alone, Valued, Unvalued, parts_of, tool_named, arch_named, mode_named}
+use Rattle.diy_words.specs.Requests.{Said, SaysArch, SaysName, SaysMode, SaysFrom, SaysEdges, SaysRelaxes, SaysSize, SaysExact, SaysThreads, SaysAfter, SaysFolder, SaysLog, Asked, AsksTest, AsksName, AsksList, AsksFamilies, AsksSum, NameAsked, ListAsked, fault, dashed_said, operand_said, relaxes_said, size_said, threads_said, after_said, cycle_said, size_in, given_or, list_with, families_with, said_by, said_first, said_all, arch_said, mode_said, edges_said, begins_option, or_later, last_given, arch_in, name_in, mode_in, relaxes_in, is_exact, threads_in, after_in, folder_in, mode_or_accept, edges_given, asks, asked_with, asked_for, norm_asked, tool_asked, asked_of}
+use Rattle.arrayvec.specs.ArrayString.{ArrayString}
+use Rattle.diy_words.specs.Given.{Gives, HasForm, list_kept}
+use Rattle.diy_words.specs.Numbers.{is_number, number_to}
+
+-- a name and a folder that are said have their forms, and a size is one that cycles can have
+abbrev IsFit : Said → Type 0
+IsFit (SaysName name) = is_name name ≡ true
+IsFit (SaysSize size) = size ≤ MAX_EDGES
+IsFit (SaysFolder folder) = length folder ≤ MAX_FOLDER
+IsFit _ = Unit {0}
+
+abbrev SaysForm : Result Said Usage → Type 0
+SaysForm (Ok said) = IsFit said
+SaysForm (Err _) = Unit {0}
+
+arch_form : (at : ℕ) (named : Option ArchName) → SaysForm (arch_said at named)
+arch_form at (Some arch) = tt
+arch_form at None = tt
+
+mode_form : (at : ℕ) (mode : Option ObsMode) → SaysForm (mode_said at mode)
+mode_form at (Some mode) = tt
+mode_form at None = tt
+
+edges_form : (at : ℕ) (es : Option (List Edge)) → SaysForm (edges_said at es)
+edges_form at (Some es) = tt
+edges_form at None = tt
+
+dashed_form : (at : ℕ) (b : Bool) → SaysForm (if b then Ok SaysExact else fault at UnknownOption)
+dashed_form at true = tt
+dashed_form at false = tt
+
+alone_dashed : (tool : Tool) (at : ℕ) (text : List ℕ) → SaysForm (dashed_said tool at text)
+alone_dashed tools.DiyOne at text = tt
+alone_dashed tools.Diy at text = dashed_form at (bytes_eq text (codes "-exact"))
+alone_dashed tools.Norm at text = tt
+alone_dashed tools.Classify at text = tt
+alone_dashed tools.Msum at text = tt
+alone_dashed tools.Later at text = tt
+
+alone_operand : (tool : Tool) (at : ℕ) (text : List ℕ) → SaysForm (operand_said tool at text)
+alone_operand tools.DiyOne at text = edges_form at (operand_edges text)
+alone_operand tools.Diy at text = tt
+alone_operand tools.Norm at text = edges_form at (operand_edges text)
+alone_operand tools.Classify at text = tt
+alone_operand tools.Msum at text = tt
+alone_operand tools.Later at text = tt
+
+alone_form : (tool : Tool) (at : ℕ) (text : List ℕ) (b : Bool) → SaysForm (if b then dashed_said tool at text else operand_said tool at text)
+alone_form tool at text true = alone_dashed tool at text
+alone_form tool at text false = alone_operand tool at text
+
+relaxes_form : (at : ℕ) (relaxes : Result (List (List Edge)) RelaxError) → SaysForm (relaxes_said at relaxes)
+relaxes_form at (Ok relaxes) = tt
+relaxes_form at (Err error) = tt
+
+number_few : (text : List ℕ) (size : ℕ) → number_to MAX_EDGES text ≡ Some size → size ≤ MAX_EDGES
+number_few text size h = of_test (is_number text) (nat_lt 0 (digits_value 10 text)) (nat_le (digits_value 10 text) MAX_EDGES) refl h
+  where
+    of_test : (p q r : Bool) → nat_le (digits_value 10 text) MAX_EDGES ≡ r → (if p && q && r then Some (digits_value 10 text) else None) ≡ Some size → size ≤ MAX_EDGES
+    of_test true true true e h = let same : digits_value 10 text ≡ size = cc h in subst (λ n. n ≤ MAX_EDGES) same (grind (arith, nat_tests, e))
+    of_test true true false e h = cc h
+    of_test true false r e h = cc h
+    of_test false q r e h = cc h
+
+size_form : (at : ℕ) (size : Option ℕ) → ((n : ℕ) → size ≡ Some n → n ≤ MAX_EDGES) → SaysForm (size_said at size)
+size_form at (Some size) few = few size refl
+size_form at None few = tt
+
+threads_form : (at : ℕ) (threads : Option ℕ) → SaysForm (threads_said at threads)
+threads_form at (Some threads) = tt
+threads_form at None = tt
+
+cycle_form : (at : ℕ) (cycle : Result (List Edge) CycleError) → SaysForm (cycle_said at cycle)
+cycle_form at (Ok cycle) = tt
+cycle_form at (Err error) = tt
+
+after_form : (at : ℕ) (edges : Option (List Edge)) → SaysForm (after_said at edges)
+after_form at (Some edges) = cycle_form at (composed edges)
+after_form at None = tt
+
+folder_form : (at : ℕ) (text : List ℕ) (p q : Bool) → nat_le (length text) MAX_FOLDER ≡ q → SaysForm (if p && q then Ok (SaysFolder text) else fault at BadFolder)
+folder_form at text true true e = grind (arith, nat_tests, e)
+folder_form at text true false e = tt
+folder_form at text false q e = tt
+
+name_form : (at : ℕ) (text : List ℕ) (b : Bool) → is_name text ≡ b → SaysForm (if b then Ok (SaysName text) else fault at BadName)
+name_form at text true e = e
+name_form at text false e = tt
+
+said_form : (tool : Tool) (part : Part) → SaysForm (said_by tool part)
+said_form tool (Alone at text) = alone_form tool at text (begins_option text)
+said_form tool (Valued opts.Arch at value) = arch_form _ (arch_named value)
+said_form tool (Valued opts.Name at value) = name_form _ value (is_name value) refl
+said_form tool (Valued opts.Obs at value) = mode_form _ (mode_named value)
+said_form tool (Valued opts.From at value) = tt
+said_form tool (Valued opts.Edges at value) = relaxes_form _ (relaxes_of value)
+said_form tool (Valued opts.Size at value) = size_form _ (number_to MAX_EDGES value) (number_few value)
+said_form tool (Valued opts.Nprocs at value) = threads_form _ (number_to MAX_EDGES value)
+said_form tool (Valued opts.After at value) = after_form _ (edges_of BlanksAndCommas value)
+said_form tool (Valued opts.Folder at value) = folder_form _ value (nat_lt 0 (length value)) (nat_le (length value) MAX_FOLDER) refl
+said_form tool (Unvalued option at) = tt
+
+-- so have all that words say, where none is faulty
+abbrev AllForm : Result (List Said) Usage → Type 0
+AllForm (Ok said) = AllByRecursion IsFit said
+AllForm (Err _) = Unit {0}
+
+first_form : (said : Said) (rest : Result (List Said) Usage) → IsFit said → AllForm rest → AllForm (said_first said rest)
+first_form said (Ok rest) h k = (h, k)
+first_form said (Err usage) h k = tt
+
+said_all_form : (said : List (Result Said Usage)) → AllByRecursion SaysForm said → AllForm (said_all said)
+said_all_form [] h = tt
+said_all_form (Ok said ∷ rest) h = first_form said (said_all rest) h.0 (said_all_form rest h.1)
+said_all_form (Err usage ∷ rest) h = tt
+
+parts_form : (tool : Tool) (parts : List Part) → AllByRecursion SaysForm (map (said_by tool) parts)
+parts_form tool [] = tt
+parts_form tool (part ∷ parts) = (said_form tool part, parts_form tool parts)
+
+-- and the last of each thing among them
+given_fit : {X : Type 0} (P : X → Type 0) (given : Said → Option X) → ((said : Said) (x : X) → IsFit said → given said ≡ Some x → P x)
+    → (said : List Said) (x : X) → AllByRecursion IsFit said → last_given given said ≡ Some x → P x
+given_fit P given own [] x h e = cc
+given_fit {X = X} P given own (said ∷ rest) x h e = of_later (last_given given rest) (given_fit P given own rest x h.1) e
+  where
+    of_later : (later : Option X) → (later ≡ Some x → P x) → or_later (given said) later ≡ Some x → P x
+    of_later (Some last) further e = further e
+    of_later None further e = own said x h.0 e
+
+name_fit : (said : Said) (x : List ℕ) → IsFit said → name_in said ≡ Some x → is_name x ≡ true
+name_fit (SaysArch _) x h e = cc
+name_fit (SaysName own) x h e = let same : own ≡ x = cc in subst (λ y. is_name y ≡ true) same h
+name_fit (SaysMode _) x h e = cc
+name_fit (SaysFrom _ _) x h e = cc
+name_fit (SaysEdges _ _) x h e = cc
+name_fit (SaysRelaxes _) x h e = cc
+name_fit (SaysSize _) x h e = cc
+name_fit SaysExact x h e = cc
+name_fit (SaysThreads _) x h e = cc
+name_fit (SaysAfter _) x h e = cc
+name_fit (SaysFolder _) x h e = cc
+name_fit SaysLog x h e = cc
+
+size_fit : (said : Said) (x : ℕ) → IsFit said → size_in said ≡ Some x → x ≤ MAX_EDGES
+size_fit (SaysArch _) x h e = cc
+size_fit (SaysName _) x h e = cc
+size_fit (SaysMode _) x h e = cc
+size_fit (SaysFrom _ _) x h e = cc
+size_fit (SaysEdges _ _) x h e = cc
+size_fit (SaysRelaxes _) x h e = cc
+size_fit (SaysSize own) x h e = let same : own ≡ x = cc in subst (λ y. y ≤ MAX_EDGES) same h
+size_fit SaysExact x h e = cc
+size_fit (SaysThreads _) x h e = cc
+size_fit (SaysAfter _) x h e = cc
+size_fit (SaysFolder _) x h e = cc
+size_fit SaysLog x h e = cc
+
+folder_fit : (said : Said) (x : List ℕ) → IsFit said → folder_in said ≡ Some x → length x ≤ MAX_FOLDER
+folder_fit (SaysArch _) x h e = cc
+folder_fit (SaysName _) x h e = cc
+folder_fit (SaysMode _) x h e = cc
+folder_fit (SaysFrom _ _) x h e = cc
+folder_fit (SaysEdges _ _) x h e = cc
+folder_fit (SaysRelaxes _) x h e = cc
+folder_fit (SaysSize _) x h e = cc
+folder_fit SaysExact x h e = cc
+folder_fit (SaysThreads _) x h e = cc
+folder_fit (SaysAfter _) x h e = cc
+folder_fit (SaysFolder own) x h e = let same : own ≡ x = cc in subst (λ y. length y ≤ MAX_FOLDER) same h
+folder_fit SaysLog x h e = cc
+
+given_form : (said : List Said) (name : List ℕ) → AllByRecursion IsFit said → last_given name_in said ≡ Some name → is_name name ≡ true
+given_form said name h e = given_fit (λ name. is_name name ≡ true) name_in name_fit said name h e
+
+given_size : (said : List Said) (size : ℕ) → AllByRecursion IsFit said → last_given size_in said ≡ Some size → size ≤ MAX_EDGES
+given_size said size h e = given_fit (λ size. size ≤ MAX_EDGES) size_in size_fit said size h e
+
+given_folder : (said : List Said) (folder : Option (List ℕ)) → AllByRecursion IsFit said → last_given folder_in said ≡ folder → IfSome folder (λ folder. length folder ≤ MAX_FOLDER)
+given_folder said None h e = tt
+given_folder said (Some folder) h e = given_fit (λ folder. length folder ≤ MAX_FOLDER) folder_in folder_fit said folder h e
+
+size_few : (said : List Said) (size : Option ℕ) → AllByRecursion IsFit said → last_given size_in said ≡ size → given_or 6 size ≤ MAX_EDGES
+size_few said None h e = lit≤ tt
+size_few said (Some size) h e = given_size said size h e
+
+-- the name of a test that words ask for has its form, and so have the size and the folder of a listing
+abbrev pub IsNamedSo : Asked → Type 0
+IsNamedSo (AsksTest asked) = IfSome asked.name (λ name. is_name name ≡ true)
+IsNamedSo (AsksList asked) = (asked.size ≤ MAX_EDGES) × IfSome asked.folder (λ folder. length folder ≤ MAX_FOLDER)
+IsNamedSo _ = Unit {0}
+
+abbrev AskedSo : Result Asked Usage → Type 0
+AskedSo (Ok asked) = IsNamedSo asked
+AskedSo (Err usage) = Unit {0}
+
+test_form : (count : ℕ) (said : List Said) (arch : Option ArchName) (name : Option (List ℕ)) (mode : ObsMode) → AllByRecursion IsFit said → last_given name_in said ≡ name
+    → AskedSo (asks AsksTest (asked_with count arch name mode (edges_given said)))
+test_form count said None name mode h n = tt
+test_form count said (Some arch) None mode h n = tt
+test_form count said (Some arch) (Some name) mode h n = given_form said name h n
+
+norm_form : (asked : Result NameAsked Usage) → AskedSo (asks AsksName asked)
+norm_form (Ok asked) = tt
+norm_form (Err usage) = tt
+
+list_form : (count : ℕ) (arch : Option ArchName) (relaxes : Option (List (List Edge))) (size : ℕ) (exact : Bool) (threads : ℕ) (mode : ObsMode) (after : Option (List Edge)) (folder : Option (List ℕ))
+    → size ≤ MAX_EDGES → IfSome folder (λ folder. length folder ≤ MAX_FOLDER) → AskedSo (asks AsksList (list_with count arch relaxes size exact threads mode after folder))
+list_form count None relaxes size exact threads mode after folder h k = tt
+list_form count (Some arch) None size exact threads mode after folder h k = tt
+list_form count (Some arch) (Some relaxes) size exact threads mode after folder h k = (h, k)
+
+families_form : (asked : Result ArchName Usage) → AskedSo (asks AsksFamilies asked)
+families_form (Ok asked) = tt
+families_form (Err usage) = tt
+
+tool_form : (tool : Tool) (count : ℕ) (said : Result (List Said) Usage) → AllForm said → AskedSo (tool_asked tool count said)
+tool_form tool count (Err usage) h = tt
+tool_form tools.DiyOne count (Ok said) h = test_form count said (last_given arch_in said) (last_given name_in said) (mode_or_accept (last_given mode_in said)) h refl
+tool_form tools.Diy count (Ok said) h =
+    list_form count (last_given arch_in said) (last_given relaxes_in said) _ (list_any is_exact said) (given_or 4 (last_given threads_in said)) (mode_or_accept (last_given mode_in said)) (last_given after_in said) (last_given folder_in said)
+    (size_few said (last_given size_in said) h refl) (given_folder said (last_given folder_in said) h refl)
+tool_form tools.Norm count (Ok said) h = norm_form (norm_asked count said)
+tool_form tools.Classify count (Ok said) h = families_form (families_with count (last_given arch_in said))
+tool_form tools.Msum count (Ok said) h = tt
+tool_form tools.Later count (Ok said) h = tt
+
+found_form : (found : Option Tool) (count : ℕ) (words : List (List ℕ)) → AskedSo (asked_for found count words)
+found_form None count words = tt
+found_form (Some tools.DiyOne) count words = tool_form tools.DiyOne count _ (said_all_form (map (said_by tools.DiyOne) (parts_of tools.DiyOne 1 words)) (parts_form tools.DiyOne (parts_of tools.DiyOne 1 words)))
+found_form (Some tools.Diy) count words = tool_form tools.Diy count _ (said_all_form (map (said_by tools.Diy) (parts_of tools.Diy 1 words)) (parts_form tools.Diy (parts_of tools.Diy 1 words)))
+found_form (Some tools.Norm) count words = tool_form tools.Norm count _ (said_all_form (map (said_by tools.Norm) (parts_of tools.Norm 1 words)) (parts_form tools.Norm (parts_of tools.Norm 1 words)))
+found_form (Some tools.Classify) count words = tool_form tools.Classify count _ (said_all_form (map (said_by tools.Classify) (parts_of tools.Classify 1 words)) (parts_form tools.Classify (parts_of tools.Classify 1 words)))
+found_form (Some tools.Msum) count words = tool_form tools.Msum count _ (said_all_form (map (said_by tools.Msum) (parts_of tools.Msum 1 words)) (parts_form tools.Msum (parts_of tools.Msum 1 words)))
+found_form (Some tools.Later) count words = tt
+
+words_form : (words : List (List ℕ)) → AskedSo (asked_of words)
+words_form [] = tt
+words_form (tool ∷ words) = found_form (tool_named tool) (length (tool ∷ words)) words
+
+pub asked_form : (words : List (List ℕ)) (asked : Asked) → asked_of words ≡ Ok asked → IsNamedSo asked
+asked_form words asked e = subst (λ (a : Result Asked Usage). AskedSo a) e (words_form words)
+
+-- so has that of the request that is given
+pub request_form : (words : List (List ℕ)) (result : Result Request Usage) → Gives result (asked_of words) → IfOk result HasForm
+request_form words result h = of_asked result (asked_of words) (words_form words) h
+  where
+    named_so : (name : Option ArrayString) → IfSome (option_map (λ (name : ArrayString). name.bytes) name) (λ name. is_name name ≡ true) → IfSome name (λ name. is_name name.bytes ≡ true)
+    named_so None h = tt
+    named_so (Some name) h = h
+
+    folder_so : (folder : Option (Bor (List ℕ))) → IfSome (option_map (λ (folder : Bor (List ℕ)). folder.now) folder) (λ folder. length folder ≤ MAX_FOLDER) → ForSome folder (λ folder. length folder.now ≤ MAX_FOLDER)
+    folder_so None h = λ x e. cc e
+    folder_so (Some folder) h = λ x e. let same : folder ≡ x = cc e in subst (λ (f : Bor (List ℕ)). length f.now ≤ MAX_FOLDER) same h
+
+    listed_so : (request : Diy) (asked : ListAsked) → list_kept request ≡ asked → IsNamedSo (AsksList asked) → HasForm (requests.List request)
+    listed_so request asked h e = (
+      subst (λ n. n ≤ MAX_EDGES) (ap (λ (l : ListAsked). l.size) (sym h)) e.0,
+      folder_so request.folder (subst (λ (f : Option (List ℕ)). IfSome f (λ folder. length folder ≤ MAX_FOLDER)) (ap (λ (l : ListAsked). l.folder) (sym h)) e.1),
+    )
+
+    of_asked : (result : Result Request Usage) (asked : Result Asked Usage) → AskedSo asked → Gives result asked → IfOk result HasForm
+    of_asked (Ok (requests.Test request)) (Ok (AsksTest asked)) e h = named_so request.name (subst (λ (name : Option (List ℕ)). IfSome name (λ name. is_name name ≡ true)) (sym h.1) e)
+    of_asked (Ok (requests.List request)) (Ok (AsksList asked)) e h = listed_so request asked h e
+    of_asked (Ok (requests.Name request)) asked e h = tt
+    of_asked (Ok (requests.Families arch)) asked e h = tt
+    of_asked (Ok requests.Sum) asked e h = tt
+    of_asked (Ok (requests.Test request)) (Err usage) e h = absurd h
+    of_asked (Ok (requests.List request)) (Err usage) e h = absurd h
+    of_asked (Ok (requests.Test request)) (Ok (AsksName asked)) e h = absurd h
+    of_asked (Ok (requests.Test request)) (Ok (AsksList asked)) e h = absurd h
+    of_asked (Ok (requests.Test request)) (Ok (AsksFamilies asked)) e h = absurd h
+    of_asked (Ok (requests.Test request)) (Ok AsksSum) e h = absurd h
+    of_asked (Ok (requests.List request)) (Ok (AsksTest asked)) e h = absurd h
+    of_asked (Ok (requests.List request)) (Ok (AsksName asked)) e h = absurd h
+    of_asked (Ok (requests.List request)) (Ok (AsksFamilies asked)) e h = absurd h
+    of_asked (Ok (requests.List request)) (Ok AsksSum) e h = absurd h
+    of_asked (Err usage) asked e h = tt

@@ -1,0 +1,9 @@
+use Rattle.std.proofs.Common.{arith, sym, subst}
+use Rattle.std.specs.Str.Parse.{ParsesUnsigned}
+use Rattle.diy_words.proofs.NumberLaws.{unparsed}
+use Rattle.diy_words.proofs.number.number_to.Goals as goal
+
+pub returns-in-Err : goal.returns-in-Err
+returns-in-Err c =
+    unparsed c.args.greatest c.args.text.now c.in-Err.field-0 (omega arith) (sym c.if-not-is_number.ensures)
+    (subst (λ r. ParsesUnsigned 8 10 c.args.text.now r) c.in-Err.is c.parse.ensures.value.0)

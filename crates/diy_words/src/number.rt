@@ -1,0 +1,37 @@
+ghost use Rattle.std.specs.Prelude.{◌≡◌, true, false};
+ghost use Rattle.std.specs.Char.{is_ascii_digit};
+ghost use Rattle.std.specs.List.{list_all};
+ghost use Rattle.std.specs.Result.{result_ok};
+ghost use Rattle.std.specs.Str.Parse.{digits_value};
+ghost use Rattle.diy_words.specs.Numbers.{is_number, number_to};
+
+/// The number from 1 to `greatest` that a text is, if it is one: 1 to 7 digits.
+pub fn number_to(greatest: u8, text: &str) -> Option<u8>
+    ensures { result ≡ number_to greatest text.now }
+{
+    if !is_number(text) {
+        return None;
+    }
+    match text.parse::<u8>() {
+        Ok(number) => {
+            if number > 0 && number <= greatest {
+                Some(number)
+            } else {
+                None
+            }
+        }
+        Err(_) => None,
+    }
+}
+
+fn is_number(text: &str) -> bool
+    ensures { result ≡ is_number text.now }
+{
+    !text.is_empty() && text.len() <= 7 && has_digits(text.as_bytes())
+}
+
+fn has_digits(bytes: &[u8]) -> bool
+    ensures { result ≡ list_all is_ascii_digit bytes.now }
+{
+    bytes.iter().all(|byte| byte.is_ascii_digit())
+}

@@ -1,0 +1,11 @@
+use Rattle.std.proofs.Common.{◌≡◌, length}
+use Rattle.std.specs.List.{slice_split}
+use Rattle.edge_lists.specs.Spelled.{separates}
+use Rattle.edge_lists.proofs.ReadingLaws.{spelled}
+use Rattle.edge_lists.proofs.read.read_edges.Given as goal
+
+abbrev pub invariant-loop-word : goal.invariant-loop-word
+invariant-loop-word l = spelled l.edges (slice_split (separates l.separators) l.rest) ≡ spelled l.fn.edges (slice_split (separates l.fn.separators) l.fn.text)
+
+abbrev pub decreases-loop-word : goal.decreases-loop-word
+decreases-loop-word l = length l.rest

@@ -1,0 +1,34 @@
+-- The edges that a text spells, with separators between them.
+-- Source: own.
+use Rattle.std.specs.Prelude.{ℕ, ◌≡◌, ◌<◌, Bool, ◌==◌, ◌||◌, List, [], ◌∷◌, length, Option, Some, None}
+use Rattle.std.specs.List.{slice_split}
+use Rattle.relax_edges.specs.declared.edge.Edge.{Edge}
+use Rattle.relax_edges.specs.Spelling.{edge_of}
+use Rattle.edge_lists.specs.declared.read.Separators.{Separators}
+use Rattle.edge_lists.specs.declared.read.Separators.TheVariants.{Blanks, BlanksAndCommas}
+
+-- a space or a tab, or also a comma
+abbrev pub separates : Separators → ℕ → Bool
+separates Blanks byte = (byte == 32) || (byte == 9)
+separates BlanksAndCommas byte = (byte == 32) || (byte == 9) || (byte == 44)
+
+-- a text is a front, a separator, and what stands behind it, and the front is its first word
+pub record CutsAt (separators : Separators) (text front behind : List ℕ) : Type 0 where
+  pub words : slice_split (separates separators) text ≡ front ∷ slice_split (separates separators) behind
+  pub shorter : length behind < length text
+
+-- an edge before others, where there are both
+abbrev pub before_edges : Option Edge → Option (List Edge) → Option (List Edge)
+before_edges (Some e) (Some es) = Some (e ∷ es)
+before_edges (Some e) None = None
+before_edges None _ = None
+
+-- the edges that texts spell, where each that isn't empty spells one
+abbrev pub edges_spelled : List (List ℕ) → Option (List Edge)
+edges_spelled [] = Some []
+edges_spelled ([] ∷ texts) = edges_spelled texts
+edges_spelled ((byte ∷ bytes) ∷ texts) = before_edges (edge_of (byte ∷ bytes)) (edges_spelled texts)
+
+-- the edges of a text; None where a word in it is no edge
+abbrev pub edges_of : Separators → List ℕ → Option (List Edge)
+edges_of separators text = edges_spelled (slice_split (separates separators) text)

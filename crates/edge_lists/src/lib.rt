@@ -1,0 +1,8 @@
+//! The edges that a text spells, and a list of them that tells when it has too many.
+#![tactic(auto)]
+
+mod list;
+mod read;
+
+pub use list::EdgeList;
+pub use read::{Separators, read_edges};

@@ -1,0 +1,82 @@
+ghost use Rattle.std.specs.Prelude.{◌≡◌, [], ◌∷◌, Option, Some, None, is_ok, if◌then◌else◌, MatchOption, IfSome, ◌<◌, length};
+ghost use Rattle.std.specs.Option.{option_map};
+ghost use Rattle.std.specs.List.{position, slice_split};
+ghost use Rattle.edge_lists.specs.Spelled.{separates, edges_spelled, edges_of, CutsAt};
+ghost use Rattle.edge_lists.specs.Kept.{added};
+
+use crate::list::EdgeList;
+use relax_edges::{Edge, UnknownEdge, read_edge_bytes};
+
+/// What stands between the edges of a text.
+#[derive(Clone, Copy)]
+pub enum Separators {
+    /// Spaces and tabs.
+    Blanks,
+    /// Spaces, tabs and commas.
+    BlanksAndCommas,
+}
+
+impl Separators {
+    fn has(self, byte: u8) -> bool
+        ensures { result ≡ separates self byte }
+    {
+        match self {
+            Separators::Blanks => byte == b' ' || byte == b'\t',
+            Separators::BlanksAndCommas => byte == b' ' || byte == b'\t' || byte == b',',
+        }
+    }
+}
+
+/// Appends the edges that a text spells, or finds a word that is no edge: then nothing is known of
+/// `edges`.
+pub fn read_edges(
+    text: &[u8],
+    separators: Separators,
+    edges: &mut EdgeList,
+) -> Result<(), UnknownEdge>
+    ensures { (if is_ok result then Some edges.new else None) ≡ option_map (added edges.old) (edges_of separators text.now) }
+{
+    let mut rest = text;
+    loop {
+        match cut_at_separator(separators, rest) {
+            Some((word, behind)) => {
+                read_word(word, edges)?;
+                rest = behind;
+            }
+            None => return read_word(rest, edges),
+        }
+    }
+}
+
+/// What stands before the first separator, and what behind it.
+fn cut_at_separator(separators: Separators, bytes: &[u8]) -> Option<(&[u8], &[u8])>
+    ensures { MatchOption result (slice_split (separates separators) bytes.now ≡ bytes.now ∷ []) (λ parts. CutsAt separators bytes.now parts.0.now parts.1.now) }
+{
+    match first_separator(separators, bytes) {
+        Some(at) => Some((&bytes[..at], &bytes[at + 1..])),
+        None => None,
+    }
+}
+
+fn first_separator(separators: Separators, bytes: &[u8]) -> Option<usize>
+    ensures place { result ≡ position (separates separators) bytes.now }
+    ensures within { IfSome result (λ at. at < length bytes.now) }
+{
+    bytes.iter().position(|byte| separators.has(*byte))
+}
+
+/// Appends the edge that a word spells, if there is a word.
+fn read_word(word: &[u8], edges: &mut EdgeList) -> Result<(), UnknownEdge>
+    ensures { (if is_ok result then Some edges.new else None) ≡ option_map (added edges.old) (edges_spelled (word.now ∷ [])) }
+{
+    if word.is_empty() {
+        return Ok(());
+    }
+    match read_edge_bytes(word) {
+        Ok(edge) => {
+            edges.push(edge);
+            Ok(())
+        }
+        Err(error) => Err(error),
+    }
+}

@@ -1,0 +1,7 @@
+pub mod Shelves
+pub mod Lines
+pub mod Behind
+pub mod Going
+pub mod Walks
+pub mod Texts
+pub mod Wanting

@@ -1,0 +1,69 @@
+-- Laws of the files of tests and of the lines that name them.
+use Rattle.std.proofs.Common.{◌≡◌, ◌<◌, ◌^◌, ℕ, suc, ◌+◌, List, [], ◌∷◌, ◌++◌, length, Option, refl, sym, ◌∙◌, ap, arith, append-nil, add-zero, map}
+use Rattle.std.proofs.lemmas.List.{map-append}
+use Rattle.std.proofs.lemmas.List.Concat.{flat_map-append}
+use Rattle.std.specs.Prelude.{codes}
+use Rattle.std.specs.List.{enumerate_from, flat_map}
+use Rattle.relax_edges.specs.declared.edge.Edge.{Edge}
+use Rattle.listed_tests.specs.Files.{number_of, file_named, file_of, path_of, file_lines, test_files}
+
+enumerate_from-append : {X : Type 0} (n : ℕ) (xs ys : List X) → enumerate_from n (xs ++ ys) ≡ enumerate_from n xs ++ enumerate_from (n + length xs) ys
+enumerate_from-append n [] ys = ap (λ k. enumerate_from k ys) (sym (add-zero n))
+enumerate_from-append n (x ∷ xs) ys =
+    let e : (n + 1) + length xs ≡ n + suc (length xs) = omega arith in
+    ap (λ rest. (n, x) ∷ rest) (enumerate_from-append (n + 1) xs ys ∙ ap (λ k. enumerate_from (n + 1) xs ++ enumerate_from k ys) e)
+
+-- the lines of some cycles and then of others
+pub file_lines-append : (n : ℕ) (xs ys : List (List Edge)) → file_lines n (xs ++ ys) ≡ file_lines n xs ++ file_lines (n + length xs) ys
+unfolding file_lines
+file_lines-append n xs ys =
+    ap (flat_map (λ test. file_of test.0 test.1 ++ codes "\n")) (enumerate_from-append n xs ys)
+    ∙ flat_map-append (λ test. file_of test.0 test.1 ++ codes "\n") (enumerate_from n xs) (enumerate_from (n + length xs) ys)
+
+pub file_lines_none : (n : ℕ) → file_lines n [] ≡ []
+unfolding file_lines
+file_lines_none n = refl
+
+pub file_lines_one : (n : ℕ) (u : List Edge) → file_lines n (u ∷ []) ≡ file_of n u ++ codes "\n"
+unfolding file_lines
+file_lines_one n u = append-nil (file_of n u ++ codes "\n")
+
+pub file_lines_first : (n : ℕ) (u : List Edge) (us : List (List Edge)) → file_lines n (u ∷ us) ≡ (file_of n u ++ codes "\n") ++ file_lines (n + 1) us
+unfolding file_lines
+file_lines_first n u us = refl
+
+pub test_files_none : (folder : Option (List ℕ)) (text : List Edge → List ℕ) → test_files folder text [] ≡ []
+unfolding test_files
+test_files_none folder text = refl
+
+-- the file of one cycle more
+pub test_files_more : (folder : Option (List ℕ)) (text : List Edge → List ℕ) (us : List (List Edge)) (u : List Edge)
+    → test_files folder text (us ++ u ∷ []) ≡ test_files folder text us ++ (path_of folder (file_of (length us) u), text u) ∷ []
+unfolding test_files
+test_files_more folder text us u =
+    ap (map (λ test. (path_of folder (file_of test.0 test.1), text test.1))) (enumerate_from-append 0 us (u ∷ []))
+    ∙ map-append (λ test. (path_of folder (file_of test.0 test.1), text test.1)) (enumerate_from 0 us) (enumerate_from (0 + length us) (u ∷ []))
+    ∙ ap (λ k. map (λ test. (path_of folder (file_of test.0 test.1), text test.1)) (enumerate_from 0 us) ++ (path_of folder (file_of k u), text u) ∷ []) (zero_plus (length us))
+  where
+    zero_plus : (k : ℕ) → 0 + k ≡ k
+    zero_plus k = omega arith
+
+-- a number is counted once
+pub counted_once : (n : ℕ) → number_of (number_of n) ≡ number_of n
+counted_once n = omega arith
+
+pub counted_next : (m n : ℕ) → number_of m ≡ number_of n → number_of (m + 1) ≡ number_of (n + 1)
+counted_next m n h = omega arith
+
+-- a file goes by the number as it is counted
+pub file_counted : (m n : ℕ) (name : List ℕ) → number_of m ≡ number_of n → file_named m name ≡ file_named n name
+unfolding file_named
+file_counted m n name h = rw h refl
+
+pub lines_counted : (m n : ℕ) (us : List (List Edge)) → number_of m ≡ number_of n → file_lines m us ≡ file_lines n us
+lines_counted m n [] h = file_lines_none m ∙ sym (file_lines_none n)
+lines_counted m n (u ∷ us) h =
+    rw (file_lines_first m u us, file_lines_first n u us, lines_counted (m + 1) (n + 1) us (counted_next m n h), file_counted m n _ h) refl
+
+pub counted_itself : (n : ℕ) → n < 2 ^ 128 → number_of n ≡ n
+counted_itself n h = omega arith

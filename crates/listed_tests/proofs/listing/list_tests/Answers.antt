@@ -1,0 +1,15 @@
+use Rattle.std.proofs.Common.{◌≡◌, ◌∙◌, ap, rules, refl}
+use Rattle.listed_tests.proofs.listing.list_tests.Goals as goal
+
+pub list_walk-requires-clause-wanted : goal.list_walk-requires-clause-wanted
+list_walk-requires-clause-wanted g c = λ u cycle. (λ said. search rules, λ yes. record { shown = record { ref_ptr = (0, 0); now = u }; shows = refl; met = search rules })
+
+pub returns : goal.returns
+returns g c =
+    let relaxes : c.begin_behind.new.walk.relaxes ≡ c.args.listing.relaxes = ap (λ w. w.relaxes) c.begin_behind.ensures.same ∙ ap (λ w. w.relaxes) c.new-walk.ensures in
+    let limits : c.begin_behind.new.walk.limits ≡ c.args.listing.limits = ap (λ w. w.limits) c.begin_behind.ensures.same ∙ ap (λ w. w.limits) c.new-walk.ensures in
+    record {
+      given = c.begin_behind.new.walk.last;
+      begins = c.begin_behind.ensures.begins;
+      ends = rw (relaxes, limits) at c.list_walk.ensures;
+    }

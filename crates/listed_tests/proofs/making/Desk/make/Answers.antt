@@ -1,0 +1,20 @@
+use Rattle.std.proofs.Common.{◌≡◌, ◌≤◌, ◌∙◌, length}
+use Rattle.test_maker.specs.CycleText.{cycle_text}
+use Rattle.litmus_text.specs.Tests.{test_seen}
+use Rattle.litmus_text.specs.TestText.{test_text}
+use Rattle.listed_tests.proofs.Texts.{all_of, never_full, text_made, text_short}
+use Rattle.listed_tests.proofs.making.Desk.make.Goals as goal
+
+pub unreachable-requires-in-Err-print_test : goal.unreachable-requires-in-Err-print_test
+unreachable-requires-in-Err-print_test g c =
+    let e : test_text g.A.Arch.NAME g.A.Arch.writing c.args.name.now (test_seen c.make_into.new.test) ≡ cycle_text g.A.Arch.puts g.A.Arch.writing c.args.mode c.args.name.now c.args.cycle.now =
+    text_made g.A.Arch.puts g.A.Arch.writing c.args.mode c.args.name.now c.args.cycle.now g.A.Arch.NAME c.make_into.new.test g.met.A.Arch.same_name c.in-Ok.ensures.made.1 in
+    let short : length (test_text g.A.Arch.NAME g.A.Arch.writing c.args.name.now (test_seen c.make_into.new.test)) ≤ 262144 =
+    rw (e, c.requires.named) (text_short g.A.Arch.puts g.A.Arch.writing c.args.mode c.args.cycle.now g.met.A.Arch.laws g.met.A.Arch.reads_back c.requires.cells c.requires.one c.edges-edges.ensures.composable c.requires.has_test) in
+    never_full c.print_test.new.out.bytes.items _ c.print_test.new.out.faults
+    (rw c.clear.ensures.bytes at c.in-Err-print_test.ensures.failed) (rw c.clear.ensures.faults at c.in-Err-print_test.ensures.fault) c.print_test.new.out.full short
+
+pub returns : goal.returns
+returns g c =
+    all_of c.print_test.new.out.bytes.items _ (rw c.clear.ensures.bytes at c.in-Ok-print_test.ensures.ok)
+    ∙ text_made g.A.Arch.puts g.A.Arch.writing c.args.mode c.args.name.now c.args.cycle.now g.A.Arch.NAME c.make_into.new.test g.met.A.Arch.same_name c.in-Ok.ensures.made.1

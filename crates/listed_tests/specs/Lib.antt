@@ -1,0 +1,5 @@
+pub mod Files
+pub mod Putting
+pub mod Plans
+pub mod Ends
+pub mod Keeping

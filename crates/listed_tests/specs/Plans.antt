@@ -1,0 +1,68 @@
+-- What a listing asks for: which cycles have a test in it, and what their tests are.
+-- Source: own, after diy.
+use Rattle.std.specs.Prelude.{◌≡◌, ℕ, Bool, true, ◌&&◌, nat_le, is_none, List, Option}
+use Rattle.std.specs.List.{list_all}
+use Rattle.std.specs.Option.{option_map}
+use Rattle.relax_edges.specs.declared.edge.Edge.{Edge}
+use Rattle.relax_edges.specs.declared.kinds.ArchName.{ArchName}
+use Rattle.relax_edges.specs.declared.kinds.ObsMode.{ObsMode}
+use Rattle.relax_edges.specs.EdgeTable.{is_of_arch}
+use Rattle.listing_laws.specs.Listing.{IsListed}
+use Rattle.cycle_names.specs.Names.{name_of}
+use Rattle.cycle_resolve.specs.Resolution.{external_count}
+use Rattle.arch_trait.specs.Threads.{Puts}
+use Rattle.arch_trait.specs.Writing.{Writing}
+use Rattle.test_maker.specs.Refusals.{refusal_of}
+use Rattle.test_maker.specs.CycleText.{cycle_text}
+use Rattle.cycle_enum.specs.declared.limits.Limits.{Limits}
+use Rattle.listed_tests.specs.declared.wanted.Wanted.{Wanted}
+
+-- a cycle has at most so many threads: so many of its edges lead to another one
+abbrev pub has_few_threads : ℕ → List Edge → Bool
+has_few_threads threads cycle = nat_le (external_count cycle) threads
+
+-- a cycle has a test, and has at most so many threads
+unfoldable pub is_wanted : Puts → ObsMode → ℕ → List Edge → Bool
+is_wanted puts mode threads cycle = is_none (refusal_of puts cycle mode) && has_few_threads threads cycle
+
+-- such a cycle may begin with these edges: all are of the architecture, and there are no more threads yet
+unfoldable pub may_lead : ArchName → ℕ → List Edge → Bool
+may_lead arch threads edges = list_all (λ edge. is_of_arch edge arch) edges && has_few_threads threads edges
+
+-- the architecture of a listing by its code and how that is written, what it wants of a cycle, and its relaxations and limits
+pub record Plan : Type 0 where
+  pub puts : Puts
+  pub writing : Writing
+  pub mode : ObsMode
+  pub threads : ℕ
+  pub folder : Option (List ℕ)
+  pub relaxes : List (List Edge)
+  pub limits : Limits
+
+-- the folder of its files
+abbrev pub folder_of : Wanted → Option (List ℕ)
+folder_of wanted = option_map (λ folder. folder.now) wanted.folder
+
+-- the plan of a listing by what it wants
+abbrev pub plan_of : Puts → Writing → Wanted → List (List Edge) → Limits → Plan
+plan_of puts writing wanted relaxes limits = record {
+  puts = puts;
+  writing = writing;
+  mode = wanted.mode;
+  threads = wanted.threads;
+  folder = folder_of wanted;
+  relaxes = relaxes;
+  limits = limits;
+}
+
+-- a cycle is listed
+abbrev pub IsPlanned : Plan → List Edge → Type 0
+IsPlanned plan = IsListed (λ cycle. is_wanted plan.puts plan.mode plan.threads cycle ≡ true) plan.relaxes plan.limits.size plan.limits.exact
+
+-- the text of the test of a cycle, under the cycle's name
+abbrev pub named_text : Puts → Writing → ObsMode → List Edge → List ℕ
+named_text puts writing mode cycle = cycle_text puts writing mode (name_of cycle) cycle
+
+-- the same for a listing
+abbrev pub planned_text : Plan → List Edge → List ℕ
+planned_text plan = named_text plan.puts plan.writing plan.mode

@@ -1,0 +1,34 @@
+-- What it means that files were put on a shelf, or that it failed at one of them.
+-- Source: own.
+use Rattle.std.specs.Prelude.{◌≡◌, ◌⊎◌, ℕ, List, [], ◌∷◌, ◌++◌}
+use Rattle.std.specs.Option.{option_map}
+use Rattle.diy_io.specs.Shelf.{Files, ShelfSeen, Idle, Writing, with_file, CountsStay, Faulted}
+
+-- files with these put to them, one after another, each by its path and its bytes
+abbrev pub with_files : List (List ℕ × List ℕ) → Files → Files
+with_files [] files = files
+with_files (file ∷ rest) files = with_files rest (with_file file.0 file.1 files)
+
+-- these files were put on a shelf, and nothing failed
+pub record Put (old new : ShelfSeen) (added : List (List ℕ × List ℕ)) : Type 0 where
+  pub mode : new.mode ≡ Idle
+  pub files : new.files ≡ option_map (with_files added) old.files
+  pub no_fault : new.faults ≡ old.faults
+  pub counts : CountsStay old new
+
+-- these files were put on a shelf, and then it failed at one with this text: that one is as it was, or has a front of the text
+pub record PutPart (old new : ShelfSeen) (added : List (List ℕ × List ℕ)) (path text : List ℕ) : Type 0 where
+  pub front : List ℕ
+  pub rest : List ℕ
+  pub parts : text ≡ front ++ rest
+  pub mode : new.mode ≡ Idle
+  pub files : (new.files ≡ option_map (with_files added) old.files) ⊎ (new.files ≡ option_map (with_files (added ++ (path, front) ∷ [])) old.files)
+  pub counts : CountsStay old new
+  pub faulted : Faulted old new
+
+-- a file is being written on a shelf, and has these bytes so far
+pub record Filling (old new : ShelfSeen) (path bytes : List ℕ) : Type 0 where
+  pub mode : new.mode ≡ Writing path
+  pub files : new.files ≡ option_map (with_file path bytes) old.files
+  pub no_fault : new.faults ≡ old.faults
+  pub counts : CountsStay old new

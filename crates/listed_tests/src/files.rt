@@ -1,0 +1,57 @@
+ghost use Rattle.std.specs.Prelude.{◌≡◌, ◌≤◌, length};
+ghost use Rattle.std.specs.Option.{ForSome, option_map};
+ghost use Rattle.listed_tests.specs.Files.{file_named, path_of};
+
+use arrayvec::ArrayString;
+use itoa::Buffer;
+
+/// The most bytes of a folder's name.
+pub const MAX_FOLDER: usize = 1_024;
+
+/// The most bytes of a name that a file has.
+const MAX_NAMED: usize = 200;
+
+/// The most bytes of a file's name in its folder.
+pub(crate) const MAX_FILE: usize = 207;
+
+/// The most bytes of a file's name with its folder.
+pub(crate) const MAX_PATH: usize = 1_232;
+
+pub(crate) type FileName = ArrayString<MAX_FILE>;
+
+pub(crate) type Path = ArrayString<MAX_PATH>;
+
+/// The file of a test by its number and its name.
+#[tactic(auto, unfolding(crate::specs::Files::file_named))]
+pub(crate) fn file_named(number: u128, name: &str) -> FileName
+    ensures { result.bytes ≡ file_named number name.now }
+{
+    let mut file = FileName::new();
+    if name.len() <= MAX_NAMED {
+        file.push_str(name);
+    } else {
+        let mut digits = Buffer::new();
+        file.push_str("long");
+        file.push_str(digits.format(number));
+    }
+    file.push_str(".litmus");
+    file
+}
+
+/// A file by its name in a folder, where there is one.
+pub(crate) fn path_of(folder: Option<&str>, file: &str) -> Path
+    requires folder { ForSome folder (λ folder. length folder.now ≤ MAX_FOLDER) }
+    requires file { length file.now ≤ MAX_FILE }
+    ensures { result.bytes ≡ path_of (option_map (λ folder. folder.now) folder.entry) file.now }
+{
+    let mut path = Path::new();
+    match folder {
+        Some(folder) => {
+            path.push_str(folder);
+            path.push_str("/");
+        }
+        None => {}
+    }
+    path.push_str(file);
+    path
+}

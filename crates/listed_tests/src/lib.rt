@@ -1,0 +1,18 @@
+//! The tests of the cycles of a listing: a file for each, in order, and a file that names them.
+#![tactic(auto)]
+
+mod ending;
+mod files;
+mod listing;
+mod making;
+mod names;
+mod putting;
+mod text;
+mod wanted;
+
+pub use ending::ListingEnd;
+pub use files::MAX_FOLDER;
+pub use listing::{Listing, list_tests};
+
+#[cfg(test)]
+mod tests;

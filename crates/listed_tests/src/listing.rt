@@ -1,0 +1,210 @@
+ghost use Rattle.std.specs.Prelude.{◌≡◌, ◌≤◌, ◌↔◌, true, None, length, List, [], ◌∷◌, OnOk, OnErr, IfOk};
+ghost use Rattle.std.specs.Option.{ForSome};
+ghost use Rattle.relax_edges.specs.declared.TheConstants.{MAX_EDGES};
+ghost use Rattle.relax_edges.specs.declared.edge.Edge.{Edge as EdgeValue};
+ghost use Rattle.walk_laws.specs.Composable.{IsCycle};
+ghost use Rattle.arch_trait.specs.Cells.{WritesCells, MakesOneAccess};
+ghost use Rattle.cycle_enum.specs.Walking.{KnowsOf, Lists, Says};
+ghost use Rattle.diy_io.specs.Shelf.{Idle};
+ghost use Rattle.diy_io.specs.Wrote.{Wrote, sink_seen};
+ghost use Rattle.test_maker.specs.Refusals.{refusal_of};
+ghost use Rattle.listed_tests.specs.Ends.{BeginsBehind, EndsBehind, EndsListing, StopsAtTest};
+ghost use Rattle.listed_tests.specs.Files.{count_line, path_of, file_of};
+ghost use Rattle.listed_tests.specs.Keeping.{HasGone};
+ghost use Rattle.listed_tests.specs.Plans.{folder_of, is_wanted, named_text, plan_of};
+ghost use Rattle.listed_tests.specs.Putting.{Put, PutPart};
+
+use crate::ending::ListingEnd;
+use crate::files::{FileName, MAX_FOLDER, file_named, path_of};
+use crate::making::Desk;
+use crate::names::{Names, put_names};
+use crate::putting::put_file;
+use crate::wanted::Wanted;
+use arch_trait::Arch;
+use arrayvec::ArrayString;
+use cycle_enum::{Limits, Walk};
+use cycle_names::{MAX_NAME, name_of};
+use diy_io::{Failed, Shelf, Sink, write_pieces};
+use edge_algebra::Cycle;
+use itoa::Buffer;
+use relax_edges::{Edge, ObsMode, Relaxes};
+
+/// A listing: which cycles have a test in it, and where the files of the tests lie.
+#[derive(Drop)]
+pub struct Listing<'a> {
+    /// Each cycle is made of these: one of its rotations is a concatenation of them.
+    pub relaxes: Relaxes,
+    /// How many edges a cycle has.
+    pub limits: Limits,
+    /// The most threads of a cycle, observers not counted.
+    pub threads: u8,
+    /// How observers are treated.
+    pub mode: ObsMode,
+    /// The cycle behind whose normal form the listing begins, where it doesn't begin with the first.
+    pub after: Option<Cycle>,
+    /// The folder of the files, of at most `MAX_FOLDER` bytes.
+    pub folder: Option<&'a str>,
+}
+
+/// Writes a file for each listed cycle, in order, then the file `@all` that names them, and then a
+/// line on their number to `out`. It takes no memory.
+///
+/// A cycle is listed where it is in normal form, keeps the limits, is made of the relaxations, has
+/// a test on the architecture in the mode, and has no more threads than are asked for; behind a
+/// cycle, where it also follows that cycle's normal form. Its file has the text of its test under
+/// its name. The file is called by that name where it has at most 200 bytes, else by `long` and the
+/// number of the test in this listing, from 0; then `.litmus`. In a folder the file's name stands
+/// behind the folder's and a slash; `@all` has the names alone, each on a line. Numbers stop at the
+/// last value of 128 bits.
+///
+/// `ShelfFault` comes only where the shelf's count of faults rose. Then the files up to one are
+/// whole, that one is as it was or has a front of its text, no other file changed, and nothing is
+/// written to `out`. `OutFault` comes only where the count of `out` rose. Then all files are whole,
+/// and `out` has a front of the line. In each case the shelf is at nothing again.
+///
+/// What is asked of the architecture, that its instructions' texts are short and have one access at
+/// most, bounds the text of a test.
+#[tactic(auto, using(crate::proofs::Wanting::refused_leads_none))]
+pub fn list_tests<A: Arch, H: Shelf, O: Sink>(
+    listing: Listing,
+    shelf: &mut H,
+    out: &mut O,
+) -> ListingEnd
+    requires size { listing.limits.size ≤ MAX_EDGES }
+    requires folder { ForSome listing.folder (λ folder. length folder.now ≤ MAX_FOLDER) }
+    requires idle { (H.seen shelf.old).mode ≡ Idle }
+    requires cells { WritesCells A.puts A.writing }
+    requires one { MakesOneAccess A.puts }
+    ensures { EndsListing (λ sink. sink_seen (O.told sink) (O.faults sink)) (plan_of A.puts A.writing (record { threads = listing.entry.threads; mode = listing.entry.mode; folder = listing.entry.folder }) listing.entry.relaxes listing.entry.limits) listing.entry.after result (H.seen shelf.old) (H.seen shelf.new) out.old out.new }
+{
+    let Listing {
+        relaxes,
+        limits,
+        threads,
+        mode,
+        after,
+        folder,
+    } = listing;
+    let wanted = Wanted {
+        threads,
+        mode,
+        folder,
+    };
+    let keep = |edges: &[Edge]| wanted.may_lead::<A>(edges);
+    let take = |cycle: &Cycle| -> bool
+        ensures { result ≡ is_wanted A.puts wanted.entry.mode wanted.entry.threads cycle.now }
+    { wanted.takes::<A>(cycle) };
+    let mut walk = Walk::new(relaxes, limits, keep, take);
+    begin_behind(&mut walk, &after);
+    list_walk::<A, H, O, _, _>(&wanted, &mut walk, shelf, out)
+}
+
+/// Lets a walk go on behind a cycle, where there is one.
+fn begin_behind<K: Fn(&[Edge]) -> bool, P: Fn(&Cycle) -> bool>(
+    walk: &mut Walk<K, P>,
+    after: &Option<Cycle>,
+)
+    requires { walk.old.last ≡ None }
+    ensures begins { BeginsBehind after.now walk.new.last }
+    ensures same { walk.new ≡ record walk.old { last = walk.new.last } }
+{
+    match after {
+        Some(cycle) => walk.after(cycle),
+        None => {}
+    }
+}
+
+/// Writes the files of a walk's cycles from where it stands, and the line on their number.
+fn list_walk<A: Arch, H: Shelf, O: Sink, K: Fn(&[Edge]) -> bool, P: Fn(&Cycle) -> bool>(
+    wanted: &Wanted,
+    walk: &mut Walk<K, P>,
+    shelf: &mut H,
+    out: &mut O,
+) -> ListingEnd
+    requires knows { KnowsOf K.pre K.Fn.post P.pre P.Fn.post walk.old.keep walk.old.take }
+    requires wanted { (cycle : List EdgeValue) → IsCycle cycle → Says P.Fn.post walk.old.take cycle true ↔ (is_wanted A.puts wanted.now.mode wanted.now.threads cycle ≡ true) }
+    requires folder { ForSome wanted.now.folder (λ folder. length folder.now ≤ MAX_FOLDER) }
+    requires idle { (H.seen shelf.old).mode ≡ Idle }
+    requires cells { WritesCells A.puts A.writing }
+    requires one { MakesOneAccess A.puts }
+    ensures { EndsBehind (λ sink. sink_seen (O.told sink) (O.faults sink)) (plan_of A.puts A.writing wanted.now walk.old.relaxes walk.old.limits) walk.old.last result (H.seen shelf.old) (H.seen shelf.new) out.old out.new }
+{
+    let mut names = Names::new();
+    let count = match put_tests::<A, H, K, P>(wanted, walk, &mut names, shelf) {
+        Ok(count) => count,
+        Err(Failed) => return ListingEnd::ShelfFault,
+    };
+    match put_names(&mut names, wanted.folder, walk, shelf) {
+        Ok(()) => {}
+        Err(Failed) => return ListingEnd::ShelfFault,
+    }
+    match write_count(count, out) {
+        Ok(()) => ListingEnd::Done,
+        Err(Failed) => ListingEnd::OutFault,
+    }
+}
+
+/// Puts the files of a walk's cycles on the shelf, from where it stands, keeps the lines that name
+/// them, and gives their number.
+fn put_tests<A: Arch, H: Shelf, K: Fn(&[Edge]) -> bool, P: Fn(&Cycle) -> bool>(
+    wanted: &Wanted,
+    walk: &mut Walk<K, P>,
+    names: &mut Names,
+    shelf: &mut H,
+) -> Result<u128, Failed>
+    requires knows { KnowsOf K.pre K.Fn.post P.pre P.Fn.post walk.old.keep walk.old.take }
+    requires have_tests { (cycle : List EdgeValue) → IsCycle cycle → Says P.Fn.post walk.old.take cycle true → refusal_of A.puts cycle wanted.now.mode ≡ None }
+    requires folder { ForSome wanted.now.folder (λ folder. length folder.now ≤ MAX_FOLDER) }
+    requires idle { (H.seen shelf.old).mode ≡ Idle }
+    requires cells { WritesCells A.puts A.writing }
+    requires one { MakesOneAccess A.puts }
+    requires no_lines { names.old.lines.items ≡ [] }
+    requires not_closed { names.old.closed ≡ None }
+    ensures ok { IfOk result (λ count. HasGone (Lists P.Fn.post walk.old) (folder_of wanted.now) (named_text A.puts A.writing wanted.now.mode) walk.old.last (H.seen shelf.old) (H.seen shelf.new) count names.new.lines.items names.new.closed) }
+    ensures failed { OnErr result (StopsAtTest (Lists P.Fn.post walk.old) (folder_of wanted.now) (named_text A.puts A.writing wanted.now.mode) walk.old.last (H.seen shelf.old) (H.seen shelf.new)) }
+    ensures walk { walk.new ≡ record walk.old { last = walk.new.last } }
+{
+    let mut desk = Desk::new();
+    let mut count: u128 = 0;
+    while let Some(cycle) = walk.next() {
+        let file = put_test::<A, H>(wanted, &cycle, count, &mut desk, shelf)?;
+        count = count.saturating_add(1);
+        names.keep(&cycle, &file, count);
+    }
+    Ok(count)
+}
+
+/// Puts the file of a cycle's test on the shelf, and gives its name.
+fn put_test<A: Arch, H: Shelf>(
+    wanted: &Wanted,
+    cycle: &Cycle,
+    number: u128,
+    desk: &mut Desk,
+    shelf: &mut H,
+) -> Result<FileName, Failed>
+    requires has_test { refusal_of A.puts cycle.now wanted.now.mode ≡ None }
+    requires folder { ForSome wanted.now.folder (λ folder. length folder.now ≤ MAX_FOLDER) }
+    requires idle { (H.seen shelf.old).mode ≡ Idle }
+    requires cells { WritesCells A.puts A.writing }
+    requires one { MakesOneAccess A.puts }
+    ensures file { IfOk result (λ file. file.bytes ≡ file_of number cycle.now) }
+    ensures ok { OnOk result (Put (H.seen shelf.old) (H.seen shelf.new) ((path_of (folder_of wanted.now) (file_of number cycle.now), named_text A.puts A.writing wanted.now.mode cycle.now) ∷ [])) }
+    ensures failed { OnErr result (PutPart (H.seen shelf.old) (H.seen shelf.new) [] (path_of (folder_of wanted.now) (file_of number cycle.now)) (named_text A.puts A.writing wanted.now.mode cycle.now)) }
+{
+    let mut name: ArrayString<MAX_NAME> = ArrayString::new();
+    name_of(cycle, &mut name);
+    desk.make::<A>(cycle, wanted.mode, name.as_str());
+    let file = file_named(number, name.as_str());
+    let path = path_of(wanted.folder, file.as_str());
+    put_file(path.as_str(), desk.text.as_slice(), shelf)?;
+    Ok(file)
+}
+
+/// Writes the line on how many tests there are.
+fn write_count<O: Sink>(count: u128, out: &mut O) -> Result<(), Failed>
+    ensures { Wrote (sink_seen (O.told out.old) (O.faults out.old)) (sink_seen (O.told out.new) (O.faults out.new)) (count_line count) result }
+{
+    let mut digits = Buffer::new();
+    let digits = digits.format(count).as_bytes();
+    write_pieces(out, &[b"Generator produced ", digits, b" tests\n"])
+}

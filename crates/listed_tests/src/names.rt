@@ -1,0 +1,140 @@
+ghost use Rattle.std.specs.Prelude.{◌≡◌, ◌≤◌, ◌+◌, ◌++◌, [], ◌∷◌, None, length, codes, OnOk, OnErr, MatchOption};
+ghost use Rattle.std.specs.Option.{ForSome, ForNone, option_map};
+ghost use Rattle.walk_laws.specs.Order.{IsNormal};
+ghost use Rattle.cycle_enum.specs.Walking.{KnowsOf, Lists};
+ghost use Rattle.diy_io.specs.Shelf.{Idle};
+ghost use Rattle.listed_tests.specs.Files.{all_path, file_of};
+ghost use Rattle.listed_tests.specs.Keeping.{KeepsLine, NamesAll, NamesBehind, StopsBehind, StopsNaming};
+
+use crate::files::{FileName, MAX_FOLDER, file_named, path_of};
+use crate::putting::put_file;
+use arrayvec::{ArrayString, ArrayVec};
+use cycle_enum::Walk;
+use cycle_names::{MAX_NAME, name_of};
+use diy_io::{Failed, Shelf};
+use edge_algebra::Cycle;
+use relax_edges::Edge;
+
+/// The most bytes of a line that names a file.
+pub(crate) const MAX_LINE: usize = 208;
+
+/// The most bytes of lines that are kept.
+pub(crate) const MAX_LINES: usize = 262_144;
+
+type Lines = ArrayVec<u8, MAX_LINES>;
+
+/// The cycle whose line was the last that was kept, and the number of the next one.
+#[derive(Drop)]
+pub(crate) struct Closed {
+    cycle: Cycle,
+    number: u128,
+}
+
+/// The lines that name the files of a listing, as many as there is room for.
+#[derive(Drop)]
+pub(crate) struct Names {
+    lines: Lines,
+    closed: Option<Closed>,
+}
+
+impl Names {
+    pub(crate) fn new() -> Names
+        ensures lines { result.lines.items ≡ [] }
+        ensures closed { result.closed ≡ None }
+    {
+        Names {
+            lines: ArrayVec::new(),
+            closed: None,
+        }
+    }
+
+    /// Keeps the line of a cycle's file, while there is room.
+    pub(crate) fn keep(&mut self, cycle: &Cycle, file: &FileName, next: u128)
+        requires { ForNone self.old.closed (length self.old.lines.items + MAX_LINE ≤ MAX_LINES) }
+        ensures { MatchOption self.old.closed (KeepsLine self.old.lines.items self.new.lines.items self.new.closed (file.now.bytes ++ codes "\n") cycle.now next) (λ _. (self.new.lines.items ≡ self.old.lines.items) × (self.new.closed ≡ self.old.closed)) }
+    {
+        if self.closed.is_some() {
+            return;
+        }
+        push_line(file, &mut self.lines);
+        if self.lines.remaining_capacity() < MAX_LINE {
+            self.closed = Some(Closed {
+                cycle: cycle.copied(),
+                number: next,
+            });
+        }
+    }
+}
+
+/// Appends the line that names a file.
+fn push_line(file: &FileName, lines: &mut Lines)
+    requires { length lines.old.items + MAX_LINE ≤ MAX_LINES }
+    ensures { lines.new.items ≡ lines.old.items ++ (file.now.bytes ++ codes "\n") }
+{
+    let bytes = file.as_str().as_bytes();
+    lines.try_extend_from_slice(bytes).unwrap();
+    lines.push(b'\n');
+}
+
+/// The file of a cycle by its number.
+pub(crate) fn file_of(cycle: &Cycle, number: u128) -> FileName
+    ensures { result.bytes ≡ file_of number cycle.now }
+{
+    let mut name: ArrayString<MAX_NAME> = ArrayString::new();
+    name_of(cycle, &mut name);
+    file_named(number, name.as_str())
+}
+
+/// Puts the file that names all others on the shelf. The lines that weren't kept are those of the
+/// walk's cycles behind the last one that was.
+pub(crate) fn put_names<H: Shelf, K: Fn(&[Edge]) -> bool, P: Fn(&Cycle) -> bool>(
+    names: &mut Names,
+    folder: Option<&str>,
+    walk: &mut Walk<K, P>,
+    shelf: &mut H,
+) -> Result<(), Failed>
+    requires knows { KnowsOf K.pre K.Fn.post P.pre P.Fn.post walk.old.keep walk.old.take }
+    requires idle { (H.seen shelf.old).mode ≡ Idle }
+    requires folder { ForSome folder (λ folder. length folder.now ≤ MAX_FOLDER) }
+    requires normal { ForSome names.old.closed (λ closed. IsNormal closed.cycle) }
+    ensures ok { OnOk result (NamesAll (Lists P.Fn.post walk.old) (all_path (option_map (λ folder. folder.now) folder.entry)) names.old.lines.items names.old.closed (H.seen shelf.old) (H.seen shelf.new)) }
+    ensures failed { OnErr result (StopsNaming (Lists P.Fn.post walk.old) (all_path (option_map (λ folder. folder.now) folder.entry)) names.old.lines.items names.old.closed (H.seen shelf.old) (H.seen shelf.new)) }
+{
+    let path = path_of(folder, "@all");
+    match &names.closed {
+        None => put_file(path.as_str(), names.lines.as_slice(), shelf),
+        Some(closed) => put_behind(path.as_str(), &mut names.lines, closed, walk, shelf),
+    }
+}
+
+/// Puts a file on the shelf that has the lines, and then those of the walk's cycles behind a cycle.
+fn put_behind<H: Shelf, K: Fn(&[Edge]) -> bool, P: Fn(&Cycle) -> bool>(
+    path: &str,
+    lines: &mut Lines,
+    closed: &Closed,
+    walk: &mut Walk<K, P>,
+    shelf: &mut H,
+) -> Result<(), Failed>
+    requires knows { KnowsOf K.pre K.Fn.post P.pre P.Fn.post walk.old.keep walk.old.take }
+    requires idle { (H.seen shelf.old).mode ≡ Idle }
+    requires normal { IsNormal closed.now.cycle }
+    ensures ok { OnOk result (NamesBehind (Lists P.Fn.post walk.old) path.now lines.old.items closed.now (H.seen shelf.old) (H.seen shelf.new)) }
+    ensures failed { OnErr result (StopsBehind (Lists P.Fn.post walk.old) path.now lines.old.items closed.now (H.seen shelf.old) (H.seen shelf.new)) }
+{
+    shelf.create(path)?;
+    walk.after(&closed.cycle);
+    let mut number = closed.number;
+    while let Some(cycle) = walk.next() {
+        if lines.remaining_capacity() < MAX_LINE {
+            shelf.append(lines.as_slice())?;
+            lines.clear();
+        }
+        push_line(&file_of(&cycle, number), lines);
+        number = number.saturating_add(1);
+    }
+    shelf.append(lines.as_slice())?;
+    shelf.finish()
+}
+
+#[cfg(test)]
+mod tests;

@@ -1,0 +1,49 @@
+ghost use Rattle.std.specs.Prelude.{◌≡◌};
+ghost use Rattle.std.specs.List.{list_all};
+ghost use Rattle.relax_edges.specs.EdgeTable.{is_of_arch};
+ghost use Rattle.listed_tests.specs.Plans.{has_few_threads, is_wanted, may_lead};
+
+use arch_trait::Arch;
+use edge_algebra::Cycle;
+use relax_edges::{Edge, ObsMode};
+use test_maker::accepted;
+
+/// What is wanted of a cycle that has a file in a listing, and where the file lies.
+#[derive(Clone, Copy)]
+pub(crate) struct Wanted<'a> {
+    pub(crate) threads: u8,
+    pub(crate) mode: ObsMode,
+    pub(crate) folder: Option<&'a str>,
+}
+
+impl Wanted<'_> {
+    /// Whether a cycle that is wanted may begin with the edges.
+    #[tactic(auto, unfolding(crate::specs::Plans::may_lead))]
+    pub(crate) fn may_lead<A: Arch>(&self, edges: &[Edge]) -> bool
+        ensures { result ≡ may_lead A.puts.name self.now.threads edges.now }
+    {
+        are_of_arch::<A>(edges) && has_few_threads(edges, self.threads)
+    }
+
+    /// Whether a cycle is wanted: it has a test, and no more threads than are asked for.
+    #[tactic(auto, unfolding(crate::specs::Plans::is_wanted))]
+    pub(crate) fn takes<A: Arch>(&self, cycle: &Cycle) -> bool
+        ensures { result ≡ is_wanted A.puts self.now.mode self.now.threads cycle.now }
+    {
+        accepted::<A>(cycle, self.mode).is_ok() && has_few_threads(cycle.edges(), self.threads)
+    }
+}
+
+/// Whether all edges are of the architecture.
+fn are_of_arch<A: Arch>(edges: &[Edge]) -> bool
+    ensures { result ≡ list_all (λ edge. is_of_arch edge A.puts.name) edges.now }
+{
+    edges.iter().all(|edge| A::supports(*edge))
+}
+
+/// Whether at most so many edges lead to another thread.
+fn has_few_threads(edges: &[Edge], threads: u8) -> bool
+    ensures { result ≡ has_few_threads threads edges.now }
+{
+    edges.iter().filter(|edge| edge.is_external()).count() <= usize::from(threads)
+}

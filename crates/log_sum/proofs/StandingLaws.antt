@@ -1,0 +1,29 @@
+-- Laws of a summer that was fed in pieces, for those who use it.
+use Rattle.std.proofs.Common.{◌≡◌, ℕ, List, [], ◌∷◌, ◌++◌, Ok, Err, sym, ap, ◌∙◌}
+use Rattle.std.specs.Prelude.{Result}
+use Rattle.log_sum.specs.declared.errors.LogError.{LogError}
+use Rattle.log_sum.specs.Reading.{Seen, ◌>>=◌, nothing_seen, files_judged, input_judged}
+use Rattle.log_sum.specs.Standing.{Kept, StandsFor, kept_text, logs_text}
+use Rattle.log_sum.specs.SumText.{sum_text}
+use Rattle.log_sum.proofs.PrintLaws.{sum_is}
+use Rattle.log_sum.proofs.StayLaws.{files_fault, file_more, nothing_more}
+
+-- the printed sum of what stands for whole logs is theirs
+pub standing_text : (kept : Kept) (files : List (List ℕ)) → StandsFor kept files [] → logs_text files ≡ Ok (kept_text kept)
+unfolding logs_text
+standing_text kept files stands =
+    ap (λ (r : Result Seen LogError). r >>= λ seen. Ok (sum_text seen.entries)) (sym (nothing_more files) ∙ stands.judged) ∙ ap Ok (sym (sum_is kept files [] stands))
+
+-- a fault of the bytes that have come stays the first fault, whatever follows
+pub fault_stays : (files : List (List ℕ)) (bytes rest : List ℕ) (more : List (List ℕ)) (error : LogError)
+    → input_judged files bytes ≡ Err error → logs_text (files ++ (bytes ++ rest) ∷ more) ≡ Err error
+unfolding logs_text
+fault_stays files bytes rest more error e =
+    ap (λ (r : Result Seen LogError). r >>= λ seen. Ok (sum_text seen.entries)) (files_fault files more bytes rest error e)
+
+-- a fault of whole logs stays the first fault, whatever logs follow
+pub end_fault_stays : (files more : List (List ℕ)) (bytes : List ℕ) (error : LogError)
+    → files_judged nothing_seen (files ++ bytes ∷ []) ≡ Err error → logs_text (files ++ bytes ∷ more) ≡ Err error
+unfolding logs_text
+end_fault_stays files more bytes error e =
+    ap (λ (r : Result Seen LogError). r >>= λ seen. Ok (sum_text seen.entries)) (file_more files more bytes error e)

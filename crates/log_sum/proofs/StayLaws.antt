@@ -1,0 +1,179 @@
+-- A fault stays the first fault, whatever follows.
+use Rattle.std.proofs.Common.{◌≡◌, ℕ, ◌+◌, List, [], ◌∷◌, ◌++◌, Some, None, true, false, length, refl, sym, ap, ◌∙◌, arith, append_assoc, length-append}
+use Rattle.std.specs.Prelude.{Option, Result, Ok, Err, nat_lt, ◌==◌}
+use Rattle.std.proofs.lemmas.Bool.{eqb-true}
+use Rattle.std.proofs.lemmas.Bool.Decides.{nat_tests}
+use Rattle.log_sum.specs.declared.errors.LogError.{LogError}
+use Rattle.log_sum.specs.declared.errors.LogKind.TheVariants.{LineTooLong}
+use Rattle.log_sum.specs.States.{cut_at, before_cut}
+use Rattle.log_sum.specs.Reading.{Seen, ◌>>=◌, fault_at, is_too_long, nothing_seen, lines_judged, line_judged, lines_of, rest_of, rest_judged, bytes_judged, last_judged, end_judged, file_judged, files_judged, input_judged}
+use Rattle.log_sum.proofs.RunLaws.{by_test}
+use Rattle.log_sum.proofs.ReadingLaws.{is_one_line, lines_cut, lines_both, lines_more, rest_more}
+
+-- a text at its first line feed
+pub record Cut (text : List ℕ) (parts : List ℕ × List ℕ) : Type 0 where
+  pub whole : text ≡ parts.0 ++ 10 ∷ parts.1
+  pub one : is_one_line parts.0 ≡ true
+
+pub cut_parts : (text : List ℕ) (parts : List ℕ × List ℕ) → cut_at 10 text ≡ Some parts → Cut text parts
+unfolding cut_at
+cut_parts [] parts h = cc
+cut_parts (byte ∷ text) parts h =
+    by_test (byte == 10)
+    (λ e. let f : ◌≡◌ {A = List ℕ × List ℕ} ([], text) parts = let k = rw e at h in cc in
+    let g : byte ≡ 10 = eqb-true byte 10 e in
+    rw (sym f) (record { whole = ap (λ b. b ∷ text) g; one = refl }))
+    (λ e. by_rest (cut_parts text) (cut_at 10 text) refl e parts (rw e at h))
+  where
+    by_rest : ((inner : List ℕ × List ℕ) → cut_at 10 text ≡ Some inner → Cut text inner) → (o : Option (List ℕ × List ℕ)) → cut_at 10 text ≡ o → (byte == 10) ≡ false
+        → (parts : List ℕ × List ℕ) → before_cut byte o ≡ Some parts → Cut (byte ∷ text) parts
+    by_rest law None k e parts h = cc
+    by_rest law (Some inner) k e parts h =
+        let further = law inner k in
+        let f : ◌≡◌ {A = List ℕ × List ℕ} (byte ∷ inner.0, inner.1) parts = cc in
+        rw (sym f) (record { whole = ap (λ t. byte ∷ t) further.whole; one = rw e further.one })
+
+pub cut_none : (text : List ℕ) → cut_at 10 text ≡ None → is_one_line text ≡ true
+unfolding cut_at
+cut_none [] h = refl
+cut_none (byte ∷ text) h =
+    by_test (byte == 10) (λ e. let k = rw e at h in absurd (cc)) (λ e. rw e (cut_none text (inner (cut_at 10 text) (rw e at h))))
+  where
+    inner : (o : Option (List ℕ × List ℕ)) → before_cut byte o ≡ None → o ≡ None
+    inner None h = refl
+    inner (Some parts) h = cc
+
+-- bytes with more behind them: the line that goes on is longer, or it has ended and others follow
+pub data Goes (bytes rest : List ℕ) : Type 0 where
+  goes_on : lines_of (bytes ++ rest) ≡ lines_of bytes → rest_of (bytes ++ rest) ≡ rest_of bytes ++ rest → Goes bytes rest
+  has_ended : (part : List ℕ) (more : List (List ℕ)) → lines_of (bytes ++ rest) ≡ lines_of bytes ++ (rest_of bytes ++ part) ∷ more → Goes bytes rest
+
+pub goes : (bytes rest : List ℕ) → Goes bytes rest
+goes bytes rest = by_cut (cut_at 10 rest) refl
+  where
+    by_cut : (o : Option (List ℕ × List ℕ)) → cut_at 10 rest ≡ o → Goes bytes rest
+    by_cut None e = goes_on (lines_more bytes rest (cut_none rest e)) (rest_more bytes rest (cut_none rest e))
+    by_cut (Some parts) e =
+        let cut = cut_parts rest parts e in
+        has_ended parts.0 (lines_of parts.1)
+        (ap (λ t. lines_of (bytes ++ t)) cut.whole ∙ ap lines_of (sym (append_assoc bytes parts.0 (10 ∷ parts.1))) ∙ lines_cut (bytes ++ parts.0) parts.1
+        ∙ ap (λ t. (t ++ rest_of (bytes ++ parts.0) ∷ []) ++ lines_of parts.1) (lines_more bytes parts.0 cut.one)
+        ∙ ap (λ t. (lines_of bytes ++ t ∷ []) ++ lines_of parts.1) (rest_more bytes parts.0 cut.one)
+        ∙ append_assoc (lines_of bytes) ((rest_of bytes ++ parts.0) ∷ []) (lines_of parts.1))
+
+-- a line that is too long stays so
+long_more : (line part : List ℕ) → is_too_long line ≡ true → is_too_long (line ++ part) ≡ true
+long_more line part h = by_number (length line) (length part) (length (line ++ part)) (length-append line part) h
+  where
+    by_number : (a b c : ℕ) → c ≡ a + b → nat_lt 65536 a ≡ true → nat_lt 65536 c ≡ true
+    by_number a b c e h = grind (arith, nat_tests)
+
+long_line : (seen : Seen) (line : List ℕ) → is_too_long line ≡ true → line_judged seen line ≡ fault_at seen.line LineTooLong
+unfolding line_judged
+long_line seen line h = rw h refl
+
+long_last : (seen : Seen) (line : List ℕ) → is_too_long line ≡ true → last_judged seen line ≡ fault_at seen.line LineTooLong
+unfolding last_judged
+long_last seen [] h = cc
+long_last seen (byte ∷ line) h = rw h refl
+
+pub long_rest : (seen : Seen) (line : List ℕ) → is_too_long line ≡ true → rest_judged seen line ≡ fault_at seen.line LineTooLong
+unfolding rest_judged
+long_rest seen line h = rw h refl
+
+-- the fault of a line that goes on
+pub record IsLong (seen : Seen) (line : List ℕ) (error : LogError) : Type 0 where
+  pub long : is_too_long line ≡ true
+  pub fault : ◌≡◌ {A = Result Seen LogError} (fault_at seen.line LineTooLong) (Err error)
+
+rest_fault : (seen : Seen) (line : List ℕ) (error : LogError) → rest_judged seen line ≡ Err error → IsLong seen line error
+unfolding rest_judged
+rest_fault seen line error h =
+    by_test (is_too_long line) (λ e. record { long = e; fault = rw e at h }) (λ e. let k = rw e at h in absurd (cc))
+
+abbrev pub on_from : Result Seen LogError → (Seen → Result Seen LogError) → Result Seen LogError
+on_from r next = r >>= next
+
+-- a fault of the bytes that have come is one of any file that begins with them
+lines_fault : (seen : Seen) (bytes rest : List ℕ) (error : LogError) → lines_judged seen (lines_of bytes) ≡ Err error → lines_judged seen (lines_of (bytes ++ rest)) ≡ Err error
+lines_fault seen bytes rest error h = by_goes (goes bytes rest)
+  where
+    by_goes : Goes bytes rest → lines_judged seen (lines_of (bytes ++ rest)) ≡ Err error
+    by_goes (goes_on e f) = ap (lines_judged seen) e ∙ h
+    by_goes (has_ended part more e) =
+        ap (lines_judged seen) e ∙ lines_both seen (lines_of bytes) ((rest_of bytes ++ part) ∷ more) ∙ ap (λ (r : Result Seen LogError). r >>= (λ next. lines_judged next ((rest_of bytes ++ part) ∷ more))) h
+
+-- the next step's answer to a line that goes on and is too long
+abbrev pub Refuses : (Seen → List ℕ → Result Seen LogError) → Type 0
+Refuses next = (seen : Seen) (line : List ℕ) → is_too_long line ≡ true → next seen line ≡ fault_at seen.line LineTooLong
+
+long_fault : (next : Seen → List ℕ → Result Seen LogError) → Refuses next → (seen middle : Seen) (bytes rest : List ℕ) (error : LogError)
+    → lines_judged seen (lines_of bytes) ≡ Ok middle → IsLong middle (rest_of bytes) error
+    → (lines_judged seen (lines_of (bytes ++ rest)) >>= (λ x. next x (rest_of (bytes ++ rest)))) ≡ Err error
+long_fault next refuses seen middle bytes rest error h long = by_goes (goes bytes rest)
+  where
+    by_goes : Goes bytes rest → (lines_judged seen (lines_of (bytes ++ rest)) >>= (λ x. next x (rest_of (bytes ++ rest)))) ≡ Err error
+    by_goes (goes_on e f) =
+        ap (λ (r : Result Seen LogError). r >>= (λ x. next x (rest_of (bytes ++ rest)))) (ap (lines_judged seen) e ∙ h)
+        ∙ ap (next middle) f ∙ refuses middle (rest_of bytes ++ rest) (long_more (rest_of bytes) rest long.long) ∙ long.fault
+    by_goes (has_ended part more e) =
+        ap (λ (r : Result Seen LogError). r >>= (λ x. next x (rest_of (bytes ++ rest))))
+        (ap (lines_judged seen) e ∙ lines_both seen (lines_of bytes) ((rest_of bytes ++ part) ∷ more) ∙ ap (λ (r : Result Seen LogError). r >>= (λ x. lines_judged x ((rest_of bytes ++ part) ∷ more))) h
+        ∙ ap (λ (r : Result Seen LogError). r >>= (λ x. lines_judged x more)) (long_line middle (rest_of bytes ++ part) (long_more (rest_of bytes) part long.long) ∙ long.fault))
+
+any_fault : (next : Seen → List ℕ → Result Seen LogError) → Refuses next → (seen : Seen) (bytes rest : List ℕ) (error : LogError) → bytes_judged seen bytes ≡ Err error
+    → (lines_judged seen (lines_of (bytes ++ rest)) >>= (λ x. next x (rest_of (bytes ++ rest)))) ≡ Err error
+unfolding bytes_judged
+any_fault next refuses seen bytes rest error h = by_lines (lines_judged seen (lines_of bytes)) refl h
+  where
+    by_lines : (r : Result Seen LogError) → lines_judged seen (lines_of bytes) ≡ r → (r >>= (λ x. rest_judged x (rest_of bytes))) ≡ Err error
+        → (lines_judged seen (lines_of (bytes ++ rest)) >>= (λ x. next x (rest_of (bytes ++ rest)))) ≡ Err error
+    by_lines (Ok middle) e h = long_fault next refuses seen middle bytes rest error e (rest_fault middle (rest_of bytes) error h)
+    by_lines (Err other) e h = ap (λ (r : Result Seen LogError). r >>= (λ x. next x (rest_of (bytes ++ rest)))) (lines_fault seen bytes rest other e) ∙ h
+
+pub bytes_fault : (seen : Seen) (bytes rest : List ℕ) (error : LogError) → bytes_judged seen bytes ≡ Err error → bytes_judged seen (bytes ++ rest) ≡ Err error
+unfolding bytes_judged
+bytes_fault seen bytes rest error h = any_fault rest_judged long_rest seen bytes rest error h
+
+pub file_fault : (seen : Seen) (bytes rest : List ℕ) (error : LogError) → bytes_judged seen bytes ≡ Err error → file_judged seen (bytes ++ rest) ≡ Err error
+unfolding file_judged
+file_fault seen bytes rest error h = ap (λ (r : Result Seen LogError). r >>= end_judged) (any_fault last_judged long_last seen bytes rest error h)
+
+pub input_fault : (files : List (List ℕ)) (bytes rest : List ℕ) (error : LogError) → input_judged files bytes ≡ Err error → input_judged files (bytes ++ rest) ≡ Err error
+unfolding input_judged
+input_fault files bytes rest error h = by_files (files_judged nothing_seen files) h
+  where
+    by_files : (r : Result Seen LogError) → (r >>= (λ seen. bytes_judged seen bytes)) ≡ Err error → (r >>= (λ seen. bytes_judged seen (bytes ++ rest))) ≡ Err error
+    by_files (Ok seen) h = bytes_fault seen bytes rest error h
+    by_files (Err other) h = h
+
+-- files are judged one after another
+files_both : (seen : Seen) (files more : List (List ℕ)) → files_judged seen (files ++ more) ≡ (files_judged seen files >>= (λ next. files_judged next more))
+files_both seen [] more = refl
+files_both seen (file ∷ files) more = by_result (λ next. files_both next files more) (file_judged seen file)
+  where
+    by_result : ((next : Seen) → files_judged next (files ++ more) ≡ (files_judged next files >>= (λ x. files_judged x more))) → (r : Result Seen LogError)
+        → (r >>= (λ next. files_judged next (files ++ more))) ≡ ((r >>= (λ next. files_judged next files)) >>= (λ x. files_judged x more))
+    by_result law (Ok x) = law x
+    by_result law (Err e) = refl
+
+pub files_fault : (files more : List (List ℕ)) (bytes rest : List ℕ) (error : LogError) → input_judged files bytes ≡ Err error → files_judged nothing_seen (files ++ (bytes ++ rest) ∷ more) ≡ Err error
+unfolding input_judged
+files_fault files more bytes rest error h = files_both nothing_seen files ((bytes ++ rest) ∷ more) ∙ by_files (files_judged nothing_seen files) h
+  where
+    by_files : (r : Result Seen LogError) → (r >>= (λ seen. bytes_judged seen bytes)) ≡ Err error → (r >>= (λ seen. files_judged seen ((bytes ++ rest) ∷ more))) ≡ Err error
+    by_files (Ok seen) h = ap (λ (r : Result Seen LogError). r >>= (λ next. files_judged next more)) (file_fault seen bytes rest error h)
+    by_files (Err other) h = h
+
+pub file_more : (files more : List (List ℕ)) (bytes : List ℕ) (error : LogError) → files_judged nothing_seen (files ++ bytes ∷ []) ≡ Err error → files_judged nothing_seen (files ++ bytes ∷ more) ≡ Err error
+file_more files more bytes error h =
+    ap (files_judged nothing_seen) (sym (append_assoc files (bytes ∷ []) more)) ∙ files_both nothing_seen (files ++ bytes ∷ []) more ∙ ap (λ (r : Result Seen LogError). r >>= (λ next. files_judged next more)) h
+
+-- bytes of a file that is still to come have no fault
+pub nothing_more : (files : List (List ℕ)) → input_judged files [] ≡ files_judged nothing_seen files
+unfolding input_judged bytes_judged lines_of rest_of rest_judged
+nothing_more files = by_files (files_judged nothing_seen files)
+  where
+    by_files : (r : Result Seen LogError) → (r >>= (λ seen. bytes_judged seen [])) ≡ r
+    by_files (Ok seen) = refl
+    by_files (Err error) = refl

@@ -1,0 +1,91 @@
+-- What the steps of a summer answer, beside the reading of the same bytes.
+-- Source: own.
+use Rattle.std.specs.Prelude.{◌≡◌, ℕ, true, not, ◌||◌, List, [], ◌∷◌, ◌++◌, Some, None, Result, Ok, Err}
+use Rattle.std.specs.List.{list_all}
+use Rattle.std.specs.Str.{bytes_eq}
+use Rattle.log_sum.specs.declared.errors.Fault.{Fault}
+use Rattle.log_sum.specs.declared.errors.Fault.TheVariants.{Wrong, NoMemory}
+use Rattle.log_sum.specs.declared.errors.LogError.{LogError}
+use Rattle.log_sum.specs.declared.errors.LogKind.{LogKind}
+use Rattle.log_sum.specs.declared.errors.SumError.{SumError}
+use Rattle.log_sum.specs.declared.errors.SumError.TheVariants as sums
+use Rattle.log_sum.specs.declared.kinds.Mark.{Mark}
+use Rattle.log_sum.specs.declared.table.Table.{Table}
+use Rattle.log_sum.specs.Classes.{tests_view}
+use Rattle.log_sum.specs.Facts.{Row, Fact, Entry, a_row, facts_of, rows, same_mark, mark_in, fault_of}
+use Rattle.log_sum.specs.Reading.{Seen, nothing_seen, fault_at, input_judged, files_judged}
+use Rattle.log_sum.specs.Standing.{Progress, IsAt, Kept, StandsFor, table_of, name_at}
+
+-- each row of a state has its mark
+pub record Marked (rs : List Row) : Type 0 where
+  pub same : (k : List ℕ) (m : Mark) → mark_in k rs ≡ Some m → list_all (λ r. not (bytes_eq r.state k) || same_mark r.mark m) rs ≡ true
+
+-- that is so of each test
+abbrev pub AreMarked : List Entry → Type 0
+AreMarked entries = (test : List ℕ) → Marked (rows (facts_of test entries))
+
+abbrev pub entry_of : List ℕ → Fact → Entry
+entry_of test fact = record { test = test; fact = fact }
+
+-- what a table is after a fact of a test, behind other entries
+pub record WithFact (entries : List Entry) (test : List ℕ) (fact : Fact) (new : Table) : Type 0 where
+  pub none : fault_of (facts_of test entries) fact ≡ None
+  pub tests : tests_view new ≡ table_of (entries ++ entry_of test fact ∷ [])
+  pub running : name_at (tests_view new) new.running ≡ Some test
+
+-- an answer to a fact of a test, behind other entries: the table has the fact too, and the test is running; or it has this
+-- fault
+abbrev pub FactPut : List Entry → List ℕ → Fact → Table → Result (Unit {0}) Fault → Type 0
+FactPut entries test fact new (Ok x) = WithFact entries test fact new
+FactPut entries test fact new (Err (Wrong kind)) = fault_of (facts_of test entries) fact ≡ Some kind
+FactPut entries test fact new (Err NoMemory) = Unit {0}
+
+-- an answer that is this fault, where there is memory
+abbrev pub IsRefused : LogKind → Result (Unit {0}) Fault → Type 0
+IsRefused kind (Ok x) = ⊥
+IsRefused kind (Err (Wrong other)) = other ≡ kind
+IsRefused kind (Err NoMemory) = Unit {0}
+
+-- an answer to a row of a test, whose state may be wrong
+abbrev pub RowPut : List Entry → List ℕ → Result Row LogKind → Table → Result (Unit {0}) Fault → Type 0
+RowPut entries test (Ok row) new answer = FactPut entries test (a_row row) new answer
+RowPut entries test (Err kind) new answer = IsRefused kind answer
+
+-- the reading is as far as what was seen, and the marks of its states are one each
+pub record Follows (progress : Progress) (seen : Seen) : Type 0 where
+  pub reading : IsAt progress seen
+  pub marked : AreMarked seen.entries
+
+-- a reading has no fault, and what is kept goes along with it
+pub record ReadOn (new : Progress) (read : Result Seen LogError) : Type 0 where
+  pub seen : Seen
+  pub is : read ≡ Ok seen
+  pub follows : Follows new seen
+
+-- an answer beside a reading: it goes along, or the fault is the reading's
+abbrev pub ReadTo : Progress → Result Seen LogError → Result (Unit {0}) Fault → Type 0
+ReadTo new read (Ok x) = ReadOn new read
+ReadTo new read (Err (Wrong kind)) = read ≡ fault_at new.line kind
+ReadTo new read (Err NoMemory) = Unit {0}
+
+-- the same of a piece of a log, and of its end
+abbrev pub PieceTo : Kept → List (List ℕ) → List ℕ → Result (Unit {0}) Fault → Type 0
+PieceTo new files bytes (Ok x) = StandsFor new files bytes
+PieceTo new files bytes (Err (Wrong kind)) = input_judged files bytes ≡ fault_at new.progress.line kind
+PieceTo new files bytes (Err NoMemory) = Unit {0}
+
+abbrev pub EndTo : Kept → List (List ℕ) → List ℕ → Result (Unit {0}) Fault → Type 0
+EndTo new files bytes (Ok x) = StandsFor new (files ++ bytes ∷ []) []
+EndTo new files bytes (Err (Wrong kind)) = files_judged nothing_seen (files ++ bytes ∷ []) ≡ fault_at new.progress.line kind
+EndTo new files bytes (Err NoMemory) = Unit {0}
+
+-- a fault as it is answered, at the running line
+abbrev pub refusal_of : ℕ → Fault → SumError
+refusal_of line (Wrong kind) = sums.Log (record { line = line; kind = kind })
+refusal_of line NoMemory = sums.NoMemory
+
+-- the bytes of a piece before its rest were fed
+pub record FedBefore (old new : Kept) (piece rest : List ℕ) : Type 0 where
+  pub done : List ℕ
+  pub whole : done ++ rest ≡ piece
+  pub stands : (files : List (List ℕ)) (bytes : List ℕ) → StandsFor old files bytes → StandsFor new files (bytes ++ done)

@@ -1,0 +1,91 @@
+ghost use Rattle.std.specs.Prelude.{◌≡◌, ℕ, List};
+ghost use Rattle.log_sum.specs.Classes.{said_read, row_read, tests_view, progress_view};
+ghost use Rattle.log_sum.specs.Facts.{Entry};
+ghost use Rattle.log_sum.specs.Lines.{line_said};
+ghost use Rattle.log_sum.specs.Standing.{table_of, name_at};
+ghost use Rattle.log_sum.specs.Reading.{Seen, nothing_seen, said_judged, text_judged, end_judged};
+ghost use Rattle.log_sum.specs.Feeding.{AreMarked, RowPut, Follows, ReadTo};
+
+use crate::errors::{Fault, LogKind};
+use crate::forms::Forms;
+use crate::kinds::Place;
+use crate::lines::{Row, Said, read_line};
+use crate::places::place_after;
+use crate::table::Table;
+use std::alloc::Global;
+
+/// How far logs were read, line by line.
+#[derive(Drop)]
+pub(crate) struct Reading {
+    alloc: Global,
+    pub(crate) table: Table,
+    forms: Forms,
+    /// The place in the running log.
+    pub(crate) place: Place,
+    /// The number of the running line.
+    pub(crate) line: u64,
+}
+
+impl Reading {
+    /// Nothing was read yet.
+    pub(crate) fn new(alloc: Global) -> Reading
+        ensures { Follows (progress_view result) nothing_seen }
+    {
+        Reading {
+            alloc,
+            table: Table::new(alloc),
+            forms: Forms::new(alloc),
+            place: Place::Outside,
+            line: 1,
+        }
+    }
+
+    /// Reads a line without its end.
+    pub(crate) fn judge(&mut self, text: &[u8]) -> Result<(), Fault>
+        ensures { (seen : Seen) → Follows (progress_view self.old) seen → ReadTo (progress_view self.new) (text_judged seen text.now) result }
+    {
+        let said = read_line(self.alloc, self.place, text)?;
+        self.put(said)?;
+        self.line = self.line.saturating_add(1);
+        Ok(())
+    }
+
+    /// The end of a log.
+    pub(crate) fn end(&mut self) -> Result<(), Fault>
+        ensures { (seen : Seen) → Follows (progress_view self.old) seen → ReadTo (progress_view self.new) (end_judged seen) result }
+    {
+        match self.place {
+            Place::Outside => {
+                self.line = 1;
+                Ok(())
+            }
+            _ => Err(Fault::Wrong(LogKind::Truncated)),
+        }
+    }
+
+    /// What a line says at the place.
+    fn put(&mut self, said: Said<'_>) -> Result<(), Fault>
+        ensures put { (seen : Seen) (text : List ℕ) → Follows (progress_view self.old) seen → line_said seen.place text ≡ said_read said.entry → ReadTo (progress_view self.new) (said_judged seen (said_read said.entry)) result }
+        ensures line { self.new.line ≡ self.old.line }
+    {
+        self.place = place_after(self.place, &said);
+        match said {
+            Said::Begins(name, kind) => self.table.begin(self.alloc, name, kind),
+            Said::State(row) => self.put_row(row),
+            Said::Conditioned(text, verdict) => self.table.put_condition(text, verdict),
+            Said::Hashed(text) => self.table.put_hash(self.alloc, text),
+            Said::PassedOver | Said::Counts(_) | Said::Judged | Said::Ends => Ok(()),
+        }
+    }
+
+    /// A state of the running test.
+    fn put_row(&mut self, row: Row<'_>) -> Result<(), Fault>
+        ensures put { (entries : List Entry) (name : List ℕ) → tests_view self.old.table ≡ table_of entries → name_at (tests_view self.old.table) self.old.table.running ≡ Some name → AreMarked entries → RowPut entries name (row_read row.entry) self.new.table result }
+        ensures place { self.new.place ≡ self.old.place }
+        ensures line { self.new.line ≡ self.old.line }
+    {
+        let i = self.forms.index_of(self.alloc, row.text)?;
+        self.table
+            .put_row(self.alloc, self.forms.form(i), row.mark, row.count)
+    }
+}

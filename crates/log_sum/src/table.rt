@@ -1,0 +1,85 @@
+ghost use Rattle.std.specs.Prelude.{◌≡◌, ℕ, List, []};
+ghost use Rattle.log_sum.specs.Classes.{tests_view};
+ghost use Rattle.log_sum.specs.Facts.{Entry, a_kind, a_row, row_with, a_condition, a_hash};
+ghost use Rattle.log_sum.specs.Standing.{table_of, name_at};
+ghost use Rattle.log_sum.specs.Feeding.{AreMarked, FactPut};
+
+use crate::errors::Fault;
+use crate::kinds::{Kind, Mark, Verdict};
+use crate::test_sum::TestSum;
+use indexmap::IndexMap;
+use std::alloc::Global;
+
+/// The tests of logs by name, in the order in which each was first seen.
+#[derive(Drop)]
+pub(crate) struct Table {
+    pub(crate) tests: IndexMap<Vec<u8>, TestSum>,
+    /// The index of the test whose block is running.
+    pub(crate) running: usize,
+}
+
+impl Table {
+    /// A table of no tests.
+    pub(crate) fn new(alloc: Global) -> Table
+        ensures { tests_view result ≡ [] }
+    {
+        Table {
+            tests: IndexMap::new(alloc),
+            running: 0,
+        }
+    }
+
+    /// A block of a test and its kind begin.
+    pub(crate) fn begin(&mut self, alloc: Global, name: &[u8], kind: Kind) -> Result<(), Fault>
+        ensures { (entries : List Entry) → tests_view self.old ≡ table_of entries → AreMarked entries → FactPut entries name.now (a_kind kind) self.new result }
+    {
+        if let Some(i) = self.tests.get_index_of(name) {
+            if let Some((_, test)) = self.tests.get_index(i) {
+                test.put_kind(kind)?;
+            }
+            self.running = i;
+        } else {
+            let name = Vec::from_slice(alloc, name)?;
+            let test = TestSum::new(alloc, kind);
+            let (i, _) = self.tests.insert_full(name, test)?;
+            self.running = i;
+        }
+        Ok(())
+    }
+
+    /// A state of the running test, seen so often.
+    pub(crate) fn put_row(
+        &mut self,
+        alloc: Global,
+        state: &[u8],
+        mark: Mark,
+        count: u64,
+    ) -> Result<(), Fault>
+        ensures { (entries : List Entry) (name : List ℕ) → tests_view self.old ≡ table_of entries → name_at (tests_view self.old) self.old.running ≡ Some name → AreMarked entries → FactPut entries name (a_row (row_with state.now mark count)) self.new result }
+    {
+        match self.tests.get_index_mut(self.running) {
+            Some(test) => test.put_row(alloc, state, mark, count),
+            None => Ok(()),
+        }
+    }
+
+    /// A condition of the running test, and what its block says of it.
+    pub(crate) fn put_condition(&mut self, text: Vec<u8>, verdict: Verdict) -> Result<(), Fault>
+        ensures { (entries : List Entry) (name : List ℕ) → tests_view self.old ≡ table_of entries → name_at (tests_view self.old) self.old.running ≡ Some name → AreMarked entries → FactPut entries name (a_condition text.items verdict) self.new result }
+    {
+        if let Some(test) = self.tests.get_index_mut(self.running) {
+            test.put_condition(text, verdict)?;
+        }
+        Ok(())
+    }
+
+    /// A hash of the running test.
+    pub(crate) fn put_hash(&mut self, alloc: Global, text: &[u8]) -> Result<(), Fault>
+        ensures { (entries : List Entry) (name : List ℕ) → tests_view self.old ≡ table_of entries → name_at (tests_view self.old) self.old.running ≡ Some name → AreMarked entries → FactPut entries name (a_hash text.now) self.new result }
+    {
+        match self.tests.get_index_mut(self.running) {
+            Some(test) => test.put_hash(alloc, text),
+            None => Ok(()),
+        }
+    }
+}

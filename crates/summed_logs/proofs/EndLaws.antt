@@ -1,0 +1,40 @@
+-- How a call that sums logs ended.
+use Rattle.std.proofs.Common.{◌≡◌, ℕ, List, [], ◌∷◌, refl, subst, Some, None}
+use Rattle.std.specs.Prelude.{Result, Ok, Err, Option}
+use Rattle.diy_io.specs.Taken.{SourceSeen}
+use Rattle.diy_io.specs.Wrote.{SinkSeen, WroteAll, WrotePart, Wrote}
+use Rattle.diy_io.specs.declared.errors.Failed.{Failed}
+use Rattle.summed_logs.specs.declared.feeding.Feeding.{Feeding}
+use Rattle.summed_logs.specs.declared.feeding.LogFault.{LogFault}
+use Rattle.summed_logs.specs.declared.feeding.LogFault.TheVariants.{Wrong, TooMuch, NoMemory}
+use Rattle.summed_logs.specs.declared.feeding.ReadFault.{ReadFault}
+use Rattle.summed_logs.specs.declared.feeding.ReadFault.TheVariants.{Log, Device}
+use Rattle.summed_logs.specs.declared.sum_end.SumEnd.{SumEnd}
+use Rattle.summed_logs.specs.declared.sum_end.SumEnd.TheVariants as ends
+use Rattle.summed_logs.specs.Faults.{end_at}
+use Rattle.summed_logs.specs.Feeding.{LogSummed, LogFaulty, SumWrote, SummedTo, ReadFailed}
+use Rattle.summed_logs.specs.SumEnds.{InputRead, InputWritten, InputUnwritten, InputSummed}
+
+-- the sum of an input was written
+pub input_written : (old new : SourceSeen) (a b : SinkSeen) (feeding : Feeding) (u : Unit {0})
+    → (s : LogSummed old new feeding []) → SumWrote (s.log ∷ []) a b (Ok u) → InputWritten old new a b
+input_written old new a b feeding u s w = record {
+  sum = w.sum;
+  read = record { log = s.log; text = s.text; short = s.short; taken = s.taken; no_fault = s.no_fault; is = w.is };
+  wrote = w.wrote.ok;
+}
+
+pub input_unwritten : (old new : SourceSeen) (a b : SinkSeen) (feeding : Feeding) (e : Failed)
+    → (s : LogSummed old new feeding []) → SumWrote (s.log ∷ []) a b (Err e) → InputUnwritten old new a b
+input_unwritten old new a b feeding e s w = record {
+  sum = w.sum;
+  read = record { log = s.log; text = s.text; short = s.short; taken = s.taken; no_fault = s.no_fault; is = w.is };
+  wrote = w.wrote.failed;
+}
+
+-- an input with a fault
+pub input_faulty : (old new : SourceSeen) (a : SinkSeen) (fault : LogFault) → LogFaulty old new [] fault → InputSummed old new a a (end_at None fault)
+input_faulty old new a (Wrong error) f = (record { log = f.log; text = f.text; is = f.is }, refl)
+input_faulty old new a (TooMuch line) f =
+    (record { log = f.log; text = f.text; is = f.is.0; count = f.count; taken = f.taken; long = f.is.1 }, refl)
+input_faulty old new a NoMemory f = refl

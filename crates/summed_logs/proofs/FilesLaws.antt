@@ -1,0 +1,215 @@
+-- Files of a shelf that are summed, one after another.
+use Rattle.std.proofs.Common.{◌≡◌, ◌≤◌, ◌<◌, ◌^◌, ◌+◌, ℕ, Bool, true, false, List, [], ◌∷◌, ◌++◌, length, refl, sym, ap, ◌∙◌, subst, arith, Some, None, inl, inr, length-append, get_or}
+use Rattle.std.specs.Prelude.{Option, Result, Ok, Err, IfSome, IsSome, MatchOption, All, slice_get, nat_lt, zero, suc}
+use Rattle.std.specs.Option.{option_and_then}
+use Rattle.std.proofs.lemmas.List.Elements.{All-append}
+use Rattle.std.proofs.lemmas.Option.{slice_get_within}
+use Rattle.diy_io.specs.Count.{count_of, next_count, Rose}
+use Rattle.diy_io.specs.Shelf.{Files, ShelfSeen, Mode, Idle, left_to_read, Opened, NotThere, Stopped}
+use Rattle.diy_io.specs.Wrote.{SinkSeen}
+use Rattle.diy_io.specs.declared.errors.Failed.{Failed}
+use Rattle.summed_logs.specs.declared.feeding.Feeding.{Feeding}
+use Rattle.summed_logs.specs.declared.feeding.LogFault.{LogFault}
+use Rattle.summed_logs.specs.declared.feeding.LogFault.TheVariants.{Wrong, TooMuch, NoMemory}
+use Rattle.summed_logs.specs.declared.feeding.ReadFault.{ReadFault}
+use Rattle.summed_logs.specs.declared.feeding.ReadFault.TheVariants.{Log, Device}
+use Rattle.summed_logs.specs.declared.files.FileFault.{FileFault}
+use Rattle.summed_logs.specs.declared.files.FileFault.TheVariants.{Missing, Read}
+use Rattle.summed_logs.specs.Logs.{IsText, IsShort, TookCount, AreRight}
+use Rattle.summed_logs.specs.Feeding.{Reads, LogSummed, LogFaulty, IsFaulty, ReadFailed, SummedTo, SumWrote}
+use Rattle.summed_logs.specs.SumEnds.{IsLog, AreLogs, IsWithin, IsAtWord, FilesWritten, FilesUnwritten, FilesSummed}
+use Rattle.summed_logs.specs.Files.{log_seen, FileSummed, FileFaulty, FileAbsent, FileFailed, FileTo, FilesSoFar, file_end}
+use Rattle.summed_logs.proofs.LogLaws.{are_right}
+
+one_text : (told : Option (List ℕ)) (log : List ℕ) → IsSome told → IsText told log → told ≡ Some log
+one_text None log there text = cc
+one_text (Some whole) log there text = ap Some text
+
+told_text : (files : Option Files) (name log : List ℕ) → IfSome files (λ f. IsSome (f name)) → IsText (option_and_then (λ f. f name) files) log → IsLog files name log
+told_text None name log there text = tt
+told_text (Some f) name log there text = one_text (f name) log there text
+
+-- the text of a file that was opened
+opened_text : (old mid : ShelfSeen) (name log : List ℕ) → Opened old mid name → IsText (left_to_read mid.mode) log → IsLog old.files name log
+opened_text old mid name log opened text =
+    told_text old.files name log opened.there (subst (λ o. IsText o log) (ap left_to_read opened.mode) text)
+
+-- a file that was opened is summed
+pub opened_summed : (old mid new : ShelfSeen) (feeding : Feeding) (before : List (List ℕ)) (name : List ℕ) → Opened old mid name
+    → LogSummed (log_seen mid) (log_seen new) feeding before → new.opened ≡ mid.opened → FileSummed old new feeding before name
+opened_summed old mid new feeding before name opened s same =
+    let once : mid.opened ≡ next_count old.opened = opened.opened in
+    let zero_taken : mid.taken ≡ 0 = opened.taken in
+    let count : count_of new.taken ≡ count_of (mid.taken + length s.log) = s.taken in
+    let short : length s.log ≤ 2 ^ 40 = s.short in
+    record {
+      log = s.log;
+      text = opened_text old mid name s.log opened s.text;
+      short = s.short;
+      reads = s.reads;
+      no_fault = s.no_fault ∙ opened.no_fault;
+      taken = omega arith;
+      opened = omega arith;
+    }
+
+-- or isn't
+pub opened_refused : (old mid new : ShelfSeen) (feeding : Feeding) (before : List (List ℕ)) (name : List ℕ) (fault : ReadFault) → Opened old mid name
+    → SummedTo (log_seen mid) (log_seen new) feeding before (Err fault) → new.opened ≡ mid.opened
+    → FileTo old new feeding before name (Err (Read fault))
+opened_refused old mid new feeding before name (Log fault) opened s same =
+    let zero_taken : mid.taken ≡ 0 = opened.taken in
+    let once : mid.opened ≡ next_count old.opened = opened.opened in
+    let count : count_of new.taken ≡ count_of (mid.taken + s.count) = s.taken in
+    record {
+      log = s.log;
+      text = opened_text old mid name s.log opened s.text;
+      count = s.count;
+      taken = omega arith;
+      is = s.is;
+      opened = omega arith;
+    }
+opened_refused old mid new feeding before name Device opened s same =
+    let zero_taken : mid.taken ≡ 0 = opened.taken in
+    let none : mid.faults ≡ old.faults = opened.no_fault in
+    let count : count_of new.taken ≡ count_of (mid.taken + s.count) = s.taken in
+    let short : s.count ≤ 2 ^ 40 = s.short in
+    let rose : Rose mid.faults new.faults = s.fault in
+    record { fault = omega arith; taken = inl (omega arith) }
+
+-- before the first file
+pub none_so_far : (old : ShelfSeen) (feeding : Feeding) (words : List (List ℕ)) (first : ℕ) → Reads feeding [] [] → FilesSoFar old old feeding words first first
+none_so_far old feeding words first reads = record {
+  logs = [];
+  count = omega arith;
+  are = record { named = λ k name log w l. absurd (let h : Some log ≡ None = sym l in cc); short = λ k d h. absurd (omega arith) };
+  reads = reads;
+  no_fault = refl;
+  within = λ h. absurd (omega arith);
+  rising = omega arith;
+}
+
+last_log : (logs : List (List ℕ)) (log other : List ℕ) (k : ℕ) → slice_get (logs ++ log ∷ []) k ≡ Some other
+    → (P : ℕ → List ℕ → Type 0) → ((x : List ℕ) → slice_get logs k ≡ Some x → P k x) → P (length logs) log → P k other
+last_log [] log other zero e P front last = let same : log ≡ other = cc in subst (P 0) same last
+last_log [] log other (suc k) e P front last = absurd (let h : Some other ≡ None = sym e in cc)
+last_log (first ∷ logs) log other zero e P front last = front other e
+last_log (first ∷ logs) log other (suc k) e P front last = last_log logs log other k e (λ n. P (suc n)) front last
+
+same_name : (words : List (List ℕ)) (i j : ℕ) (a b : List ℕ) → i ≡ j → slice_get words i ≡ Some a → slice_get words j ≡ Some b → a ≡ b
+same_name words i j a b e p q = let r : Some a ≡ Some b = sym p ∙ ap (slice_get words) e ∙ q in cc
+
+one_short : (log : List ℕ) → IsShort log → All IsShort (log ∷ [])
+one_short log short k d h = let z : k ≡ 0 = omega arith in subst (λ i. IsShort (get_or (log ∷ []) i d)) (sym z) short
+
+-- one log more is named
+more_logs : (files : Option Files) (words : List (List ℕ)) (first place : ℕ) (logs : List (List ℕ)) (name log : List ℕ) → AreLogs files words first logs
+    → place ≡ first + length logs → slice_get words place ≡ Some name → IsLog files name log → IsShort log → AreLogs files words first (logs ++ log ∷ [])
+more_logs files words first place logs name log are count word text short = record {
+  named = λ k n l w g.
+      let P : ℕ → List ℕ → Type 0 = λ i x. slice_get words (first + i) ≡ Some n → IsLog files n x in
+      last_log logs log l k g P (λ x h v. are.named k n x v h)
+      (λ v. let same : name ≡ n = same_name words place (first + length logs) name n count word v in subst (λ m. IsLog files m log) same text) w;
+  short = All-append IsShort logs (log ∷ []) are.short (one_short log short);
+}
+
+-- one file more is summed
+pub one_more : (old mid new : ShelfSeen) (feeding after : Feeding) (words : List (List ℕ)) (first place : ℕ) (name : List ℕ) (s : FilesSoFar old mid feeding words first place)
+    → mid.files ≡ old.files → slice_get words place ≡ Some name → FileSummed mid new after s.logs name → FilesSoFar old new after words first (place + 1)
+one_more old mid new feeding after words first place name s files word f =
+    let count : place ≡ first + length s.logs = s.count in
+    let rising : count_of old.opened ≤ count_of mid.opened = s.rising in
+    let rose : Rose mid.opened new.opened = f.opened in
+    record {
+      logs = s.logs ++ f.log ∷ [];
+      count = omega (arith, length-append s.logs (f.log ∷ []));
+      are = more_logs old.files words first place s.logs name f.log s.are s.count word (subst (λ o. IsLog o name f.log) files f.text) f.short;
+      reads = f.reads;
+      no_fault = f.no_fault ∙ s.no_fault;
+      within = λ h. f.taken;
+      rising = omega arith;
+    }
+
+at_word : (old mid : ShelfSeen) (feeding : Feeding) (words : List (List ℕ)) (first place : ℕ) (name : List ℕ) (s : FilesSoFar old mid feeding words first place)
+    → slice_get words place ≡ Some name → IsAtWord old.files words first place s.logs name
+at_word old mid feeding words first place name s word = record { count = s.count; are = s.are; word = word }
+
+within_same : (old mid new : ShelfSeen) → IsWithin old mid → new.taken ≡ mid.taken → new.opened ≡ mid.opened → IsWithin old new
+within_same old mid new within taken opened = λ h.
+    let short : mid.taken ≤ 2 ^ 40 = within (omega arith) in omega arith
+
+absent_same : (old mid : Option Files) (m n k : ℕ) (name : List ℕ) → mid ≡ old → m ≡ n → MatchOption mid (Rose m k) (λ there. there name ≡ None)
+    → MatchOption old (Rose n k) (λ there. there name ≡ None)
+absent_same old mid m n k name files same h =
+    let P : Option Files → Type 0 = λ o. MatchOption o (Rose n k) (λ there. there name ≡ None) in
+    let Q : ℕ → Type 0 = λ i. MatchOption mid (Rose i k) (λ there. there name ≡ None) in
+    subst P files (subst Q same h)
+
+-- a file isn't summed
+pub files_refused : (old mid new : ShelfSeen) (a : SinkSeen) (feeding after : Feeding) (words : List (List ℕ)) (first place : ℕ) (name : List ℕ) (fault : FileFault)
+    → (s : FilesSoFar old mid feeding words first place) → mid.files ≡ old.files → slice_get words place ≡ Some name
+    → FileTo mid new after s.logs name (Err fault) → FilesSummed old new words first a a (file_end place fault)
+files_refused old mid new a feeding after words first place name Missing s files word f = (
+  record {
+    before = s.logs;
+    name = name;
+    place_is = at_word old mid feeding words first place name s word;
+    right_before = are_right feeding s.logs s.reads;
+    absent = absent_same old.files mid.files mid.faults old.faults new.faults name files s.no_fault f.absent;
+    within = within_same old mid new s.within f.taken f.opened;
+  },
+  refl,
+)
+files_refused old mid new a feeding after words first place name (Read Device) s files word f = (
+  record {
+    fault = subst (λ m. Rose m new.faults) s.no_fault f.fault;
+    within = elim f.taken [ inl short ↦ λ h. short | inr same ↦ within_same old mid new s.within same.0 same.1 ];
+  },
+  refl,
+)
+files_refused old mid new a feeding after words first place name (Read (Log (Wrong error))) s files word f = (
+  record {
+    before = s.logs;
+    name = name;
+    place_is = at_word old mid feeding words first place name s word;
+    log = f.log;
+    text = subst (λ o. IsLog o name f.log) files f.text;
+    is = f.is;
+  },
+  refl,
+)
+files_refused old mid new a feeding after words first place name (Read (Log (TooMuch line))) s files word f =
+    let rising : count_of old.opened ≤ count_of mid.opened = s.rising in
+    let rose : Rose mid.opened new.opened = f.opened in
+    let count : count_of new.taken ≡ count_of f.count = f.taken in
+    let long : 2 ^ 40 < f.count = f.is.1 in (
+      record {
+        before = s.logs;
+        name = name;
+        place_is = at_word old mid feeding words first place name s word;
+        log = f.log;
+        text = subst (λ o. IsLog o name f.log) files f.text;
+        is = f.is.0;
+        opened = omega arith;
+        long = omega arith;
+      },
+      refl,
+    )
+files_refused old mid new a feeding after words first place name (Read (Log NoMemory)) s files word f = refl
+
+-- the sum of the files was written
+pub files_written : (old new : ShelfSeen) (a b : SinkSeen) (feeding : Feeding) (words : List (List ℕ)) (first place : ℕ) (u : Unit {0})
+    → (s : FilesSoFar old new feeding words first place) → place ≡ length words → SumWrote s.logs a b (Ok u) → FilesWritten old new words first a b
+files_written old new a b feeding words first place u s all w = record {
+  sum = w.sum;
+  read = record { logs = s.logs; all = sym s.count ∙ all; are = s.are; no_fault = s.no_fault; within = s.within; is = w.is };
+  wrote = w.wrote.ok;
+}
+
+-- or a front of it
+pub files_unwritten : (old new : ShelfSeen) (a b : SinkSeen) (feeding : Feeding) (words : List (List ℕ)) (first place : ℕ) (e : Failed)
+    → (s : FilesSoFar old new feeding words first place) → place ≡ length words → SumWrote s.logs a b (Err e) → FilesUnwritten old new words first a b
+files_unwritten old new a b feeding words first place e s all w = record {
+  sum = w.sum;
+  read = record { logs = s.logs; all = sym s.count ∙ all; are = s.are; no_fault = s.no_fault; within = s.within; is = w.is };
+  wrote = w.wrote.failed;
+}

@@ -1,0 +1,5 @@
+pub mod FeedingLaws
+pub mod FileLaws
+pub mod LogLaws
+pub mod EndLaws
+pub mod FilesLaws

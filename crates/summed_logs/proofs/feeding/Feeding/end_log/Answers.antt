@@ -1,0 +1,9 @@
+use Rattle.std.proofs.Common.{sym, subst}
+use Rattle.summed_logs.specs.Feeding.{IsEndFault}
+use Rattle.summed_logs.proofs.FeedingLaws.{log_refused}
+use Rattle.summed_logs.proofs.feeding.Feeding.end_log.Goals as goal
+
+pub returns-in-Err : goal.returns-in-Err
+returns-in-Err c = λ logs log reads.
+    subst (IsEndFault logs log) (sym c.fault_of.ensures)
+    (log_refused c.end_file.new.self logs log c.in-Err.error (c.in-Err.ensures.ended logs log reads.stands))

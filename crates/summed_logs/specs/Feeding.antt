@@ -1,0 +1,141 @@
+-- What feeding a log to a summer in pieces says of it.
+-- Source: own.
+use Rattle.std.specs.Prelude.{◌≡◌, ◌≤◌, ◌<◌, ◌^◌, ◌+◌, ℕ, List, [], ◌∷◌, ◌++◌, length, Result, Ok, Err}
+use Rattle.std.specs.Io.KnownBytes.{Consumes}
+use Rattle.diy_io.specs.Count.{Rose}
+use Rattle.diy_io.specs.Sink.{line_feed_count}
+use Rattle.diy_io.specs.Taken.{SourceSeen}
+use Rattle.diy_io.specs.Wrote.{SinkSeen, Wrote}
+use Rattle.diy_io.specs.declared.errors.Failed.{Failed}
+use Rattle.log_sum.specs.declared.errors.LogError.{LogError}
+use Rattle.log_sum.specs.Reading.{Seen, input_judged}
+use Rattle.log_sum.specs.Standing.{StandsFor, logs_text}
+use Rattle.summed_logs.specs.declared.feeding.Feeding.{Feeding}
+use Rattle.summed_logs.specs.declared.feeding.LogFault.{LogFault}
+use Rattle.summed_logs.specs.declared.feeding.LogFault.TheVariants.{Wrong, TooMuch, NoMemory}
+use Rattle.summed_logs.specs.declared.feeding.ReadFault.{ReadFault}
+use Rattle.summed_logs.specs.declared.feeding.ReadFault.TheVariants.{Log, Device}
+use Rattle.summed_logs.specs.Logs.{IsText, IsShort, TookCount, IsWrong, IsTooMuch}
+
+-- whole logs and the bytes that have come of one more were fed, and of this one the bytes and line feeds are counted
+pub record Reads (feeding : Feeding) (logs : List (List ℕ)) (bytes : List ℕ) : Type 0 where
+  pub stands : StandsFor feeding.summer logs bytes
+  pub read : feeding.read ≡ length bytes
+  pub line_feeds : feeding.line_feeds ≡ line_feed_count bytes
+
+-- a front of a log's bytes has this fault, behind whole logs
+pub record FrontWrong (logs : List (List ℕ)) (bytes : List ℕ) (error : LogError) : Type 0 where
+  pub front : List ℕ
+  pub rest : List ℕ
+  pub parts : bytes ≡ front ++ rest
+  pub short : IsShort front
+  pub wrong : input_judged logs front ≡ Err error
+
+-- the bytes of a log are more than 2^40, of which the first 2^40 have no fault, and this is the line behind them
+pub record FrontFull (logs : List (List ℕ)) (bytes : List ℕ) (line : ℕ) : Type 0 where
+  pub front : List ℕ
+  pub rest : List ℕ
+  pub parts : bytes ≡ front ++ rest
+  pub full : length front ≡ 2 ^ 40
+  pub more : 0 < length rest
+  pub seen : Seen
+  pub no_fault : input_judged logs front ≡ Ok seen
+  pub number : line ≡ line_feed_count front + 1
+
+-- why no more of a log is fed, where these bytes have come of it
+abbrev pub IsFault : List (List ℕ) → List ℕ → LogFault → Type 0
+IsFault logs bytes (Wrong error) = FrontWrong logs bytes error
+IsFault logs bytes (TooMuch line) = FrontFull logs bytes line
+IsFault logs bytes NoMemory = Unit {0}
+
+-- an answer to a piece of a log, where these bytes have come with it
+abbrev pub FedOn : Feeding → List (List ℕ) → List ℕ → Result (Unit {0}) LogFault → Type 0
+FedOn new logs bytes (Ok x) = Reads new logs bytes
+FedOn new logs bytes (Err fault) = IsFault logs bytes fault
+
+-- why a log isn't ended
+abbrev pub IsEndFault : List (List ℕ) → List ℕ → LogFault → Type 0
+IsEndFault logs log (Wrong error) = (more : List (List ℕ)) → logs_text (logs ++ log ∷ more) ≡ Err error
+IsEndFault logs log (TooMuch line) = ⊥
+IsEndFault logs log NoMemory = Unit {0}
+
+-- an answer to the end of a log
+abbrev pub EndedOn : Feeding → List (List ℕ) → List ℕ → Result (Unit {0}) LogFault → Type 0
+EndedOn new logs log (Ok x) = Reads new (logs ++ log ∷ []) []
+EndedOn new logs log (Err fault) = IsEndFault logs log fault
+
+-- bytes of a log were read and fed
+pub record ReadSoFar (old new : SourceSeen) (feeding : Feeding) (logs : List (List ℕ)) : Type 0 where
+  pub bytes : List ℕ
+  pub consumed : Consumes old.left new.left bytes
+  pub taken : TookCount old new (length bytes)
+  pub reads : Reads feeding logs bytes
+  pub no_fault : new.faults ≡ old.faults
+
+-- a log was read whole and fed
+pub record ReadWhole (old new : SourceSeen) (feeding : Feeding) (logs : List (List ℕ)) : Type 0 where
+  pub log : List ℕ
+  pub text : IsText old.left log
+  pub taken : TookCount old new (length log)
+  pub reads : Reads feeding logs log
+  pub no_fault : new.faults ≡ old.faults
+
+-- bytes of a log were read, and no more is fed
+pub record ReadPart (old new : SourceSeen) (logs : List (List ℕ)) (fault : LogFault) : Type 0 where
+  pub log : List ℕ
+  pub bytes : List ℕ
+  pub rest : List ℕ
+  pub text : IsText old.left log
+  pub parts : log ≡ bytes ++ rest
+  pub taken : TookCount old new (length bytes)
+  pub is : IsFault logs bytes fault
+  pub no_fault : new.faults ≡ old.faults
+
+-- the device failed, where at most 2^40 bytes were taken
+pub record ReadFailed (old new : SourceSeen) : Type 0 where
+  pub count : ℕ
+  pub short : count ≤ 2 ^ 40
+  pub taken : TookCount old new count
+  pub fault : Rose old.faults new.faults
+  pub never_falls : old.faults ≤ new.faults
+
+-- an answer to the reading of a log
+abbrev pub ReadTo : SourceSeen → SourceSeen → Feeding → List (List ℕ) → Result (Unit {0}) ReadFault → Type 0
+ReadTo old new feeding logs (Ok x) = ReadWhole old new feeding logs
+ReadTo old new feeding logs (Err (Log fault)) = ReadPart old new logs fault
+ReadTo old new feeding logs (Err Device) = ReadFailed old new
+
+-- a log was read whole and summed, and has at most 2^40 bytes
+pub record LogSummed (old new : SourceSeen) (feeding : Feeding) (before : List (List ℕ)) : Type 0 where
+  pub log : List ℕ
+  pub text : IsText old.left log
+  pub short : IsShort log
+  pub taken : TookCount old new (length log)
+  pub reads : Reads feeding (before ++ log ∷ []) []
+  pub no_fault : new.faults ≡ old.faults
+
+-- what a fault says of a log behind others, of which so many bytes were taken
+abbrev pub IsFaulty : List (List ℕ) → List ℕ → ℕ → LogFault → Type 0
+IsFaulty before log count (Wrong error) = IsWrong before log error
+IsFaulty before log count (TooMuch line) = IsTooMuch before log line × (2 ^ 40 < count)
+IsFaulty before log count NoMemory = Unit {0}
+
+-- a log has a fault
+pub record LogFaulty (old new : SourceSeen) (before : List (List ℕ)) (fault : LogFault) : Type 0 where
+  pub log : List ℕ
+  pub text : IsText old.left log
+  pub count : ℕ
+  pub taken : TookCount old new count
+  pub is : IsFaulty before log count fault
+
+-- an answer to a log
+abbrev pub SummedTo : SourceSeen → SourceSeen → Feeding → List (List ℕ) → Result (Unit {0}) ReadFault → Type 0
+SummedTo old new feeding before (Ok x) = LogSummed old new feeding before
+SummedTo old new feeding before (Err (Log fault)) = LogFaulty old new before fault
+SummedTo old new feeding before (Err Device) = ReadFailed old new
+
+-- the sum of whole logs was written, or a front of it
+pub record SumWrote (logs : List (List ℕ)) (out_old out_new : SinkSeen) (result : Result (Unit {0}) Failed) : Type 0 where
+  pub sum : List ℕ
+  pub is : logs_text logs ≡ Ok sum
+  pub wrote : Wrote out_old out_new sum result

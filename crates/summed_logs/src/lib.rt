@@ -1,0 +1,14 @@
+//! Sums the logs of an input, or of files that words name, and writes the sum.
+#![tactic(auto)]
+
+mod feeding;
+mod files;
+mod input;
+mod sum_end;
+
+pub use files::sum_files;
+pub use input::sum_input;
+pub use sum_end::SumEnd;
+
+#[cfg(test)]
+mod tests;

@@ -1,0 +1,79 @@
+use crate::ran::{empty_shelf, source_of, with_devices, words_of};
+use diy_io::MemShelf;
+use std::test::Fail;
+
+const A_LOG: &str =
+    "Test SB Allowed\nHistogram (4 states)\n96    *>0:EAX=0; 1:EAX=0;\n499878:>0:EAX=1; 1:EAX=0;\n499862:>0:EAX=0; 1:EAX=1;\n164   :>0:EAX=1; 1:EAX=1;\nOk\n\nWitnesses\nPositive: 96, Negative: 999904\nCondition exists (0:EAX=0 /\\ 1:EAX=0) is validated\nObservation SB Sometimes 96 999904\nTime SB 0.11\n";
+
+const B_LOG: &str =
+    "Test SB Allowed\nHistogram (3 states)\n4     :>1:EAX=1; 0:EAX=1;\n60    :>1:EAX=0; 0:EAX=1;\n36    :>1:EAX=1; 0:EAX=0;\nNo\n\nWitnesses\nPositive: 0, Negative: 100\nCondition exists (0:EAX=0 /\\ 1:EAX=0) is NOT validated\nObservation SB Never 0 100\n";
+
+const SUM: &str =
+    "Test SB Allowed\nHistogram (4 states)\n96    *>0:EAX=0; 1:EAX=0;\n499898:>0:EAX=0; 1:EAX=1;\n499938:>0:EAX=1; 1:EAX=0;\n168   :>0:EAX=1; 1:EAX=1;\nOk\n\nWitnesses\nPositive: 96, Negative: 1000004\nCondition exists (0:EAX=0 /\\ 1:EAX=0) is validated\nObservation SB Sometimes 96 1000004\n\n";
+
+const A_SUM: &str =
+    "Test SB Allowed\nHistogram (4 states)\n96    *>0:EAX=0; 1:EAX=0;\n499862:>0:EAX=0; 1:EAX=1;\n499878:>0:EAX=1; 1:EAX=0;\n164   :>0:EAX=1; 1:EAX=1;\nOk\n\nWitnesses\nPositive: 96, Negative: 999904\nCondition exists (0:EAX=0 /\\ 1:EAX=0) is validated\nObservation SB Sometimes 96 999904\n\n";
+
+/// Words of msum7, the exit status, and what is written to `out` and to `err`. The file `cut.log` has
+/// the first four lines of `a.log`, and `empty.log` has none; the input is `a.log`.
+const ROWS: [(&str, u8, &str, &str); 8] = [
+    ("msum7 a.log b.log", 0, SUM, ""),
+    ("msum7", 0, A_SUM, ""),
+    ("msum7 empty.log", 0, "", ""),
+    ("msum7 cut.log", 1, "", "diy: cut.log:5: Truncated\n"),
+    (
+        "msum7 a.log cut.log none.log",
+        1,
+        "",
+        "diy: cut.log:5: Truncated\n",
+    ),
+    (
+        "msum7 a.log none.log cut.log",
+        1,
+        "",
+        "diy: no file: none.log\n",
+    ),
+    ("msum7 none.log", 1, "", "diy: no file: none.log\n"),
+    ("msum7 a.log -x", 2, "", "diy: usage UnknownOption: -x\n"),
+];
+
+#[test]
+fn logs_are_summed(rt: HostRuntime) -> Result<(), Fail> {
+    for (line, exit, out, err) in ROWS {
+        let alloc = rt.alloc();
+        let words = words_of(alloc, line)?;
+        let mut input = source_of(alloc, A_LOG.as_bytes(), 7)?;
+        let mut shelf = empty_shelf(alloc, 0)?;
+        shelf.put("a.log", A_LOG.as_bytes())?;
+        shelf.put("b.log", B_LOG.as_bytes())?;
+        shelf.put("cut.log", &A_LOG.as_bytes()[..89])?;
+        shelf.put("empty.log", b"")?;
+        let ran = with_devices(alloc, &words, &mut input, &mut shelf, 4096)?;
+        assert_eq!(rt; ran.out.bytes(), out.as_bytes(), "{line}");
+        assert_eq!(rt; ran.err.bytes(), err.as_bytes(), "{line}");
+        assert_eq!(rt; ran.status.exit(), exit, "{line}");
+    }
+    Ok(())
+}
+
+/// A shelf whose call k fails, for each k: open, read, read at the end and finish, of two logs.
+#[test]
+fn each_fault_of_the_shelf_is_told(rt: HostRuntime) -> Result<(), Fail> {
+    for call in 0..8 {
+        let alloc = rt.alloc();
+        let words = words_of(alloc, "msum7 a.log b.log")?;
+        let mut input = source_of(alloc, b"", 1)?;
+        let mut shelf = MemShelf::new(alloc, 64, 0, vec![in alloc; call]?)?;
+        shelf.put("a.log", A_LOG.as_bytes())?;
+        shelf.put("b.log", B_LOG.as_bytes())?;
+        let ran = with_devices(alloc, &words, &mut input, &mut shelf, 4096)?;
+        assert_eq!(rt; ran.out.bytes(), b"".as_slice(), "{call}");
+        assert_eq!(rt;
+            ran.err.bytes(),
+            b"diy: read fault: shelf\n".as_slice(),
+            "{call}"
+        );
+        assert_eq!(rt; ran.status.exit(), 3, "{call}");
+    }
+    Ok(())
+}
