@@ -7,6 +7,7 @@ ghost use Rattle.arch_aarch64.specs.Puts.{puts as a64, is_index, is_barrier};
 ghost use Rattle.arch_aarch64.specs.Text.{writing as a64_writing};
 ghost use Rattle.arch_aarch64.specs.Laws.{laws as a64_laws};
 ghost use Rattle.arch_aarch64.specs.ReadsBack.{reads_back as a64_reads_back};
+ghost use Rattle.arch_aarch64.specs.InCells.{writes_cells as a64_writes_cells, makes_one_access as a64_makes_one_access};
 
 mod put;
 mod read;
@@ -96,6 +97,10 @@ impl Arch for A64 {
     ghost laws = { a64_laws };
 
     ghost reads_back = { a64_reads_back };
+
+    ghost writes_cells = { a64_writes_cells };
+
+    ghost makes_one_access = { a64_makes_one_access };
 }
 
 fn is_index(index: Option<u8>) -> bool

@@ -6,6 +6,7 @@ ghost use Rattle.relax_edges.specs.declared.kinds.ArchName.TheVariants as archs;
 ghost use Rattle.arch_power.specs.Puts.{puts as power, is_index, is_barrier};
 ghost use Rattle.arch_power.specs.Laws.{laws as power_laws};
 ghost use Rattle.arch_power.specs.ReadsBack.{reads_back as power_reads_back};
+ghost use Rattle.arch_power.specs.InCells.{writes_cells as power_writes_cells, makes_one_access as power_makes_one_access};
 ghost use Rattle.std.specs.Prelude.{◌≡◌};
 ghost use Rattle.arch_power.specs.Text.{writing as power_writing};
 
@@ -95,6 +96,10 @@ impl Arch for Power {
     ghost laws = { power_laws };
 
     ghost reads_back = { power_reads_back };
+
+    ghost writes_cells = { power_writes_cells };
+
+    ghost makes_one_access = { power_makes_one_access };
 }
 
 fn is_index(index: Option<u8>) -> bool

@@ -7,6 +7,7 @@ ghost use Rattle.arch_riscv.specs.Puts.{puts as riscv, is_barrier};
 ghost use Rattle.arch_riscv.specs.Text.{writing as riscv_writing};
 ghost use Rattle.arch_riscv.specs.Laws.{laws as riscv_laws};
 ghost use Rattle.arch_riscv.specs.ReadsBack.{reads_back as riscv_reads_back};
+ghost use Rattle.arch_riscv.specs.InCells.{writes_cells as riscv_writes_cells, makes_one_access as riscv_makes_one_access};
 
 mod put;
 mod read;
@@ -96,6 +97,10 @@ impl Arch for Riscv {
     ghost laws = { riscv_laws };
 
     ghost reads_back = { riscv_reads_back };
+
+    ghost writes_cells = { riscv_writes_cells };
+
+    ghost makes_one_access = { riscv_makes_one_access };
 }
 
 fn is_barrier(kind: Barrier) -> bool

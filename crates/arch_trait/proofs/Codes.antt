@@ -14,9 +14,8 @@ use Rattle.micro_ops.proofs.Laws.{labels_append, lands_append}
 use Rattle.arch_trait.specs.declared.link.Link.{Link}
 use Rattle.arch_trait.specs.declared.link.Link.TheVariants as links
 use Rattle.arch_trait.specs.declared.step.Step.{Step}
-use Rattle.arch_trait.specs.declared.way.Way.{Way}
 use Rattle.arch_trait.specs.Links.{depends, branches}
-use Rattle.arch_trait.specs.Threads.{Puts, FitStep, FitSteps, is_load_dir, loads_in, branches_in, visits, from_of, put_of, filled_by, next_put, next_filled, further, step_code, thread_code, thread_regs, thread_loads, put_before}
+use Rattle.arch_trait.specs.Threads.{Way, Puts, FitStep, FitSteps, is_load_dir, loads_in, branches_in, visits, from_of, put_of, filled_by, next_put, next_filled, further, step_code, thread_code, thread_regs, thread_loads, put_before}
 use Rattle.arch_trait.specs.Codes.{is_within, AllBelow}
 use Rattle.arch_trait.specs.Laws.{IsTaken, AddsAddress, IsUsable, HasLink, MakesAccess, IsArch, is_at, access_room, link_room, link_labels}
 use Rattle.arch_trait.proofs.Runs.{step_takes, step_grew, thread_grew, step_filled, IsWithin}

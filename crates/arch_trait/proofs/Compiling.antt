@@ -5,8 +5,7 @@ use Rattle.relax_edges.specs.declared.kinds.Dir.{Dir}
 use Rattle.relax_edges.specs.declared.kinds.Dir.TheVariants as dirs
 use Rattle.micro_ops.specs.declared.operation.Micro.{Micro}
 use Rattle.arch_trait.specs.declared.step.Step.{Step}
-use Rattle.arch_trait.specs.declared.way.Way.{Way}
-use Rattle.arch_trait.specs.Threads.{Puts, FitStep, FitSteps, is_load_dir, shape_of, setting_out, from_of, filled_by, next_filled, further, step_code, thread_code, thread_regs, thread_loads, put_before}
+use Rattle.arch_trait.specs.Threads.{Way, Puts, FitStep, FitSteps, is_load_dir, shape_of, setting_out, from_of, filled_by, next_filled, further, step_code, thread_code, thread_regs, thread_loads, put_before}
 use Rattle.arch_trait.specs.Links.{branches}
 use Rattle.arch_trait.specs.Laws.{IsArch}
 use Rattle.arch_trait.proofs.Runs.{step_grew, thread_grew}

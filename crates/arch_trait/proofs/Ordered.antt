@@ -11,14 +11,13 @@ use Rattle.micro_ops.specs.declared.operation.Micro.TheVariants as ops
 use Rattle.micro_ops.specs.Running.{labels_of, lands, stands}
 use Rattle.micro_ops.proofs.Laws.{labels_append, lands_append}
 use Rattle.arch_trait.specs.declared.step.Step.{Step}
-use Rattle.arch_trait.specs.declared.way.Way.{Way}
 use Rattle.arch_trait.specs.Cells.{is_access, accesses_in, MakesOneAccess}
 use Rattle.arch_trait.specs.LabelOrder.{labels_after, labels_in, is_next, labels_ordered}
 use Rattle.arch_trait.proofs.Taking.{by_test}
 use Rattle.arch_trait.specs.Links.{branches}
 use Rattle.arch_trait.specs.Laws.{IsArch, HasLink}
 use Rattle.arch_trait.specs.Taking.{Taken}
-use Rattle.arch_trait.specs.Threads.{Puts, FitStep, FitSteps, is_load_dir, from_of, put_of, filled_by, next_put, further, step_code, thread_code, branches_in, setting_out, compiled}
+use Rattle.arch_trait.specs.Threads.{Way, Puts, FitStep, FitSteps, is_load_dir, from_of, put_of, filled_by, next_put, further, step_code, thread_code, branches_in, setting_out, compiled}
 
 both : (p q : Bool) → p && q ≡ true → (p ≡ true) × (q ≡ true)
 both true q h = (refl, h)

@@ -10,10 +10,9 @@ use Rattle.micro_ops.specs.Running.{Run, Point, At, exec}
 use Rattle.micro_ops.proofs.Laws.{exec_append, wants_stays}
 use Rattle.arch_trait.specs.declared.link.Link.{Link}
 use Rattle.arch_trait.specs.declared.step.Step.{Step}
-use Rattle.arch_trait.specs.declared.way.Way.{Way}
 use Rattle.arch_trait.specs.Links.{depends, is_data, link_control, link_items}
 use Rattle.arch_trait.specs.Taking.{Taken, address_in}
-use Rattle.arch_trait.specs.Threads.{Puts, FitStep, FitSteps, is_load_dir, loads_in, from_of, put_of, filled_by, next_put, next_filled, further, step_code, thread_code, thread_regs, thread_loads, put_before, access_item, first_of, left_after, loads_after, thread_items, Loaded}
+use Rattle.arch_trait.specs.Threads.{Way, Puts, FitStep, FitSteps, is_load_dir, loads_in, from_of, put_of, filled_by, next_put, next_filled, further, step_code, thread_code, thread_regs, thread_loads, put_before, access_item, first_of, left_after, loads_after, thread_items, Loaded}
 use Rattle.arch_trait.specs.Laws.{IsTaken, Takes, HoldsPlaces, HasSource, Ready, IsWanting, IsArch}
 use Rattle.arch_trait.proofs.Taking.{by_test, Grew, grew, grew_refl, grew_trans}
 

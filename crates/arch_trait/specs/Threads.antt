@@ -14,7 +14,7 @@ use Rattle.relax_edges.specs.declared.kinds.Value.TheVariants.{Num}
 use Rattle.arch_trait.specs.declared.link.Link.{Link}
 use Rattle.arch_trait.specs.declared.step.Step.{Step}
 use Rattle.arch_trait.specs.declared.step.Shape.{Shape}
-use Rattle.arch_trait.specs.declared.way.Way.{Way}
+use Rattle.arch_trait.specs.declared.way.Way as kept
 use Rattle.std.specs.List.{list_any}
 use Rattle.arch_trait.specs.Links.{link_is_of, depends, branches, is_addr, is_data, mask_if, link_control, link_items}
 use Rattle.arch_trait.specs.Taking.{Taken, untaken}
@@ -74,6 +74,17 @@ shape_of ss = record {
   addr = count_by (λ s. is_addr s.link) ss;
   places = places_in ss;
 }
+
+-- how far the code of a thread has come: its registers, the register of the access before, if that is a load, and how many
+-- branches there were
+pub record Way : Type 0 where
+  pub regs : Taken
+  pub last : Option ℕ
+  pub label : ℕ
+
+-- the same as it is kept
+abbrev pub way_seen : kept.Way → Way
+way_seen way = record { regs = way.regs; last = way.last; label = way.label }
 
 -- the beginning of a thread
 abbrev pub setting_out : ℕ → Way

@@ -8,6 +8,7 @@ ghost use Rattle.arch_trait.specs.Names.{number_in};
 ghost use Rattle.arch_trait.specs.Writing.{Writing, WritesBack, op_text, name_in, place_below, label_below};
 ghost use Rattle.arch_trait.specs.Reading.{instr_read};
 ghost use Rattle.arch_trait.specs.Pieces.{texts_of, raw_seen, Reads};
+ghost use Rattle.arch_trait.specs.Cells.{WritesCells, MakesOneAccess};
 ghost use Rattle.relax_edges.specs.EdgeTable.{is_of_arch};
 
 use crate::cells::{read_cell, register_named};
@@ -145,4 +146,8 @@ pub trait Arch {
     ghost laws: { IsArch puts };
 
     ghost reads_back: { WritesBack puts writing };
+
+    ghost writes_cells: { WritesCells puts writing };
+
+    ghost makes_one_access: { MakesOneAccess puts };
 }

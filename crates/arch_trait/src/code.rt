@@ -2,7 +2,7 @@ ghost use Rattle.std.specs.Prelude.{◌≡◌, ◌<◌, ◌≤◌, ◌+◌, ◌+
 ghost use Rattle.arrayvec.specs.ArrayVec.{array_vec_len};
 ghost use Rattle.arch_trait.specs.Links.{depends, branches, is_data, link_is_of};
 ghost use Rattle.arch_trait.specs.Laws.{access_room};
-ghost use Rattle.arch_trait.specs.Threads.{FitStep, FitSteps, compiled, shape_of, setting_out, from_of, put_of, filled_by, further, step_code, next_filled, put_before, thread_code, thread_regs, thread_loads};
+ghost use Rattle.arch_trait.specs.Threads.{FitStep, FitSteps, compiled, shape_of, setting_out, from_of, put_of, filled_by, way_seen, further, step_code, next_filled, put_before, thread_code, thread_regs, thread_loads};
 ghost use Rattle.arch_trait.specs.Codes.{thread_of, MakesSteps, IsFormed};
 
 use crate::arch::{Arch, Instrs, MAX_INSTRS, MAX_STEP_INSTRS};
@@ -91,13 +91,13 @@ fn put_steps<A: Arch>(steps: &[Step], code: &mut Code) -> Way
 
 fn put_step<A: Arch>(step: Step, way: &mut Way, code: &mut Code)
     requires fit { FitStep A.puts.name (is_some way.old.last) step }
-    requires left { (further A.puts way.old step).regs.next ≤ way.old.regs.count }
+    requires left { (further A.puts (way_seen way.old) step).regs.next ≤ way.old.regs.count }
     requires room { array_vec_len code.old.instrs + MAX_STEP_INSTRS ≤ MAX_INSTRS }
     requires loads_room { array_vec_len code.old.loads < MAX_STEPS }
     requires label_room { way.old.label < 255 }
-    ensures way { way.new ≡ further A.puts way.old step }
-    ensures instrs { code.new.instrs.items ≡ code.old.instrs.items ++ step_code A.puts way.old step }
-    ensures loads { code.new.loads.items ≡ code.old.loads.items ++ put_before (next_filled A.puts way.old step) [] }
+    ensures way { way_seen way.new ≡ further A.puts (way_seen way.old) step }
+    ensures instrs { code.new.instrs.items ≡ code.old.instrs.items ++ step_code A.puts (way_seen way.old) step }
+    ensures loads { code.new.loads.items ≡ code.old.loads.items ++ put_before (next_filled A.puts (way_seen way.old) step) [] }
 {
     let from = source(step.link, way.last);
     A::put_link(step.link, from, way.label, &mut code.instrs);

@@ -7,6 +7,7 @@ ghost use Rattle.arch_x86.specs.Puts.{puts as x86};
 ghost use Rattle.arch_x86.specs.Laws.{laws as x86_laws};
 ghost use Rattle.arch_x86.specs.Text.{writing as x86_writing, register_names, fence_raw, mov_raw, load_raw, store_raw, dollar};
 ghost use Rattle.arch_x86.specs.ReadsBack.{reads_back as x86_reads_back};
+ghost use Rattle.arch_x86.specs.InCells.{writes_cells as x86_writes_cells, makes_one_access as x86_makes_one_access};
 ghost use Rattle.arch_trait.specs.Writing.{inside_brackets};
 ghost use Rattle.arch_trait.specs.Names.{number_in};
 ghost use Rattle.arch_trait.specs.Pieces.{raw_seen, texts_of};
@@ -132,6 +133,10 @@ impl Arch for X86 {
     ghost laws = { x86_laws };
 
     ghost reads_back = { x86_reads_back };
+
+    ghost writes_cells = { x86_writes_cells };
+
+    ghost makes_one_access = { x86_makes_one_access };
 }
 
 fn read_fence(operands: Operands<'_>) -> Option<Raw<'_>>

@@ -61,7 +61,8 @@ pub enum TextKind {
     Line(LineKind),
     /// It is a line of a log.
     Log(LogKind),
-    /// The text has more than `MAX_INPUT` bytes, the last of which stands in this line.
+    /// The text has more than `MAX_INPUT` bytes; the line is the one behind the last line feed among
+    /// the first so many.
     TooMuch,
 }
 

@@ -20,10 +20,10 @@ use std::alloc::Global;
 /// Does what the words ask for: it prints the test of a cycle to `out`, or the names of cycles, or
 /// the sum of logs, or writes the tests of a listing to the shelf.
 ///
-/// Where the words make no request, or the edges are refused, no device changes. What each tool
-/// reads of `input` and of the shelf, what it writes to `out` and to the shelf, and what stands after
-/// each status, is as `Answers` says. The shelf is to be at nothing, and is so again. The line that
-/// tells the status is written to `err`, which doesn't change the status where it fails.
+/// Where the words make no request, or the edges are refused, no device changes but `err`. What each
+/// tool reads of `input` and of the shelf, what it writes to `out` and to the shelf, and what stands
+/// after each status, is as `Answers` says. The shelf is to be at nothing, and is so again. The line
+/// that tells the status is written to `err`, which doesn't change the status where it fails.
 #[tactic(auto, using(crate::proofs::Reported::takes_line, crate::proofs::Forced::answers_force))]
 pub fn run<I: Source, O: Sink, E: Sink, H: Shelf>(
     alloc: Global,

@@ -3,7 +3,6 @@ ghost use Rattle.std.specs.Option.{ForSome};
 ghost use Rattle.relax_edges.specs.declared.TheConstants.{MAX_EDGES};
 ghost use Rattle.relax_edges.specs.declared.edge.Edge.{Edge as EdgeValue};
 ghost use Rattle.walk_laws.specs.Composable.{IsCycle};
-ghost use Rattle.arch_trait.specs.Cells.{WritesCells, MakesOneAccess};
 ghost use Rattle.cycle_enum.specs.Walking.{KnowsOf, Lists, Says};
 ghost use Rattle.diy_io.specs.Shelf.{Idle};
 ghost use Rattle.diy_io.specs.Wrote.{Wrote, sink_seen};
@@ -61,9 +60,6 @@ pub struct Listing<'a> {
 /// whole, that one is as it was or has a front of its text, no other file changed, and nothing is
 /// written to `out`. `OutFault` comes only where the count of `out` rose. Then all files are whole,
 /// and `out` has a front of the line. In each case the shelf is at nothing again.
-///
-/// What is asked of the architecture, that its instructions' texts are short and have one access at
-/// most, bounds the text of a test.
 #[tactic(auto, using(crate::proofs::Wanting::refused_leads_none))]
 pub fn list_tests<A: Arch, H: Shelf, O: Sink>(
     listing: Listing,
@@ -73,8 +69,6 @@ pub fn list_tests<A: Arch, H: Shelf, O: Sink>(
     requires size { listing.limits.size ≤ MAX_EDGES }
     requires folder { ForSome listing.folder (λ folder. length folder.now ≤ MAX_FOLDER) }
     requires idle { (H.seen shelf.old).mode ≡ Idle }
-    requires cells { WritesCells A.puts A.writing }
-    requires one { MakesOneAccess A.puts }
     ensures { EndsListing (λ sink. sink_seen (O.told sink) (O.faults sink)) (plan_of A.puts A.writing (record { threads = listing.entry.threads; mode = listing.entry.mode; folder = listing.entry.folder }) listing.entry.relaxes listing.entry.limits) listing.entry.after result (H.seen shelf.old) (H.seen shelf.new) out.old out.new }
 {
     let Listing {
@@ -125,8 +119,6 @@ fn list_walk<A: Arch, H: Shelf, O: Sink, K: Fn(&[Edge]) -> bool, P: Fn(&Cycle) -
     requires wanted { (cycle : List EdgeValue) → IsCycle cycle → Says P.Fn.post walk.old.take cycle true ↔ (is_wanted A.puts wanted.now.mode wanted.now.threads cycle ≡ true) }
     requires folder { ForSome wanted.now.folder (λ folder. length folder.now ≤ MAX_FOLDER) }
     requires idle { (H.seen shelf.old).mode ≡ Idle }
-    requires cells { WritesCells A.puts A.writing }
-    requires one { MakesOneAccess A.puts }
     ensures { EndsBehind (λ sink. sink_seen (O.told sink) (O.faults sink)) (plan_of A.puts A.writing wanted.now walk.old.relaxes walk.old.limits) walk.old.last result (H.seen shelf.old) (H.seen shelf.new) out.old out.new }
 {
     let mut names = Names::new();
@@ -156,8 +148,6 @@ fn put_tests<A: Arch, H: Shelf, K: Fn(&[Edge]) -> bool, P: Fn(&Cycle) -> bool>(
     requires have_tests { (cycle : List EdgeValue) → IsCycle cycle → Says P.Fn.post walk.old.take cycle true → refusal_of A.puts cycle wanted.now.mode ≡ None }
     requires folder { ForSome wanted.now.folder (λ folder. length folder.now ≤ MAX_FOLDER) }
     requires idle { (H.seen shelf.old).mode ≡ Idle }
-    requires cells { WritesCells A.puts A.writing }
-    requires one { MakesOneAccess A.puts }
     requires no_lines { names.old.lines.items ≡ [] }
     requires not_closed { names.old.closed ≡ None }
     ensures ok { IfOk result (λ count. HasGone (Lists P.Fn.post walk.old) (folder_of wanted.now) (named_text A.puts A.writing wanted.now.mode) walk.old.last (H.seen shelf.old) (H.seen shelf.new) count names.new.lines.items names.new.closed) }
@@ -185,8 +175,6 @@ fn put_test<A: Arch, H: Shelf>(
     requires has_test { refusal_of A.puts cycle.now wanted.now.mode ≡ None }
     requires folder { ForSome wanted.now.folder (λ folder. length folder.now ≤ MAX_FOLDER) }
     requires idle { (H.seen shelf.old).mode ≡ Idle }
-    requires cells { WritesCells A.puts A.writing }
-    requires one { MakesOneAccess A.puts }
     ensures file { IfOk result (λ file. file.bytes ≡ file_of number cycle.now) }
     ensures ok { OnOk result (Put (H.seen shelf.old) (H.seen shelf.new) ((path_of (folder_of wanted.now) (file_of number cycle.now), named_text A.puts A.writing wanted.now.mode cycle.now) ∷ [])) }
     ensures failed { OnErr result (PutPart (H.seen shelf.old) (H.seen shelf.new) [] (path_of (folder_of wanted.now) (file_of number cycle.now)) (named_text A.puts A.writing wanted.now.mode cycle.now)) }

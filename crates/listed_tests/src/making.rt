@@ -1,5 +1,4 @@
 ghost use Rattle.std.specs.Prelude.{◌≡◌, None};
-ghost use Rattle.arch_trait.specs.Cells.{WritesCells, MakesOneAccess};
 ghost use Rattle.cycle_names.specs.Names.{name_of};
 ghost use Rattle.test_maker.specs.CycleText.{cycle_text};
 ghost use Rattle.test_maker.specs.Refusals.{refusal_of};
@@ -29,8 +28,6 @@ impl Desk {
 
     /// Makes the text on the desk that of the test of a cycle that has one, under the cycle's name.
     pub(crate) fn make<A: Arch>(&mut self, cycle: &Cycle, mode: ObsMode, name: &str)
-        requires cells { WritesCells A.puts A.writing }
-        requires one { MakesOneAccess A.puts }
         requires has_test { refusal_of A.puts cycle.now mode ≡ None }
         requires named { name.now ≡ name_of cycle.now }
         ensures { self.new.text.bytes.items ≡ cycle_text A.puts A.writing mode name.now cycle.now }

@@ -5,7 +5,6 @@ use Rattle.relax_edges.specs.declared.kinds.ArchName.{ArchName}
 use Rattle.relax_edges.specs.declared.kinds.ObsMode.{ObsMode}
 use Rattle.relax_edges.specs.declared.edge.Edge.{Edge}
 use Rattle.final_cond.specs.declared.cond.Quantifier.TheVariants.{Exists}
-use Rattle.arch_trait.specs.Cells.{WritesCells, MakesOneAccess}
 use Rattle.arch_trait.specs.Threads.{Puts}
 use Rattle.arch_trait.specs.Writing.{Writing, name_in}
 use Rattle.litmus_text.specs.Printable.{IsTestName}
@@ -39,11 +38,11 @@ shown_test a w es mode =
 -- the test of each cycle that has one, under a name of its form, is within the limits of the format
 abbrev pub TestsReadable : Puts → ArchName → Writing → Type 0
 TestsReadable a arch w =
-    WritesCells a w → MakesOneAccess a → (name : List ℕ) (es : List Edge) (mode : ObsMode) →
+    (name : List ℕ) (es : List Edge) (mode : ObsMode) →
     IsTestName name → HasTest a es mode → IsReadable a arch w name (shown_test a w es mode)
 
 -- and its printed text forces the cycle
 abbrev pub PrintedForce : Puts → ArchName → Writing → Type 0
 PrintedForce a arch w =
-    WritesCells a w → MakesOneAccess a → (name : List ℕ) (es : List Edge) (mode : ObsMode) →
+    (name : List ℕ) (es : List Edge) (mode : ObsMode) →
     IsTestName name → HasTest a es mode → BytesForce arch w (test_text arch w name (shown_test a w es mode)) es mode

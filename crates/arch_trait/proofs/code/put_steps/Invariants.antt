@@ -1,6 +1,7 @@
+use Rattle.arch_trait.specs.Threads.{way_seen}
 use Rattle.arch_trait.proofs.Compiling.{Compiling}
 use Rattle.arch_trait.proofs.code.put_steps.Given as goal
 
 abbrev pub invariant-loop-step : goal.invariant-loop-step
 invariant-loop-step g l =
-    Compiling g.A.Arch.puts l.steps l.step-index l.way l.code.instrs.items l.code.loads.items
+    Compiling g.A.Arch.puts l.steps l.step-index (way_seen l.way) l.code.instrs.items l.code.loads.items

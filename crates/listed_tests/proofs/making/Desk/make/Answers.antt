@@ -10,7 +10,7 @@ unreachable-requires-in-Err-print_test g c =
     let e : test_text g.A.Arch.NAME g.A.Arch.writing c.args.name.now (test_seen c.make_into.new.test) ≡ cycle_text g.A.Arch.puts g.A.Arch.writing c.args.mode c.args.name.now c.args.cycle.now =
     text_made g.A.Arch.puts g.A.Arch.writing c.args.mode c.args.name.now c.args.cycle.now g.A.Arch.NAME c.make_into.new.test g.met.A.Arch.same_name c.in-Ok.ensures.made.1 in
     let short : length (test_text g.A.Arch.NAME g.A.Arch.writing c.args.name.now (test_seen c.make_into.new.test)) ≤ 262144 =
-    rw (e, c.requires.named) (text_short g.A.Arch.puts g.A.Arch.writing c.args.mode c.args.cycle.now g.met.A.Arch.laws g.met.A.Arch.reads_back c.requires.cells c.requires.one c.edges-edges.ensures.composable c.requires.has_test) in
+    rw (e, c.requires.named) (text_short g.A.Arch.puts g.A.Arch.writing c.args.mode c.args.cycle.now g.met.A.Arch.laws g.met.A.Arch.reads_back g.met.A.Arch.writes_cells g.met.A.Arch.makes_one_access c.edges-edges.ensures.composable c.requires.has_test) in
     never_full c.print_test.new.out.bytes.items _ c.print_test.new.out.faults
     (rw c.clear.ensures.bytes at c.in-Err-print_test.ensures.failed) (rw c.clear.ensures.faults at c.in-Err-print_test.ensures.fault) c.print_test.new.out.full short
 
