@@ -54,9 +54,9 @@ use Rattle.diy_tools.specs.declared.status.Status.{Status}
 use Rattle.diy_tools.specs.declared.status.Status.TheVariants as statuses
 use Rattle.diy_tools.specs.Machines.{Machine, machine_of}
 use Rattle.diy_tools.specs.Refused.{refused_list, refused_of, refused_of_arch, refused_composing, refused_making}
-use Rattle.diy_tools.specs.Answers.{AnswersEdges, Answers, AnswersAsked, WherePrinted, asked_text, plan_asked, test_name}
-use Rattle.diy_tools.specs.Devices.{Devices, OutAlone}
-use Rattle.diy_tools.specs.Forces.{ForcesAsked, PrintedForces}
+use Rattle.diy_tools.specs.Answers.{AnswersEdges, AnswersList, Answers, AnswersAsked, asked_text, plan_asked, test_name}
+use Rattle.diy_tools.specs.Devices.{Devices}
+use Rattle.diy_tools.specs.Headline.{Headline, HeadlineAsked, PrintsForcing, ListsForcing}
 use Rattle.listed_tests.specs.Plans.{IsPlanned, is_wanted, planned_text}
 use Rattle.test_maker.specs.CycleText.{cycle_text}
 use Rattle.std.specs.Prelude.{is_none}
@@ -175,44 +175,34 @@ wanted_unrefused a mode threads es h = of_none (refusal_of a es mode) (and_parts
     of_none None h = refl
     of_none (Some refusal) h = cc h
 
--- what is answered of words whose test is printed, and of a listing
-pub answers_force : (words : List (List ℕ)) (status : Status) (old new : Devices) → Answers words status old new → PrintedForces words status
+-- what is answered says that the tests that are printed and listed force their cycles
+pub answers_force : (words : List (List ℕ)) (status : Status) (old new : Devices) → Answers words status old new → Headline words status old new
 answers_force words status old new h = of_asked (asked_of words) refl h
   where
-    refused_says : (said : Type 0) (refusal : Refusal) (s : Status) → s ≡ statuses.Refused refusal → WherePrinted said s
-    refused_says said refusal s e = subst (λ (u : Status). WherePrinted said u) (sym e) tt
-
-    where_printed : (said : Type 0) (s : Status) → said → WherePrinted said s
-    where_printed said statuses.Done h = h
-    where_printed said (statuses.WriteFault _) h = h
-    where_printed said (statuses.Refused _) h = tt
-    where_printed said (statuses.BadText _ _ _) h = tt
-    where_printed said (statuses.NoFile _) h = tt
-    where_printed said (statuses.Usage _ _) h = tt
-    where_printed said (statuses.ReadFault _) h = tt
-    where_printed said statuses.NoMemory h = tt
-
-    forced : (asked : TestAsked) → asked_of words ≡ Ok (AsksTest asked) → refused_of (machine_of asked.arch).puts asked.mode asked.edges ≡ None
-        → BytesForce (machine_of asked.arch).puts.name (machine_of asked.arch).writing (asked_text asked) (turned asked.edges) asked.mode
-    forced asked e none =
+    of_test : (asked : TestAsked) → asked_of words ≡ Ok (AsksTest asked)
+        → AnswersEdges (refused_of (machine_of asked.arch).puts asked.mode asked.edges) (asked_text asked) status old.out new.out
+        → HeadlineAsked (Ok (AsksTest asked)) status old new
+    of_test asked e h none =
         let whole = accepted (machine_of asked.arch).puts asked.mode asked.edges none in
-        text_forces asked.arch asked.mode (test_name asked.name asked.edges) asked.edges
-        (test_named_so asked.name asked.edges whole.is_cycle (asked_form words (AsksTest asked) e)) whole.is_cycle whole.unrefused
+        record {
+          prints = subst (λ (refused : Option Refusal). AnswersEdges refused (asked_text asked) status old.out new.out) none h;
+          forces =
+            text_forces asked.arch asked.mode (test_name asked.name asked.edges) asked.edges
+            (test_named_so asked.name asked.edges whole.is_cycle (asked_form words (AsksTest asked) e)) whole.is_cycle whole.unrefused;
+        }
 
-    of_refused : (asked : TestAsked) → asked_of words ≡ Ok (AsksTest asked) → (refused : Option Refusal) → refused_of (machine_of asked.arch).puts asked.mode asked.edges ≡ refused
-        → AnswersEdges refused (asked_text asked) status old.out new.out → ForcesAsked (Ok (AsksTest asked)) status
-    of_refused asked e (Some refusal) r h = refused_says _ refusal status h.0
-    of_refused asked e None r h = where_printed _ status (forced asked e r)
-
-    of_list : (asked : ListAsked) → ForcesAsked (Ok (AsksList asked)) status
-    of_list asked cycle planned =
+    of_list : (asked : ListAsked) → AnswersList asked status old.shelf new.shelf old.out new.out → HeadlineAsked (Ok (AsksList asked)) status old new
+    of_list asked h = record {
+      lists = h;
+      forces = λ cycle planned.
         text_forces asked.arch asked.mode (name_of cycle) cycle (cycle_named_so cycle planned.cycle) planned.cycle
-        (wanted_unrefused (machine_of asked.arch).puts asked.mode asked.threads cycle planned.taken)
+        (wanted_unrefused (machine_of asked.arch).puts asked.mode asked.threads cycle planned.taken);
+    }
 
-    of_asked : (asked : Result Asked Usage) → asked_of words ≡ asked → AnswersAsked words asked status old new → ForcesAsked asked status
+    of_asked : (asked : Result Asked Usage) → asked_of words ≡ asked → AnswersAsked words asked status old new → HeadlineAsked asked status old new
     of_asked (Err usage) e h = tt
     of_asked (Ok (AsksName asked)) e h = tt
-    of_asked (Ok (AsksList asked)) e h = of_list asked
+    of_asked (Ok (AsksList asked)) e h = of_list asked h.both
     of_asked (Ok (AsksFamilies arch)) e h = tt
     of_asked (Ok AsksSum) e h = tt
-    of_asked (Ok (AsksTest asked)) e h = of_refused asked e (refused_of (machine_of asked.arch).puts asked.mode asked.edges) refl h.out
+    of_asked (Ok (AsksTest asked)) e h = of_test asked e h.out

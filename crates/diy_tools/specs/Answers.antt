@@ -43,12 +43,6 @@ use Rattle.diy_tools.specs.Refused.{refused_list, refused_making, refused_of}
 use Rattle.diy_tools.specs.Statuses.{norm_status, classify_status, listing_status}
 use Rattle.diy_tools.specs.Sums.{AnswersSum}
 
--- what is said of a test is so where its text is printed, or a front of it
-abbrev pub WherePrinted : Type 0 → Status → Type 0
-WherePrinted said statuses.Done = said
-WherePrinted said (statuses.WriteFault _) = said
-WherePrinted said _ = Unit {0}
-
 -- all of a text is printed, with no fault; or the device takes a front of it, and its count of faults rises
 abbrev pub Prints : List ℕ → Status → SinkSeen → SinkSeen → Type 0
 Prints text statuses.Done old new = WroteAll old new text

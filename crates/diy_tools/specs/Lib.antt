@@ -5,4 +5,4 @@ pub mod Report
 pub mod Statuses
 pub mod Sums
 pub mod Answers
-pub mod Forces
+pub mod Headline

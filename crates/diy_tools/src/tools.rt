@@ -4,7 +4,7 @@ ghost use Rattle.diy_io.specs.Taken.{source_seen};
 ghost use Rattle.diy_io.specs.Wrote.{sink_seen};
 ghost use Rattle.diy_tools.specs.Answers.{Answers, TakesLine};
 ghost use Rattle.diy_tools.specs.Devices.{devices};
-ghost use Rattle.diy_tools.specs.Forces.{PrintedForces};
+ghost use Rattle.diy_tools.specs.Headline.{Headline};
 ghost use Rattle.diy_tools.specs.Report.{status_line, NamesLocation};
 
 use crate::listing::list;
@@ -36,7 +36,7 @@ pub fn run<I: Source, O: Sink, E: Sink, H: Shelf>(
     requires { (H.seen shelf.old).mode ≡ Idle }
     ensures answers { Answers words.now result (devices (source_seen (I.left input.old) (I.taken input.old) (I.faults input.old)) (sink_seen (O.told out.old) (O.faults out.old)) (H.seen shelf.old)) (devices (source_seen (I.left input.new) (I.taken input.new) (I.faults input.new)) (sink_seen (O.told out.new) (O.faults out.new)) (H.seen shelf.new)) }
     ensures idle { (H.seen shelf.new).mode ≡ Idle }
-    ensures forces { PrintedForces words.now result }
+    ensures headline { Headline words.now result (devices (source_seen (I.left input.old) (I.taken input.old) (I.faults input.old)) (sink_seen (O.told out.old) (O.faults out.old)) (H.seen shelf.old)) (devices (source_seen (I.left input.new) (I.taken input.new) (I.faults input.new)) (sink_seen (O.told out.new) (O.faults out.new)) (H.seen shelf.new)) }
     ensures line { TakesLine (status_line words.now result) (sink_seen (E.told err.old) (E.faults err.old)) (sink_seen (E.told err.new) (E.faults err.new)) }
 {
     let status = answer(alloc, words, input, out, shelf);

@@ -1,0 +1,41 @@
+-- The claim of the tools: for every accepted cycle the test that is printed forces the cycle, and a listing writes such
+-- tests of exactly the listed cycles, each once, in order.
+-- Source: own.
+use Rattle.std.specs.Prelude.{◌≡◌, ℕ, List, Result, Ok, None}
+use Rattle.relax_edges.specs.declared.edge.Edge.{Edge}
+use Rattle.relax_edges.specs.declared.kinds.ObsMode.{ObsMode}
+use Rattle.cycle_resolve.specs.Resolution.{turned}
+use Rattle.diy_io.specs.Shelf.{ShelfSeen}
+use Rattle.diy_io.specs.Wrote.{SinkSeen}
+use Rattle.diy_words.specs.declared.usage.Usage.{Usage}
+use Rattle.diy_words.specs.Requests.{Asked, ListAsked, AsksTest, AsksList, asked_of}
+use Rattle.listed_tests.specs.Plans.{IsPlanned, planned_text}
+use Rattle.printed_tests.specs.Headline.{BytesForce}
+use Rattle.diy_tools.specs.declared.status.Status.{Status}
+use Rattle.diy_tools.specs.Devices.{Devices}
+use Rattle.diy_tools.specs.Machines.{Machine, machine_of}
+use Rattle.diy_tools.specs.Refused.{refused_of}
+use Rattle.diy_tools.specs.Answers.{AnswersList, Prints, asked_text, plan_asked}
+
+-- a text is printed, and its bytes force a cycle
+pub record PrintsForcing (m : Machine) (text : List ℕ) (cycle : List Edge) (mode : ObsMode) (status : Status) (old new : SinkSeen) : Type 0 where
+  pub prints : Prints text status old new
+  pub forces : BytesForce m.puts.name m.writing text (turned cycle) mode
+
+-- a listing is written as it is asked for, and the bytes of the text of each listed cycle force that cycle
+pub record ListsForcing (asked : ListAsked) (status : Status) (old new : ShelfSeen) (before after : SinkSeen) : Type 0 where
+  pub lists : AnswersList asked status old new before after
+  pub forces : (cycle : List Edge) → IsPlanned (plan_asked asked) cycle →
+      BytesForce (machine_of asked.arch).puts.name (machine_of asked.arch).writing (planned_text (plan_asked asked) cycle) (turned cycle) asked.mode
+
+-- where the words ask for the test of edges that nothing refuses, it is printed and forces the cycle that they make; where
+-- they ask for a listing, it is written and each of its tests forces its cycle
+abbrev pub HeadlineAsked : Result Asked Usage → Status → Devices → Devices → Type 0
+HeadlineAsked (Ok (AsksTest asked)) status old new =
+    refused_of (machine_of asked.arch).puts asked.mode asked.edges ≡ None →
+    PrintsForcing (machine_of asked.arch) (asked_text asked) asked.edges asked.mode status old.out new.out
+HeadlineAsked (Ok (AsksList asked)) status old new = ListsForcing asked status old.shelf new.shelf old.out new.out
+HeadlineAsked _ status old new = Unit {0}
+
+abbrev pub Headline : List (List ℕ) → Status → Devices → Devices → Type 0
+Headline words status old new = HeadlineAsked (asked_of words) status old new
