@@ -226,6 +226,115 @@ y_exchanged-edge_fails = record {
   fails = λ stands. let before : 2 < 1 = stands.joins.communicates in omega (arith, before);
 }
 
+-- the writes of both places come in the order of their values
+abbrev pub both_in_order : Execution
+both_in_order = record { reads = [] ∷ [] ∷ []; orders = (name 1 1 ∷ name 0 0 ∷ []) ∷ (name 0 1 ∷ name 1 0 ∷ []) ∷ [] }
+
+both_in_order-accesses : accesses_in double_writes both_in_order ≡ (write 0 2 ∷ write 1 1 ∷ []) ∷ (write 1 2 ∷ write 0 1 ∷ []) ∷ []
+both_in_order-accesses = refl
+
+pub both_in_order-candidate : IsCandidate double_writes both_in_order
+both_in_order-candidate = candidate_means double_writes both_in_order refl refl
+
+pub both_in_order-coherent : IsCoherentIn double_writes both_in_order
+both_in_order-coherent = coheres_means (accesses_in double_writes both_in_order) both_in_order refl
+
+both_in_order-condition : EndsAs double_writes both_in_order 0 2 × EndsAs double_writes both_in_order 1 2
+both_in_order-condition = (refl, refl)
+
+-- all four edges stand
+both_in_order-events : HasEvents two_writes double_writes both_in_order
+unfolding thread_of slot_of events_in event_after
+both_in_order-events = record {
+  threads = omega arith;
+  counts = counts;
+  events = events;
+  observers = observers;
+  starts = starts;
+  ends = ends;
+}
+  where
+    counts : (k : ℕ) (visits : List Visit) → k < 2 → slice_get (visits_in double_writes both_in_order) k ≡ Some visits → length visits ≡ length (events_in two_writes k)
+    counts zero visits l e = ap length (sym (some_is _ visits e))
+    counts (suc zero) visits l e = ap length (sym (some_is _ visits e))
+    counts (suc (suc k)) visits l e = cc e
+
+    events : (i : ℕ) → i < 4 → (e : Named) × IsEvent two_writes (visits_in double_writes both_in_order) i e
+    events zero l = (free two_writes 0 (write 0 2), record { name_is = refl; visit_is = refl; direction = refl })
+    events (suc zero) l = (free two_writes 1 (write 1 1), record { name_is = refl; visit_is = refl; direction = refl })
+    events (suc (suc zero)) l = (free two_writes 2 (write 1 2), record { name_is = refl; visit_is = refl; direction = refl })
+    events (suc (suc (suc zero))) l = (free two_writes 3 (write 0 1), record { name_is = refl; visit_is = refl; direction = refl })
+    events (suc (suc (suc (suc i)))) l = absurd (omega (arith, l))
+
+    observers : (k : ℕ) (visits : List Visit) → 2 ≤ k → slice_get (visits_in double_writes both_in_order) k ≡ Some visits → Observes visits
+    observers zero visits l e = absurd (omega (arith, l))
+    observers (suc zero) visits l e = absurd (omega (arith, l))
+    observers (suc (suc k)) visits l e = cc e
+
+    starts : (k : ℕ) (visits : List Visit) → slice_get (visits_in double_writes both_in_order) k ≡ Some visits → StartsFree visits
+    starts zero visits e = subst StartsFree (some_is _ visits e) (refl, record { address = refl; stored = refl; control = refl })
+    starts (suc zero) visits e = subst StartsFree (some_is _ visits e) (refl, record { address = refl; stored = refl; control = refl })
+    starts (suc (suc k)) visits e = cc e
+
+    ends : (k : ℕ) (made : List Item) → slice_get (items_in double_writes both_in_order) k ≡ Some made → barriers_behind [] made ≡ []
+    ends zero made e = subst (λ items. barriers_behind [] items ≡ []) (some_is _ made e) refl
+    ends (suc zero) made e = subst (λ items. barriers_behind [] items ≡ []) (some_is _ made e) refl
+    ends (suc (suc k)) made e = cc e
+
+both_in_order-all_stand : AllStand two_writes double_writes both_in_order
+unfolding thread_of slot_of events_in event_after
+both_in_order-all_stand = record { events = both_in_order-events; stand = stand }
+  where
+    stand : (i : ℕ) (e f : Named) → i < 4 → IsEvent two_writes (visits_in double_writes both_in_order) i e → IsEvent two_writes (visits_in double_writes both_in_order) (event_after two_writes i) f →
+        Stands (accesses_in double_writes both_in_order) both_in_order (edge_at two_writes i) e f
+    stand zero e f l g h = stands_at two_writes double_writes both_in_order 0 1 e f (write 0 2) (write 1 1) refl refl g h (record {
+      joins = record { leaves = refl; enters = refl; places = λ (q : 0 ≡ 1). omega (arith, q); communicates = tt; reaches = (refl, refl) };
+      ties = record { barriers_are = refl; address_is = refl; data_is = refl; control_is = refl };
+    })
+    stand (suc zero) e f l g h = stands_at two_writes double_writes both_in_order 1 2 e f (write 1 1) (write 1 2) refl refl g h (record {
+      joins = record { leaves = refl; enters = refl; places = refl; communicates = omega arith; reaches = λ (q : 0 ≡ 1). omega (arith, q) };
+      ties = tt;
+    })
+    stand (suc (suc zero)) e f l g h = stands_at two_writes double_writes both_in_order 2 3 e f (write 1 2) (write 0 1) refl refl g h (record {
+      joins = record { leaves = refl; enters = refl; places = λ (q : 1 ≡ 0). omega (arith, q); communicates = tt; reaches = (refl, refl) };
+      ties = record { barriers_are = refl; address_is = refl; data_is = refl; control_is = refl };
+    })
+    stand (suc (suc (suc zero))) e f l g h = stands_at two_writes double_writes both_in_order 3 0 e f (write 0 1) (write 0 2) refl refl g h (record {
+      joins = record { leaves = refl; enters = refl; places = refl; communicates = omega arith; reaches = λ (q : 1 ≡ 0). omega (arith, q) };
+      ties = tt;
+    })
+    stand (suc (suc (suc (suc i)))) e f l g h = absurd (omega (arith, l))
+
+-- the writes of x come in the order of the first thread and then the second
+abbrev pub x_exchanged : Execution
+x_exchanged = record { reads = [] ∷ [] ∷ []; orders = (name 0 0 ∷ name 1 1 ∷ []) ∷ (name 0 1 ∷ name 1 0 ∷ []) ∷ [] }
+
+pub x_exchanged-candidate : IsCandidate double_writes x_exchanged
+x_exchanged-candidate = candidate_means double_writes x_exchanged refl refl
+
+pub x_exchanged-coherent : IsCoherentIn double_writes x_exchanged
+x_exchanged-coherent = coheres_means (accesses_in double_writes x_exchanged) x_exchanged refl
+
+-- it meets the term of y, and not that of x
+x_exchanged-term_of_x_fails : EndsAs double_writes x_exchanged 0 2 → ⊥
+x_exchanged-term_of_x_fails h = omega (arith, h)
+
+x_exchanged-term_of_y : EndsAs double_writes x_exchanged 1 2
+x_exchanged-term_of_y = refl
+
+x_exchanged-edge_fails : Fails two_writes double_writes x_exchanged 3
+unfolding thread_of slot_of event_after
+x_exchanged-edge_fails = record {
+  source = free two_writes 3 (write 0 1);
+  target = free two_writes 0 (write 0 2);
+  leaves = record { name_is = refl; visit_is = refl; direction = refl };
+  enters = record { name_is = refl; visit_is = refl; direction = refl };
+  fails = λ stands. let before : 2 < 1 = stands.joins.communicates in omega (arith, before);
+}
+
+x_exchanged-not_all : AllStand two_writes double_writes x_exchanged → ⊥
+x_exchanged-not_all = not_all two_writes double_writes x_exchanged 3 (omega arith) x_exchanged-edge_fails
+
 -- The threads of a cycle with three writes of y, without its observer: MOV [x],$1; MOV [y],$1 beside MOV [y],$2 and
 -- MOV [y],$3; MOV EAX,[x].
 abbrev pub unobserved : Program

@@ -1,4 +1,5 @@
 -- What a list of edges makes: a cycle, or the first thing that is wrong with it.
+-- Source: the diy part of the herdtools manual, "Candidate relaxations"; which fault is named is own.
 use Rattle.std.specs.Prelude.{ℕ, ◌+◌, cond, List, [], ◌∷◌, ◌++◌, length, Option, Some, None, Result, Ok, Err, nat_lt}
 use Rattle.relax_edges.specs.declared.TheConstants.{MAX_EDGES}
 use Rattle.relax_edges.specs.declared.edge.Edge.{Edge}

@@ -1,4 +1,5 @@
 -- A condition as contracts see it: its names are lists of bytes.
+-- Source: the litmus format of the herdtools manual.
 use Rattle.std.specs.Prelude.{ℕ, List, map}
 use Rattle.final_cond.specs.declared.cond.Quantifier.{Quantifier}
 use Rattle.final_cond.specs.declared.cond.Left.{Left}

@@ -1,4 +1,5 @@
 -- Numbers in the texts of tests.
+-- Source: the litmus format of the herdtools manual; no leading zeros, and the limit, are own.
 use Rattle.std.specs.Prelude.{ℕ, ◌^◌, ◌&&◌, cond, List, Option, Some, None, nat_lt}
 use Rattle.std.specs.Fmt.{decimal}
 use Rattle.std.specs.Str.{bytes_eq}

@@ -1,4 +1,5 @@
 -- The front of a text, as far as its bytes are of one class, and what stands behind it.
+-- Source: own.
 use Rattle.std.specs.Prelude.{ℕ, Bool, ◌||◌, ◌==◌, cond, List, [], ◌∷◌}
 
 -- the bytes at the front that pass

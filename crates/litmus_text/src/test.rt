@@ -1,4 +1,5 @@
 ghost use Rattle.std.specs.Prelude.{◌≡◌, []};
+ghost use Rattle.final_cond.specs.declared.cond.Quantifier.TheVariants.{Exists};
 ghost use Rattle.final_cond.specs.Conditions.{cond_view};
 
 use arch_trait::{Code, Places};
@@ -18,11 +19,12 @@ pub struct Test {
 }
 
 impl Test {
-    /// A test without edges, places, threads and terms.
+    /// A test without edges, places, threads and terms, whose condition begins with `exists`.
     pub fn new() -> Test
         ensures edges { result.edges.items ≡ [] }
         ensures places { result.places ≡ [] }
         ensures threads { result.threads.items ≡ [] }
+        ensures cond { cond_view result.cond ≡ record { quantifier = Exists; terms = [] } }
     {
         Test {
             edges: ArrayVec::new(),

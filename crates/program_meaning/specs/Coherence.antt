@@ -1,5 +1,6 @@
 -- Coherence per location: program order at one place agrees with the coherence order. These are the absent shapes CoWW,
 -- CoWR, CoRW and CoRR of the literature.
+-- Source: the literature on coherence.
 use Rattle.std.specs.Prelude.{ℕ, ◌≡◌, ◌+◌, ◌-◌, ◌<◌, ◌≤◌, List, [], length, Option, Some, None, slice_get, unwrap_or}
 use Rattle.std.specs.List.{position}
 use Rattle.std.specs.Option.{option_and_then}

@@ -1,5 +1,6 @@
 -- Programs and their candidate executions: the part of the litmus test format that executions speak of. A test that was
 -- made and a text that was read are both programs.
+-- Source: the litmus format of the herdtools manual, and the usual candidate executions of axiomatic memory models.
 use Rattle.std.specs.Prelude.{ℕ, ◌≡◌, List, [], ◌∷◌, map, Option, Some, None, slice_get}
 use Rattle.relax_edges.specs.declared.kinds.Value.{Value}
 use Rattle.micro_ops.specs.declared.operation.Micro.{Micro}

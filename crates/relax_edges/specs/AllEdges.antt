@@ -1,4 +1,5 @@
 -- All edges, in the byte order of their printed words.
+-- Source: the diy part of the herdtools manual, "Candidate relaxations"; the order is own.
 use Rattle.std.specs.Prelude.{List, [], ◌∷◌, ◌++◌}
 use Rattle.relax_edges.specs.declared.kinds.Dir.{Dir}
 use Rattle.relax_edges.specs.declared.kinds.Dir.TheVariants as dirs

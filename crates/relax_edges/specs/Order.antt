@@ -1,4 +1,5 @@
 -- The order of edges is the byte order of their printed words. The rank of an edge is its place in that order, from 0.
+-- Source: own.
 use Rattle.std.specs.Prelude.{ℕ, ◌+◌, ◌*◌}
 use Rattle.relax_edges.specs.declared.kinds.Dir.{Dir}
 use Rattle.relax_edges.specs.declared.kinds.Dir.TheVariants as dirs

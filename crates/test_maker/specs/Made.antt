@@ -1,4 +1,5 @@
 -- What the calls of the test maker give.
+-- Source: own.
 use Rattle.std.specs.Prelude.{Option, ℕ, ◌≡◌, ◌<◌, true, List, map, length, Some, None, Result, Ok, Err}
 use Rattle.std.specs.List.{All, list_all}
 use Rattle.relax_edges.specs.declared.TheConstants.{MAX_EDGES}

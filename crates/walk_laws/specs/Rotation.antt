@@ -1,4 +1,5 @@
 -- Rotations of a list, by which two lists are the same cycle.
+-- Source: own.
 use Rattle.std.specs.Prelude.{◌≡◌, ℕ, List, ◌++◌, take, drop}
 use Rattle.relax_edges.specs.declared.edge.Edge.{Edge}
 

@@ -4,10 +4,13 @@ use arch_power::Power;
 use arch_riscv::Riscv;
 use arch_trait::Arch;
 use arch_x86::X86;
-use diy_io::NoMemory;
+use diy_io::{MemSink, NoMemory};
+use final_cond::print_cond;
 use litmus_text::{ReadError, TestKind, TextError, arch_of, read_test};
-use relax_edges::ArchName;
+use micro_ops::Micro;
+use relax_edges::{ArchName, Value};
 use std::alloc::{AllocError, Global};
+use std::process::Abort;
 use std::test::Fail;
 
 /// The text `sb`, as other tools lay it out.
@@ -54,12 +57,7 @@ const FAULTY: [(&str, u64, TestKind); 18] = [
 
 /// What is faulty in a text of X86, and where.
 fn fault(alloc: Global, text: &str) -> Result<Option<TextError>, NoMemory> {
-    fault_on::<X86>(alloc, text)
-}
-
-/// What is faulty in a text of the architecture, and where.
-fn fault_on<A: Arch>(alloc: Global, text: &str) -> Result<Option<TextError>, NoMemory> {
-    match read_test::<A>(alloc, text.as_bytes()) {
+    match read_test::<X86>(alloc, text.as_bytes()) {
         Ok(_) => Ok(None),
         Err(ReadError::Text(fault)) => Ok(Some(fault)),
         Err(ReadError::NoMemory) => Err(NoMemory),
@@ -93,18 +91,70 @@ fn a_text_from_elsewhere_is_read(rt: HostRuntime) -> Result<(), Fail> {
     Ok(())
 }
 
+/// The name in a printed text, the text that it quotes, and its condition.
+fn parts(text: &str) -> Option<(&str, &str, &str)> {
+    let (header, below) = text.split_once('\n')?;
+    let (_, name) = header.split_once(' ')?;
+    let (quote, _) = below.split_once('\n')?;
+    let quoted = quote.strip_prefix('"')?.strip_suffix('"')?;
+    let (_, condition) = text.strip_suffix('\n')?.rsplit_once('\n')?;
+    Some((name, quoted, condition))
+}
+
+/// Reads a printed text, and compares its name, what it quotes and its condition.
+fn assert_read<A: Arch>(rt: &impl Abort, alloc: Global, text: &str) -> Result<(), Fail> {
+    let (name, quoted, condition) = parts(text).ok_or("the text has its lines")?;
+    let test = read_test::<A>(alloc, text.as_bytes())
+        .ok()
+        .ok_or("the text is a test")?;
+    assert_eq!(rt; test.name(), name.as_bytes(), "{text}");
+    assert_eq!(rt; test.quoted(), Some(quoted.as_bytes()), "{text}");
+    let mut out = MemSink::new(alloc, 4096)?;
+    assert_eq!(rt; print_cond(test.cond(), &mut out), Ok(()), "{text}");
+    assert_eq!(rt; out.bytes(), condition.as_bytes(), "{text}");
+    Ok(())
+}
+
 #[test]
 fn printed_tests_are_read(rt: HostRuntime) -> Result<(), Fail> {
-    for (line, text) in TESTS {
-        let found = match arch_of(text.as_bytes()) {
-            Ok(ArchName::X86) => fault_on::<X86>(rt.alloc(), text)?,
-            Ok(ArchName::PPC) => fault_on::<Power>(rt.alloc(), text)?,
-            Ok(ArchName::AArch64) => fault_on::<A64>(rt.alloc(), text)?,
-            Ok(ArchName::RISCV) => fault_on::<Riscv>(rt.alloc(), text)?,
-            Err(error) => Some(error),
-        };
-        assert_eq!(rt; found, None, "{line}");
+    for (_, text) in TESTS {
+        match arch_of(text.as_bytes()) {
+            Ok(ArchName::X86) => assert_read::<X86>(&rt, rt.alloc(), text)?,
+            Ok(ArchName::PPC) => assert_read::<Power>(&rt, rt.alloc(), text)?,
+            Ok(ArchName::AArch64) => assert_read::<A64>(&rt, rt.alloc(), text)?,
+            Ok(ArchName::RISCV) => assert_read::<Riscv>(&rt, rt.alloc(), text)?,
+            Err(_) => panic!(rt; "{text}"),
+        }
     }
+    Ok(())
+}
+
+/// Message passing on Power, as it is printed.
+const MESSAGE_PASSING: &str =
+    "PPC MP+lwsync+addr\n\"LwSyncdWW Rfe DpAddrdR Fre\"\n{\n0:r2=x; 0:r4=y;\n1:r2=y; 1:r5=x;\n}\n P0           | P1            ;\n li r1,1      | lwz r1,0(r2)  ;\n stw r1,0(r2) | xor r3,r1,r1  ;\n lwsync       | lwzx r4,r3,r5 ;\n li r3,1      |               ;\n stw r3,0(r4) |               ;\nexists (1:r1=1 /\\ 1:r4=0)\n";
+
+#[test]
+fn the_reader_of_message_passing_is_read(rt: HostRuntime) -> Result<(), Fail> {
+    let test = read_test::<Power>(rt.alloc(), MESSAGE_PASSING.as_bytes())
+        .ok()
+        .ok_or("the text is a test")?;
+    assert_eq!(rt; test.threads(), 2);
+    let code = [
+        Micro::Load {
+            dst: 0,
+            base: 1,
+            index: None,
+        },
+        Micro::Xor { dst: 2, a: 0, b: 0 },
+        Micro::Load {
+            dst: 3,
+            base: 4,
+            index: Some(2),
+        },
+    ];
+    assert_eq!(rt; test.code(1), code.as_slice());
+    let init = [(1, Value::Place(1)), (4, Value::Place(0))];
+    assert_eq!(rt; test.init(1), init.as_slice());
     Ok(())
 }
 

@@ -5,7 +5,7 @@ use super::*;
 use cycle_resolve::resolve;
 use edge_algebra::cycle;
 use relax_edges::Dir::{R, W};
-use relax_edges::{Com, DepKind, FenceKind, Reach, Sd};
+use relax_edges::{Com, DepKind, FenceKind, Pick, Reach, Sd};
 use std::process::Abort;
 
 const POD_WR: Edge = Edge::Po {
@@ -59,6 +59,31 @@ const ADDR_R: Edge = Edge::Dep {
     to: R,
 };
 
+const DMB_WW: Edge = Edge::Fenced {
+    fence: FenceKind::DmbSy,
+    sd: Sd::Diff,
+    from: W,
+    to: W,
+};
+
+const CTRL_ISB_R: Edge = Edge::Dep {
+    dep: DepKind::CtrlIsb,
+    sd: Sd::Diff,
+    to: R,
+};
+
+const FENCE_RW: Edge = Edge::Fenced {
+    fence: FenceKind::Fence {
+        pred: Pick::RW,
+        succ: Pick::RW,
+    },
+    sd: Sd::Diff,
+    from: R,
+    to: W,
+};
+
+const DATA_W: Edge = Edge::Data { sd: Sd::Diff };
+
 fn resolved(rt: &impl Abort, edges: &[Edge]) -> Resolved {
     match cycle(edges) {
         Ok(cycle) => match resolve(&cycle) {
@@ -71,9 +96,11 @@ fn resolved(rt: &impl Abort, edges: &[Edge]) -> Resolved {
 
 #[test]
 fn events_have_their_values(rt: HostRuntime) {
-    let rows: [(&[Edge], &[u8]); 7] = [
+    let rows: [(&[Edge], &[u8]); 9] = [
         (&[POD_WR, FRE, POD_WR, FRE], &[1, 0, 1, 0]),
         (&[LWSYNC_WW, RFE, ADDR_R, FRE], &[1, 1, 1, 0]),
+        (&[DMB_WW, RFE, CTRL_ISB_R, FRE], &[1, 1, 1, 0]),
+        (&[FENCE_RW, RFE, DATA_W, RFE], &[1, 1, 1, 1]),
         (&[POD_WW, WSE, POD_WW, WSE], &[2, 1, 2, 1]),
         (&[POD_WW, WSI, WSE, POD_WR, FRE], &[1, 1, 2, 3, 0]),
         (&[POD_WW, WSE, WSE, POD_WR, FRE], &[1, 1, 2, 3, 0]),

@@ -1,7 +1,7 @@
 use super::*;
 use edge_algebra::cycle;
 use relax_edges::Dir::{R, W};
-use relax_edges::{Com, DepKind, FenceKind, Reach, Sd};
+use relax_edges::{Com, DepKind, FenceKind, Pick, Reach, Sd};
 use std::process::Abort;
 
 const POD_WR: Edge = Edge::Po {
@@ -61,6 +61,31 @@ const ADDR_R: Edge = Edge::Dep {
     to: R,
 };
 
+const DMB_WW: Edge = Edge::Fenced {
+    fence: FenceKind::DmbSy,
+    sd: Sd::Diff,
+    from: W,
+    to: W,
+};
+
+const CTRL_ISB_R: Edge = Edge::Dep {
+    dep: DepKind::CtrlIsb,
+    sd: Sd::Diff,
+    to: R,
+};
+
+const FENCE_RW: Edge = Edge::Fenced {
+    fence: FenceKind::Fence {
+        pred: Pick::RW,
+        succ: Pick::RW,
+    },
+    sd: Sd::Diff,
+    from: R,
+    to: W,
+};
+
+const DATA_W: Edge = Edge::Data { sd: Sd::Diff };
+
 fn resolution(rt: &impl Abort, edges: &[Edge]) -> Result<Resolved, ResolveError> {
     match cycle(edges) {
         Ok(cycle) => resolve(&cycle),
@@ -71,7 +96,7 @@ fn resolution(rt: &impl Abort, edges: &[Edge]) -> Result<Resolved, ResolveError>
 /// Each event as (direction, thread, slot, location).
 #[test]
 fn events_have_their_thread_slot_and_location(rt: HostRuntime) {
-    let rows: [(&[Edge], &[(Dir, u8, u8, u8)]); 7] = [
+    let rows: [(&[Edge], &[(Dir, u8, u8, u8)]); 9] = [
         (
             &[POD_WR, FRE, POD_WR, FRE],
             &[(W, 0, 0, 0), (R, 0, 1, 1), (W, 1, 0, 1), (R, 1, 1, 0)],
@@ -83,6 +108,14 @@ fn events_have_their_thread_slot_and_location(rt: HostRuntime) {
         (
             &[LWSYNC_WW, RFE, ADDR_R, FRE],
             &[(W, 0, 0, 0), (W, 0, 1, 1), (R, 1, 0, 1), (R, 1, 1, 0)],
+        ),
+        (
+            &[DMB_WW, RFE, CTRL_ISB_R, FRE],
+            &[(W, 0, 0, 0), (W, 0, 1, 1), (R, 1, 0, 1), (R, 1, 1, 0)],
+        ),
+        (
+            &[FENCE_RW, RFE, DATA_W, RFE],
+            &[(R, 0, 0, 0), (W, 0, 1, 1), (R, 1, 0, 1), (W, 1, 1, 0)],
         ),
         (
             &[POD_WW, WSE, POD_WW, WSE],
