@@ -1,6 +1,7 @@
 -- Forms that are kept by the texts that write them.
 use Rattle.std.proofs.Common.{◌≡◌, ℕ, zero, suc, ◌+◌, ◌<◌, List, [], ◌∷◌, Some, true, false, length, get_or, refl, sym, ap, ◌∙◌, arith, subst}
 use Rattle.std.specs.Prelude.{Bool, Option, Result, Ok, Err, slice_get, position, map, cond, option_map, OnOk, OnErr}
+use Rattle.std.specs.Bool.{OnTrue}
 use Rattle.std.specs.List.{position_or_len}
 use Rattle.std.specs.Map.{keys_of}
 use Rattle.std.specs.Str.{bytes_eq}
@@ -50,6 +51,15 @@ found_at p text same es i h e =
       stands = ap (option_map (λ (x : Vec ℕ Global × Vec ℕ Global). x.1.items)) t.stands;
       read = ap form_read g ∙ h i t.text t.form t.stands;
     }
+
+-- a form stands where its text does
+pub stands_at : (es : List (Vec ℕ Global × Vec ℕ Global)) (i : ℕ) (text : List ℕ) (key form : Vec ℕ Global) (b : Bool) → AreRead es → Some (key, form) ≡ slice_get es i → b ≡ bytes_eq key.items text → OnTrue b (HasForm es text i)
+stands_at es i text key form true h e same = record {
+  form = form.items;
+  stands = ap (option_map (λ (x : Vec ℕ Global × Vec ℕ Global). x.1.items)) (sym e);
+  read = ap form_read (sym ((bytes_eq-Decides key.items text).0 (sym same))) ∙ h i key form (sym e);
+}
+stands_at es i text key form false h e same = tt
 
 -- an entry by what stands for it
 entry_read : (x y : Vec ℕ Global × Vec ℕ Global) → Some x ≡ Some y → form_read x.0.items ≡ Ok x.1.items → form_read y.0.items ≡ Ok y.1.items

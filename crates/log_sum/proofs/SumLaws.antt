@@ -262,7 +262,7 @@ known_is k rs =
 pub none_marked : Marked []
 none_marked = record { same = λ k m h. refl }
 
-same_mark_is : (a b : Mark) → same_mark a b ≡ true → a ≡ b
+pub same_mark_is : (a b : Mark) → same_mark a b ≡ true → a ≡ b
 same_mark_is Starred Starred h = refl
 same_mark_is Starred Plain h = cc
 same_mark_is Plain Starred h = cc

@@ -1,7 +1,8 @@
 ghost use Rattle.std.specs.Prelude.{◌≡◌, List, ℕ, IfOk, IfErr};
+ghost use Rattle.std.specs.Bool.{OnTrue};
 ghost use Rattle.log_sum.specs.Faults.{IsMemory};
 ghost use Rattle.log_sum.specs.States.{form_read};
-ghost use Rattle.log_sum.specs.Forms.{IsFormAt, AreRead, form_at};
+ghost use Rattle.log_sum.specs.Forms.{IsFormAt, HasForm, AreRead, form_at};
 
 use crate::errors::Fault;
 use crate::states::read_state;
@@ -15,6 +16,8 @@ const MOST_FORMS: usize = 4096;
 #[derive(Drop)]
 pub(crate) struct Forms {
     forms: IndexMap<Vec<u8>, Vec<u8>>,
+    /// The index of the last answer.
+    last: usize,
     ghost are_read: { AreRead forms.entries },
 }
 
@@ -22,6 +25,7 @@ impl Forms {
     pub(crate) fn new(alloc: Global) -> Forms {
         Forms {
             forms: IndexMap::new(alloc),
+            last: 0,
         }
     }
 
@@ -29,6 +33,19 @@ impl Forms {
     pub(crate) fn index_of(&mut self, alloc: Global, text: &[u8]) -> Result<usize, Fault>
         ensures { IsFormAt self.new.forms.entries text.now result }
     {
+        let i = self.look_up(alloc, text)?;
+        self.last = i;
+        Ok(i)
+    }
+
+    /// The same. Logs of one test list its states in one order, so the text behind the last answer is tried first.
+    fn look_up(&mut self, alloc: Global, text: &[u8]) -> Result<usize, Fault>
+        ensures { IsFormAt self.new.forms.entries text.now result }
+    {
+        let next = self.last.saturating_add(1);
+        if self.has_at(next, text) {
+            return Ok(next);
+        }
         if let Some(i) = self.forms.get_index_of(text) {
             return Ok(i);
         }
@@ -36,6 +53,16 @@ impl Forms {
         let text = Vec::from_slice(alloc, text)?;
         self.make_room();
         self.keep(text, form)
+    }
+
+    /// Whether a text is the one at an index.
+    fn has_at(&self, i: usize, text: &[u8]) -> bool
+        ensures { OnTrue result (HasForm self.now.forms.entries text.now i) }
+    {
+        match self.forms.get_index(i) {
+            Some((known, _)) => known.as_slice() == text,
+            None => false,
+        }
     }
 
     /// Forgets all forms where there are too many.

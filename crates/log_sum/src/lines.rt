@@ -164,7 +164,7 @@ fn is_judgement(line: &[u8]) -> bool
 fn joined_words(alloc: Global, text: &[u8]) -> Result<Vec<u8>, NoMemory>
     ensures { IfOk result (λ joined. joined.items ≡ joined_words (words text.now)) }
 {
-    let mut joined = Vec::new(alloc);
+    let mut joined = Vec::with_capacity(alloc, text.len())?;
     let mut rest = text;
     while let Some((word, behind)) = next_word(rest) {
         if !joined.is_empty() {

@@ -1,7 +1,7 @@
-ghost use Rattle.std.specs.Prelude.{◌≡◌, option_map};
+ghost use Rattle.std.specs.Prelude.{◌≡◌};
 ghost use Rattle.log_sum.specs.Classes.{Gives, GivesOr, test_view};
-ghost use Rattle.log_sum.specs.Facts.{same_kind, same_mark, is_other, a_kind, a_condition, a_hash, a_row, row_with};
-ghost use Rattle.log_sum.specs.Steps.{fact_to, of_kind, with_verdict, marked, with_marked, known_state, count_known};
+ghost use Rattle.log_sum.specs.Facts.{same_kind, same_mark, a_kind, a_condition, a_hash, a_row, row_with};
+ghost use Rattle.log_sum.specs.Steps.{fact_to, of_kind, with_verdict, marked, with_marked};
 
 use crate::errors::{Fault, LogKind};
 use crate::kinds::{Kind, Mark, Verdict};
@@ -47,26 +47,6 @@ fn same_mark(one: Mark, other: Mark) -> bool
         (Mark::Starred, Mark::Starred) => true,
         (Mark::Plain, Mark::Plain) => true,
         _ => false,
-    }
-}
-
-/// Whether a state is known by another mark.
-fn has_other_mark(known: Option<StateSum>, mark: Mark) -> bool
-    ensures { result ≡ is_other same_mark (option_map (λ known. known.mark) known) mark }
-{
-    match known {
-        Some(known) => !same_mark(known.mark, mark),
-        None => false,
-    }
-}
-
-/// How often a state was seen.
-fn count_of(known: Option<StateSum>) -> u64
-    ensures { result ≡ count_known (option_map (λ known. (known.mark, known.count)) known) }
-{
-    match known {
-        Some(known) => known.count,
-        None => 0,
     }
 }
 
@@ -159,13 +139,6 @@ impl TestSum {
         }
     }
 
-    /// What is kept of a state.
-    fn known(&self, state: &[u8]) -> Option<StateSum>
-        ensures { option_map (λ known. (known.mark, known.count)) result ≡ known_state (test_view self.now).states state.now }
-    {
-        self.states.get(state).copied()
-    }
-
     /// A state with a mark, seen so often.
     pub(crate) fn put_row(
         &mut self,
@@ -176,20 +149,23 @@ impl TestSum {
     ) -> Result<(), Fault>
         ensures { GivesOr (λ _. test_view self.new) result (fact_to (test_view self.old) (a_row (row_with state.now mark count))) }
     {
-        let known = self.known(state);
-        if has_other_mark(known, mark) {
-            return Err(Fault::Wrong(LogKind::MarkDiffers));
-        }
         let sum = self.marked(mark);
+        if let Some(known) = self.states.get_mut(state) {
+            if !same_mark(known.mark, mark) {
+                return Err(Fault::Wrong(LogKind::MarkDiffers));
+            }
+            if count > u64::MAX - sum {
+                return Err(Fault::Wrong(LogKind::SumTooLarge));
+            }
+            known.count = known.count.saturating_add(count);
+            self.set_marked(mark, sum + count);
+            return Ok(());
+        }
         if count > u64::MAX - sum {
             return Err(Fault::Wrong(LogKind::SumTooLarge));
         }
-        let state_sum = StateSum {
-            mark,
-            count: count_of(known).saturating_add(count),
-        };
-        self.states
-            .insert(Vec::from_slice(alloc, state)?, state_sum)?;
+        let state = Vec::from_slice(alloc, state)?;
+        self.states.insert(state, StateSum { mark, count })?;
         self.set_marked(mark, sum + count);
         Ok(())
     }

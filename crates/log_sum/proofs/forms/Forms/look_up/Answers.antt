@@ -1,7 +1,7 @@
 use Rattle.std.proofs.Common.{refl, sym}
 use Rattle.std.specs.Str.{bytes_eq}
 use Rattle.log_sum.proofs.FormLaws.{found_at}
-use Rattle.log_sum.proofs.forms.Forms.index_of.Goals as goal
+use Rattle.log_sum.proofs.forms.Forms.look_up.Goals as goal
 
 pub returns-in-Some : goal.returns-in-Some
 returns-in-Some c =
