@@ -14,3 +14,4 @@ pub mod FormLaws
 pub mod PrintLaws
 pub mod ReturnLaws
 pub mod StandingLaws
+pub mod PieceLaws

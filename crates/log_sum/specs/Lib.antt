@@ -12,3 +12,4 @@ pub mod Feeding
 pub mod Forms
 pub mod Steps
 pub mod SumText
+pub mod Pieces

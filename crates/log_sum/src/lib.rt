@@ -5,6 +5,7 @@ mod counts;
 mod errors;
 mod forms;
 mod kinds;
+mod law;
 mod lines;
 mod places;
 mod print;
@@ -16,6 +17,7 @@ mod test_sum;
 mod texts;
 
 pub use errors::{LogError, LogKind, SumError};
+pub use law::same_answers;
 pub use summer::{MAX_LINE, Summer};
 
 #[cfg(test)]

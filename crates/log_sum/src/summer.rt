@@ -97,7 +97,10 @@ impl Summer {
         }
     }
 
-    /// Appends the sum of the logs that were fed. Where the sink fails, it has taken a front of it.
+    /// Appends the sum of what is kept. Where the sink fails, it has taken a front of it.
+    ///
+    /// It is the sum of the logs that were ended where the summer isn't spent and was fed nothing since
+    /// the last of them; else it may be that of a part of them.
     pub fn write_sum<O: Sink>(&self, out: &mut O) -> Result<(), Failed>
         ensures ok { OnOk result (Grew (O.told out.old) (O.told out.new) (kept_text self.now)) }
         ensures failed { OnErr result (GrewByPrefix (O.told out.old) (O.told out.new) (kept_text self.now)) }

@@ -20,7 +20,7 @@ pub input_written : (old new : SourceSeen) (a b : SinkSeen) (feeding : Feeding) 
     → (s : LogSummed old new feeding []) → SumWrote (s.log ∷ []) a b (Ok u) → InputWritten old new a b
 input_written old new a b feeding u s w = record {
   sum = w.sum;
-  read = record { log = s.log; text = s.text; short = s.short; taken = s.taken; no_fault = s.no_fault; is = w.is };
+  read = record { log = s.log; text = s.text; at_end = s.at_end; short = s.short; taken = s.taken; no_fault = s.no_fault; is = w.is };
   wrote = w.wrote.ok;
 }
 
@@ -28,7 +28,7 @@ pub input_unwritten : (old new : SourceSeen) (a b : SinkSeen) (feeding : Feeding
     → (s : LogSummed old new feeding []) → SumWrote (s.log ∷ []) a b (Err e) → InputUnwritten old new a b
 input_unwritten old new a b feeding e s w = record {
   sum = w.sum;
-  read = record { log = s.log; text = s.text; short = s.short; taken = s.taken; no_fault = s.no_fault; is = w.is };
+  read = record { log = s.log; text = s.text; at_end = s.at_end; short = s.short; taken = s.taken; no_fault = s.no_fault; is = w.is };
   wrote = w.wrote.failed;
 }
 

@@ -105,6 +105,7 @@ reads_whole old mid new feeding logs piece r took none end same =
     record {
       log = r.bytes;
       text = Consumes-whole old.left new.left r.bytes (λ whole. whole ≡ r.bytes) consumed end refl;
+      at_end = end;
       taken = omega arith;
       reads = r.reads;
       no_fault = same ∙ r.no_fault;

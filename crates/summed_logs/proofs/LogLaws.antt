@@ -1,8 +1,9 @@
 -- A log that was read, summed or refused.
 use Rattle.std.proofs.Common.{◌≡◌, ◌≤◌, ◌<◌, ◌^◌, ◌+◌, ℕ, List, [], ◌∷◌, ◌++◌, length, refl, sym, ap, ◌∙◌, subst, arith, length-append, append_assoc, append-nil, inl, inr}
 use Rattle.std.specs.Prelude.{Result, Ok, Err, OnOk, OnErr}
+use Rattle.std.specs.Io.KnownBytes.{IsAtEnd}
 use Rattle.diy_io.specs.Count.{count_of, Rose}
-use Rattle.diy_io.specs.Shelf.{ShelfSeen, Mode, Idle, Stopped, Finished}
+use Rattle.diy_io.specs.Shelf.{ShelfSeen, Mode, Idle, Stopped, Finished, left_to_read}
 use Rattle.diy_io.specs.Taken.{SourceSeen}
 use Rattle.diy_io.specs.declared.errors.Failed.{Failed}
 use Rattle.log_sum.specs.declared.errors.LogError.{LogError}
@@ -106,13 +107,14 @@ end_faulty old mid new feeding read before fault reads whole is same =
 
 -- a log is summed
 pub whole_summed : (old mid new : SourceSeen) (read after : Feeding) (before : List (List ℕ)) (whole : ReadWhole old mid read before)
-    → Reads after (before ++ whole.log ∷ []) [] → new.taken ≡ mid.taken → new.faults ≡ mid.faults → LogSummed old new after before
-whole_summed old mid new read after before whole reads same no_fault =
+    → Reads after (before ++ whole.log ∷ []) [] → IsAtEnd new.left → new.taken ≡ mid.taken → new.faults ≡ mid.faults → LogSummed old new after before
+whole_summed old mid new read after before whole reads end same no_fault =
     let count : read.read ≡ length whole.log = whole.reads.read in
     let fits : read.read ≤ 2 ^ 40 = read.in_range in
     record {
       log = whole.log;
       text = whole.text;
+      at_end = end;
       short = omega arith;
       taken = ap count_of same ∙ whole.taken;
       reads = reads;
@@ -141,6 +143,10 @@ pub record Closed (old new : ShelfSeen) : Type 0 where
   pub taken : new.taken ≡ old.taken
   pub opened : new.opened ≡ old.opened
   pub never_falls : old.faults ≤ new.faults
+
+-- no file is open, so nothing is left to read
+pub idle_at_end : (mode : Mode) → mode ≡ Idle → IsAtEnd (left_to_read mode)
+idle_at_end mode idle = subst (λ m. IsAtEnd (left_to_read m)) (sym idle) tt
 
 pub closed : (old new : ShelfSeen) (r : Result (Unit {0}) Failed) → OnOk r (Finished old new) → OnErr r (Stopped old new) → Closed old new
 closed old new (Ok x) f s = record { mode = f.mode; files = f.files; taken = f.counts.taken; opened = f.counts.opened; never_falls = (let e : new.faults ≡ old.faults = f.no_fault in omega arith) }

@@ -1,7 +1,7 @@
 -- What feeding a log to a summer in pieces says of it.
 -- Source: own.
 use Rattle.std.specs.Prelude.{◌≡◌, ◌≤◌, ◌<◌, ◌^◌, ◌+◌, ℕ, List, [], ◌∷◌, ◌++◌, length, Result, Ok, Err}
-use Rattle.std.specs.Io.KnownBytes.{Consumes}
+use Rattle.std.specs.Io.KnownBytes.{Consumes, IsAtEnd}
 use Rattle.diy_io.specs.Count.{Rose}
 use Rattle.diy_io.specs.Sink.{line_feed_count}
 use Rattle.diy_io.specs.Taken.{SourceSeen}
@@ -76,6 +76,7 @@ pub record ReadSoFar (old new : SourceSeen) (feeding : Feeding) (logs : List (Li
 pub record ReadWhole (old new : SourceSeen) (feeding : Feeding) (logs : List (List ℕ)) : Type 0 where
   pub log : List ℕ
   pub text : IsText old.left log
+  pub at_end : IsAtEnd new.left
   pub taken : TookCount old new (length log)
   pub reads : Reads feeding logs log
   pub no_fault : new.faults ≡ old.faults
@@ -105,10 +106,11 @@ ReadTo old new feeding logs (Ok x) = ReadWhole old new feeding logs
 ReadTo old new feeding logs (Err (Log fault)) = ReadPart old new logs fault
 ReadTo old new feeding logs (Err Device) = ReadFailed old new
 
--- a log was read whole and summed, and has at most 2^40 bytes
+-- a log was read whole and summed, has at most 2^40 bytes, and nothing is left to read
 pub record LogSummed (old new : SourceSeen) (feeding : Feeding) (before : List (List ℕ)) : Type 0 where
   pub log : List ℕ
   pub text : IsText old.left log
+  pub at_end : IsAtEnd new.left
   pub short : IsShort log
   pub taken : TookCount old new (length log)
   pub reads : Reads feeding (before ++ log ∷ []) []

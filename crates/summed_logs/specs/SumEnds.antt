@@ -1,6 +1,7 @@
 -- How a call that sums logs ended, and what it did to its devices.
 -- Source: own.
 use Rattle.std.specs.Prelude.{◌≡◌, ◌≤◌, ◌<◌, ◌^◌, ◌+◌, ℕ, List, [], ◌∷◌, ◌++◌, length, slice_get, Option, None, Some, IfSome, MatchOption, All, Ok}
+use Rattle.std.specs.Io.KnownBytes.{IsAtEnd}
 use Rattle.diy_io.specs.Count.{Rose}
 use Rattle.diy_io.specs.Shelf.{Files, ShelfSeen}
 use Rattle.diy_io.specs.Taken.{SourceSeen}
@@ -13,10 +14,11 @@ use Rattle.summed_logs.specs.declared.sum_end.SumEnd.TheVariants as ends
 use Rattle.summed_logs.specs.Logs.{IsText, IsShort, TookCount, AreRight, IsWrong, IsTooMuch}
 use Rattle.summed_logs.specs.Feeding.{ReadFailed}
 
--- the input is a whole log of at most 2^40 bytes, and this is its sum
+-- the input is a whole log of at most 2^40 bytes, which was read to its end, and this is its sum
 pub record InputRead (old new : SourceSeen) (sum : List ℕ) : Type 0 where
   pub log : List ℕ
   pub text : IsText old.left log
+  pub at_end : IsAtEnd new.left
   pub short : IsShort log
   pub taken : TookCount old new (length log)
   pub no_fault : new.faults ≡ old.faults

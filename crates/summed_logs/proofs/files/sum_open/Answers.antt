@@ -1,6 +1,6 @@
 use Rattle.std.proofs.Common.{refl, ap, ◌∙◌, Err}
 use Rattle.summed_logs.specs.Files.{log_seen}
-use Rattle.summed_logs.proofs.LogLaws.{part_faulty, end_faulty, whole_summed, whole_failed, at_part, at_failed}
+use Rattle.summed_logs.proofs.LogLaws.{part_faulty, end_faulty, whole_summed, whole_failed, at_part, at_failed, idle_at_end}
 use Rattle.summed_logs.proofs.files.sum_open.Goals as goal
 
 pub returns-in-Err-Log-clause-summed : goal.returns-in-Err-Log-clause-summed
@@ -15,7 +15,7 @@ pub returns-in-Ok-finish-clause-summed : goal.returns-in-Ok-finish-clause-summed
 returns-in-Ok-finish-clause-summed g c = λ logs reads.
     let whole = c.in-Ok.ensures.read logs reads in
     whole_summed _ (log_seen (g.H.Shelf.seen c.read_file.new.shelf)) (log_seen (g.H.Shelf.seen c.finish.new.self)) c.read_file.new.feeding c.end_log.new.self logs whole
-    (c.in-Ok-end_log.ensures logs whole.log whole.reads) c.in-Ok-finish.ensures.ok.counts.taken c.in-Ok-finish.ensures.ok.no_fault
+    (c.in-Ok-end_log.ensures logs whole.log whole.reads) (idle_at_end _ c.in-Ok-finish.ensures.ok.mode) c.in-Ok-finish.ensures.ok.counts.taken c.in-Ok-finish.ensures.ok.no_fault
 
 pub returns-in-Err-finish-clause-summed : goal.returns-in-Err-finish-clause-summed
 returns-in-Err-finish-clause-summed g c = λ logs reads.

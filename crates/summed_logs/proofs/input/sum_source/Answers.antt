@@ -16,7 +16,7 @@ pub returns-in-Ok-end_log : goal.returns-in-Ok-end_log
 returns-in-Ok-end_log g c = λ logs reads.
     let new : SourceSeen = source_seen (g.I.Source.left c.read_input.new.input) (g.I.Source.taken c.read_input.new.input) (g.I.Source.faults c.read_input.new.input) in
     let whole = c.in-Ok.ensures logs reads in
-    whole_summed _ new new c.read_input.new.feeding c.end_log.new.self logs whole (c.in-Ok-end_log.ensures logs whole.log whole.reads) refl refl
+    whole_summed _ new new c.read_input.new.feeding c.end_log.new.self logs whole (c.in-Ok-end_log.ensures logs whole.log whole.reads) whole.at_end refl refl
 
 pub returns-in-Err : goal.returns-in-Err
 returns-in-Err g c = λ logs reads.
