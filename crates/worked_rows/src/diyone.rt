@@ -3,6 +3,10 @@ use diy_io::{MemSink, Words};
 use diy_tools::run;
 use std::test::Fail;
 
+/// Message passing on Power, as it is printed.
+pub const MESSAGE_PASSING: &str =
+    "PPC MP+lwsync+addr\n\"LwSyncdWW Rfe DpAddrdR Fre\"\n{\n0:r2=x; 0:r4=y;\n1:r2=y; 1:r5=x;\n}\n P0           | P1            ;\n li r1,1      | lwz r1,0(r2)  ;\n stw r1,0(r2) | xor r3,r1,r1  ;\n lwsync       | lwzx r4,r3,r5 ;\n li r3,1      |               ;\n stw r3,0(r4) |               ;\nexists (1:r1=1 /\\ 1:r4=0)\n";
+
 /// Words of diyone7, and the test that they print.
 pub const TESTS: [(&str, &str); 25] = [
     (
@@ -63,7 +67,7 @@ pub const TESTS: [(&str, &str); 25] = [
     ),
     (
         "diyone7 -arch PPC -name MP+lwsync+addr LwSyncdWW Rfe DpAddrdR Fre",
-        "PPC MP+lwsync+addr\n\"LwSyncdWW Rfe DpAddrdR Fre\"\n{\n0:r2=x; 0:r4=y;\n1:r2=y; 1:r5=x;\n}\n P0           | P1            ;\n li r1,1      | lwz r1,0(r2)  ;\n stw r1,0(r2) | xor r3,r1,r1  ;\n lwsync       | lwzx r4,r3,r5 ;\n li r3,1      |               ;\n stw r3,0(r4) |               ;\nexists (1:r1=1 /\\ 1:r4=0)\n",
+        MESSAGE_PASSING,
     ),
     (
         "diyone7 -arch AArch64 -name MP+dmb.sy+ctrlisb DMB.SYdWW Rfe DpCtrlIsbdR Fre",

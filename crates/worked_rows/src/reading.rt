@@ -1,4 +1,4 @@
-use crate::diyone::TESTS;
+use crate::diyone::{MESSAGE_PASSING, TESTS};
 use arch_aarch64::A64;
 use arch_power::Power;
 use arch_riscv::Riscv;
@@ -128,10 +128,6 @@ fn printed_tests_are_read(rt: HostRuntime) -> Result<(), Fail> {
     }
     Ok(())
 }
-
-/// Message passing on Power, as it is printed.
-const MESSAGE_PASSING: &str =
-    "PPC MP+lwsync+addr\n\"LwSyncdWW Rfe DpAddrdR Fre\"\n{\n0:r2=x; 0:r4=y;\n1:r2=y; 1:r5=x;\n}\n P0           | P1            ;\n li r1,1      | lwz r1,0(r2)  ;\n stw r1,0(r2) | xor r3,r1,r1  ;\n lwsync       | lwzx r4,r3,r5 ;\n li r3,1      |               ;\n stw r3,0(r4) |               ;\nexists (1:r1=1 /\\ 1:r4=0)\n";
 
 #[test]
 fn the_reader_of_message_passing_is_read(rt: HostRuntime) -> Result<(), Fail> {
