@@ -48,12 +48,19 @@ fn fault_of(error: SumError) -> LogFault
     }
 }
 
-/// How many line feeds a text has.
+/// How many line feeds a text has. A plain loop is compiled to vector instructions.
+#[tactic(auto, using(std::proofs::lemmas::List::Sums::count_by_more_yes, std::proofs::lemmas::List::Sums::count_by_more_no))]
 fn line_feeds(text: &[u8]) -> u64
     ensures count { result ≡ line_feed_count text.now }
     ensures bound { result ≤ length text.now }
 {
-    text.iter().filter(|byte| **byte == b'\n').count() as u64
+    let mut count = 0;
+    for byte in text {
+        if *byte == b'\n' {
+            count += 1;
+        }
+    }
+    count
 }
 
 impl LogFault {
