@@ -5,7 +5,7 @@ use Rattle.log_sum.specs.declared.errors.LogError.{LogError}
 use Rattle.log_sum.specs.declared.errors.SumError.{SumError}
 use Rattle.log_sum.specs.declared.errors.SumError.TheVariants.{Log, NoMemory}
 use Rattle.log_sum.specs.Reading.{Seen, nothing_seen, files_judged, input_judged}
-use Rattle.log_sum.specs.Standing.{Kept, StandsFor, FedTo, EndedTo}
+use Rattle.log_sum.specs.Standing.{Kept, FedTo, EndedTo}
 use Rattle.log_sum.specs.Pieces.{IsOneAnswer, SameAnswers}
 use Rattle.log_sum.proofs.PrintLaws.{same_sum}
 use Rattle.log_sum.proofs.StayLaws.{input_fault, files_fault, nothing_more}

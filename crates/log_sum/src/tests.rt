@@ -1,6 +1,7 @@
 use crate::{LogError, LogKind, SumError, Summer};
 use diy_io::MemSink;
 use std::alloc::Global;
+use std::str;
 use std::test::Fail;
 
 const A_LOG: &[u8] =
@@ -11,6 +12,14 @@ const B_LOG: &[u8] =
 
 const PRINTED: &[u8] =
     b"Test SB Allowed\nHistogram (4 states)\n96    *>0:EAX=0; 1:EAX=0;\n499898:>0:EAX=0; 1:EAX=1;\n499938:>0:EAX=1; 1:EAX=0;\n168   :>0:EAX=1; 1:EAX=1;\nOk\n\nWitnesses\nPositive: 96, Negative: 1000004\nCondition exists (0:EAX=0 /\\ 1:EAX=0) is validated\nObservation SB Sometimes 96 1000004\n\n";
+
+/// A `~exists` test of two blocks, of which one says that its condition isn't validated, and a `forall`
+/// test of two blocks that say that theirs is.
+const KINDS_LOG: &[u8] =
+    b"Test F Forbidden\nHistogram (2 states)\n3*>x=1;\n5:>[x]=0;\nOk\nCondition ~exists (x=1) is NOT validated\nHash=0ab\nObservation F\nTest F Forbidden\nHistogram (1 state)\n4 :>x=0;\nNo\nHash=0ab\nCondition ~exists  (x=1) is validated\nObservation F\nTest R Required\nHistogram (1 states)\n7*>x=1;\nNo\nCondition forall (x=1) is validated\nObservation R\nTest R Required\nHistogram (1 state)\n1000000*>x=1; 0:r1=1;\nNo\nCondition forall (x=1) is validated\nObservation R\n";
+
+const KINDS_PRINTED: &[u8] =
+    b"Test F Forbidden\nHistogram (2 states)\n9     :>[x]=0;\n3     *>[x]=1;\nNo\n\nWitnesses\nPositive: 3, Negative: 9\nCondition ~exists (x=1) is NOT validated\nHash=0ab\nObservation F Sometimes 3 9\n\nTest R Required\nHistogram (2 states)\n1000000*>0:r1=1; [x]=1;\n7     *>[x]=1;\nOk\n\nWitnesses\nPositive: 1000007, Negative: 0\nCondition forall (x=1) is validated\nObservation R Always 1000007 0\n\n";
 
 fn feed_in_pieces(summer: &mut Summer, log: &[u8], length: usize) -> Result<(), SumError> {
     for piece in log.chunks(length.max(1)) {
@@ -31,13 +40,15 @@ fn fault(line: u64, kind: LogKind) -> Result<(), SumError> {
 
 #[test]
 fn two_logs_add_up_in_any_pieces(rt: HostRuntime) -> Result<(), Fail> {
-    for length in [1, 7, 4096] {
-        let mut summer = Summer::new(rt.alloc())?;
-        assert_eq!(rt; feed_in_pieces(&mut summer, A_LOG, length), Ok(()));
-        assert_eq!(rt; feed_in_pieces(&mut summer, B_LOG, length), Ok(()));
-        let mut sink = MemSink::new(rt.alloc(), 1000)?;
-        assert_eq!(rt; summer.write_sum(&mut sink), Ok(()));
-        assert_eq!(rt; sink.bytes(), PRINTED);
+    for (one, other, printed) in [(A_LOG, B_LOG, PRINTED), (b"", KINDS_LOG, KINDS_PRINTED)] {
+        for length in [1, 7, 4096] {
+            let mut summer = Summer::new(rt.alloc())?;
+            assert_eq!(rt; feed_in_pieces(&mut summer, one, length), Ok(()));
+            assert_eq!(rt; feed_in_pieces(&mut summer, other, length), Ok(()));
+            let mut sink = MemSink::new(rt.alloc(), 1000)?;
+            assert_eq!(rt; summer.write_sum(&mut sink), Ok(()));
+            assert_eq!(rt; sink.bytes(), printed);
+        }
     }
     Ok(())
 }
@@ -56,7 +67,7 @@ fn no_log_and_an_empty_log_have_no_sum(rt: HostRuntime) -> Result<(), Fail> {
 #[test]
 fn first_fault_is_answered(rt: HostRuntime) -> Result<(), Fail> {
     let four_lines = 16 + 21 + 26 + 26;
-    let rows: [(&[u8], Result<(), SumError>); 13] = [
+    let rows: [(&[u8], Result<(), SumError>); 15] = [
         (&A_LOG[..14], Ok(())),
         (&A_LOG[..15], fault(2, LogKind::Truncated)),
         (&A_LOG[..35], fault(2, LogKind::BadState)),
@@ -91,6 +102,14 @@ fn first_fault_is_answered(rt: HostRuntime) -> Result<(), Fail> {
             b"Test T Required\nHistogram (0 states)\nOk\nCondition  forall\t(x=1)  is validated\nHash=1\nHash=2\nObservation",
             fault(6, LogKind::HashDiffers),
         ),
+        (
+            b"Test T Allowed\nHistogram (0 states)\nNo\nCondition exists (x=1) is NOT validated\nCondition exists (x=2) is NOT validated\n",
+            fault(5, LogKind::ConditionDiffers),
+        ),
+        (
+            b"Test T Allowed\nHistogram (0 states)\nNo\nCondition exists (x=1) is NOT validated\nObservation T\nTest T Forbidden\n",
+            fault(6, LogKind::KindDiffers),
+        ),
     ];
     for (log, wanted) in rows {
         for length in [1, 7, 4096] {
@@ -100,57 +119,63 @@ fn first_fault_is_answered(rt: HostRuntime) -> Result<(), Fail> {
     Ok(())
 }
 
-/// From each length up to the next row's, the answer to the first log cut there.
-const CUTS: [(usize, Option<(u64, LogKind)>); 36] = [
-    (0, None),
-    (15, Some((2, LogKind::Truncated))),
-    (17, Some((2, LogKind::BadState))),
-    (36, Some((3, LogKind::Truncated))),
-    (38, Some((3, LogKind::BadState))),
-    (45, Some((4, LogKind::Truncated))),
-    (46, Some((3, LogKind::BadState))),
-    (53, Some((4, LogKind::Truncated))),
-    (55, Some((3, LogKind::BadState))),
-    (62, Some((4, LogKind::Truncated))),
-    (64, Some((4, LogKind::BadState))),
-    (71, Some((5, LogKind::Truncated))),
-    (72, Some((4, LogKind::BadState))),
-    (79, Some((5, LogKind::Truncated))),
-    (81, Some((4, LogKind::BadState))),
-    (88, Some((5, LogKind::Truncated))),
-    (90, Some((5, LogKind::BadState))),
-    (97, Some((6, LogKind::Truncated))),
-    (98, Some((5, LogKind::BadState))),
-    (105, Some((6, LogKind::Truncated))),
-    (107, Some((5, LogKind::BadState))),
-    (114, Some((6, LogKind::Truncated))),
-    (116, Some((6, LogKind::BadState))),
-    (123, Some((7, LogKind::Truncated))),
-    (124, Some((6, LogKind::BadState))),
-    (131, Some((7, LogKind::Truncated))),
-    (133, Some((6, LogKind::BadState))),
-    (140, Some((7, LogKind::Truncated))),
-    (142, Some((7, LogKind::BadState))),
-    (143, Some((8, LogKind::Truncated))),
-    (145, Some((9, LogKind::Truncated))),
-    (146, Some((10, LogKind::Truncated))),
-    (156, Some((11, LogKind::Truncated))),
-    (187, Some((12, LogKind::Truncated))),
-    (238, Some((13, LogKind::Truncated))),
-    (248, None),
-];
+/// What a reading of the first log waits for.
+#[derive(Clone, Copy)]
+enum Awaits {
+    Test,
+    Histogram,
+    States(u64),
+    Judgement,
+    Condition,
+    Observation,
+}
+
+/// Whether a line of a state is whole.
+fn is_state(line: &str) -> bool {
+    match line.split_once('>') {
+        Some((_, equalities)) => equalities.is_empty() || equalities.trim_end().ends_with(';'),
+        None => false,
+    }
+}
+
+/// What a reading waits for behind a line, unless the line is wrong.
+fn behind(awaits: Awaits, line: &str) -> Option<Awaits> {
+    match awaits {
+        Awaits::Test if line == "Test SB Allowed" => Some(Awaits::Histogram),
+        Awaits::Histogram if line == "Histogram (4 states)" => Some(Awaits::States(4)),
+        Awaits::States(1) if is_state(line) => Some(Awaits::Judgement),
+        Awaits::States(left) if is_state(line) => Some(Awaits::States(left.saturating_sub(1))),
+        Awaits::Judgement if line == "Ok" => Some(Awaits::Condition),
+        Awaits::Condition if line.ends_with(" is validated") => Some(Awaits::Observation),
+        Awaits::Observation if line.starts_with("Observation") => Some(Awaits::Test),
+        Awaits::Test | Awaits::Condition | Awaits::Observation => Some(awaits),
+        _ => None,
+    }
+}
+
+/// The answer to a front of the first log, by a slow reading that knows only the lines that stand there.
+fn slow_answer(front: &str) -> Result<(), SumError> {
+    let mut awaits = Awaits::Test;
+    let mut number: u64 = 1;
+    for line in front.lines() {
+        match behind(awaits, line) {
+            Some(next) => awaits = next,
+            None => return fault(number, LogKind::BadState),
+        }
+        number = number.saturating_add(1);
+    }
+    match awaits {
+        Awaits::Test => Ok(()),
+        _ => fault(number, LogKind::Truncated),
+    }
+}
 
 #[test]
 fn log_cut_anywhere_has_its_answer(rt: HostRuntime) -> Result<(), Fail> {
-    let mut wanted = Ok(());
     for length in 0..=A_LOG.len() {
-        if let Some((_, cut)) = CUTS.iter().find(|cut| cut.0 == length) {
-            wanted = match cut {
-                Some((line, kind)) => fault(*line, *kind),
-                None => Ok(()),
-            };
-        }
-        assert_eq!(rt; answer(rt.alloc(), &A_LOG[..length], 4096)?, wanted);
+        let front = &A_LOG[..length];
+        let wanted = slow_answer(str::from_utf8(front)?);
+        assert_eq!(rt; answer(rt.alloc(), front, 4096)?, wanted);
     }
     Ok(())
 }
@@ -165,5 +190,10 @@ fn a_long_line_is_refused_for_ever(rt: HostRuntime) -> Result<(), Fail> {
     assert_eq!(rt; summer.feed(b"x"), fault(2, LogKind::LineTooLong));
     assert_eq!(rt; summer.feed(b""), fault(2, LogKind::LineTooLong));
     assert_eq!(rt; summer.end_file(), fault(2, LogKind::LineTooLong));
+    for (length, wanted) in [(65_536, Ok(())), (65_537, fault(1, LogKind::LineTooLong))] {
+        let mut line = vec![in rt.alloc(); b'x'; length]?;
+        line.push(b'\n')?;
+        assert_eq!(rt; answer(rt.alloc(), line.as_slice(), 70_000)?, wanted);
+    }
     Ok(())
 }

@@ -1,5 +1,5 @@
 use crate::ran::{empty_shelf, source_of, with_devices, words_of};
-use diy_io::MemShelf;
+use diy_io::{MemShelf, MemSource};
 use std::test::Fail;
 
 const A_LOG: &str =
@@ -56,10 +56,16 @@ fn logs_are_summed(rt: HostRuntime) -> Result<(), Fail> {
     Ok(())
 }
 
-/// A shelf whose call k fails, for each k: open, read, read at the end and finish, of two logs.
+/// A shelf whose call k fails, for each k: open, read, read at the end and finish, of two logs. There
+/// is no ninth call, so the sum is written where that one is to fail.
 #[test]
 fn each_fault_of_the_shelf_is_told(rt: HostRuntime) -> Result<(), Fail> {
-    for call in 0..8 {
+    for call in 0..9 {
+        let (exit, out, err) = if call < 8 {
+            (3, "", "diy: read fault: shelf\n")
+        } else {
+            (0, SUM, "")
+        };
         let alloc = rt.alloc();
         let words = words_of(alloc, "msum7 a.log b.log")?;
         let mut input = source_of(alloc, b"", 1)?;
@@ -67,13 +73,36 @@ fn each_fault_of_the_shelf_is_told(rt: HostRuntime) -> Result<(), Fail> {
         shelf.put("a.log", A_LOG.as_bytes())?;
         shelf.put("b.log", B_LOG.as_bytes())?;
         let ran = with_devices(alloc, &words, &mut input, &mut shelf, 4096)?;
-        assert_eq!(rt; ran.out.bytes(), b"".as_slice(), "{call}");
-        assert_eq!(rt;
-            ran.err.bytes(),
-            b"diy: read fault: shelf\n".as_slice(),
-            "{call}"
-        );
-        assert_eq!(rt; ran.status.exit(), 3, "{call}");
+        assert_eq!(rt; ran.out.bytes(), out.as_bytes(), "{call}");
+        assert_eq!(rt; ran.err.bytes(), err.as_bytes(), "{call}");
+        assert_eq!(rt; ran.status.exit(), exit, "{call}");
+    }
+    Ok(())
+}
+
+/// The call of the input that is to fail and the room of `out`; the exit status, how many bytes of the
+/// sum stand in `out`, and what is written to `err`. The input gives the log in three calls, and its
+/// end in the fourth.
+const FAULTS: [(u64, usize, u8, usize, &str); 4] = [
+    (0, 4096, 3, 0, "diy: read fault: input\n"),
+    (3, 4096, 3, 0, "diy: read fault: input\n"),
+    (4, 4096, 0, 273, ""),
+    (4, 100, 3, 100, "diy: write fault: out\n"),
+];
+
+#[test]
+fn faults_of_the_input_and_the_output_are_told(rt: HostRuntime) -> Result<(), Fail> {
+    let sum = A_SUM.as_bytes();
+    for (call, room, exit, len, err) in FAULTS {
+        let alloc = rt.alloc();
+        let words = words_of(alloc, "msum7")?;
+        let log = Vec::from_slice(alloc, A_LOG.as_bytes())?;
+        let mut input = MemSource::new(log, 100, vec![in alloc; call]?);
+        let mut shelf = empty_shelf(alloc, 0)?;
+        let ran = with_devices(alloc, &words, &mut input, &mut shelf, room)?;
+        assert_eq!(rt; ran.out.bytes(), &sum[..len.min(sum.len())], "{err}");
+        assert_eq!(rt; ran.err.bytes(), err.as_bytes(), "{err}");
+        assert_eq!(rt; ran.status.exit(), exit, "{err}");
     }
     Ok(())
 }
