@@ -1,13 +1,13 @@
 ghost use Rattle.std.specs.Prelude.{◌≡◌};
-ghost use Rattle.diy_io.specs.Shelf.{Idle};
+ghost use Rattle.diy_io.specs.Shelf.{Idle, IsReading};
 
 use crate::{
-    Failed, MemShelf, MemSink, MemSource, OpenError, Shelf, Sink, Source, StdSink, StdSource,
-    SureSource, TallySink, Words, write_pieces,
+    DirShelf, Failed, MemShelf, MemSink, MemSource, OpenError, Shelf, Sink, Source, StdSink,
+    StdSource, SureSource, TallySink, Words, write_pieces,
 };
-use std::io;
 use std::io::{ErrorKind, Write};
 use std::test::Fail;
+use std::{fs, io};
 
 // A writer that takes three bytes a call, fails at call 2 and takes nothing at call 4.
 #[derive(Drop)]
@@ -115,9 +115,9 @@ fn other_sources_give_all_bytes(rt: HostRuntime) -> Result<(), Fail> {
 }
 
 // Makes a file of these bytes.
-fn store(shelf: &mut MemShelf, name: &str, bytes: &[u8]) -> Result<(), Failed>
-    requires { shelf.old.mode ≡ Idle }
-    ensures { shelf.new.mode ≡ Idle }
+fn store<S: Shelf>(shelf: &mut S, name: &str, bytes: &[u8]) -> Result<(), Failed>
+    requires { (S.seen shelf.old).mode ≡ Idle }
+    ensures { (S.seen shelf.new).mode ≡ Idle }
 {
     shelf.create(name)?;
     shelf.append(bytes)?;
@@ -150,5 +150,73 @@ fn memory_shelf_keeps_files_until_it_fails(rt: HostRuntime) -> Result<(), Fail> 
     let mut buf = *b"...";
     assert_eq!(rt; load(&mut shelf, "old", &mut buf), Ok(2));
     assert_eq!(rt; buf.as_slice(), b"xy.".as_slice());
+    Ok(())
+}
+
+// Makes a file of two parts.
+fn store_parts<S: Shelf>(
+    shelf: &mut S,
+    name: &str,
+    first: &[u8],
+    second: &[u8],
+) -> Result<(), Failed>
+    requires { (S.seen shelf.old).mode ≡ Idle }
+    ensures { (S.seen shelf.new).mode ≡ Idle }
+{
+    shelf.create(name)?;
+    shelf.append(first)?;
+    shelf.append(second)?;
+    shelf.finish()
+}
+
+// Reads a file in pieces of at most two bytes, and gives their lengths.
+fn load_pieces<S: Shelf>(
+    shelf: &mut S,
+    name: &str,
+    buf: &mut [u8; 8],
+) -> Result<[usize; 4], OpenError>
+    requires { (S.seen shelf.old).mode ≡ Idle }
+    ensures { (S.seen shelf.new).mode ≡ Idle }
+{
+    shelf.open_file(name)?;
+    match load_four(shelf, buf) {
+        Ok(lens) => Ok(lens),
+        Err(Failed) => Err(OpenError::Failed),
+    }
+}
+
+fn load_four<S: Shelf>(shelf: &mut S, buf: &mut [u8; 8]) -> Result<[usize; 4], Failed>
+    requires { IsReading (S.seen shelf.old).mode }
+    ensures { (S.seen shelf.new).mode ≡ Idle }
+{
+    let first = shelf.read(&mut buf[..2])?;
+    let second = shelf.read(&mut buf[2..4])?;
+    let third = shelf.read(&mut buf[4..6])?;
+    let last = shelf.read(&mut buf[6..])?;
+    shelf.finish()?;
+    Ok([first, second, third, last])
+}
+
+#[test]
+fn folder_shelf_keeps_files(rt: HostRuntime) -> Result<(), Fail> {
+    let _ = fs::remove_dir_all(&rt, "dir_shelf_test");
+    fs::create_dir(&rt, "dir_shelf_test")?;
+    let mut shelf = DirShelf::new(rt.alloc(), &rt);
+    let mut buf = *b"........";
+    assert!(rt; load_pieces(&mut shelf, "dir_shelf_test/a", &mut buf) == Err(OpenError::Missing));
+    assert_eq!(rt;
+        store(&mut shelf, "dir_shelf_test/none/a", b"abc"),
+        Err(Failed)
+    );
+    assert_eq!(rt;
+        store_parts(&mut shelf, "dir_shelf_test/a", b"abc", b"de"),
+        Ok(())
+    );
+    assert!(rt; load_pieces(&mut shelf, "dir_shelf_test/a", &mut buf) == Ok([2, 2, 1, 0]));
+    assert_eq!(rt; buf.as_slice(), b"abcde...".as_slice());
+    assert_eq!(rt; store(&mut shelf, "dir_shelf_test/a", b""), Ok(()));
+    assert!(rt; load_pieces(&mut shelf, "dir_shelf_test/a", &mut buf) == Ok([0, 0, 0, 0]));
+    assert_eq!(rt; buf.as_slice(), b"abcde...".as_slice());
+    fs::remove_dir_all(&rt, "dir_shelf_test")?;
     Ok(())
 }

@@ -1,5 +1,6 @@
 -- A cycle that isn't refused has a test.
-use Rattle.std.proofs.Common.{◌≡◌, ℕ, not, List, Option, Some, None, Result, Ok, Err, refl, sym, subst}
+use Rattle.std.proofs.Common.{◌≡◌, ℕ, not, List, Option, Some, None, Result, Ok, Err, refl, sym, ap, ◌∙◌, subst}
+use Rattle.std.specs.Prelude.{OnOk}
 use Rattle.std.specs.List.{position_from}
 use Rattle.std.specs.Option.{option_map}
 use Rattle.walk_laws.specs.Composable.{IsCycle}
@@ -17,11 +18,11 @@ use Rattle.coherence_values.proofs.Entries.{avoid_allowed}
 use Rattle.arch_trait.specs.Threads.{Puts}
 use Rattle.test_laws.specs.Headline.{HasTest}
 use Rattle.test_laws.specs.Steps.{cycle_steps}
-use Rattle.test_laws.specs.TestOf.{plain}
+use Rattle.test_laws.specs.TestOf.{TestSeen, plain}
 use Rattle.test_laws.proofs.Headline.{room_left}
 use Rattle.test_maker.specs.declared.refusal.MakeRefusal.{MakeRefusal}
 use Rattle.test_maker.specs.declared.refusal.MakeRefusal.TheVariants as refusals
-use Rattle.test_maker.specs.Made.{AreOfArch}
+use Rattle.test_maker.specs.Made.{AreOfArch, MakesOfArch}
 use Rattle.test_maker.specs.Refusals.{or_else, foreign_edge, unobserved_need, crowded_thread, resolved_refusal, refusal_of}
 use Rattle.test_maker.proofs.OfArch.{none_foreign, resolved_turned, turned_of_arch}
 use Rattle.test_maker.proofs.Printing.{uncrowded}
@@ -63,3 +64,12 @@ accepted_has_test a cycle mode is_cycle h =
           valued = served es mode parts.0;
           room = λ thread steps got. room_left a (cycle_steps es mode plain) thread steps (uncrowded a es mode parts.1) got;
         })
+
+-- where all edges are of the architecture, a cycle that a call made the test of has a test
+pub made_has_test : (a : Puts) (register_name : ℕ → List ℕ) (cycle : List Edge) (mode : ObsMode) (test : TestSeen) (result : Result (Unit {0}) MakeRefusal) →
+    IsCycle cycle → position_from (λ e. not (is_of_arch e a.name)) 0 cycle ≡ None → MakesOfArch a register_name cycle mode test result →
+    OnOk result (HasTest a (turned cycle) mode)
+made_has_test a register_name cycle mode test (Ok _) is_cycle none made =
+    accepted_has_test a cycle mode is_cycle
+    (ap (λ found. or_else (option_map (λ at. refusals.NotOfArch at) found) (resolved_refusal a (resolution_of cycle) mode)) none ∙ made.0)
+made_has_test a register_name cycle mode test (Err refusal) is_cycle none made = tt

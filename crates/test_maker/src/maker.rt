@@ -1,9 +1,10 @@
-ghost use Rattle.std.specs.Prelude.{◌≡◌, ◌≤◌, not, length, IfErr};
+ghost use Rattle.std.specs.Prelude.{◌≡◌, ◌≤◌, not, length, IfErr, IfOk, OnOk};
 ghost use Rattle.std.specs.List.{position_from};
 ghost use Rattle.relax_edges.specs.EdgeTable.{is_of_arch};
 ghost use Rattle.cycle_resolve.specs.Resolution.{turned};
 ghost use Rattle.arch_trait.specs.Names.{number_in};
 ghost use Rattle.arch_trait.specs.Writing.{name_in};
+ghost use Rattle.test_laws.specs.Headline.{HasTest};
 ghost use Rattle.test_maker.specs.Made.{Makes, MakesOfArch, MakesResolved, MakesTest, MakesValued, AreOfArch, MadeCanPrint, MadeForces, TestCanPrint, TestForces, NamesLocation, test_view};
 
 use crate::condition::put_last_terms;
@@ -17,10 +18,12 @@ use edge_algebra::Cycle;
 use litmus_text::Test;
 use relax_edges::{Edge, MAX_EDGES, ObsMode};
 
-/// The test of the cycle, or the first reason why it has none.
+/// The test of the cycle, or the first reason why it has none. A cycle whose test is made has what
+/// the law of reading back asks of it, so that the printed text of the test is read as the test.
 pub fn make<A: Arch>(cycle: &Cycle, mode: ObsMode) -> Result<Test, MakeRefusal>
     ensures made { MakesTest A.puts (name_in A.writing.registers) cycle.now mode result }
     ensures printable { TestCanPrint A.puts A.REGISTERS result }
+    ensures has_test { IfOk result (λ _. HasTest A.puts (turned cycle.now) mode) }
     ensures forces { TestForces (number_in A.writing.registers) (turned cycle.now) mode result }
     ensures located { IfErr result NamesLocation }
 {
@@ -35,6 +38,7 @@ pub fn make<A: Arch>(cycle: &Cycle, mode: ObsMode) -> Result<Test, MakeRefusal>
 pub fn make_into<A: Arch>(cycle: &Cycle, mode: ObsMode, test: &mut Test) -> Result<(), MakeRefusal>
     ensures made { Makes A.puts (name_in A.writing.registers) cycle.now mode (test_view test.new) result }
     ensures printable { MadeCanPrint A.puts A.REGISTERS test.new result }
+    ensures has_test { OnOk result (HasTest A.puts (turned cycle.now) mode) }
     ensures forces { MadeForces (number_in A.writing.registers) (turned cycle.now) mode test.new result }
     ensures located { IfErr result NamesLocation }
 {
