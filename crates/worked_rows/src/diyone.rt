@@ -1,6 +1,7 @@
 use crate::ran::{empty_shelf, ran, ran_on, source_of, words_of};
-use diy_io::{MemSink, Words};
+use diy_io::{MemSink, NoMemory, Words};
 use diy_tools::run;
+use std::alloc::Global;
 use std::test::Fail;
 
 /// Message passing on Power, as it is printed.
@@ -112,7 +113,11 @@ pub const TESTS: [(&str, &str); 25] = [
 ];
 
 /// Words that are refused or make no request, with the exit status and the line on `err`.
-const REFUSED: [(&str, u8, &str); 36] = [
+///
+/// The last but one names nine edges in one bracket. The last names 65 relaxations: a fence stands
+/// for four with `**`, there are eight fences but for those of RISC-V, each with `s` and with `d`,
+/// and `Fre` is one more.
+const REFUSED: [(&str, u8, &str); 38] = [
     (
         "diyone7 -arch X86 -name W3O -obs avoid PodWW Wse Wse PodWR Fre",
         1,
@@ -124,22 +129,22 @@ const REFUSED: [(&str, u8, &str); 36] = [
         "diy: refused TooManyRegisters 7\n",
     ),
     (
-        "diyone7 -arch X86 -name A Rfe PosRR Fre",
+        "diyone7 -arch X86 Rfe PosRR Fre",
         1,
         "diy: refused CoherenceOnly\n",
     ),
     (
-        "diyone7 -arch X86 -name A PodWR Rfe",
+        "diyone7 -arch X86 PodWR Rfe",
         1,
         "diy: refused DoesNotCompose 0\n",
     ),
     (
-        "diyone7 -arch X86 -name A PodWR Fre",
+        "diyone7 -arch X86 PodWR Fre",
         1,
         "diy: refused TooFewThreads\n",
     ),
     (
-        "diyone7 -arch X86 -name A LwSyncdWW Rfe PodRR Fre",
+        "diyone7 -arch X86 LwSyncdWW Rfe PodRR Fre",
         1,
         "diy: refused NotOfArch 0\n",
     ),
@@ -149,16 +154,16 @@ const REFUSED: [(&str, u8, &str); 36] = [
         "diy: refused NotOfArch 1\n",
     ),
     (
-        "diyone7 -arch X86 -name A PodWW Rfe PodRR PodRR PodRR PodRR PodRR PodRR Fre",
+        "diyone7 -arch X86 -name L PodWW Rfe PodRR PodRR PodRR PodRR PodRR PodRR Fre",
         1,
         "diy: refused TooManyRegisters 1\n",
     ),
     (
-        "diyone7 -arch X86 -name A PodWR Fre PodWR Fre PodWR Fre PodWR Fre PodWR Fre PodWR Fre PodWR Fre PodWR Fre PodWR Fre PodWR Fre PodWR Fre PodWR Fre PodWR",
+        "diyone7 -arch X86 -name B PodWR Fre PodWR Fre PodWR Fre PodWR Fre PodWR Fre PodWR Fre PodWR Fre PodWR Fre PodWR Fre PodWR Fre PodWR Fre PodWR Fre PodWR",
         1,
         "diy: refused TooLong\n",
     ),
-    ("diyone7 -arch X86 -name A", 1, "diy: refused Empty\n"),
+    ("diyone7 -arch X86 -name B", 1, "diy: refused Empty\n"),
     (
         "diyone7 -arch ARM PodWR",
         2,
@@ -249,6 +254,16 @@ const REFUSED: [(&str, u8, &str); 36] = [
         2,
         "diy: usage UnknownOption: -name\n",
     ),
+    (
+        "diy7 -arch X86 -edges [PodWW,Rfe,PodRR,Fre,PodWW,Rfe,PodRR,Fre,PodWW]",
+        2,
+        "diy: usage RelaxTooLong: [PodWW,Rfe,PodRR,Fre,PodWW,Rfe,PodRR,Fre,PodWW]\n",
+    ),
+    (
+        "diy7 -arch X86 -edges MFences**,MFenced**,Syncs**,Syncd**,LwSyncs**,LwSyncd**,Eieios**,Eieiod**,ISyncs**,ISyncd**,DMB.SYs**,DMB.SYd**,DMB.LDs**,DMB.LDd**,DMB.STs**,DMB.STd**,Fre",
+        2,
+        "diy: usage TooManyRelaxes: MFences**,MFenced**,Syncs**,Syncd**,LwSyncs**,LwSyncd**,Eieios**,Eieiod**,ISyncs**,ISyncd**,DMB.SYs**,DMB.SYd**,DMB.LDs**,DMB.LDd**,DMB.STs**,DMB.STd**,Fre\n",
+    ),
 ];
 
 #[test]
@@ -334,25 +349,48 @@ fn each_room_takes_a_front(rt: HostRuntime) -> Result<(), Fail> {
     Ok(())
 }
 
+/// Calls `run` with an `err` of no room: the exit status, and how much `err` holds.
+fn ran_untold(alloc: Global, line: &str, room: usize) -> Result<(u8, usize), NoMemory> {
+    let mut out = MemSink::new(alloc, room)?;
+    let mut err = MemSink::new(alloc, 0)?;
+    let words = words_of(alloc, line)?;
+    let mut input = source_of(alloc, b"", 1)?;
+    let mut shelf = empty_shelf(alloc, 0)?;
+    let status = run(alloc, &words, &mut input, &mut out, &mut err, &mut shelf);
+    Ok((status.exit(), err.bytes().len()))
+}
+
 /// The status doesn't depend on `err`.
 #[test]
 fn an_err_without_room_changes_no_status(rt: HostRuntime) -> Result<(), Fail> {
     for (line, exit, _) in REFUSED {
-        let mut out = MemSink::new(rt.alloc(), 4096)?;
-        let mut err = MemSink::new(rt.alloc(), 0)?;
-        let words = words_of(rt.alloc(), line)?;
-        let mut input = source_of(rt.alloc(), b"", 1)?;
-        let mut shelf = empty_shelf(rt.alloc(), 0)?;
-        let status = run(
-            rt.alloc(),
-            &words,
-            &mut input,
-            &mut out,
-            &mut err,
-            &mut shelf,
-        );
-        assert_eq!(rt; status.exit(), exit, "{line}");
-        assert_eq!(rt; err.bytes(), b"".as_slice(), "{line}");
+        assert_eq!(rt; ran_untold(rt.alloc(), line, 4096)?, (exit, 0), "{line}");
+    }
+    let (line, _) = TESTS[0];
+    assert_eq!(rt; ran_untold(rt.alloc(), line, 20)?, (3, 0));
+    assert_eq!(rt; ran_untold(rt.alloc(), line, 4096)?, (0, 0));
+    Ok(())
+}
+
+/// A folder's name has 1 to 1,024 bytes; the last one is such, and then the relaxations are missing.
+#[test]
+fn a_folder_has_a_short_name(rt: HostRuntime) -> Result<(), Fail> {
+    for (len, is_bad) in [(0, true), (1025, true), (1024, false)] {
+        let alloc = rt.alloc();
+        let mut folder = String::new(alloc);
+        for _ in 0..len {
+            folder.push_str("f")?;
+        }
+        let mut words = words_of(alloc, "diy7 -arch X86 -o")?;
+        words.push(folder.as_str())?;
+        let ran = ran_on(alloc, &words, 4096)?;
+        let line = if is_bad {
+            format!(in alloc; "diy: usage BadFolder: {folder}\n")?
+        } else {
+            format!(in alloc; "diy: usage MissingEdges\n")?
+        };
+        assert_eq!(rt; ran.status.exit(), 2, "{len}");
+        assert_eq!(rt; ran.err.bytes(), line.as_bytes(), "{len}");
     }
     Ok(())
 }

@@ -1,5 +1,5 @@
 use crate::ran::{empty_shelf, ran, source_of, with_devices, words_of};
-use diy_io::{MemSource, NoMemory};
+use diy_io::{MemSource, NoMemory, Source};
 use std::alloc::Global;
 use std::test::Fail;
 
@@ -124,6 +124,22 @@ fn a_full_sink_ends_the_lines(rt: HostRuntime) -> Result<(), Fail> {
     assert_eq!(rt; ran.out.bytes(), &FIVE_NAMED.as_bytes()[..50]);
     assert_eq!(rt; ran.err.bytes(), b"diy: write fault: out\n".as_slice());
     assert_eq!(rt; ran.status.exit(), 3);
+    Ok(())
+}
+
+/// The output line of a line is written before more of the input is read than its line feed.
+#[test]
+fn a_line_is_written_before_the_next_is_read(rt: HostRuntime) -> Result<(), Fail> {
+    let words = words_of(rt.alloc(), "norm7 -arch PPC")?;
+    let mut input = source_of(rt.alloc(), FIVE_LINES.as_bytes(), 1)?;
+    let mut shelf = empty_shelf(rt.alloc(), 0)?;
+    let ran = with_devices(rt.alloc(), &words, &mut input, &mut shelf, 0)?;
+    assert_eq!(rt; ran.out.bytes(), b"".as_slice());
+    assert_eq!(rt; ran.err.bytes(), b"diy: write fault: out\n".as_slice());
+    assert_eq!(rt; ran.status.exit(), 3);
+    let mut byte = *b".";
+    assert_eq!(rt; input.read(&mut byte), Ok(1));
+    assert_eq!(rt; byte.as_slice(), b"a".as_slice());
     Ok(())
 }
 

@@ -55,7 +55,9 @@ fn listed_cycles_have_their_files(rt: HostRuntime) -> Result<(), Fail> {
         let alloc = rt.alloc();
         let words = words_of(alloc, line)?;
         let mut input = source_of(alloc, b"", 1)?;
-        let mut shelf = empty_shelf(alloc, 65_536)?;
+        // There is room for so many files, and for no other.
+        let files = all.lines().count().saturating_add(1);
+        let mut shelf = MemShelf::new(alloc, files, 65_536, Vec::new(alloc))?;
         let ran = with_devices(alloc, &words, &mut input, &mut shelf, 4096)?;
         assert_eq!(rt; ran.status.exit(), 0, "{line}");
         assert_eq!(rt; ran.out.bytes(), text.as_bytes(), "{line}");
@@ -65,6 +67,9 @@ fn listed_cycles_have_their_files(rt: HostRuntime) -> Result<(), Fail> {
             all.as_bytes(),
             "{line}"
         );
+        if all.is_empty() {
+            assert!(rt; shelf.get("SB.litmus").is_none(), "{line}");
+        }
         for name in all.lines() {
             let path = format!(in alloc; "{folder}{name}")?;
             assert!(rt; shelf.get(path.as_str()).is_some(), "{name}");
@@ -73,19 +78,36 @@ fn listed_cycles_have_their_files(rt: HostRuntime) -> Result<(), Fail> {
     Ok(())
 }
 
-/// What a listing of store buffering alone leaves on a shelf of some room: the exit status, and what
-/// `SB.litmus` and `@all` hold, if they are there.
-const ROOMS: [(usize, usize, u8, usize, Option<&str>, &str); 5] = [
-    (0, 100, 3, 0, None, "diy: write fault: shelf\n"),
-    (100, 100, 3, 100, None, "diy: write fault: shelf\n"),
-    (150, 100, 3, 148, Some("SB"), "diy: write fault: shelf\n"),
-    (158, 100, 0, 148, Some("SB.litmus\n"), ""),
+/// What a listing of store buffering alone leaves on a shelf of some room and a sink of some room:
+/// the exit status, what `SB.litmus` and `@all` hold, if they are there, and what `out` and `err` do.
+const ROOMS: [(usize, usize, u8, usize, Option<&str>, &str, &str); 5] = [
+    (0, 100, 3, 0, None, "", "diy: write fault: shelf\n"),
+    (100, 100, 3, 100, None, "", "diy: write fault: shelf\n"),
+    (
+        150,
+        100,
+        3,
+        148,
+        Some("SB"),
+        "",
+        "diy: write fault: shelf\n",
+    ),
+    (
+        158,
+        100,
+        0,
+        148,
+        Some("SB.litmus\n"),
+        "Generator produced 1 tests\n",
+        "",
+    ),
     (
         158,
         9,
         3,
         148,
         Some("SB.litmus\n"),
+        "Generator",
         "diy: write fault: out\n",
     ),
 ];
@@ -93,13 +115,14 @@ const ROOMS: [(usize, usize, u8, usize, Option<&str>, &str); 5] = [
 #[test]
 fn a_full_shelf_ends_the_listing(rt: HostRuntime) -> Result<(), Fail> {
     let text = TESTS[0].1.as_bytes();
-    for (room, out_room, exit, len, all, line) in ROOMS {
+    for (room, out_room, exit, len, all, out, line) in ROOMS {
         let alloc = rt.alloc();
         let words = words_of(alloc, "diy7 -arch X86 -edges PodWR,Fre -size 4")?;
         let mut input = source_of(alloc, b"", 1)?;
         let mut shelf = empty_shelf(alloc, room)?;
         let ran = with_devices(alloc, &words, &mut input, &mut shelf, out_room)?;
         assert_eq!(rt; ran.status.exit(), exit, "{room}");
+        assert_eq!(rt; ran.out.bytes(), out.as_bytes(), "{room}");
         assert_eq!(rt; ran.err.bytes(), line.as_bytes(), "{room}");
         assert_eq!(rt;
             shelf.get("SB.litmus").ok_or("no test")?,
@@ -111,19 +134,43 @@ fn a_full_shelf_ends_the_listing(rt: HostRuntime) -> Result<(), Fail> {
     Ok(())
 }
 
+/// The calls of the shelf, each of which fails once, with how much of `SB.litmus` is there then, and
+/// what `@all` holds: each file is begun, written and closed. An append that fails has written the
+/// first half, rounded down. The listing makes no call 6, and is done.
+const FAULTS: [(u64, u8, Option<usize>, Option<&str>, &str); 7] = [
+    (0, 3, None, None, ""),
+    (1, 3, Some(74), None, ""),
+    (2, 3, Some(148), None, ""),
+    (3, 3, Some(148), None, ""),
+    (4, 3, Some(148), Some("SB.li"), ""),
+    (5, 3, Some(148), Some("SB.litmus\n"), ""),
+    (
+        6,
+        0,
+        Some(148),
+        Some("SB.litmus\n"),
+        "Generator produced 1 tests\n",
+    ),
+];
+
 /// A shelf whose call k fails, for each k, until the listing is done: `@all` is there only behind the test.
 #[test]
 fn each_fault_of_the_shelf_is_told(rt: HostRuntime) -> Result<(), Fail> {
-    for call in 0..6 {
+    let text = TESTS[0].1.as_bytes();
+    for (call, exit, len, all, out) in FAULTS {
         let alloc = rt.alloc();
         let words = words_of(alloc, "diy7 -arch X86 -edges PodWR,Fre -size 4")?;
         let mut input = source_of(alloc, b"", 1)?;
         let mut shelf = MemShelf::new(alloc, 64, 4096, vec![in alloc; call]?)?;
         let ran = with_devices(alloc, &words, &mut input, &mut shelf, 100)?;
-        assert_eq!(rt; ran.status.exit(), 3, "{call}");
-        assert_eq!(rt; ran.out.bytes(), b"".as_slice(), "{call}");
-        assert_eq!(rt; shelf.get("SB.litmus").is_some(), call >= 1, "{call}");
-        assert_eq!(rt; shelf.get("@all").is_some(), call >= 4, "{call}");
+        let test = match len {
+            Some(len) => Some(&text[..len.min(text.len())]),
+            None => None,
+        };
+        assert_eq!(rt; ran.status.exit(), exit, "{call}");
+        assert_eq!(rt; ran.out.bytes(), out.as_bytes(), "{call}");
+        assert_eq!(rt; shelf.get("SB.litmus"), test, "{call}");
+        assert_eq!(rt; shelf.get("@all"), all.map(|all| all.as_bytes()), "{call}");
     }
     Ok(())
 }
