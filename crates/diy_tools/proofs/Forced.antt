@@ -187,16 +187,16 @@ answers_force words status old new h = of_asked (asked_of words) refl h
         record {
           prints = subst (λ (refused : Option Refusal). AnswersEdges refused (asked_text asked) status old.out new.out) none h;
           forces =
-            text_forces asked.arch asked.mode (test_name asked.name asked.edges) asked.edges
-            (test_named_so asked.name asked.edges whole.is_cycle (asked_form words (AsksTest asked) e)) whole.is_cycle whole.unrefused;
+              text_forces asked.arch asked.mode (test_name asked.name asked.edges) asked.edges
+              (test_named_so asked.name asked.edges whole.is_cycle (asked_form words (AsksTest asked) e)) whole.is_cycle whole.unrefused;
         }
 
     of_list : (asked : ListAsked) → AnswersList asked status old.shelf new.shelf old.out new.out → HeadlineAsked (Ok (AsksList asked)) status old new
     of_list asked h = record {
       lists = h;
       forces = λ cycle planned.
-        text_forces asked.arch asked.mode (name_of cycle) cycle (cycle_named_so cycle planned.cycle) planned.cycle
-        (wanted_unrefused (machine_of asked.arch).puts asked.mode asked.threads cycle planned.taken);
+          text_forces asked.arch asked.mode (name_of cycle) cycle (cycle_named_so cycle planned.cycle) planned.cycle
+          (wanted_unrefused (machine_of asked.arch).puts asked.mode asked.threads cycle planned.taken);
     }
 
     of_asked : (asked : Result Asked Usage) → asked_of words ≡ asked → AnswersAsked words asked status old new → HeadlineAsked asked status old new
