@@ -34,7 +34,6 @@ use Rattle.arch_riscv.specs.Laws as riscv_laws
 use Rattle.arch_riscv.specs.ReadsBack as riscv_back
 use Rattle.litmus_text.specs.Printable as printable
 use Rattle.litmus_text.specs.Printable.{IsTestName}
-use Rattle.diy_io.specs.Wrote.{SinkSeen}
 use Rattle.litmus_text.proofs.CutBack.{weaker}
 use Rattle.diy_words.specs.declared.usage.Usage.{Usage}
 use Rattle.diy_words.specs.Names.{is_name, is_name_byte}
@@ -51,13 +50,12 @@ use Rattle.printed_tests.proofs.Printed.{printed_force}
 use Rattle.diy_tools.specs.declared.status.Refusal.{Refusal}
 use Rattle.diy_tools.specs.declared.status.Refusal.TheVariants as refusals
 use Rattle.diy_tools.specs.declared.status.Status.{Status}
-use Rattle.diy_tools.specs.declared.status.Status.TheVariants as statuses
 use Rattle.diy_tools.specs.Machines.{Machine, machine_of}
 use Rattle.diy_tools.specs.Refused.{refused_list, refused_of, refused_of_arch, refused_composing, refused_making}
-use Rattle.diy_tools.specs.Answers.{AnswersEdges, AnswersList, Answers, AnswersAsked, asked_text, plan_asked, test_name}
+use Rattle.diy_tools.specs.Answers.{AnswersEdges, AnswersList, Answers, AnswersAsked, asked_text, test_name}
 use Rattle.diy_tools.specs.Devices.{Devices}
-use Rattle.diy_tools.specs.Headline.{Headline, HeadlineAsked, PrintsForcing, ListsForcing}
-use Rattle.listed_tests.specs.Plans.{IsPlanned, is_wanted, planned_text}
+use Rattle.diy_tools.specs.Headline.{Headline, HeadlineAsked}
+use Rattle.listed_tests.specs.Plans.{is_wanted}
 use Rattle.test_maker.specs.CycleText.{cycle_text}
 use Rattle.std.specs.Prelude.{is_none}
 

@@ -39,7 +39,6 @@ pub(crate) fn cycle_of(rt: &impl Abort, text: &str) -> Cycle {
 }
 
 /// Lists the cycles of at most `size` edges and 4 threads on X86, in the folder `t`.
-#[tactic(auto, using(arch_x86::specs::InCells::writes_cells, arch_x86::specs::InCells::makes_one_access))]
 fn list_x86(
     rt: &impl Abort,
     relaxes: &str,
@@ -171,7 +170,6 @@ fn three_tests_behind_a_cycle(rt: HostRuntime) -> Result<(), Fail> {
 }
 
 #[test]
-#[tactic(auto, using(arch_riscv::specs::InCells::writes_cells, arch_riscv::specs::InCells::makes_one_access))]
 fn long_name(rt: HostRuntime) -> Result<(), Fail> {
     let mut shelf = MemShelf::new(rt.alloc(), 2, 65_536, Vec::new(rt.alloc()))?;
     let mut out = MemSink::new(rt.alloc(), 99)?;

@@ -1,50 +1,22 @@
 use Rattle.relax_edges.specs.declared.kinds.ArchName.TheVariants as archs
-use Rattle.arch_x86.specs.InCells as x86
-use Rattle.arch_power.specs.InCells as power
-use Rattle.arch_aarch64.specs.InCells as aarch64
-use Rattle.arch_riscv.specs.InCells as riscv
 use Rattle.diy_io.specs.Wrote.{sink_seen}
 use Rattle.diy_tools.proofs.Listed.{ends_on}
 use Rattle.diy_tools.proofs.listing.list_on.Goals as goal
-
-pub list_tests-requires-clause-cells : goal.list_tests-requires-clause-cells
-list_tests-requires-clause-cells g c = x86.writes_cells
-
-pub list_tests-requires-clause-one : goal.list_tests-requires-clause-one
-list_tests-requires-clause-one g c = x86.makes_one_access
 
 pub returns-in-X86 : goal.returns-in-X86
 returns-in-X86 g c =
     ends_on (λ sink. sink_seen (g.O.Sink.told sink) (g.O.Sink.faults sink)) c.args.arch archs.X86 c.args.listing c.list_tests.result (g.H.Shelf.seen c.args.shelf.now) (g.H.Shelf.seen c.list_tests.new.shelf)
     c.args.out.now c.list_tests.new.out c.in-X86.is c.list_tests.ensures
 
-pub list_tests-requires-in-PPC-clause-cells : goal.list_tests-requires-in-PPC-clause-cells
-list_tests-requires-in-PPC-clause-cells g c = power.writes_cells
-
-pub list_tests-requires-in-PPC-clause-one : goal.list_tests-requires-in-PPC-clause-one
-list_tests-requires-in-PPC-clause-one g c = power.makes_one_access
-
 pub returns-in-PPC : goal.returns-in-PPC
 returns-in-PPC g c =
     ends_on (λ sink. sink_seen (g.O.Sink.told sink) (g.O.Sink.faults sink)) c.args.arch archs.PPC c.args.listing c.list_tests-in-PPC.result (g.H.Shelf.seen c.args.shelf.now) (g.H.Shelf.seen c.list_tests-in-PPC.new.shelf)
     c.args.out.now c.list_tests-in-PPC.new.out c.in-PPC.is c.list_tests-in-PPC.ensures
 
-pub list_tests-requires-in-AArch64-clause-cells : goal.list_tests-requires-in-AArch64-clause-cells
-list_tests-requires-in-AArch64-clause-cells g c = aarch64.writes_cells
-
-pub list_tests-requires-in-AArch64-clause-one : goal.list_tests-requires-in-AArch64-clause-one
-list_tests-requires-in-AArch64-clause-one g c = aarch64.makes_one_access
-
 pub returns-in-AArch64 : goal.returns-in-AArch64
 returns-in-AArch64 g c =
     ends_on (λ sink. sink_seen (g.O.Sink.told sink) (g.O.Sink.faults sink)) c.args.arch archs.AArch64 c.args.listing c.list_tests-in-AArch64.result (g.H.Shelf.seen c.args.shelf.now) (g.H.Shelf.seen c.list_tests-in-AArch64.new.shelf)
     c.args.out.now c.list_tests-in-AArch64.new.out c.in-AArch64.is c.list_tests-in-AArch64.ensures
-
-pub list_tests-requires-in-RISCV-clause-cells : goal.list_tests-requires-in-RISCV-clause-cells
-list_tests-requires-in-RISCV-clause-cells g c = riscv.writes_cells
-
-pub list_tests-requires-in-RISCV-clause-one : goal.list_tests-requires-in-RISCV-clause-one
-list_tests-requires-in-RISCV-clause-one g c = riscv.makes_one_access
 
 pub returns-in-RISCV : goal.returns-in-RISCV
 returns-in-RISCV g c =
