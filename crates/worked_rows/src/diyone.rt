@@ -1,4 +1,4 @@
-use crate::ran::{empty_shelf, ran, ran_on, source_of, words_of};
+use crate::ran::{compare, empty_shelf, ran, ran_on, source_of, words_of};
 use diy_io::{MemSink, NoMemory, Words};
 use diy_tools::run;
 use std::alloc::Global;
@@ -270,9 +270,7 @@ const REFUSED: [(&str, u8, &str); 38] = [
 fn tests_are_printed(rt: HostRuntime) -> Result<(), Fail> {
     for (line, text) in TESTS {
         let ran = ran(rt.alloc(), line, 4096)?;
-        assert_eq!(rt; ran.out.bytes(), text.as_bytes(), "{line}");
-        assert_eq!(rt; ran.status.exit(), 0, "{line}");
-        assert_eq!(rt; ran.err.bytes(), b"".as_slice(), "{line}");
+        compare(&rt, line, &ran, 0, text.as_bytes(), b"");
     }
     Ok(())
 }
@@ -281,9 +279,7 @@ fn tests_are_printed(rt: HostRuntime) -> Result<(), Fail> {
 fn refusals_have_their_line(rt: HostRuntime) -> Result<(), Fail> {
     for (line, exit, text) in REFUSED {
         let ran = ran(rt.alloc(), line, 4096)?;
-        assert_eq!(rt; ran.status.exit(), exit, "{line}");
-        assert_eq!(rt; ran.err.bytes(), text.as_bytes(), "{line}");
-        assert_eq!(rt; ran.out.bytes(), b"".as_slice(), "{line}");
+        compare(&rt, line, &ran, exit, b"", text.as_bytes());
     }
     Ok(())
 }
@@ -339,13 +335,17 @@ fn each_room_takes_a_front(rt: HostRuntime) -> Result<(), Fail> {
     let text = text.as_bytes();
     for room in 0..text.len() {
         let ran = ran(rt.alloc(), line, room)?;
-        assert_eq!(rt; ran.status.exit(), 3);
-        assert_eq!(rt; ran.out.bytes(), &text[..room]);
-        assert_eq!(rt; ran.err.bytes(), b"diy: write fault: out\n".as_slice());
+        compare(
+            &rt,
+            line,
+            &ran,
+            3,
+            &text[..room],
+            b"diy: write fault: out\n",
+        );
     }
-    let whole = ran(rt.alloc(), line, text.len())?;
-    assert_eq!(rt; whole.status.exit(), 0);
-    assert_eq!(rt; text.len(), 148);
+    let whole = ran(rt.alloc(), line, 148)?;
+    compare(&rt, line, &whole, 0, text, b"");
     Ok(())
 }
 
@@ -364,11 +364,13 @@ fn ran_untold(alloc: Global, line: &str, room: usize) -> Result<(u8, usize), NoM
 #[test]
 fn an_err_without_room_changes_no_status(rt: HostRuntime) -> Result<(), Fail> {
     for (line, exit, _) in REFUSED {
-        assert_eq!(rt; ran_untold(rt.alloc(), line, 4096)?, (exit, 0), "{line}");
+        let (status, told) = ran_untold(rt.alloc(), line, 4096)?;
+        assert!(rt; status == exit && told == 0, "{line}");
     }
-    let (line, _) = TESTS[0];
-    assert_eq!(rt; ran_untold(rt.alloc(), line, 20)?, (3, 0));
-    assert_eq!(rt; ran_untold(rt.alloc(), line, 4096)?, (0, 0));
+    for (room, exit) in [(20, 3), (4096, 0)] {
+        let (status, told) = ran_untold(rt.alloc(), TESTS[0].0, room)?;
+        assert!(rt; status == exit && told == 0, "{room}");
+    }
     Ok(())
 }
 
@@ -402,8 +404,13 @@ fn a_full_sink_is_a_write_fault(rt: HostRuntime) -> Result<(), Fail> {
         "diyone7 -arch X86 -name SB PodWR Fre PodWR Fre",
         20,
     )?;
-    assert_eq!(rt; ran.status.exit(), 3);
-    assert_eq!(rt; ran.out.bytes(), b"X86 SB\n\"PodWR Fre Po".as_slice());
-    assert_eq!(rt; ran.err.bytes(), b"diy: write fault: out\n".as_slice());
+    compare(
+        &rt,
+        "SB",
+        &ran,
+        3,
+        b"X86 SB\n\"PodWR Fre Po",
+        b"diy: write fault: out\n",
+    );
     Ok(())
 }

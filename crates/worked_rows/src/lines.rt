@@ -1,6 +1,7 @@
-use crate::ran::{empty_shelf, ran, source_of, with_devices, words_of};
+use crate::ran::{compare, ran, ran_over, source_of};
 use diy_io::{MemSource, NoMemory, Source};
 use std::alloc::Global;
+use std::process::Abort;
 use std::test::Fail;
 
 const FIVE_LINES: &str =
@@ -59,18 +60,28 @@ const ROWS: [(&str, &str, u8, &str, &str); 10] = [
     ("classify7 -arch X86", "\n\n", 0, "", ""),
 ];
 
+/// Calls `run` on words and the lines of an input, in pieces, and compares what it leaves.
+fn compare_lines(
+    rt: &impl Abort,
+    alloc: Global,
+    line: &str,
+    text: &str,
+    exit: u8,
+    out: &str,
+    err: &str,
+) -> Result<(), NoMemory> {
+    for piece in [1, 4096] {
+        let mut input = source_of(alloc, text.as_bytes(), piece.max(1))?;
+        let ran = ran_over(alloc, line, &mut input, 4096)?;
+        compare(rt, line, &ran, exit, out.as_bytes(), err.as_bytes());
+    }
+    Ok(())
+}
+
 #[test]
 fn lines_are_named_in_any_pieces(rt: HostRuntime) -> Result<(), Fail> {
-    for (line, input, exit, out, err) in ROWS {
-        for piece in [1, 4096] {
-            let words = words_of(rt.alloc(), line)?;
-            let mut input = source_of(rt.alloc(), input.as_bytes(), piece.max(1))?;
-            let mut shelf = empty_shelf(rt.alloc(), 0)?;
-            let ran = with_devices(rt.alloc(), &words, &mut input, &mut shelf, 4096)?;
-            assert_eq!(rt; ran.out.bytes(), out.as_bytes(), "{line}");
-            assert_eq!(rt; ran.err.bytes(), err.as_bytes(), "{line}");
-            assert_eq!(rt; ran.status.exit(), exit, "{line}");
-        }
+    for (line, text, exit, out, err) in ROWS {
+        compare_lines(&rt, rt.alloc(), line, text, exit, out, err)?;
     }
     Ok(())
 }
@@ -88,13 +99,9 @@ fn a_line_has_at_most_4096_bytes(rt: HostRuntime) -> Result<(), Fail> {
         (4096, 0, "SB: PodWR Fre PodWR Fre\n", ""),
         (4097, 1, "", "diy: -:1: LineTooLong\n"),
     ] {
-        let words = words_of(rt.alloc(), "norm7 -arch X86")?;
         let mut input = long_line(rt.alloc(), len)?;
-        let mut shelf = empty_shelf(rt.alloc(), 0)?;
-        let ran = with_devices(rt.alloc(), &words, &mut input, &mut shelf, 4096)?;
-        assert_eq!(rt; ran.out.bytes(), out.as_bytes());
-        assert_eq!(rt; ran.err.bytes(), err.as_bytes());
-        assert_eq!(rt; ran.status.exit(), exit);
+        let ran = ran_over(rt.alloc(), "norm7 -arch X86", &mut input, 4096)?;
+        compare(&rt, err, &ran, exit, out.as_bytes(), err.as_bytes());
     }
     Ok(())
 }
@@ -102,41 +109,30 @@ fn a_line_has_at_most_4096_bytes(rt: HostRuntime) -> Result<(), Fail> {
 /// Byte 40 lies in the second line, so the first one is named.
 #[test]
 fn a_fault_of_the_input_ends_the_lines(rt: HostRuntime) -> Result<(), Fail> {
-    let alloc = rt.alloc();
-    let words = words_of(alloc, "norm7 -arch PPC")?;
-    let text = Vec::from_slice(alloc, FIVE_LINES.as_bytes())?;
-    let mut input = MemSource::new(text, 1, vec![in alloc; 40]?);
-    let mut shelf = empty_shelf(alloc, 0)?;
-    let ran = with_devices(alloc, &words, &mut input, &mut shelf, 4096)?;
-    assert_eq!(rt; ran.out.bytes(), &FIVE_NAMED.as_bytes()[..43]);
-    assert_eq!(rt; ran.err.bytes(), b"diy: read fault: input\n".as_slice());
-    assert_eq!(rt; ran.status.exit(), 3);
+    let text = Vec::from_slice(rt.alloc(), FIVE_LINES.as_bytes())?;
+    let mut input = MemSource::new(text, 1, vec![in rt.alloc(); 40]?);
+    let ran = ran_over(rt.alloc(), "norm7 -arch PPC", &mut input, 4096)?;
+    let named = &FIVE_NAMED.as_bytes()[..43];
+    compare(&rt, "norm7", &ran, 3, named, b"diy: read fault: input\n");
     Ok(())
 }
 
 /// The lines that `out` has no room for are told as its fault, before the faulty line.
 #[test]
 fn a_full_sink_ends_the_lines(rt: HostRuntime) -> Result<(), Fail> {
-    let words = words_of(rt.alloc(), "norm7 -arch PPC")?;
     let mut input = source_of(rt.alloc(), FIVE_LINES.as_bytes(), 7)?;
-    let mut shelf = empty_shelf(rt.alloc(), 0)?;
-    let ran = with_devices(rt.alloc(), &words, &mut input, &mut shelf, 50)?;
-    assert_eq!(rt; ran.out.bytes(), &FIVE_NAMED.as_bytes()[..50]);
-    assert_eq!(rt; ran.err.bytes(), b"diy: write fault: out\n".as_slice());
-    assert_eq!(rt; ran.status.exit(), 3);
+    let ran = ran_over(rt.alloc(), "norm7 -arch PPC", &mut input, 50)?;
+    let named = &FIVE_NAMED.as_bytes()[..50];
+    compare(&rt, "norm7", &ran, 3, named, b"diy: write fault: out\n");
     Ok(())
 }
 
 /// The output line of a line is written before more of the input is read than its line feed.
 #[test]
 fn a_line_is_written_before_the_next_is_read(rt: HostRuntime) -> Result<(), Fail> {
-    let words = words_of(rt.alloc(), "norm7 -arch PPC")?;
     let mut input = source_of(rt.alloc(), FIVE_LINES.as_bytes(), 1)?;
-    let mut shelf = empty_shelf(rt.alloc(), 0)?;
-    let ran = with_devices(rt.alloc(), &words, &mut input, &mut shelf, 0)?;
-    assert_eq!(rt; ran.out.bytes(), b"".as_slice());
-    assert_eq!(rt; ran.err.bytes(), b"diy: write fault: out\n".as_slice());
-    assert_eq!(rt; ran.status.exit(), 3);
+    let ran = ran_over(rt.alloc(), "norm7 -arch PPC", &mut input, 0)?;
+    compare(&rt, "norm7", &ran, 3, b"", b"diy: write fault: out\n");
     let mut byte = *b".";
     assert_eq!(rt; input.read(&mut byte), Ok(1));
     assert_eq!(rt; byte.as_slice(), b"a".as_slice());
@@ -179,9 +175,7 @@ const NAMED: [(&str, &str); 7] = [
 fn cycles_have_their_names(rt: HostRuntime) -> Result<(), Fail> {
     for (line, text) in NAMED {
         let ran = ran(rt.alloc(), line, 4096)?;
-        assert_eq!(rt; ran.out.bytes(), text.as_bytes(), "{line}");
-        assert_eq!(rt; ran.status.exit(), 0, "{line}");
-        assert_eq!(rt; ran.err.bytes(), b"".as_slice(), "{line}");
+        compare(&rt, line, &ran, 0, text.as_bytes(), b"");
     }
     Ok(())
 }

@@ -1,6 +1,11 @@
+ghost use Rattle.std.specs.Prelude.{◌≡◌};
+ghost use Rattle.diy_io.specs.Shelf.{Idle};
+
 use crate::diyone::TESTS;
-use crate::ran::{empty_shelf, source_of, with_devices, words_of};
-use diy_io::MemShelf;
+use crate::ran::{compare, empty_shelf, ran_with};
+use diy_io::{MemShelf, NoMemory};
+use std::alloc::Global;
+use std::process::Abort;
 use std::test::Fail;
 
 /// Words of diy7, the folder of its files, the names in `@all`, and what is written to `out`.
@@ -49,32 +54,79 @@ const LISTED: [(&str, &str, &str, &str); 7] = [
     ),
 ];
 
+/// Compares the files of a listing with the names in `@all`.
+fn compare_files(
+    rt: &impl Abort,
+    alloc: Global,
+    shelf: &MemShelf,
+    folder: &str,
+    all: &str,
+) -> Result<(), Fail> {
+    let path = format!(in alloc; "{folder}@all")?;
+    assert!(rt; shelf.get(path.as_str()) == Some(all.as_bytes()), "{all}");
+    for name in all.lines() {
+        let path = format!(in alloc; "{folder}{name}")?;
+        assert!(rt; shelf.get(path.as_str()).is_some(), "{name}");
+    }
+    Ok(())
+}
+
+/// Calls `run` on the words of a listing, and compares what it leaves. The shelf has room for so many
+/// files, and for no other.
+fn compare_listing(
+    rt: &impl Abort,
+    alloc: Global,
+    line: &str,
+    folder: &str,
+    all: &str,
+    text: &str,
+) -> Result<(), Fail> {
+    let files = all.lines().count().saturating_add(1);
+    let mut shelf = MemShelf::new(alloc, files, 65_536, Vec::new(alloc))?;
+    let ran = ran_with(alloc, line, &mut shelf, 4096)?;
+    compare(rt, line, &ran, 0, text.as_bytes(), b"");
+    compare_files(rt, alloc, &shelf, folder, all)
+}
+
 #[test]
 fn listed_cycles_have_their_files(rt: HostRuntime) -> Result<(), Fail> {
     for (line, folder, all, text) in LISTED {
-        let alloc = rt.alloc();
-        let words = words_of(alloc, line)?;
-        let mut input = source_of(alloc, b"", 1)?;
-        // There is room for so many files, and for no other.
-        let files = all.lines().count().saturating_add(1);
-        let mut shelf = MemShelf::new(alloc, files, 65_536, Vec::new(alloc))?;
-        let ran = with_devices(alloc, &words, &mut input, &mut shelf, 4096)?;
-        assert_eq!(rt; ran.status.exit(), 0, "{line}");
-        assert_eq!(rt; ran.out.bytes(), text.as_bytes(), "{line}");
-        let path = format!(in alloc; "{folder}@all")?;
-        assert_eq!(rt;
-            shelf.get(path.as_str()).ok_or("no @all")?,
-            all.as_bytes(),
-            "{line}"
-        );
-        if all.is_empty() {
-            assert!(rt; shelf.get("SB.litmus").is_none(), "{line}");
-        }
-        for name in all.lines() {
-            let path = format!(in alloc; "{folder}{name}")?;
-            assert!(rt; shelf.get(path.as_str()).is_some(), "{name}");
-        }
+        compare_listing(&rt, rt.alloc(), line, folder, all, text)?;
     }
+    Ok(())
+}
+
+const ONE_TEST: &str = "diy7 -arch X86 -edges PodWR,Fre -size 4";
+
+/// The front of the test of store buffering that has so many bytes.
+fn front(len: Option<usize>) -> Option<&'static [u8]> {
+    let text = TESTS[0].1.as_bytes();
+    match len {
+        Some(len) => Some(&text[..len.min(text.len())]),
+        None => None,
+    }
+}
+
+/// Compares the two files of the listing of store buffering, as far as they are there.
+fn compare_both(rt: &impl Abort, shelf: &MemShelf, len: Option<usize>, all: Option<&str>) {
+    assert!(rt; shelf.get("SB.litmus") == front(len));
+    assert!(rt; shelf.get("@all") == all.map(|all| all.as_bytes()));
+}
+
+/// Lists store buffering, and compares the exit status and what is written to `out` and to `err`.
+fn list_one(
+    rt: &impl Abort,
+    alloc: Global,
+    shelf: &mut MemShelf,
+    room: usize,
+    exit: u8,
+    out: &str,
+    err: &str,
+) -> Result<(), NoMemory>
+    requires { shelf.old.mode ≡ Idle }
+{
+    let ran = ran_with(alloc, ONE_TEST, shelf, room)?;
+    compare(rt, ONE_TEST, &ran, exit, out.as_bytes(), err.as_bytes());
     Ok(())
 }
 
@@ -114,22 +166,10 @@ const ROOMS: [(usize, usize, u8, usize, Option<&str>, &str, &str); 5] = [
 
 #[test]
 fn a_full_shelf_ends_the_listing(rt: HostRuntime) -> Result<(), Fail> {
-    let text = TESTS[0].1.as_bytes();
-    for (room, out_room, exit, len, all, out, line) in ROOMS {
-        let alloc = rt.alloc();
-        let words = words_of(alloc, "diy7 -arch X86 -edges PodWR,Fre -size 4")?;
-        let mut input = source_of(alloc, b"", 1)?;
-        let mut shelf = empty_shelf(alloc, room)?;
-        let ran = with_devices(alloc, &words, &mut input, &mut shelf, out_room)?;
-        assert_eq!(rt; ran.status.exit(), exit, "{room}");
-        assert_eq!(rt; ran.out.bytes(), out.as_bytes(), "{room}");
-        assert_eq!(rt; ran.err.bytes(), line.as_bytes(), "{room}");
-        assert_eq!(rt;
-            shelf.get("SB.litmus").ok_or("no test")?,
-            &text[..len.min(text.len())],
-            "{room}"
-        );
-        assert_eq!(rt; shelf.get("@all"), all.map(|all| all.as_bytes()), "{room}");
+    for (room, out_room, exit, len, all, out, err) in ROOMS {
+        let mut shelf = empty_shelf(rt.alloc(), room)?;
+        list_one(&rt, rt.alloc(), &mut shelf, out_room, exit, out, err)?;
+        compare_both(&rt, &shelf, Some(len), all);
     }
     Ok(())
 }
@@ -156,21 +196,15 @@ const FAULTS: [(u64, u8, Option<usize>, Option<&str>, &str); 7] = [
 /// A shelf whose call k fails, for each k, until the listing is done: `@all` is there only behind the test.
 #[test]
 fn each_fault_of_the_shelf_is_told(rt: HostRuntime) -> Result<(), Fail> {
-    let text = TESTS[0].1.as_bytes();
     for (call, exit, len, all, out) in FAULTS {
-        let alloc = rt.alloc();
-        let words = words_of(alloc, "diy7 -arch X86 -edges PodWR,Fre -size 4")?;
-        let mut input = source_of(alloc, b"", 1)?;
-        let mut shelf = MemShelf::new(alloc, 64, 4096, vec![in alloc; call]?)?;
-        let ran = with_devices(alloc, &words, &mut input, &mut shelf, 100)?;
-        let test = match len {
-            Some(len) => Some(&text[..len.min(text.len())]),
-            None => None,
+        let err = if exit == 0 {
+            ""
+        } else {
+            "diy: write fault: shelf\n"
         };
-        assert_eq!(rt; ran.status.exit(), exit, "{call}");
-        assert_eq!(rt; ran.out.bytes(), out.as_bytes(), "{call}");
-        assert_eq!(rt; shelf.get("SB.litmus"), test, "{call}");
-        assert_eq!(rt; shelf.get("@all"), all.map(|all| all.as_bytes()), "{call}");
+        let mut shelf = MemShelf::new(rt.alloc(), 64, 4096, vec![in rt.alloc(); call]?)?;
+        list_one(&rt, rt.alloc(), &mut shelf, 100, exit, out, err)?;
+        compare_both(&rt, &shelf, len, all);
     }
     Ok(())
 }

@@ -1,5 +1,10 @@
-use crate::ran::{empty_shelf, source_of, with_devices, words_of};
-use diy_io::{MemShelf, MemSource};
+ghost use Rattle.std.specs.Prelude.{◌≡◌, IfOk};
+ghost use Rattle.diy_io.specs.Shelf.{Idle};
+
+use crate::ran::{compare, ran_over, ran_with, source_of, with_devices, words_of};
+use diy_io::{MemShelf, MemSource, NoMemory};
+use std::alloc::Global;
+use std::process::Abort;
 use std::test::Fail;
 
 const A_LOG: &str =
@@ -37,21 +42,39 @@ const ROWS: [(&str, u8, &str, &str); 8] = [
     ("msum7 a.log -x", 2, "", "diy: usage UnknownOption: -x\n"),
 ];
 
+/// A shelf with the logs, whose calls with these numbers fail.
+fn logs(alloc: Global, fail: Vec<u64>) -> Result<MemShelf, NoMemory>
+    ensures { IfOk result (λ shelf. shelf.mode ≡ Idle) }
+{
+    let mut shelf = MemShelf::new(alloc, 64, 0, fail)?;
+    shelf.put("a.log", A_LOG.as_bytes())?;
+    shelf.put("b.log", B_LOG.as_bytes())?;
+    shelf.put("cut.log", &A_LOG.as_bytes()[..89])?;
+    shelf.put("empty.log", b"")?;
+    Ok(shelf)
+}
+
+/// Calls `run` on words, the logs and an input, and compares what it leaves.
+fn compare_sum(
+    rt: &impl Abort,
+    alloc: Global,
+    line: &str,
+    exit: u8,
+    out: &str,
+    err: &str,
+) -> Result<(), Fail> {
+    let words = words_of(alloc, line)?;
+    let mut input = source_of(alloc, A_LOG.as_bytes(), 7)?;
+    let mut shelf = logs(alloc, Vec::new(alloc))?;
+    let ran = with_devices(alloc, &words, &mut input, &mut shelf, 4096)?;
+    compare(rt, line, &ran, exit, out.as_bytes(), err.as_bytes());
+    Ok(())
+}
+
 #[test]
 fn logs_are_summed(rt: HostRuntime) -> Result<(), Fail> {
     for (line, exit, out, err) in ROWS {
-        let alloc = rt.alloc();
-        let words = words_of(alloc, line)?;
-        let mut input = source_of(alloc, A_LOG.as_bytes(), 7)?;
-        let mut shelf = empty_shelf(alloc, 0)?;
-        shelf.put("a.log", A_LOG.as_bytes())?;
-        shelf.put("b.log", B_LOG.as_bytes())?;
-        shelf.put("cut.log", &A_LOG.as_bytes()[..89])?;
-        shelf.put("empty.log", b"")?;
-        let ran = with_devices(alloc, &words, &mut input, &mut shelf, 4096)?;
-        assert_eq!(rt; ran.out.bytes(), out.as_bytes(), "{line}");
-        assert_eq!(rt; ran.err.bytes(), err.as_bytes(), "{line}");
-        assert_eq!(rt; ran.status.exit(), exit, "{line}");
+        compare_sum(&rt, rt.alloc(), line, exit, out, err)?;
     }
     Ok(())
 }
@@ -66,16 +89,9 @@ fn each_fault_of_the_shelf_is_told(rt: HostRuntime) -> Result<(), Fail> {
         } else {
             (0, SUM, "")
         };
-        let alloc = rt.alloc();
-        let words = words_of(alloc, "msum7 a.log b.log")?;
-        let mut input = source_of(alloc, b"", 1)?;
-        let mut shelf = MemShelf::new(alloc, 64, 0, vec![in alloc; call]?)?;
-        shelf.put("a.log", A_LOG.as_bytes())?;
-        shelf.put("b.log", B_LOG.as_bytes())?;
-        let ran = with_devices(alloc, &words, &mut input, &mut shelf, 4096)?;
-        assert_eq!(rt; ran.out.bytes(), out.as_bytes(), "{call}");
-        assert_eq!(rt; ran.err.bytes(), err.as_bytes(), "{call}");
-        assert_eq!(rt; ran.status.exit(), exit, "{call}");
+        let mut shelf = logs(rt.alloc(), vec![in rt.alloc(); call]?)?;
+        let ran = ran_with(rt.alloc(), "msum7 a.log b.log", &mut shelf, 4096)?;
+        compare(&rt, "msum7", &ran, exit, out.as_bytes(), err.as_bytes());
     }
     Ok(())
 }
@@ -94,15 +110,11 @@ const FAULTS: [(u64, usize, u8, usize, &str); 4] = [
 fn faults_of_the_input_and_the_output_are_told(rt: HostRuntime) -> Result<(), Fail> {
     let sum = A_SUM.as_bytes();
     for (call, room, exit, len, err) in FAULTS {
-        let alloc = rt.alloc();
-        let words = words_of(alloc, "msum7")?;
-        let log = Vec::from_slice(alloc, A_LOG.as_bytes())?;
-        let mut input = MemSource::new(log, 100, vec![in alloc; call]?);
-        let mut shelf = empty_shelf(alloc, 0)?;
-        let ran = with_devices(alloc, &words, &mut input, &mut shelf, room)?;
-        assert_eq!(rt; ran.out.bytes(), &sum[..len.min(sum.len())], "{err}");
-        assert_eq!(rt; ran.err.bytes(), err.as_bytes(), "{err}");
-        assert_eq!(rt; ran.status.exit(), exit, "{err}");
+        let log = Vec::from_slice(rt.alloc(), A_LOG.as_bytes())?;
+        let mut input = MemSource::new(log, 100, vec![in rt.alloc(); call]?);
+        let ran = ran_over(rt.alloc(), "msum7", &mut input, room)?;
+        let front = &sum[..len.min(sum.len())];
+        compare(&rt, err, &ran, exit, front, err.as_bytes());
     }
     Ok(())
 }

@@ -4,6 +4,7 @@ ghost use Rattle.diy_io.specs.Shelf.{Idle};
 use diy_io::{MemShelf, MemSink, MemSource, NoMemory, Words};
 use diy_tools::{Status, run};
 use std::alloc::Global;
+use std::process::Abort;
 
 /// A call of `run`, and what it left.
 #[derive(Drop)]
@@ -50,6 +51,32 @@ pub fn ran_on(alloc: Global, words: &Words, room: usize) -> Result<Outcome, NoMe
     with_devices(alloc, words, &mut input, &mut shelf, room)
 }
 
+/// Calls `run` on words that blanks separate and on an input, with a sink of so much room.
+pub fn ran_over(
+    alloc: Global,
+    line: &str,
+    input: &mut MemSource,
+    room: usize,
+) -> Result<Outcome, NoMemory> {
+    let words = words_of(alloc, line)?;
+    let mut shelf = empty_shelf(alloc, 0)?;
+    with_devices(alloc, &words, input, &mut shelf, room)
+}
+
+/// Calls `run` on words that blanks separate and on a shelf, with a sink of so much room.
+pub fn ran_with(
+    alloc: Global,
+    line: &str,
+    shelf: &mut MemShelf,
+    room: usize,
+) -> Result<Outcome, NoMemory>
+    requires { shelf.old.mode ≡ Idle }
+{
+    let words = words_of(alloc, line)?;
+    let mut input = source_of(alloc, b"", 1)?;
+    with_devices(alloc, &words, &mut input, shelf, room)
+}
+
 /// Calls `run` on words, an input and a shelf, with a sink of so much room.
 pub fn with_devices(
     alloc: Global,
@@ -64,4 +91,15 @@ pub fn with_devices(
     let mut err = MemSink::new(alloc, 4096)?;
     let status = run(alloc, words, input, &mut out, &mut err, shelf);
     Ok(Outcome { status, out, err })
+}
+
+/// Compares what a call left with the exit status, and the texts of `out` and of `err`, that are
+/// wanted of a row.
+///
+/// A test hands its rows to functions like this, each of a few lines: the time in which a function is
+/// proved grows with the ways to leave it times the values that are let go on each.
+pub fn compare(rt: &impl Abort, row: &str, ran: &Outcome, exit: u8, out: &[u8], err: &[u8]) {
+    assert_eq!(rt; ran.out.bytes(), out, "{row}");
+    assert_eq!(rt; ran.err.bytes(), err, "{row}");
+    assert_eq!(rt; ran.status.exit(), exit, "{row}");
 }
