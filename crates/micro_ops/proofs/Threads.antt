@@ -4,15 +4,14 @@ use Rattle.std.proofs.lemmas.List.{take_more, take_all}
 use Rattle.std.proofs.lemmas.List.Sums.{count_by_more_yes, sum_by-take-le}
 use Rattle.relax_edges.specs.declared.kinds.Value.{Value}
 use Rattle.micro_ops.specs.declared.operation.Micro.{Micro}
-use Rattle.micro_ops.specs.declared.run.Runner.{Runner}
-use Rattle.micro_ops.specs.declared.run.Trace.{Trace}
 use Rattle.micro_ops.specs.declared.run.RunError.{RunError}
 use Rattle.micro_ops.specs.declared.run.RunError.TheVariants as errors
 use Rattle.micro_ops.specs.declared.run.Halt.{Halt}
 use Rattle.micro_ops.specs.declared.run.Halt.TheVariants as halts
 use Rattle.micro_ops.specs.Machines.{state_of}
 use Rattle.micro_ops.specs.Running.{Run, Point, At, go, exec, is_load, is_past, lands, landing, beginning, outcome, runs, ReadsLeft, OnRun}
-use Rattle.micro_ops.specs.Threads.{goes_on, StopsAt, point_of, CausedBy, error_of}
+use Rattle.micro_ops.specs.Threads.{EndedRun, goes_on, StopsAt, CausedBy}
+use Rattle.micro_ops.specs.Runners.{Progress, point_of, error_of}
 use Rattle.micro_ops.proofs.Laws.{exec_append, never_past, loads_within}
 
 -- one operation more
@@ -24,14 +23,14 @@ exec_more code i d p q h e =
     ap (λ ops. exec ops p) (sym (take_more code i d h))
 
 -- a runner before or past an operation goes on
-pub runner_goes_on : (runner : Runner) → goes_on (point_of runner) ≡ true
+pub runner_goes_on : (runner : Progress) → goes_on (point_of runner) ≡ true
 runner_goes_on runner = on_landing runner.past _
   where
     on_landing : (j : Option ℕ) (r : Run) → goes_on (landing j r) ≡ true
     on_landing None r = refl
     on_landing (Some l) r = refl
 
-runner_loads : (runner : Runner) (n : ℕ) → OnRun (λ r. r.state.loads ≤ n) (point_of runner) →
+runner_loads : (runner : Progress) (n : ℕ) → OnRun (λ r. r.state.loads ≤ n) (point_of runner) →
     (state_of runner.machine).loads ≤ n
 runner_loads runner n h = on_landing runner.past _ h
   where
@@ -42,7 +41,7 @@ runner_loads runner n h = on_landing runner.past _ h
 
 -- before a load of code with at most 64 loads, fewer than 64 were stepped
 pub room_left : (code : List Micro) (init : List (ℕ × Value)) (reads : List ℕ) (i : ℕ) (d : Micro)
-    (runner : Runner) → i < length code →
+    (runner : Progress) → i < length code →
     point_of runner ≡ exec (take i code) (At (beginning init reads)) →
     count_by is_load code ≤ 64 → is_load (get_or code i d) ≡ true →
     (state_of runner.machine).loads < 64
@@ -59,7 +58,7 @@ room_left code init reads i d runner h e few is_one =
 
 -- where a runner is stuck, the run stops
 pub stops : (code : List Micro) (init : List (ℕ × Value)) (reads : List ℕ) (i : ℕ) (d : Micro)
-    (runner : Runner) → i < length code →
+    (runner : Progress) → i < length code →
     point_of runner ≡ exec (take i code) (At (beginning init reads)) →
     goes_on (go (get_or code i d) (point_of runner)) ≡ false →
     StopsAt code (At (beginning init reads)) i
@@ -94,7 +93,7 @@ halt_cause code init reads i halts.NoMemory error e h =
     subst (λ x. CausedBy x code init reads) (sym e) tt
 
 pub left_cause : (code : List Micro) (init : List (ℕ × Value)) (reads : List ℕ) (p : Point)
-    (result : Result Trace RunError) → outcome p ≡ runs code init reads →
+    (result : Result EndedRun RunError) → outcome p ≡ runs code init reads →
     IfErr result (λ error. (error ≡ errors.ReadsLeft) × (outcome p ≡ ReadsLeft)) →
     IfErr result (λ error. CausedBy error code init reads)
 left_cause code init reads p (Ok trace) e h = tt

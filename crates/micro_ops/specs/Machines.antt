@@ -1,25 +1,35 @@
--- What a machine of fixed arrays holds, as a state, and what its step answers, as a rule does.
-use Rattle.std.specs.Prelude.{ℕ, ◌<◌, get_or, List, Option, Some, None, Result, Ok, Err, IfSome}
+-- What a machine holds, as a state, and what its step answers, as a rule does.
+-- Source: own.
+use Rattle.std.specs.Prelude.{ℕ, ◌<◌, Bool, get_or, List, Option, Some, None, Result, Ok, Err, IfSome}
 use Rattle.micro_ops.specs.declared.held.Held.{Held}
-use Rattle.micro_ops.specs.declared.machine.Machine.{Machine}
 use Rattle.micro_ops.specs.declared.machine.Stepped.{Stepped}
 use Rattle.micro_ops.specs.declared.machine.Stuck.{Stuck}
 use Rattle.micro_ops.specs.declared.operation.Micro.{Micro}
 use Rattle.micro_ops.specs.declared.operation.Micro.TheVariants as ops
 use Rattle.micro_ops.specs.Machine.{State, Told, num}
 
--- what each register of an array holds; past its end, the number 0
+-- what a machine holds between two operations: its 32 registers, from register 0, whether the last
+-- two compared were equal and the loads that this depends on, the loads that branches depended on,
+-- and how many loads were stepped
+pub record Contents : Type 0 where
+  pub registers : List Held
+  pub flag : Bool
+  pub flag_mask : ℕ
+  pub control : ℕ
+  pub loads : ℕ
+
+-- what each register of a list holds; past its end, the number 0
 abbrev pub held_in : List Held → ℕ → Held
 held_in registers r = get_or registers r (num 0 0)
 
--- what a machine holds
-abbrev pub state_of : Machine → State
-state_of machine = record {
-  regs = held_in machine.registers;
-  flag = machine.flag;
-  flag_mask = machine.flag_mask;
-  control = machine.control;
-  loads = machine.loads;
+-- the state that a machine with these contents is in
+abbrev pub state_of : Contents → State
+state_of contents = record {
+  regs = held_in contents.registers;
+  flag = contents.flag;
+  flag_mask = contents.flag_mask;
+  control = contents.control;
+  loads = contents.loads;
 }
 
 -- the answer of a step and the state after it, as a rule tells them

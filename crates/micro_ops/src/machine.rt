@@ -7,16 +7,33 @@ use crate::held::Held;
 use crate::operand::{add_immediate, equal, exclusive_or, or_immediate, place, sum};
 use crate::operation::{Barrier, Item, Micro};
 use relax_edges::{Dir, Value};
+use std::marker::Model;
 use thiserror::Error;
 
 /// The machine of one thread, between two operations.
-#[derive(Clone, Copy, Debug)]
+///
+/// Contracts see what it holds.
+#[derive(Debug, Drop)]
 pub struct Machine {
     registers: [Held; 32],
     flag: bool,
     flag_mask: u64,
     control: u64,
     loads: u8,
+}
+
+impl Model for Machine {
+    ghost use Rattle.micro_ops.specs.Machines.{Contents};
+
+    ghost Value = { Contents };
+
+    ghost view = { λ m. record {
+      registers = m.registers;
+      flag = m.flag;
+      flag_mask = m.flag_mask;
+      control = m.control;
+      loads = m.loads;
+    } };
 }
 
 /// What a step leads to: the item that it makes, and the label that it jumps to.

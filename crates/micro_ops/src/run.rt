@@ -1,26 +1,38 @@
-ghost use Rattle.std.specs.Prelude.{◌≡◌, ◌<◌, ◌≤◌, ◌^◌, ◌++◌, [], ◌∷◌, length, All, Option, Some, None, OnOk, OnErr, IfOk, IfErr, IsErrOf, count_by, true, false, vec_items};
+ghost use Rattle.std.specs.Prelude.{◌≡◌, ◌<◌, ◌≤◌, ◌^◌, ◌++◌, [], ◌∷◌, length, All, Option, Some, None, OnOk, OnErr, IfOk, IfErr, IsErrOf, count_by, true, false};
 ghost use Rattle.micro_ops.specs.Machine.{step};
 ghost use Rattle.micro_ops.specs.Machines.{state_of, InRange};
 ghost use Rattle.micro_ops.specs.Running.{At, beginning, go, led, is_load, is_label, is_past, lands, runs, outcome, Ended, ReadsLeft};
-ghost use Rattle.micro_ops.specs.Threads.{trace_items, trace_values, goes_on, CausedBy, point_of, error_of};
+ghost use Rattle.micro_ops.specs.Threads.{value_in, goes_on, CausedBy};
+ghost use Rattle.micro_ops.specs.Runners.{point_of, error_of};
 
 use crate::machine::Machine;
 use crate::operation::{Item, Micro};
 use relax_edges::Value;
 use std::alloc::Global;
+use std::marker::Model;
 use thiserror::Error;
 
 /// What a thread did in a run that ended: its items, in order, and what its registers hold.
+///
+/// Contracts see these two.
 #[derive(Debug, Drop)]
 pub struct Trace {
     items: Vec<Item>,
     machine: Machine,
 }
 
+impl Model for Trace {
+    ghost use Rattle.micro_ops.specs.Threads.{EndedRun};
+
+    ghost Value = { EndedRun };
+
+    ghost view = { λ t. record { items = t.items.items; registers = t.machine.registers } };
+}
+
 impl Trace {
     /// The accesses and barriers, in order.
     pub fn items(&self) -> &[Item]
-        ensures { result.now ≡ trace_items self.now }
+        ensures { result.now ≡ self.now.items }
     {
         &self.items
     }
@@ -28,7 +40,7 @@ impl Trace {
     /// The value of a register at the end.
     pub fn register(&self, register: u8) -> Value
         requires { register < 32 }
-        ensures { result ≡ trace_values self.now register }
+        ensures { result ≡ value_in self.now register }
     {
         self.machine.held(register).value
     }
@@ -73,7 +85,7 @@ pub fn run_thread(
     requires lands { lands code.now ≡ true }
     requires few_loads { count_by is_load code.now ≤ 64 }
     requires short { length code.now < 2 ^ 32 }
-    ensures ended { IfOk result (λ trace. runs code.now init.now reads.now ≡ Ended (trace_items trace) (trace_values trace)) }
+    ensures ended { IfOk result (λ trace. runs code.now init.now reads.now ≡ Ended trace.items (value_in trace)) }
     ensures refused { IfErr result (λ error. CausedBy error code.now init.now reads.now) }
 {
     let mut runner = Runner::new(alloc, init, reads);
@@ -92,6 +104,19 @@ struct Runner<'a> {
     items: Vec<Item>,
     past: Option<u8>,
     reads: &'a [u32],
+}
+
+impl<'a> Model for Runner<'a> {
+    ghost use Rattle.micro_ops.specs.Runners.{Progress};
+
+    ghost Value = { Progress };
+
+    ghost view = { λ r. record {
+      machine = r.machine;
+      made = r.items.items;
+      past = r.past;
+      reads = r.reads.now;
+    } };
 }
 
 impl Micro {
@@ -138,7 +163,7 @@ impl<'a> Runner<'a> {
     /// The trace of a run whose code is over, on the way to no label.
     fn end(self) -> Result<Trace, RunError>
         requires { is_past (point_of self) ≡ false }
-        ensures ended { IfOk result (λ trace. outcome (point_of self.entry) ≡ Ended (trace_items trace) (trace_values trace)) }
+        ensures ended { IfOk result (λ trace. outcome (point_of self.entry) ≡ Ended trace.items (value_in trace)) }
         ensures left { IfErr result (λ error. (error ≡ RunError.ReadsLeft) × (outcome (point_of self.entry) ≡ ReadsLeft)) }
     {
         if self.reads.is_empty() {
@@ -154,7 +179,7 @@ impl<'a> Runner<'a> {
     fn step(&mut self, op: Micro, read: Option<u32>) -> Result<(), Halt>
         requires in_range { InRange op }
         requires room { is_load op ≡ true → (state_of self.old.machine).loads < 64 }
-        ensures led { OnOk result (point_of self.new ≡ led (step op (state_of self.old.machine) read) self.old.reads.now (vec_items self.old.items)) }
+        ensures led { OnOk result (point_of self.new ≡ led (step op (state_of self.old.machine) read) self.old.reads self.old.made) }
         ensures stuck { IsErrOf result Halt.Stuck → step op (state_of self.old.machine) read ≡ None }
     {
         let Ok(stepped) = self.machine.step(op, read) else {

@@ -1,6 +1,6 @@
 use Rattle.std.proofs.Common.{◌≡◌, take}
 use Rattle.micro_ops.specs.Running.{At, exec, beginning}
-use Rattle.micro_ops.specs.Threads.{point_of}
+use Rattle.micro_ops.specs.Runners.{point_of}
 use Rattle.micro_ops.proofs.run.run_thread.Given as goal
 
 abbrev pub invariant-loop-index : goal.invariant-loop-index
