@@ -121,6 +121,15 @@ unfolding rest_judged
 rest_nothing seen = refl
 
 -- a line that ends, behind what is stood for
+-- a text that ends with a byte has one, and a text that is empty has an empty front
+some_end : (text : List ℕ) (byte : ℕ) → text ++ byte ∷ [] ≡ [] → ⊥
+some_end [] byte h = cc
+some_end (b ∷ text) byte h = cc
+
+no_front : (front rest : List ℕ) → front ++ rest ≡ [] → front ≡ []
+no_front [] rest h = refl
+no_front (b ∷ front) rest h = absurd (cc)
+
 line_after : (old : Kept) (files : List (List ℕ)) (bytes front : List ℕ) (s : StandsFor old files bytes) → is_one_line front ≡ true
     → so_far files ((bytes ++ front) ++ 10 ∷ []) ≡ line_judged s.seen (old.held ++ front)
 line_after old files bytes front s one =
@@ -140,6 +149,7 @@ line_fed old new files bytes front s one h held refusal =
       reading = h.follows.reading;
       held = held ∙ sym (rest_ended (bytes ++ front));
       going = refusal ∙ s.going;
+      in_order = λ h. absurd (some_end (bytes ++ front) 10 h);
     })
 
 pub line_faulty : (old : Kept) (files : List (List ℕ)) (bytes front : List ℕ) (error : LogError) (s : StandsFor old files bytes) → is_one_line front ≡ true → line_judged s.seen (old.held ++ front) ≡ Err error
@@ -165,6 +175,7 @@ part_answered old new files bytes part s one (Ok x) h e = record {
   reading = h.follows.reading;
   held = ap (λ (k : Kept). k.held) e ∙ ap (λ t. t ++ part) s.held ∙ sym (rest_more bytes part one);
   going = ap (λ (k : Kept). k.refusal) e ∙ s.going;
+  in_order = λ h. ap (λ (k : Kept). k.in_order) e ∙ s.in_order (no_front bytes part h);
 }
 part_answered old new files bytes part s one (Err (Wrong kind)) h e = part_after old files bytes part s one ∙ h
 part_answered old new files bytes part s one (Err NoMemory) h e = tt
@@ -201,17 +212,18 @@ last_text seen [] h f = absurd (omega arith)
 last_text seen (byte ∷ line) h f = let e : is_too_long (byte ∷ line) ≡ false = fits (length (byte ∷ line)) f in rw e refl
 
 pub end_answered : (new : Kept) (files : List (List ℕ)) (bytes : List ℕ) (seen : Seen) → files_judged nothing_seen (files ++ bytes ∷ []) ≡ end_judged seen → new.held ≡ [] → new.refusal ≡ None
-    → (r : Result (Unit {0}) Fault) → ReadTo new.progress (end_judged seen) r → EndTo new files bytes r
+    → (r : Result (Unit {0}) Fault) → ReadTo new.progress (end_judged seen) r → OnOk r (new.in_order ≡ true) → EndTo new files bytes r
 unfolding rest_of
-end_answered new files bytes seen e held going (Ok x) h = record {
+end_answered new files bytes seen e held going (Ok x) h o = record {
   seen = h.seen;
   judged = nothing_more (files ++ bytes ∷ []) ∙ e ∙ h.is;
   reading = h.follows.reading;
   held = held;
   going = going;
+  in_order = λ _. o;
 }
-end_answered new files bytes seen e held going (Err (Wrong kind)) h = e ∙ h
-end_answered new files bytes seen e held going (Err NoMemory) h = tt
+end_answered new files bytes seen e held going (Err (Wrong kind)) h o = e ∙ h
+end_answered new files bytes seen e held going (Err NoMemory) h o = tt
 
 -- a last line that is wrong
 pub last_answered : (new : Kept) (files : List (List ℕ)) (bytes line : List ℕ) (seen : Seen) → files_judged nothing_seen (files ++ bytes ∷ []) ≡ (last_judged seen line >>= end_judged)

@@ -10,7 +10,9 @@ pub mod TableLaws
 pub mod FollowLaws
 pub mod StayLaws
 pub mod FeedLaws
-pub mod FormLaws
+pub mod OrderLaws
+pub mod EntryLaws
+pub mod SortLaws
 pub mod PrintLaws
 pub mod ReturnLaws
 pub mod StandingLaws

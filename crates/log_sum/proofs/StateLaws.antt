@@ -1,6 +1,7 @@
 -- Sets of texts, as the code keeps them.
-use Rattle.std.proofs.Common.{◌≡◌, ◌==◌, ℕ, ◌<◌, List, [], ◌∷◌, ◌++◌, Some, None, true, false, length, refl, sym, ap, ◌∙◌, arith, append_assoc, append-nil}
-use Rattle.std.specs.Prelude.{Bool, ◌||◌, cond, Option, map, Result, Ok, Err}
+use Rattle.std.proofs.Common.{◌≡◌, ◌==◌, ℕ, zero, suc, ◌+◌, ◌<◌, ◌≤◌, List, [], ◌∷◌, ◌++◌, Some, None, true, false, length, refl, sym, ap, ◌∙◌, arith, subst, append_assoc, append-nil}
+use Rattle.std.specs.Prelude.{Bool, ◌||◌, cond, Option, map, Result, Ok, Err, get_or, insert, take, slice_index_or, nat_lt}
+use Rattle.std.proofs.lemmas.Bool.Decides.{nat_tests}
 use Rattle.std.specs.List.{slice_split, list_any, onto_first}
 use Rattle.std.specs.Ordering.{nat_cmp, match_ordering}
 use Rattle.std.specs.declared.cmp.Ordering.{Ordering}
@@ -213,3 +214,64 @@ covers_goes f g ys it rest x y all e h k =
 
 pub covers_all : {A B : Type 0} (f : A → List ℕ) (g : B → List ℕ) (ys : List A) (it : List B) (all : List (List ℕ)) → it ≡ [] → map f ys ++ map g it ≡ all → map f ys ≡ all
 covers_all f g ys it all e k = sym (append-nil (map f ys)) ∙ ap (λ t. map f ys ++ map g t) (sym e) ∙ k
+
+-- where a text goes in a set
+abbrev pub text_at : List (List ℕ) → ℕ → List ℕ
+text_at texts i = get_or texts i []
+
+pub shown_at : {K : Type 0} (show : K → List ℕ) (keys : List K) (i : ℕ) (d : K) → i < length keys → text_at (map show keys) i ≡ show (slice_index_or keys i d)
+shown_at show [] i d h = absurd (omega (arith, h))
+shown_at show (key ∷ keys) zero d h = refl
+shown_at show (key ∷ keys) (suc i) d h = shown_at show keys i d (omega (arith, h))
+
+pub one_further : (P : ℕ → Type 0) (i : ℕ) → ((j : ℕ) → j < i → P j) → P i → (j : ℕ) → j < i + 1 → P j
+one_further P i below here j h =
+    by_test (nat_lt j i)
+    (λ t. let l : j < i = grind (arith, nat_tests) in below j l)
+    (λ f. let e : i ≡ j = grind (arith, nat_tests) in subst P e here)
+
+pub place_here : (texts : List (List ℕ)) (text : List ℕ) (i : ℕ) → i < length texts → ((j : ℕ) → j < i → slice_cmp nat_cmp text (text_at texts j) ≡ Greater) → slice_cmp nat_cmp text (text_at texts i) ≡ Less
+    → insert_key (slice_cmp nat_cmp) texts text ≡ insert texts i text
+place_here [] text i h above below = absurd (omega (arith, h))
+place_here (x ∷ texts) text zero h above below = rw below refl
+place_here (x ∷ texts) text (suc i) h above below =
+    let further = place_here texts text i (omega (arith, h)) (λ j l. above (suc j) (omega (arith, l))) below in
+    rw (above zero (omega arith)) (ap (λ t. x ∷ t) further)
+
+pub place_there : (texts : List (List ℕ)) (text : List ℕ) (i : ℕ) → i < length texts → ((j : ℕ) → j < i → slice_cmp nat_cmp text (text_at texts j) ≡ Greater) → slice_cmp nat_cmp text (text_at texts i) ≡ Equal
+    → insert_key (slice_cmp nat_cmp) texts text ≡ texts
+place_there [] text i h above equal = absurd (omega (arith, h))
+place_there (x ∷ texts) text zero h above equal = rw equal refl
+place_there (x ∷ texts) text (suc i) h above equal =
+    let further = place_there texts text i (omega (arith, h)) (λ j l. above (suc j) (omega (arith, l))) equal in
+    rw (above zero (omega arith)) (ap (λ t. x ∷ t) further)
+
+pub place_last : (texts : List (List ℕ)) (text : List ℕ) (i : ℕ) → i ≡ length texts → ((j : ℕ) → j < i → slice_cmp nat_cmp text (text_at texts j) ≡ Greater) → insert_key (slice_cmp nat_cmp) texts text ≡ insert texts i text
+place_last [] text i h above = rw h refl
+place_last (x ∷ texts) text zero h above = absurd (omega (arith, h))
+place_last (x ∷ texts) text (suc i) h above =
+    let further = place_last texts text i (omega (arith, h)) (λ j l. above (suc j) (omega (arith, l))) in
+    rw (above zero (omega arith)) (ap (λ t. x ∷ t) further)
+
+pub insert_map : {K : Type 0} (show : K → List ℕ) (keys : List K) (i : ℕ) (key : K) → map show (insert keys i key) ≡ insert (map show keys) i (show key)
+insert_map show [] zero key = refl
+insert_map show [] (suc i) key = refl
+insert_map show (x ∷ keys) zero key = refl
+insert_map show (x ∷ keys) (suc i) key = ap (λ t. show x ∷ t) (insert_map show keys i key)
+
+pub as_many : {K : Type 0} (show : K → List ℕ) (keys : List K) → length keys ≡ length (map show keys)
+as_many show [] = refl
+as_many show (key ∷ keys) = ap suc (as_many show keys)
+
+pub take_one_more : {K : Type 0} (keys : List K) (i : ℕ) (d : K) → i < length keys → take (i + 1) keys ≡ take i keys ++ slice_index_or keys i d ∷ []
+take_one_more [] i d h = absurd (omega (arith, h))
+take_one_more (key ∷ keys) zero d h = refl
+take_one_more (key ∷ keys) (suc i) d h =
+    let more : suc i + 1 ≡ suc (i + 1) = omega arith in
+    ap (λ n. take n (key ∷ keys)) more ∙ ap (λ t. key ∷ t) (take_one_more keys i d (omega (arith, h)))
+
+pub take_whole : {K : Type 0} (keys : List K) (i : ℕ) → length keys ≤ i → take i keys ≡ keys
+take_whole [] zero h = refl
+take_whole [] (suc i) h = refl
+take_whole (key ∷ keys) zero h = absurd (omega (arith, h))
+take_whole (key ∷ keys) (suc i) h = ap (λ t. key ∷ t) (take_whole keys i (omega (arith, h)))

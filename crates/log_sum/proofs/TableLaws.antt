@@ -1,11 +1,12 @@
 -- The tests as the code's table keeps them.
 use Rattle.std.proofs.Common.{◌≡◌, ℕ, zero, suc, ◌+◌, ◌<◌, List, [], ◌∷◌, ◌++◌, Some, None, true, false, length, get_or, refl, sym, ap, ◌∙◌, arith, subst}
 use Rattle.std.specs.Prelude.{Bool, Option, map, Result, Ok, Err, slice_get, nat_lt, fold, position}
-use Rattle.std.specs.List.{list_any, position_or_len}
+use Rattle.std.specs.List.{list_any, list_all, position_or_len}
 use Rattle.std.specs.Map.{keys_of, values_of}
 use Rattle.std.specs.Str.{bytes_eq}
 use Rattle.std.specs.declared.vec.Vec.{Vec}
 use Rattle.std.specs.declared.alloc.Global.{Global}
+use Rattle.std.proofs.lemmas.Bool.{and_parts}
 use Rattle.std.proofs.lemmas.Bool.Decides.{nat_tests}
 use Rattle.std.proofs.lemmas.List.Quantifiers.{position-Some}
 use Rattle.std.proofs.lemmas.Slice.Eq.{bytes_eq-Decides}
@@ -13,16 +14,18 @@ use Rattle.indexmap.specs.IndexMap.{insert_entry}
 use Rattle.indexmap.specs.Layout.{set_value_at}
 use Rattle.log_sum.specs.declared.errors.LogKind.{LogKind}
 use Rattle.log_sum.specs.declared.kinds.Kind.{Kind}
+use Rattle.log_sum.specs.declared.state_table.StateTable.{StateTable}
 use Rattle.log_sum.specs.declared.table.Table.{Table}
 use Rattle.log_sum.specs.declared.test_sum.TestSum.{TestSum}
 use Rattle.log_sum.specs.declared.errors.Fault.{Fault}
 use Rattle.log_sum.specs.declared.errors.Fault.TheVariants.{Wrong, NoMemory}
 use Rattle.log_sum.specs.Classes.{named_view, test_view, tests_view, GivesOr}
-use Rattle.log_sum.specs.Facts.{Fact, Entry, a_kind, facts_of, tests_of, fault_of, with_name, marked_sum, states_of}
-use Rattle.log_sum.specs.Summed.{Summed, summed}
-use Rattle.log_sum.specs.Steps.{fact_to, of_kind}
+use Rattle.log_sum.specs.Facts.{Fact, Entry, Row, a_kind, a_row, facts_of, tests_of, fault_of, with_name, marked_sum, states_of}
+use Rattle.log_sum.specs.Summed.{StateSummed, Summed, summed}
+use Rattle.log_sum.specs.Steps.{fact_to, row_to, of_kind}
+use Rattle.log_sum.specs.StateEntries.{states_view}
 use Rattle.log_sum.specs.Standing.{table_of, name_at}
-use Rattle.log_sum.specs.Feeding.{AreMarked, WithFact, FactPut}
+use Rattle.log_sum.specs.Feeding.{AreMarked, WithFact, FactPut, RowPut}
 use Rattle.log_sum.proofs.RunLaws.{by_test}
 use Rattle.log_sum.proofs.SumLaws.{by_fault, fact_put_is}
 use Rattle.log_sum.proofs.ReadingLaws.{Differ, more, put_at, table_put, tests_differ}
@@ -289,3 +292,52 @@ test_begun p eq entries es key name t kind new same_p same_eq s missing w r =
           ∙ table_put entries name (a_kind kind) (tests_differ entries);
       running = ap (name_at (tests_view new)) place ∙ ap (λ rows. name_at rows (position_or_len (bytes_eq name) (names (map named_view es)))) shown ∙ put_there name (test_view t) (map named_view es);
     }
+
+-- a test that is written as it is seen
+pub unseen_write : (es : List (Vec ℕ Global × TestSum)) (i : ℕ) (t u : TestSum) → slice_get (values_of es) i ≡ Some t → test_view u ≡ test_view t → map named_view (set_value_at es i u) ≡ map named_view es
+unseen_write [] i t u h e = refl
+unseen_write (x ∷ es) zero t u h e = let f : x.1 ≡ t = cc in ap (λ (s : Summed). (x.0.items, s) ∷ map named_view es) (e ∙ ap test_view (sym f))
+unseen_write (x ∷ es) (suc i) t u h e = ap (λ rest. named_view x ∷ rest) (unseen_write es i t u h e)
+
+-- the states of the tests below an index stand in byte order
+abbrev pub OrderedBelow : List (Vec ℕ Global × TestSum) → ℕ → Type 0
+OrderedBelow es i = (j : ℕ) (test : Vec ℕ Global × TestSum) → j < i → slice_get es j ≡ Some test → test.1.states.in_order ≡ true
+
+pub ordered_written : (es : List (Vec ℕ Global × TestSum)) (i : ℕ) (u : TestSum) → u.states.in_order ≡ true → OrderedBelow es i → OrderedBelow (set_value_at es i u) (i + 1)
+ordered_written [] i u h below j test l e = absurd (cc)
+ordered_written (x ∷ es) zero u h below zero test l e = let f : ◌≡◌ {A = Vec ℕ Global × TestSum} (x.0, u) test = cc in ap (λ (t : Vec ℕ Global × TestSum). t.1.states.in_order) (sym f) ∙ h
+ordered_written (x ∷ es) zero u h below (suc j) test l e = absurd (omega (arith, l))
+ordered_written (x ∷ es) (suc i) u h below zero test l e = below zero test (omega arith) e
+ordered_written (x ∷ es) (suc i) u h below (suc j) test l e = ordered_written es i u h (λ k t m f. below (suc k) t (omega (arith, m)) f) j test (omega (arith, l)) e
+
+pub all_ordered : (es : List (Vec ℕ Global × TestSum)) → OrderedBelow es (length es) → list_all (λ (test : Vec ℕ Global × TestSum). test.1.states.in_order) es ≡ true
+all_ordered [] below = refl
+all_ordered (x ∷ es) below = rw (below zero x (omega arith) refl) (all_ordered es (λ j test l e. below (suc j) test (omega (arith, l)) e))
+
+pub same_many : (es : List (Vec ℕ Global × TestSum)) (i : ℕ) (u : TestSum) → length (set_value_at es i u) ≡ length es
+same_many [] i u = refl
+same_many (x ∷ es) zero u = refl
+same_many (x ∷ es) (suc i) u = ap suc (same_many es i u)
+
+pub there_below : (es : List (Vec ℕ Global × TestSum)) (i : ℕ) → i < length es → slice_get (values_of es) i ≡ None → ⊥
+there_below [] i l h = omega (arith, l)
+there_below (x ∷ es) zero l h = cc
+there_below (x ∷ es) (suc i) l h = there_below es i (omega (arith, l)) h
+
+-- a test whose states came in byte order is seen as before
+pub same_view : (test : TestSum) (states : StateTable) → states_view states.sums.entries ≡ states_view test.states.sums.entries → test_view (record test { states = states }) ≡ test_view test
+same_view test states e = ap (λ (s : List StateSummed). record (test_view test) { states = s }) e
+
+-- an answer to a row, written to the table
+pub row_answered : (entries : List Entry) (es : List (Vec ℕ Global × TestSum)) (i : ℕ) (name : List ℕ) (t u : TestSum) (new : Table) → Stands entries es i name t
+    → new.tests.entries ≡ set_value_at es i u → new.running ≡ i → (read : Result Row LogKind) (r : Result (Unit {0}) Fault) → GivesOr (λ _. test_view u) r (row_to (test_view t) read) → RowPut entries name read new r
+row_answered entries es i name t u new s w k (Ok row) r g = fact_answered entries es i name t u (a_row row) new s w k r g
+row_answered entries es i name t u new s w k (Err kind) (Ok x) g = absurd (cc)
+row_answered entries es i name t u new s w k (Err kind) (Err (Wrong other)) g = let e : kind ≡ other = cc in sym e
+row_answered entries es i name t u new s w k (Err kind) (Err NoMemory) g = tt
+
+-- the first of tests whose states stand in byte order, and the others
+pub ordered_first : (tests rest : List (Vec ℕ Global × TestSum)) (test : Vec ℕ Global × TestSum) → tests ≡ test ∷ rest → list_all (λ (t : Vec ℕ Global × TestSum). t.1.states.in_order) tests ≡ true
+    → (test.1.states.in_order ≡ true) × (list_all (λ (t : Vec ℕ Global × TestSum). t.1.states.in_order) rest ≡ true)
+ordered_first tests rest test e h =
+    and_parts test.1.states.in_order (list_all (λ (t : Vec ℕ Global × TestSum). t.1.states.in_order) rest) (ap (list_all (λ (t : Vec ℕ Global × TestSum). t.1.states.in_order)) (sym e) ∙ h)

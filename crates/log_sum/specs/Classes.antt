@@ -1,7 +1,7 @@
 -- What the code's view of texts stands for.
 -- Source: own.
 use Rattle.std.specs.Prelude.{◌≡◌, ℕ, Bool, List, [], ◌∷◌, Option, Some, None, Result, Ok, Err, map, option_map}
-use Rattle.std.specs.BTreeSet.{BTreeSet}
+use Rattle.std.specs.List.{list_all}
 use Rattle.std.specs.Borrow.{Bor}
 use Rattle.log_sum.specs.declared.errors.LogKind.{LogKind}
 use Rattle.log_sum.specs.declared.errors.Fault.{Fault}
@@ -15,11 +15,11 @@ use Rattle.log_sum.specs.declared.lines.Said.TheVariants as code
 use Rattle.log_sum.specs.declared.kinds.Verdict.{Verdict}
 use Rattle.std.specs.declared.vec.Vec.{Vec}
 use Rattle.std.specs.declared.alloc.Global.{Global}
-use Rattle.log_sum.specs.declared.test_sum.StateSum.{StateSum}
 use Rattle.log_sum.specs.declared.test_sum.TestSum.{TestSum}
 use Rattle.log_sum.specs.declared.table.Table.{Table}
 use Rattle.log_sum.specs.declared.reading.Reading.{Reading}
-use Rattle.log_sum.specs.Summed.{Summed, StateSummed}
+use Rattle.log_sum.specs.Summed.{Summed}
+use Rattle.log_sum.specs.StateEntries.{states_view}
 use Rattle.log_sum.specs.Facts.{Row}
 use Rattle.log_sum.specs.Standing.{Progress}
 use Rattle.log_sum.specs.States.{form_read}
@@ -77,14 +77,11 @@ abbrev pub ReadsOr : {X Y : Type 0} → (X → Result Y LogKind) → Result X Fa
 ReadsOr view (Ok x) read = read ≡ view x
 ReadsOr view (Err fault) read = IsFault fault read
 
--- the texts of a set
-abbrev pub texts_of : BTreeSet (Vec ℕ Global) → List (List ℕ)
-texts_of state = map (λ text. text.items) state.keys
+-- what texts are
+abbrev pub texts_of : List (Vec ℕ Global) → List (List ℕ)
+texts_of texts = map (λ text. text.items) texts
 
--- what is kept of a state, and of a test
-abbrev pub state_view : Vec ℕ Global × StateSum → StateSummed
-state_view state = (state.0.items, (state.1.mark, state.1.count))
-
+-- what is kept of a test
 abbrev pub test_view : TestSum → Summed
 test_view test = record {
   kind = Some test.kind;
@@ -94,7 +91,7 @@ test_view test = record {
   always_validated = test.always_validated;
   starred = test.starred;
   plain = test.plain;
-  states = map state_view test.states.entries;
+  states = states_view test.states.sums.entries;
 }
 
 abbrev pub named_view : Vec ℕ Global × TestSum → List ℕ × Summed
@@ -102,6 +99,10 @@ named_view test = (test.0.items, test_view test.1)
 
 abbrev pub tests_view : Table → List (List ℕ × Summed)
 tests_view table = map named_view table.tests.entries
+
+-- the states of each test stand in byte order
+abbrev pub are_in_order : Table → Bool
+are_in_order table = list_all (λ test. test.1.states.in_order) table.tests.entries
 
 -- how far a reading is
 abbrev pub progress_view : Reading → Progress

@@ -9,7 +9,7 @@ pub mod Reading
 pub mod Summed
 pub mod Standing
 pub mod Feeding
-pub mod Forms
+pub mod StateEntries
 pub mod Steps
 pub mod SumText
 pub mod Pieces

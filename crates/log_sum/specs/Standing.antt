@@ -1,6 +1,6 @@
 -- What a summer keeps, and the input that it stands for.
 -- Source: own.
-use Rattle.std.specs.Prelude.{◌≡◌, ℕ, List, [], ◌∷◌, ◌++◌, map, slice_get, Option, Some, None, option_map, Result, Ok, Err, IfErr}
+use Rattle.std.specs.Prelude.{◌≡◌, ℕ, Bool, true, List, [], ◌∷◌, ◌++◌, map, slice_get, Option, Some, None, option_map, Result, Ok, Err, IfErr}
 use Rattle.log_sum.specs.declared.errors.LogError.{LogError}
 use Rattle.log_sum.specs.declared.errors.SumError.{SumError}
 use Rattle.log_sum.specs.declared.errors.SumError.TheVariants.{Log, NoMemory}
@@ -20,9 +20,11 @@ pub record Progress : Type 0 where
   pub test : ℕ
   pub line : ℕ
 
--- how far the reading is, what has come of the running line, and the refusal of a summer that is spent
+-- how far the reading is, whether the states of each test stand in byte order, what has come of the running line, and the
+-- refusal of a summer that is spent
 pub record Kept : Type 0 where
   pub progress : Progress
+  pub in_order : Bool
   pub held : List ℕ
   pub refusal : Option SumError
 
@@ -47,13 +49,14 @@ pub record IsAt (progress : Progress) (seen : Seen) : Type 0 where
   pub line : progress.line ≡ seen.line
 
 -- what is kept stands for whole files and the bytes that have come of one more: the lines that were judged so far have no
--- fault, and it is what they give
+-- fault, it is what they give, and between two files the states of each test stand in byte order
 pub record StandsFor (kept : Kept) (files : List (List ℕ)) (bytes : List ℕ) : Type 0 where
   pub seen : Seen
   pub judged : input_judged files bytes ≡ Ok seen
   pub reading : IsAt kept.progress seen
   pub held : kept.held ≡ rest_of bytes
   pub going : kept.refusal ≡ None
+  pub in_order : bytes ≡ [] → kept.in_order ≡ true
 
 -- what an answer to a piece of a log says, where this is the input after it: it has no fault and is stood for, or it has
 -- exactly this first fault

@@ -72,3 +72,8 @@ fact_to test (a_hash text) = cond (is_other bytes_eq test.hash text) (Err HashDi
 fact_to test (a_row row) =
     cond (is_other same_mark (option_map (λ known. known.0) (known_state test.states row.state)) row.mark) (Err MarkDiffers)
     (cond (nat_lt last_count (marked test row.mark + row.count)) (Err SumTooLarge) (Ok (with_row test row)))
+
+-- a test with a row more, whose state may be wrong
+abbrev pub row_to : Summed → Result Row LogKind → Result Summed LogKind
+row_to test (Err kind) = Err kind
+row_to test (Ok row) = fact_to test (a_row row)

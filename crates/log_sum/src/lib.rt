@@ -3,13 +3,13 @@
 
 mod counts;
 mod errors;
-mod forms;
 mod kinds;
 mod law;
 mod lines;
 mod places;
 mod print;
 mod reading;
+mod state_table;
 mod states;
 mod summer;
 mod table;

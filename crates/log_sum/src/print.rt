@@ -1,4 +1,4 @@
-ghost use Rattle.std.specs.Prelude.{◌≡◌, ◌≤◌, ◌++◌, [], OnOk, OnErr};
+ghost use Rattle.std.specs.Prelude.{◌≡◌, ◌≤◌, ◌++◌, [], true, OnOk, OnErr};
 ghost use Rattle.std.specs.List.{flat_map};
 ghost use Rattle.diy_io.specs.Count.{Rose};
 ghost use Rattle.diy_io.specs.Sink.{Grew, GrewByPrefix};
@@ -7,7 +7,8 @@ ghost use Rattle.log_sum.specs.Summed.{is_validated, or_else};
 ghost use Rattle.log_sum.specs.SumText.{kind_word, mark_sign, verdict_word, verdict_end, how_often, filling, head_text, state_line, verdict_text, claim_text, hash_text, condition_text, observation_text, test_text};
 
 use crate::kinds::{Kind, Mark};
-use crate::test_sum::{StateSum, TestSum};
+use crate::state_table::StateSum;
+use crate::test_sum::TestSum;
 use diy_io::{Failed, Sink, write_pieces};
 use itoa::Buffer;
 
@@ -91,6 +92,7 @@ fn condition_of(test: &TestSum) -> &[u8]
 
 #[tactic(auto, using(crate::proofs::PrintLaws::length_map), unfolding(crate::specs::SumText::head_text))]
 fn print_head<O: Sink>(name: &[u8], test: &TestSum, out: &mut O) -> Result<(), Failed>
+    requires { test.now.states.in_order ≡ true }
     ensures ok { OnOk result (Grew (O.told out.old) (O.told out.new) (head_text name.now (test_view test.now))) }
     ensures failed { OnErr result (GrewByPrefix (O.told out.old) (O.told out.new) (head_text name.now (test_view test.now))) }
     ensures no_fault { OnOk result (O.faults out.new ≡ O.faults out.old) }
@@ -98,7 +100,7 @@ fn print_head<O: Sink>(name: &[u8], test: &TestSum, out: &mut O) -> Result<(), F
     ensures never_falls { O.faults out.old ≤ O.faults out.new }
 {
     let mut count = Buffer::new();
-    let count = count.format(test.states.len()).as_bytes();
+    let count = count.format(test.states.sums.len()).as_bytes();
     let kind = kind_word(test.kind);
     write_pieces(
         out,
@@ -132,13 +134,14 @@ fn print_state<O: Sink>(form: &[u8], state: &StateSum, out: &mut O) -> Result<()
 }
 
 fn print_states<O: Sink>(test: &TestSum, out: &mut O) -> Result<(), Failed>
+    requires { test.now.states.in_order ≡ true }
     ensures ok { OnOk result (Grew (O.told out.old) (O.told out.new) (flat_map state_line (test_view test.now).states)) }
     ensures failed { OnErr result (GrewByPrefix (O.told out.old) (O.told out.new) (flat_map state_line (test_view test.now).states)) }
     ensures no_fault { OnOk result (O.faults out.new ≡ O.faults out.old) }
     ensures fault { OnErr result (Rose (O.faults out.old) (O.faults out.new)) }
     ensures never_falls { O.faults out.old ≤ O.faults out.new }
 {
-    for (form, state) in &test.states {
+    for (form, state) in &test.states.sums {
         print_state(form.as_slice(), state, out)?;
     }
     Ok(())
@@ -244,6 +247,7 @@ fn print_observation<O: Sink>(name: &[u8], test: &TestSum, out: &mut O) -> Resul
 
 #[tactic(auto, using(diy_io::specs::SinkLaws::grew_both, diy_io::specs::SinkLaws::prefix_after, diy_io::specs::SinkLaws::within_more))]
 fn print_upper<O: Sink>(name: &[u8], test: &TestSum, out: &mut O) -> Result<(), Failed>
+    requires { test.now.states.in_order ≡ true }
     ensures ok { OnOk result (Grew (O.told out.old) (O.told out.new) (head_text name.now (test_view test.now) ++ flat_map state_line (test_view test.now).states)) }
     ensures failed { OnErr result (GrewByPrefix (O.told out.old) (O.told out.new) (head_text name.now (test_view test.now) ++ flat_map state_line (test_view test.now).states)) }
     ensures no_fault { OnOk result (O.faults out.new ≡ O.faults out.old) }
@@ -256,6 +260,7 @@ fn print_upper<O: Sink>(name: &[u8], test: &TestSum, out: &mut O) -> Result<(), 
 
 #[tactic(auto, using(diy_io::specs::SinkLaws::grew_both, diy_io::specs::SinkLaws::prefix_after, diy_io::specs::SinkLaws::within_more))]
 fn print_counts<O: Sink>(name: &[u8], test: &TestSum, out: &mut O) -> Result<(), Failed>
+    requires { test.now.states.in_order ≡ true }
     ensures ok { OnOk result (Grew (O.told out.old) (O.told out.new) ((head_text name.now (test_view test.now) ++ flat_map state_line (test_view test.now).states) ++ verdict_text (test_view test.now))) }
     ensures failed { OnErr result (GrewByPrefix (O.told out.old) (O.told out.new) ((head_text name.now (test_view test.now) ++ flat_map state_line (test_view test.now).states) ++ verdict_text (test_view test.now))) }
     ensures no_fault { OnOk result (O.faults out.new ≡ O.faults out.old) }
@@ -268,6 +273,7 @@ fn print_counts<O: Sink>(name: &[u8], test: &TestSum, out: &mut O) -> Result<(),
 
 #[tactic(auto, using(diy_io::specs::SinkLaws::grew_both, diy_io::specs::SinkLaws::prefix_after, diy_io::specs::SinkLaws::within_more))]
 fn print_claims<O: Sink>(name: &[u8], test: &TestSum, out: &mut O) -> Result<(), Failed>
+    requires { test.now.states.in_order ≡ true }
     ensures ok { OnOk result (Grew (O.told out.old) (O.told out.new) (((head_text name.now (test_view test.now) ++ flat_map state_line (test_view test.now).states) ++ verdict_text (test_view test.now)) ++ (claim_text (test_view test.now) ++ hash_text (test_view test.now).hash))) }
     ensures failed { OnErr result (GrewByPrefix (O.told out.old) (O.told out.new) (((head_text name.now (test_view test.now) ++ flat_map state_line (test_view test.now).states) ++ verdict_text (test_view test.now)) ++ (claim_text (test_view test.now) ++ hash_text (test_view test.now).hash))) }
     ensures no_fault { OnOk result (O.faults out.new ≡ O.faults out.old) }
@@ -281,6 +287,7 @@ fn print_claims<O: Sink>(name: &[u8], test: &TestSum, out: &mut O) -> Result<(),
 /// Appends the text of a test.
 #[tactic(auto, using(diy_io::specs::SinkLaws::grew_both, diy_io::specs::SinkLaws::prefix_after, diy_io::specs::SinkLaws::within_more), unfolding(crate::specs::SumText::test_text, crate::specs::SumText::condition_text))]
 pub(crate) fn print_sum<O: Sink>(name: &[u8], test: &TestSum, out: &mut O) -> Result<(), Failed>
+    requires { test.now.states.in_order ≡ true }
     ensures ok { OnOk result (Grew (O.told out.old) (O.told out.new) (test_text name.now (test_view test.now))) }
     ensures failed { OnErr result (GrewByPrefix (O.told out.old) (O.told out.new) (test_text name.now (test_view test.now))) }
     ensures no_fault { OnOk result (O.faults out.new ≡ O.faults out.old) }

@@ -1,5 +1,5 @@
-ghost use Rattle.std.specs.Prelude.{◌≡◌, ℕ, List};
-ghost use Rattle.log_sum.specs.Classes.{said_read, row_read, tests_view, progress_view};
+ghost use Rattle.std.specs.Prelude.{◌≡◌, ℕ, List, true, OnOk};
+ghost use Rattle.log_sum.specs.Classes.{said_read, row_read, tests_view, are_in_order, progress_view};
 ghost use Rattle.log_sum.specs.Facts.{Entry};
 ghost use Rattle.log_sum.specs.Lines.{line_said};
 ghost use Rattle.log_sum.specs.Standing.{table_of, name_at};
@@ -7,10 +7,10 @@ ghost use Rattle.log_sum.specs.Reading.{Seen, nothing_seen, said_judged, text_ju
 ghost use Rattle.log_sum.specs.Feeding.{AreMarked, RowPut, Follows, ReadTo};
 
 use crate::errors::{Fault, LogKind};
-use crate::forms::Forms;
 use crate::kinds::Place;
 use crate::lines::{Row, Said, read_line};
 use crate::places::place_after;
+use crate::states::StateReader;
 use crate::table::Table;
 use std::alloc::Global;
 
@@ -19,7 +19,7 @@ use std::alloc::Global;
 pub(crate) struct Reading {
     alloc: Global,
     pub(crate) table: Table,
-    forms: Forms,
+    states: StateReader,
     /// The place in the running log.
     pub(crate) place: Place,
     /// The number of the running line.
@@ -34,7 +34,7 @@ impl Reading {
         Reading {
             alloc,
             table: Table::new(alloc),
-            forms: Forms::new(alloc),
+            states: StateReader::new(alloc),
             place: Place::Outside,
             line: 1,
         }
@@ -50,12 +50,14 @@ impl Reading {
         Ok(())
     }
 
-    /// The end of a log.
+    /// The end of a log, at which the states of each test come in byte order.
     pub(crate) fn end(&mut self) -> Result<(), Fault>
-        ensures { (seen : Seen) → Follows (progress_view self.old) seen → ReadTo (progress_view self.new) (end_judged seen) result }
+        ensures in_order { OnOk result (are_in_order self.new.table ≡ true) }
+        ensures ended { (seen : Seen) → Follows (progress_view self.old) seen → ReadTo (progress_view self.new) (end_judged seen) result }
     {
         match self.place {
             Place::Outside => {
+                self.table.put_in_order()?;
                 self.line = 1;
                 Ok(())
             }
@@ -84,8 +86,6 @@ impl Reading {
         ensures place { self.new.place ≡ self.old.place }
         ensures line { self.new.line ≡ self.old.line }
     {
-        let i = self.forms.index_of(self.alloc, row.text)?;
-        self.table
-            .put_row(self.alloc, self.forms.form(i), row.mark, row.count)
+        self.table.put_row(self.alloc, &mut self.states, row)
     }
 }

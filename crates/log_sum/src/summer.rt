@@ -1,4 +1,4 @@
-ghost use Rattle.std.specs.Prelude.{◌≡◌, ◌≤◌, ℕ, List, [], ◌++◌, Some, None, IfOk, IfErr, OnOk, OnErr};
+ghost use Rattle.std.specs.Prelude.{◌≡◌, ◌≤◌, ℕ, List, [], ◌++◌, true, Some, None, IfOk, IfErr, OnOk, OnErr};
 ghost use Rattle.diy_io.specs.Count.{Rose};
 ghost use Rattle.diy_io.specs.Sink.{Grew, GrewByPrefix};
 ghost use Rattle.log_sum.specs.Reading.{Seen, without_return, line_judged, rest_judged};
@@ -29,12 +29,13 @@ pub struct Summer {
 impl Model for Summer {
     ghost use Rattle.std.specs.Prelude.{◌≤◌, length};
     ghost use Rattle.log_sum.specs.Standing.{Kept};
-    ghost use Rattle.log_sum.specs.Classes.{progress_view};
+    ghost use Rattle.log_sum.specs.Classes.{progress_view, are_in_order};
 
     ghost Value = { Kept };
 
     ghost view = { λ s. record {
       progress = progress_view s.reading;
+      in_order = are_in_order s.reading.table;
       held = s.held.items;
       refusal = s.refusal;
     } };
@@ -56,7 +57,8 @@ fn without_return(line: &[u8]) -> &[u8]
 impl Summer {
     /// A summer that was fed nothing yet.
     pub fn new(alloc: Global) -> Result<Summer, NoMemory>
-        ensures { IfOk result (λ summer. StandsFor summer [] []) }
+        ensures stands { IfOk result (λ summer. StandsFor summer [] []) }
+        ensures in_order { IfOk result (λ summer. summer.in_order ≡ true) }
     {
         Ok(Summer {
             reading: Reading::new(alloc),
@@ -87,6 +89,7 @@ impl Summer {
     /// then, and answers the same again.
     pub fn end_file(&mut self) -> Result<(), SumError>
         ensures ended { (files : List (List ℕ)) (bytes : List ℕ) → StandsFor self.old files bytes → EndedTo self.new files bytes result }
+        ensures in_order { OnOk result (self.new.in_order ≡ true) }
         ensures kept { IsKept self.new result }
         ensures given_again { GivenAgain self.old self.new result }
     {
@@ -99,9 +102,10 @@ impl Summer {
 
     /// Appends the sum of what is kept. Where the sink fails, it has taken a front of it.
     ///
-    /// It is the sum of the logs that were ended where the summer isn't spent and was fed nothing since
-    /// the last of them; else it may be that of a part of them.
+    /// It is asked for between two logs: before the first, or behind an `end_file` that answered Ok, with nothing
+    /// fed since.
     pub fn write_sum<O: Sink>(&self, out: &mut O) -> Result<(), Failed>
+        requires { self.now.in_order ≡ true }
         ensures ok { OnOk result (Grew (O.told out.old) (O.told out.new) (kept_text self.now)) }
         ensures failed { OnErr result (GrewByPrefix (O.told out.old) (O.told out.new) (kept_text self.now)) }
         ensures no_fault { OnOk result (O.faults out.new ≡ O.faults out.old) }
@@ -185,7 +189,8 @@ impl Summer {
 
     /// A last line that no line feed ends, and the end of the log.
     fn end_line(&mut self) -> Result<(), Fault>
-        ensures { (files : List (List ℕ)) (bytes : List ℕ) → StandsFor self.old files bytes → EndTo self.new files bytes result }
+        ensures in_order { OnOk result (self.new.in_order ≡ true) }
+        ensures ended { (files : List (List ℕ)) (bytes : List ℕ) → StandsFor self.old files bytes → EndTo self.new files bytes result }
     {
         if !self.held.is_empty() {
             self.reading.judge(self.held.as_slice())?;

@@ -1,12 +1,15 @@
-ghost use Rattle.std.specs.Prelude.{◌≡◌, ℕ, List, []};
-ghost use Rattle.log_sum.specs.Classes.{tests_view};
-ghost use Rattle.log_sum.specs.Facts.{Entry, a_kind, a_row, row_with, a_condition, a_hash};
+ghost use Rattle.std.specs.Prelude.{◌≡◌, ℕ, List, [], true, OnOk};
+ghost use Rattle.log_sum.specs.Classes.{row_read, tests_view, are_in_order};
+ghost use Rattle.log_sum.specs.Facts.{Entry, a_kind, a_condition, a_hash};
 ghost use Rattle.log_sum.specs.Standing.{table_of, name_at};
-ghost use Rattle.log_sum.specs.Feeding.{AreMarked, FactPut};
+ghost use Rattle.log_sum.specs.Feeding.{AreMarked, FactPut, RowPut};
 
 use crate::errors::Fault;
-use crate::kinds::{Kind, Mark, Verdict};
+use crate::kinds::{Kind, Verdict};
+use crate::lines::Row;
+use crate::states::StateReader;
 use crate::test_sum::TestSum;
+use diy_io::NoMemory;
 use indexmap::IndexMap;
 use std::alloc::Global;
 
@@ -47,20 +50,32 @@ impl Table {
         Ok(())
     }
 
-    /// A state of the running test, seen so often.
+    /// A state of the running test, which a row writes.
     pub(crate) fn put_row(
         &mut self,
         alloc: Global,
-        state: &[u8],
-        mark: Mark,
-        count: u64,
+        reader: &mut StateReader,
+        row: Row<'_>,
     ) -> Result<(), Fault>
-        ensures { (entries : List Entry) (name : List ℕ) → tests_view self.old ≡ table_of entries → name_at (tests_view self.old) self.old.running ≡ Some name → AreMarked entries → FactPut entries name (a_row (row_with state.now mark count)) self.new result }
+        ensures { (entries : List Entry) (name : List ℕ) → tests_view self.old ≡ table_of entries → name_at (tests_view self.old) self.old.running ≡ Some name → AreMarked entries → RowPut entries name (row_read row.entry) self.new result }
     {
         match self.tests.get_index_mut(self.running) {
-            Some(test) => test.put_row(alloc, state, mark, count),
+            Some(test) => test.put_row(alloc, reader, row),
             None => Ok(()),
         }
+    }
+
+    /// Puts the states of each test in byte order.
+    pub(crate) fn put_in_order(&mut self) -> Result<(), NoMemory>
+        ensures tests { tests_view self.new ≡ tests_view self.old }
+        ensures in_order { OnOk result (are_in_order self.new ≡ true) }
+    {
+        for i in 0..self.tests.len() {
+            if let Some(test) = self.tests.get_index_mut(i) {
+                test.states.put_in_order()?;
+            }
+        }
+        Ok(())
     }
 
     /// A condition of the running test, and what its block says of it.

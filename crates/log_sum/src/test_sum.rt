@@ -1,19 +1,16 @@
-ghost use Rattle.std.specs.Prelude.{◌≡◌};
-ghost use Rattle.log_sum.specs.Classes.{Gives, GivesOr, test_view};
+ghost use Rattle.std.specs.Prelude.{◌≡◌, ℕ, List, Some, None, Ok};
+ghost use Rattle.log_sum.specs.Classes.{Gives, GivesOr, row_read, test_view};
 ghost use Rattle.log_sum.specs.Facts.{same_kind, same_mark, a_kind, a_condition, a_hash, a_row, row_with};
-ghost use Rattle.log_sum.specs.Steps.{fact_to, of_kind, with_verdict, marked, with_marked};
+ghost use Rattle.log_sum.specs.States.{form_read};
+ghost use Rattle.log_sum.specs.StateEntries.{state_at};
+ghost use Rattle.log_sum.specs.Steps.{fact_to, of_kind, known_state, row_to, with_verdict, marked, with_marked};
 
 use crate::errors::{Fault, LogKind};
 use crate::kinds::{Kind, Mark, Verdict};
+use crate::lines::Row;
+use crate::state_table::{StateSum, StateTable};
+use crate::states::StateReader;
 use std::alloc::Global;
-use std::collections::BTreeMap;
-
-/// The mark of a state, and the sum of its counts.
-#[derive(Clone, Copy)]
-pub(crate) struct StateSum {
-    pub(crate) mark: Mark,
-    pub(crate) count: u64,
-}
 
 /// What the logs so far say of a test.
 #[derive(Drop)]
@@ -25,8 +22,7 @@ pub(crate) struct TestSum {
     pub(crate) always_validated: bool,
     pub(crate) starred: u64,
     pub(crate) plain: u64,
-    /// The states by their printed forms.
-    pub(crate) states: BTreeMap<Vec<u8>, StateSum>,
+    pub(crate) states: StateTable,
 }
 
 fn same_kind(one: Kind, other: Kind) -> bool
@@ -64,7 +60,7 @@ impl TestSum {
             always_validated: true,
             starred: 0,
             plain: 0,
-            states: BTreeMap::new(alloc),
+            states: StateTable::new(alloc),
         }
     }
 
@@ -139,34 +135,61 @@ impl TestSum {
         }
     }
 
-    /// A state with a mark, seen so often.
+    /// The state that a row writes, seen so often.
     pub(crate) fn put_row(
         &mut self,
         alloc: Global,
-        state: &[u8],
-        mark: Mark,
-        count: u64,
+        reader: &mut StateReader,
+        row: Row<'_>,
     ) -> Result<(), Fault>
-        ensures { GivesOr (λ _. test_view self.new) result (fact_to (test_view self.old) (a_row (row_with state.now mark count))) }
+        ensures { GivesOr (λ _. test_view self.new) result (row_to (test_view self.old) (row_read row.entry)) }
+    {
+        if let Some(i) = self.states.printed_index(row.text) {
+            return self.add(i, row.mark, row.count);
+        }
+        reader.read(row.text)?;
+        match self.states.index_of(reader.form()) {
+            Some(i) => self.add(i, row.mark, row.count),
+            None => self.put_new(alloc, reader.form(), row),
+        }
+    }
+
+    /// The state at an index with a mark, seen so often more.
+    fn add(&mut self, i: usize, mark: Mark, count: u64) -> Result<(), Fault>
+        ensures { (state : List ℕ) → state_at self.old.states.sums.entries i ≡ Some state → GivesOr (λ _. test_view self.new) result (fact_to (test_view self.old) (a_row (row_with state mark count))) }
     {
         let sum = self.marked(mark);
-        if let Some(known) = self.states.get_mut(state) {
-            if !same_mark(known.mark, mark) {
-                return Err(Fault::Wrong(LogKind::MarkDiffers));
-            }
-            if count > u64::MAX - sum {
-                return Err(Fault::Wrong(LogKind::SumTooLarge));
-            }
-            known.count = known.count.saturating_add(count);
-            self.set_marked(mark, sum + count);
+        let Some(known) = self.states.sum_at(i) else {
             return Ok(());
+        };
+        if !same_mark(known.mark, mark) {
+            return Err(Fault::Wrong(LogKind::MarkDiffers));
         }
         if count > u64::MAX - sum {
             return Err(Fault::Wrong(LogKind::SumTooLarge));
         }
-        let state = Vec::from_slice(alloc, state)?;
-        self.states.insert(state, StateSum { mark, count })?;
+        self.states.add(i, count);
         self.set_marked(mark, sum + count);
+        Ok(())
+    }
+
+    /// A new state, which a row writes.
+    fn put_new(&mut self, alloc: Global, state: &[u8], row: Row<'_>) -> Result<(), Fault>
+        requires new { known_state (test_view self.old).states state.now ≡ None }
+        requires read { form_read row.text.now ≡ Ok state.now }
+        ensures { GivesOr (λ _. test_view self.new) result (fact_to (test_view self.old) (a_row (row_with state.now row.entry.mark row.entry.count))) }
+    {
+        let sum = self.marked(row.mark);
+        if row.count > u64::MAX - sum {
+            return Err(Fault::Wrong(LogKind::SumTooLarge));
+        }
+        let known = StateSum {
+            mark: row.mark,
+            count: row.count,
+            is_printed: row.text == state,
+        };
+        self.states.put(Vec::from_slice(alloc, state)?, known)?;
+        self.set_marked(row.mark, sum + row.count);
         Ok(())
     }
 }

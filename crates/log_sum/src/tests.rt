@@ -1,3 +1,5 @@
+ghost use Rattle.std.specs.Prelude.{◌≡◌, true, OnOk};
+
 use crate::{LogError, LogKind, SumError, Summer};
 use diy_io::MemSink;
 use std::alloc::Global;
@@ -21,11 +23,27 @@ const KINDS_LOG: &[u8] =
 const KINDS_PRINTED: &[u8] =
     b"Test F Forbidden\nHistogram (2 states)\n9     :>[x]=0;\n3     *>[x]=1;\nNo\n\nWitnesses\nPositive: 3, Negative: 9\nCondition ~exists (x=1) is NOT validated\nHash=0ab\nObservation F Sometimes 3 9\n\nTest R Required\nHistogram (2 states)\n1000000*>0:r1=1; [x]=1;\n7     *>[x]=1;\nOk\n\nWitnesses\nPositive: 1000007, Negative: 0\nCondition forall (x=1) is validated\nObservation R Always 1000007 0\n\n";
 
-fn feed_in_pieces(summer: &mut Summer, log: &[u8], length: usize) -> Result<(), SumError> {
+fn feed_in_pieces(summer: &mut Summer, log: &[u8], length: usize) -> Result<(), SumError>
+    ensures { OnOk result (summer.new.in_order ≡ true) }
+{
     for piece in log.chunks(length.max(1)) {
         summer.feed(piece)?;
     }
     summer.end_file()
+}
+
+/// Writes the sum of two logs, fed in pieces of a length.
+fn write_both(
+    alloc: Global,
+    logs: (&[u8], &[u8]),
+    length: usize,
+    sink: &mut MemSink,
+) -> Result<(), Fail> {
+    let mut summer = Summer::new(alloc)?;
+    feed_in_pieces(&mut summer, logs.0, length)?;
+    feed_in_pieces(&mut summer, logs.1, length)?;
+    summer.write_sum(sink)?;
+    Ok(())
 }
 
 /// The answer to one log, fed in pieces of a length.
@@ -42,11 +60,8 @@ fn fault(line: u64, kind: LogKind) -> Result<(), SumError> {
 fn two_logs_add_up_in_any_pieces(rt: HostRuntime) -> Result<(), Fail> {
     for (one, other, printed) in [(A_LOG, B_LOG, PRINTED), (b"", KINDS_LOG, KINDS_PRINTED)] {
         for length in [1, 7, 4096] {
-            let mut summer = Summer::new(rt.alloc())?;
-            assert_eq!(rt; feed_in_pieces(&mut summer, one, length), Ok(()));
-            assert_eq!(rt; feed_in_pieces(&mut summer, other, length), Ok(()));
             let mut sink = MemSink::new(rt.alloc(), 1000)?;
-            assert_eq!(rt; summer.write_sum(&mut sink), Ok(()));
+            write_both(rt.alloc(), (one, other), length, &mut sink)?;
             assert_eq!(rt; sink.bytes(), printed);
         }
     }
@@ -58,7 +73,7 @@ fn no_log_and_an_empty_log_have_no_sum(rt: HostRuntime) -> Result<(), Fail> {
     let mut summer = Summer::new(rt.alloc())?;
     let mut sink = MemSink::new(rt.alloc(), 1000)?;
     assert_eq!(rt; summer.write_sum(&mut sink), Ok(()));
-    assert_eq!(rt; summer.end_file(), Ok(()));
+    summer.end_file()?;
     assert_eq!(rt; summer.write_sum(&mut sink), Ok(()));
     assert!(rt; sink.bytes().is_empty());
     Ok(())

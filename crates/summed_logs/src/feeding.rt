@@ -1,4 +1,4 @@
-ghost use Rattle.std.specs.Prelude.{◌≡◌, ◌+◌, ◌≤◌, ◌^◌, ◌++◌, ℕ, List, [], length, OnOk, IfOk};
+ghost use Rattle.std.specs.Prelude.{true, ◌≡◌, ◌+◌, ◌≤◌, ◌^◌, ◌++◌, ℕ, List, [], length, OnOk, IfOk};
 ghost use Rattle.diy_io.specs.Sink.{line_feed_count};
 ghost use Rattle.summed_logs.specs.Faults.{fault_of, end_at};
 
@@ -122,6 +122,7 @@ impl Feeding {
 
     /// Writes the sum of the logs that were ended.
     pub(crate) fn write_sum<O: Sink>(&self, out: &mut O) -> Result<(), Failed>
+        requires { self.now.summer.in_order ≡ true }
         ensures { (logs : List (List ℕ)) → Reads self.now logs [] → SumWrote logs (sink_seen (O.told out.old) (O.faults out.old)) (sink_seen (O.told out.new) (O.faults out.new)) result }
     {
         self.summer.write_sum(out)

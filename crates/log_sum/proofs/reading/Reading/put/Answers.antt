@@ -44,7 +44,7 @@ returns-in-Hashed-clause-put c = λ seen text follows said.
 pub returns-in-PassedOver-clause-put : goal.returns-in-PassedOver-clause-put
 unfolding fact_said
 returns-in-PassedOver-clause-put c = λ seen text follows said.
-    let new = progress_view (record { alloc = c.args.self.now.alloc; table = c.args.self.now.table; forms = c.args.self.now.forms; place = c.place_after-self.result; line = c.args.self.now.line }) in
+    let new = progress_view (record { alloc = c.args.self.now.alloc; table = c.args.self.now.table; states = c.args.self.now.states; place = c.place_after-self.result; line = c.args.self.now.line }) in
     let go = λ (s : Said) (is : said_read c.args.said ≡ Ok s) (none : fact_said s ≡ None). subst (λ (r : Result Said LogKind). ReadOn new (said_judged seen r)) (sym is)
     (put_place (progress_view c.args.self.now) new seen text s none (said ∙ is) follows refl refl (c.place_after-self.ensures s is ∙ ap (λ p. place_after p s) follows.reading.place) refl) in
     elim c.in-PassedOver.is [

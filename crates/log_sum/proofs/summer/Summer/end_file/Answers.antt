@@ -5,4 +5,4 @@ use Rattle.log_sum.proofs.summer.Summer.end_file.Goals as goal
 
 pub returns-in-Err-clause-ended : goal.returns-in-Err-clause-ended
 returns-in-Err-clause-ended c = λ files bytes stands.
-    end_refused c.end_line.new.self c.refuse.new.self files _ c.in-Err.fault c.refuse.result c.refuse.ensures.refusal (ap (λ (k : Kept). k.refusal) c.refuse.ensures.kept) (c.in-Err.ensures files bytes stands)
+    end_refused c.end_line.new.self c.refuse.new.self files _ c.in-Err.fault c.refuse.result c.refuse.ensures.refusal (ap (λ (k : Kept). k.refusal) c.refuse.ensures.kept) (c.in-Err.ensures.ended files bytes stands)

@@ -1,4 +1,9 @@
-use Rattle.std.proofs.Common.{◌≡◌, [], refl, ◌∙◌, Ok}
+use Rattle.std.proofs.Common.{◌≡◌, ℕ, true, List, [], ◌∷◌, refl, ◌∙◌, Ok, map}
+use Rattle.std.specs.List.{list_all}
+use Rattle.std.specs.declared.vec.Vec.{Vec}
+use Rattle.std.specs.declared.alloc.Global.{Global}
+use Rattle.log_sum.specs.declared.test_sum.TestSum.{TestSum}
+use Rattle.log_sum.specs.Classes.{named_view}
 use Rattle.log_sum.specs.Reading.{nothing_seen, input_judged, bytes_judged, lines_of, rest_of, rest_judged}
 use Rattle.log_sum.proofs.summer.Summer.new.Goals as goal
 
@@ -10,11 +15,20 @@ nothing_held : [] ≡ rest_of []
 unfolding rest_of
 nothing_held = refl
 
+-- no tests are in order
+none_in_order : (tests : List (Vec ℕ Global × TestSum)) → map named_view tests ≡ [] → list_all (λ (test : Vec ℕ Global × TestSum). test.1.states.in_order) tests ≡ true
+none_in_order [] h = refl
+none_in_order (test ∷ tests) h = absurd (cc)
+
 pub returns : goal.returns
 returns c = record {
-  seen = nothing_seen;
-  judged = nothing_judged;
-  reading = c.new.ensures.reading;
-  held = c.in_ok-with_capacity.ensures.items ∙ nothing_held;
-  going = refl;
+  stands = record {
+    seen = nothing_seen;
+    judged = nothing_judged;
+    reading = c.new.ensures.reading;
+    held = c.in_ok-with_capacity.ensures.items ∙ nothing_held;
+    going = refl;
+    in_order = λ _. none_in_order c.new.result.table.tests.entries c.new.ensures.reading.tests;
+  };
+  in_order = none_in_order c.new.result.table.tests.entries c.new.ensures.reading.tests;
 }

@@ -1,4 +1,5 @@
 use Rattle.std.proofs.Common.{◌≡◌, ℕ, List, ap, ◌∙◌, refl, map, subst}
+use Rattle.std.specs.List.{list_all}
 use Rattle.std.specs.Borrow.{Bor}
 use Rattle.std.specs.declared.vec.Vec.{Vec}
 use Rattle.std.specs.declared.alloc.Global.{Global}
@@ -9,6 +10,7 @@ use Rattle.log_sum.specs.Standing.{Kept}
 use Rattle.log_sum.specs.Summed.{Summed}
 use Rattle.log_sum.specs.Classes.{named_view, test_view}
 use Rattle.log_sum.specs.SumText.{test_text}
+use Rattle.log_sum.proofs.TableLaws.{ordered_first}
 use Rattle.log_sum.proofs.PrintLaws.{states_go, states_stop, covers_next, covers_this}
 use Rattle.log_sum.proofs.summer.Summer.write_sum.Goals as goal
 
@@ -29,7 +31,13 @@ loop-name-init g c = record {
   grew = grew_nothing (g.O.Sink.told c.args.out.now);
   faults = refl;
   covers = let e : c.into_iter-name-iterator.result ≡ c.self.inside.reading.table.tests.entries = c.into_iter-name-iterator.ensures.into_iter_gives.0 in ap (map named_view) e ∙ ap (λ (k : Kept). k.progress.tests) c.self.view_is;
+  ordered = let e : c.into_iter-name-iterator.result ≡ c.self.inside.reading.table.tests.entries = c.into_iter-name-iterator.ensures.into_iter_gives.0 in
+      ap (list_all (λ (test : Vec ℕ Global × TestSum). test.1.states.in_order)) e ∙ ap (λ (k : Kept). k.in_order) c.self.view_is ∙ c.requires;
 }
+
+pub print_sum-requires : goal.print_sum-requires
+print_sum-requires g c =
+    (ordered_first c.loop-name.name-iterator c.next.new.self (c.in-Some.name.now, c.in-Some.test.now) c.in-Some.ensures.steps c.loop-name.invariant.ordered).0
 
 pub loop-name-preserved : goal.loop-name-preserved
 loop-name-preserved g c = record {
@@ -38,6 +46,7 @@ loop-name-preserved g c = record {
   faults = c.in_ok-print_sum.ensures.no_fault ∙ c.loop-name.invariant.faults;
   covers = covers_next shown named_view c.loop-name.yielded c.loop-name.name-iterator c.next.new.self (c.in-Some.name, c.in-Some.test) (c.in-Some.name.now, c.in-Some.test.now) c.args.self.now.progress.tests
       refl c.in-Some.ensures.steps c.loop-name.invariant.covers;
+  ordered = (ordered_first c.loop-name.name-iterator c.next.new.self (c.in-Some.name.now, c.in-Some.test.now) c.in-Some.ensures.steps c.loop-name.invariant.ordered).1;
 }
 
 pub returns-in_err-print_sum-clause-failed : goal.returns-in_err-print_sum-clause-failed

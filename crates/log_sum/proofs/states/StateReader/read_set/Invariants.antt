@@ -2,11 +2,11 @@ use Rattle.std.proofs.Common.{◌≡◌, length}
 use Rattle.log_sum.specs.Classes.{texts_of}
 use Rattle.log_sum.specs.States.{state_read}
 use Rattle.log_sum.proofs.StateLaws.{rest_read}
-use Rattle.log_sum.proofs.states.read_set.Given as goal
+use Rattle.log_sum.proofs.states.StateReader.read_set.Given as goal
 
 -- what is read from the rest into the set so far
 abbrev pub invariant-loop-piece : goal.invariant-loop-piece
-invariant-loop-piece l = rest_read (texts_of l.state) l.rest ≡ state_read l.fn.text
+invariant-loop-piece l = rest_read (texts_of l.self.equalities.items) l.rest ≡ state_read l.fn.text
 
 abbrev pub decreases-loop-piece : goal.decreases-loop-piece
 decreases-loop-piece l = length l.rest

@@ -1,0 +1,71 @@
+-- States in byte order, in whatever order a table keeps them.
+use Rattle.std.proofs.Common.{◌≡◌, ℕ, List, [], ◌∷◌, Some, cond, refl, sym, ap, ◌∙◌, subst}
+use Rattle.std.specs.Prelude.{T}
+use Rattle.std.specs.Ordering.{nat_cmp, match_ordering, is_eq}
+use Rattle.std.specs.declared.cmp.Ordering.{Ordering}
+use Rattle.std.specs.declared.cmp.Ordering.TheVariants.{Less, Equal, Greater}
+use Rattle.std.specs.Cmp.{IsTotalOrder, nat_cmp_total}
+use Rattle.std.specs.Cmp.Lexicographic.{slice_cmp, lists_total}
+use Rattle.std.specs.BTreeMap.{insert_entry}
+use Rattle.std.specs.FinMap.Entries.{put, find, is_sorted, by_order, is_sorted-put, find-put, same_entries}
+use Rattle.std.proofs.lemmas.Map.Text.{is_eq-slice_cmp}
+use Rattle.std.proofs.lemmas.Slice.Eq.{bytes_eq-Decides}
+use Rattle.log_sum.specs.declared.kinds.Mark.{Mark}
+use Rattle.log_sum.specs.Summed.{StateSummed}
+use Rattle.log_sum.specs.Steps.{known_state}
+use Rattle.log_sum.specs.StateEntries.{ordered}
+
+abbrev compare : List ℕ → List ℕ → Ordering
+compare = slice_cmp nat_cmp
+
+pub order : IsTotalOrder (slice_cmp nat_cmp)
+order = lists_total nat_cmp_total
+
+pub is_text : (x y : List ℕ) → slice_cmp nat_cmp x y ≡ Equal → x ≡ y
+is_text x y e = (bytes_eq-Decides x y).0 (sym (is_eq-slice_cmp x y) ∙ ap is_eq e)
+
+-- the two words for putting and finding
+put_is : (k : List ℕ) (v : Mark × ℕ) (es : List StateSummed) → put (slice_cmp nat_cmp) k v es ≡ insert_entry (slice_cmp nat_cmp) es k v
+put_is k v [] = refl
+put_is k v (e ∷ es) = by_ordering (put_is k v es) (slice_cmp nat_cmp k e.0)
+  where
+    by_ordering : put (slice_cmp nat_cmp) k v es ≡ insert_entry (slice_cmp nat_cmp) es k v → (o : Ordering)
+        → by_order o ((k, v) ∷ e ∷ es) ((e.0, v) ∷ es) (e ∷ put (slice_cmp nat_cmp) k v es) ≡ match_ordering o ((k, v) ∷ e ∷ es) ((e.0, v) ∷ es) (e ∷ insert_entry (slice_cmp nat_cmp) es k v)
+    by_ordering further Less = refl
+    by_ordering further Equal = refl
+    by_ordering further Greater = ap (λ t. e ∷ t) further
+
+find_is : (q : List ℕ) (es : List StateSummed) → find (slice_cmp nat_cmp) q es ≡ known_state es q
+find_is q [] = refl
+find_is q (e ∷ es) = ap (cond (is_eq (slice_cmp nat_cmp q e.0)) (Some e.1)) (find_is q es)
+
+pub known_put : (es : List StateSummed) (k : List ℕ) (v : Mark × ℕ) (q : List ℕ) → known_state (insert_entry (slice_cmp nat_cmp) es k v) q ≡ cond (is_eq (slice_cmp nat_cmp q k)) (Some v) (known_state es q)
+known_put es k v q =
+    sym (find_is q (insert_entry (slice_cmp nat_cmp) es k v)) ∙ ap (find (slice_cmp nat_cmp) q) (sym (put_is k v es)) ∙ find-put (slice_cmp nat_cmp) order q k v es ∙ ap (cond (is_eq (slice_cmp nat_cmp q k)) (Some v)) (find_is q es)
+
+-- ordered states are in order, and have what the states have
+pub ordered_sorted : (es : List StateSummed) → T (is_sorted (slice_cmp nat_cmp) (ordered es))
+unfolding ordered
+ordered_sorted [] = tt
+ordered_sorted (e ∷ es) = subst (λ x. T (is_sorted (slice_cmp nat_cmp) x)) (put_is e.0 e.1 (ordered es)) (is_sorted-put (slice_cmp nat_cmp) order e.0 e.1 (ordered es) (ordered_sorted es))
+
+pub ordered_known : (es : List StateSummed) (q : List ℕ) → known_state (ordered es) q ≡ known_state es q
+unfolding ordered
+ordered_known [] q = refl
+ordered_known (e ∷ es) q = known_put (ordered es) e.0 e.1 q ∙ ap (cond (is_eq (slice_cmp nat_cmp q e.0)) (Some e.1)) (ordered_known es q)
+
+-- states in order are told by what is known of each text
+pub same_states : (es fs : List StateSummed) → T (is_sorted (slice_cmp nat_cmp) es) → T (is_sorted (slice_cmp nat_cmp) fs) → ((q : List ℕ) → known_state es q ≡ known_state fs q) → es ≡ fs
+same_states es fs g h same = same_entries (slice_cmp nat_cmp) order is_text es fs g h (λ q. find_is q es ∙ same q ∙ sym (find_is q fs))
+
+pub ordered_is : (es : List StateSummed) → T (is_sorted (slice_cmp nat_cmp) es) → ordered es ≡ es
+ordered_is es h = same_states (ordered es) es (ordered_sorted es) h (ordered_known es)
+
+pub ordered_same : (es fs : List StateSummed) → ((q : List ℕ) → known_state es q ≡ known_state fs q) → ordered es ≡ ordered fs
+ordered_same es fs same = same_states (ordered es) (ordered fs) (ordered_sorted es) (ordered_sorted fs) (λ q. ordered_known es q ∙ same q ∙ sym (ordered_known fs q))
+
+pub ordered_put : (es fs : List StateSummed) (k : List ℕ) (v : Mark × ℕ) → ((q : List ℕ) → known_state fs q ≡ cond (is_eq (slice_cmp nat_cmp q k)) (Some v) (known_state es q)) → ordered fs ≡ insert_entry (slice_cmp nat_cmp) (ordered es) k v
+ordered_put es fs k v same =
+    same_states (ordered fs) (insert_entry (slice_cmp nat_cmp) (ordered es) k v) (ordered_sorted fs)
+    (subst (λ x. T (is_sorted (slice_cmp nat_cmp) x)) (put_is k v (ordered es)) (is_sorted-put (slice_cmp nat_cmp) order k v (ordered es) (ordered_sorted es)))
+    (λ q. ordered_known fs q ∙ same q ∙ ap (cond (is_eq (slice_cmp nat_cmp q k)) (Some v)) (sym (ordered_known es q)) ∙ sym (known_put (ordered es) k v q))

@@ -1,0 +1,12 @@
+use Rattle.std.proofs.Common.{◌≡◌, length}
+use Rattle.log_sum.specs.Classes.{tests_view}
+use Rattle.log_sum.proofs.TableLaws.{OrderedBelow}
+use Rattle.log_sum.proofs.table.Table.put_in_order.Given as goal
+
+-- the tests are as they were seen, and the states of those so far stand in byte order
+abbrev pub invariant-loop-i : goal.invariant-loop-i
+invariant-loop-i l = record {
+  tests : tests_view l.self ≡ tests_view l.fn.self;
+  ordered : OrderedBelow l.self.tests.entries l.i;
+  many : length l.self.tests.entries ≡ l.i-end;
+}

@@ -1,0 +1,25 @@
+use Rattle.std.proofs.Common.{◌+◌, ◌≤◌, ap, sym, ◌∙◌, refl, None, Ok, arith}
+use Rattle.std.specs.Prelude.{nat_lt}
+use Rattle.std.specs.Ordering.{nat_cmp}
+use Rattle.std.specs.Cmp.Lexicographic.{slice_cmp}
+use Rattle.std.specs.BTreeMap.{insert_entry}
+use Rattle.log_sum.specs.Counts.{last_count}
+use Rattle.log_sum.specs.Facts.{row_with}
+use Rattle.log_sum.specs.Classes.{test_view}
+use Rattle.log_sum.proofs.TestLaws.{row_large, row_put, too_large, not_large, new_kept, row_kept}
+use Rattle.log_sum.proofs.test_sum.TestSum.put_new.Goals as goal
+
+pub returns-then-row-sum : goal.returns-then-row-sum
+returns-then-row-sum c =
+    row_large (test_view c.args.self.now) (row_with c.args.state.now c.args.row.mark c.args.row.count) None (sym c.requires.new) refl
+    (ap (λ s. nat_lt last_count (s + c.args.row.count)) (sym c.marked-sum.ensures) ∙ too_large c.marked-sum.result c.args.row.count c.if-row-sum.true)
+
+pub returns : goal.returns
+returns c =
+    let test = test_view c.args.self.now in
+    let row = row_with c.args.state.now c.args.row.mark c.args.row.count in
+    let small : c.marked-sum.result ≤ last_count = omega arith in
+    let fits : c.args.row.count ≤ last_count = omega arith in
+    let states = c.in_ok-put.ensures ∙ ap (λ k. insert_entry (slice_cmp nat_cmp) test.states k (c.args.row.mark, c.args.row.count)) c.in_ok-from_slice.ensures.items in
+    row_put test row None (sym c.requires.new) refl (ap (λ s. nat_lt last_count (s + c.args.row.count)) (sym c.marked-sum.ensures) ∙ not_large c.marked-sum.result c.args.row.count small c.if-row-sum.false)
+    ∙ ap Ok (sym (c.set_marked.ensures ∙ row_kept test row _ (c.args.row.mark, c.args.row.count) c.marked-sum.result states (new_kept row _ (sym c.requires.new) fits) c.marked-sum.ensures))

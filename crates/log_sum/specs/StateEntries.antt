@@ -1,0 +1,49 @@
+-- States with their sums, as a table keeps them.
+-- Source: own.
+use Rattle.std.specs.Prelude.{◌≡◌, ℕ, T, true, List, [], ◌∷◌, Option, Some, map, option_map, slice_get, Ok}
+use Rattle.std.specs.Ordering.{nat_cmp}
+use Rattle.std.specs.Cmp.Lexicographic.{slice_cmp}
+use Rattle.std.specs.BTreeMap.{insert_entry}
+use Rattle.std.specs.FinMap.Entries.{is_sorted}
+use Rattle.std.specs.declared.vec.Vec.{Vec}
+use Rattle.std.specs.declared.alloc.Global.{Global}
+use Rattle.log_sum.specs.declared.kinds.Mark.{Mark}
+use Rattle.log_sum.specs.declared.state_table.StateSum.{StateSum}
+use Rattle.log_sum.specs.States.{form_read}
+use Rattle.log_sum.specs.Summed.{StateSummed}
+
+-- a state's mark and count
+abbrev pub sum_view : StateSum → Mark × ℕ
+sum_view sum = (sum.mark, sum.count)
+
+-- a state with them
+abbrev pub state_view : Vec ℕ Global × StateSum → StateSummed
+state_view state = (state.0.items, sum_view state.1)
+
+-- states in byte order, as each is put in its place
+unfoldable pub ordered : List StateSummed → List StateSummed
+ordered [] = []
+ordered (state ∷ states) = insert_entry (slice_cmp nat_cmp) (ordered states) state.0 state.1
+
+-- the states of entries, in byte order, in whatever order the entries stand
+abbrev pub states_view : List (Vec ℕ Global × StateSum) → List StateSummed
+states_view entries = ordered (map state_view entries)
+
+-- the state at an index
+abbrev pub state_at : List (Vec ℕ Global × StateSum) → ℕ → Option (List ℕ)
+state_at entries i = option_map (λ entry. entry.0.items) (slice_get entries i)
+
+-- the states stand in byte order, each once
+abbrev pub AreInOrder : List (Vec ℕ Global × StateSum) → Type 0
+AreInOrder entries = T (is_sorted (slice_cmp nat_cmp) (map state_view entries))
+
+-- each state that is said to be written as it is printed is what it reads as
+abbrev pub ArePrinted : List (Vec ℕ Global × StateSum) → Type 0
+ArePrinted entries =
+    (i : ℕ) (key : Vec ℕ Global) (sum : StateSum) → slice_get entries i ≡ Some (key, sum) → sum.is_printed ≡ true → form_read key.items ≡ Ok key.items
+
+-- the state that a text writes stands at an index
+pub record HasState (entries : List (Vec ℕ Global × StateSum)) (text : List ℕ) (i : ℕ) : Type 0 where
+  pub state : List ℕ
+  pub stands : state_at entries i ≡ Some state
+  pub read : form_read text ≡ Ok state

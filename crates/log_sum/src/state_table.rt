@@ -1,0 +1,134 @@
+ghost use Rattle.std.specs.Prelude.{◌≡◌, ◌+◌, ℕ, List, [], true, Some, None, min, Ok, OnOk, IfSome, MatchOption};
+ghost use Rattle.std.specs.Bool.{OnTrue};
+ghost use Rattle.std.specs.Ordering.{nat_cmp};
+ghost use Rattle.std.specs.Cmp.Lexicographic.{slice_cmp};
+ghost use Rattle.std.specs.BTreeMap.{insert_entry};
+ghost use Rattle.log_sum.specs.declared.kinds.Mark.{Mark as StateMark};
+ghost use Rattle.log_sum.specs.Counts.{last_count};
+ghost use Rattle.log_sum.specs.States.{form_read};
+ghost use Rattle.log_sum.specs.Steps.{known_state};
+ghost use Rattle.log_sum.specs.StateEntries.{ArePrinted, AreInOrder, HasState, sum_view, state_at, states_view};
+
+use crate::errors::Fault;
+use crate::kinds::Mark;
+use diy_io::NoMemory;
+use indexmap::IndexMap;
+use std::alloc::Global;
+
+/// The mark of a state, and the sum of its counts.
+#[derive(Clone, Copy)]
+pub(crate) struct StateSum {
+    pub(crate) mark: Mark,
+    pub(crate) count: u64,
+    /// A log wrote the state as it is printed.
+    pub(crate) is_printed: bool,
+}
+
+/// The states of a test by their printed forms.
+#[derive(Drop)]
+pub(crate) struct StateTable {
+    pub(crate) sums: IndexMap<Vec<u8>, StateSum>,
+    /// The index behind that of the last state that was seen, or 0 behind the last index.
+    next: usize,
+    /// The states stand in byte order.
+    pub(crate) in_order: bool,
+    ghost are_printed: { ArePrinted sums.entries },
+    ghost are_in_order: { in_order ≡ true → AreInOrder sums.entries },
+}
+
+impl StateTable {
+    /// A table of no states.
+    #[tactic(auto, unfolding(crate::specs::StateEntries::ordered))]
+    pub(crate) fn new(alloc: Global) -> StateTable
+        ensures { states_view result.sums.entries ≡ [] }
+    {
+        StateTable {
+            sums: IndexMap::new(alloc),
+            next: 0,
+            in_order: true,
+        }
+    }
+
+    /// The index of the state that a text writes, where a log wrote it so before and it is printed so.
+    ///
+    /// Logs of one test list its states in one order, so the state behind the last one is tried first.
+    pub(crate) fn printed_index(&self, text: &[u8]) -> Option<usize>
+        ensures { IfSome result (HasState self.now.sums.entries text.now) }
+    {
+        if self.is_printed_at(self.next, text) {
+            return Some(self.next);
+        }
+        let i = self.sums.get_index_of(text)?;
+        if self.is_printed_at(i, text) {
+            Some(i)
+        } else {
+            None
+        }
+    }
+
+    /// Whether a text is the state at an index, which a log wrote so before.
+    fn is_printed_at(&self, i: usize, text: &[u8]) -> bool
+        ensures { OnTrue result (HasState self.now.sums.entries text.now i) }
+    {
+        match self.sums.get_index(i) {
+            Some((state, sum)) => sum.is_printed && state.as_slice() == text,
+            None => false,
+        }
+    }
+
+    /// The index of a state.
+    pub(crate) fn index_of(&self, state: &[u8]) -> Option<usize>
+        ensures { MatchOption result (known_state (states_view self.now.sums.entries) state.now ≡ None) (λ i. state_at self.now.sums.entries i ≡ Some state.now) }
+    {
+        self.sums.get_index_of(state)
+    }
+
+    /// The mark and count of the state at an index.
+    pub(crate) fn sum_at(&self, i: usize) -> Option<StateSum>
+        ensures { MatchOption result (state_at self.now.sums.entries i ≡ None) (λ sum. (state : List ℕ) → state_at self.now.sums.entries i ≡ Some state → known_state (states_view self.now.sums.entries) state ≡ Some (sum_view sum)) }
+    {
+        match self.sums.get_index(i) {
+            Some((_, sum)) => Some(*sum),
+            None => None,
+        }
+    }
+
+    /// The state at an index, seen so often more.
+    pub(crate) fn add(&mut self, i: usize, count: u64)
+        ensures { (state : List ℕ) (known : StateMark × ℕ) → state_at self.old.sums.entries i ≡ Some state → known_state (states_view self.old.sums.entries) state ≡ Some known → states_view self.new.sums.entries ≡ insert_entry (slice_cmp nat_cmp) (states_view self.old.sums.entries) state (known.0, min (known.1 + count) last_count) }
+    {
+        if let Some(sum) = self.sums.get_index_mut(i) {
+            sum.count = sum.count.saturating_add(count);
+        }
+        self.next = self.index_behind(i);
+    }
+
+    /// The index behind one, or 0 where it is the last.
+    fn index_behind(&self, i: usize) -> usize {
+        let next = i.saturating_add(1);
+        if next < self.sums.len() { next } else { 0 }
+    }
+
+    /// A state more.
+    pub(crate) fn put(&mut self, state: Vec<u8>, sum: StateSum) -> Result<(), NoMemory>
+        requires new { known_state (states_view self.old.sums.entries) state.items ≡ None }
+        requires printed { sum.is_printed ≡ true → form_read state.items ≡ Ok state.items }
+        ensures { OnOk result (states_view self.new.sums.entries ≡ insert_entry (slice_cmp nat_cmp) (states_view self.old.sums.entries) state.items (sum_view sum)) }
+    {
+        self.in_order = false;
+        self.sums.insert(state, sum)?;
+        Ok(())
+    }
+
+    /// Puts the states in byte order.
+    pub(crate) fn put_in_order(&mut self) -> Result<(), NoMemory>
+        ensures states { states_view self.new.sums.entries ≡ states_view self.old.sums.entries }
+        ensures in_order { OnOk result (self.new.in_order ≡ true) }
+    {
+        if !self.in_order {
+            self.sums.sort_unstable_keys()?;
+            self.in_order = true;
+        }
+        Ok(())
+    }
+}
