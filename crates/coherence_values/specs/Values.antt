@@ -1,6 +1,6 @@
 -- The arcs of the locations of a resolved cycle, the values of its events, and the locations that have an observer. `es`
--- is the list of edges in which threads and locations are counted. Source: the diy part of the herdtools manual (values along the coherence
--- order, observers); which locations are observed in which mode is own.
+-- is the list of edges in which threads and locations are counted. Source: the diy part of the herdtools manual (values
+-- along the coherence order, observers); which locations are observed in which mode is own.
 use Rattle.std.specs.Prelude.{ℕ, ◌+◌, Bool, false, not, ◌==◌, ◌&&◌, nat_lt, nat_le, if◌then◌else◌, List, [], ◌∷◌, ◌++◌, length, count_by, Option, Some, None, Result, Ok, Err}
 use Rattle.std.specs.List.{filter, find, list_any, filter_map}
 use Rattle.std.specs.Option.{option_map, option_or}
