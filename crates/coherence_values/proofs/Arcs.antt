@@ -1,8 +1,8 @@
 -- The arcs as lists: which events they have, the place on the way along them, and the values and writes on them.
-use Rattle.std.proofs.Common.{◌≡◌, ℕ, ◌+◌, ◌<◌, Bool, true, false, not, ◌==◌, ◌&&◌, cond, List, length, take, Some, slice_get, refl, sym, ◌∙◌, ap, arith, eq-eqb}
+use Rattle.std.proofs.Common.{◌≡◌, ℕ, ◌+◌, ◌<◌, ◌≤◌, Bool, true, false, not, ◌==◌, ◌&&◌, cond, List, length, take, Some, slice_get, refl, sym, ◌∙◌, ap, arith, eq-eqb}
 use Rattle.std.specs.Prelude.{nat_lt, nat_le}
-use Rattle.std.specs.List.{All, AllPairs, count_by, filter}
-use Rattle.std.proofs.lemmas.List.Elements.{All-filter, filter_passes}
+use Rattle.std.specs.List.{All, AllPairs, count_by, filter, flat_map}
+use Rattle.std.proofs.lemmas.List.Elements.{All-filter, All-append, filter_passes}
 use Rattle.std.proofs.lemmas.List.Filters.{sum_by-filter_both}
 use Rattle.std.proofs.lemmas.List.Kept.{AllPairs-filter}
 use Rattle.std.proofs.lemmas.List.Sums.{sum_by-append, count_by_more_yes}
@@ -13,9 +13,12 @@ use Rattle.list_laws.specs.Numbers.{upto}
 use Rattle.list_laws.proofs.Cases.{by_test, by_less, by_same, by_option}
 use Rattle.list_laws.proofs.Counts.{count_upto_same, count_upto_one_more, count_upto_none}
 use Rattle.list_laws.proofs.Numbers.{length-upto, get_or-upto}
-use Rattle.cycle_resolve.specs.Resolution.{location_of}
+use Rattle.cycle_resolve.specs.Resolution.{move_count, location_of, IsResolved}
+use Rattle.cycle_resolve.proofs.Locations.{moves_up}
+use Rattle.cycle_resolve.proofs.Arcs.{location_below}
 use Rattle.coherence_values.specs.Values.{is_write, is_behind_moves, way, arc, is_write_at, way_place, value_of, write_at}
-use Rattle.coherence_values.proofs.Lists.{count_filter, found_counted, counted_found, rank_filter, unrank_filter, pairs_append, pairs_change, upto_grows, count_along}
+use Rattle.coherence_values.proofs.Lists.{count_filter, found_counted, counted_found, rank_filter, unrank_filter, pairs_append, pairs_change, upto_grows, count_along, filter_everything, classes_follow}
+use Rattle.coherence_values.proofs.Ways.{by_way}
 use Rattle.coherence_values.proofs.Writes.{write_of, write_at_parts, write_at_from, is_write_number}
 
 -- a count along the way is a count of all events
@@ -158,3 +161,28 @@ writes_on_arc es l k =
     (λ i s. let u = unrank_filter (is_write es) (arc es l) k i s in
     let a = on_arc es l u.place i u.is in
     s ∙ sym (is_write_number es l k i (record { below = a.below; writes = write_at_from es l i u.passes a.location; value = write_rank es l i u.place u.is a.location u.passes ∙ ap (λ x. x + 1) u.rank })))
+
+-- the location doesn't fall along the way: first comes location 0, then each next one
+locations_rise : (es : List Edge) (i j : ℕ) → i < length es → j < length es → way_place es i < way_place es j → location_of es i ≤ location_of es j
+locations_rise es i j h l w =
+    by_way es i h
+    (λ a b c. omega (arith, b))
+    (λ a b c. by_way es j l
+    (λ x y z. absurd (omega (arith, w, c, z, l)))
+    (λ x y z. omega (arith, b, y, moves_up es i j (omega (arith, w, c, z)) (omega (arith, l)))))
+
+way_below : (es : List Edge) → All (λ i. i < length es) (way es)
+unfolding way
+way_below es =
+    All-append (λ i. i < length es) (filter (is_behind_moves es) (upto (length es))) (filter (λ i. not (is_behind_moves es i)) (upto (length es)))
+    (All-filter (is_behind_moves es) (λ i. i < length es) (upto (length es)) (below_all (length es)))
+    (All-filter (λ i. not (is_behind_moves es i)) (λ i. i < length es) (upto (length es)) (below_all (length es)))
+
+-- the way is the arcs of all locations, one behind the other
+pub way_of_arcs : (es : List Edge) → IsResolved es → way es ≡ flat_map (arc es) (upto (move_count es))
+unfolding arc
+way_of_arcs es r =
+    let rise : AllPairs (λ i j. location_of es i ≤ location_of es j) (way es) =
+    pairs_change (λ i j. way_place es i < way_place es j) (λ i j. location_of es i ≤ location_of es j) (λ i. i < length es) (way es) (way_grows es) (way_below es) (λ i j h l w. locations_rise es i j h l w) in
+    sym (filter_everything (λ i. nat_lt (location_of es i) (move_count es)) (way es) (λ k d h. lt-ltb (location_of es _) (move_count es) (location_below es _ r (way_below es k d h))))
+    ∙ classes_follow (location_of es) (move_count es) (way es) rise

@@ -1,14 +1,16 @@
 -- Lists: the elements of a filter by their places, and counts along a list on which a number grows.
-use Rattle.std.proofs.Common.{◌≡◌, ℕ, zero, suc, ◌+◌, ◌<◌, ◌≤◌, Bool, true, false, ◌&&◌, cond, List, [], ◌∷◌, ◌++◌, length, take, get_or, Some, slice_get, refl, sym, ◌∙◌, ap, arith}
-use Rattle.std.specs.Prelude.{nat_le}
-use Rattle.std.specs.List.{All, AllPairs, count_by, filter}
+use Rattle.std.proofs.Common.{◌≡◌, ℕ, zero, suc, ◌+◌, ◌<◌, ◌≤◌, Bool, true, false, ◌==◌, ◌&&◌, cond, List, [], ◌∷◌, ◌++◌, length, take, get_or, Some, slice_get, refl, sym, ◌∙◌, ap, arith, eq-eqb}
+use Rattle.std.specs.Prelude.{nat_lt, nat_le}
+use Rattle.std.specs.List.{All, AllPairs, count_by, filter, flat_map}
+use Rattle.std.proofs.lemmas.Grind.{flat_map-append}
+use Rattle.std.proofs.lemmas.List.{append-nil}
 use Rattle.std.proofs.lemmas.List.Elements.{All-append, All-head, All-tail}
 use Rattle.std.proofs.lemmas.List.Kept.{AllPairs-cons}
 use Rattle.std.proofs.lemmas.List.Sums.{sum_by-cons}
-use Rattle.std.proofs.lemmas.Bool.{cond-true, cond-false, and_left, and_right, le-leb, lt-leb}
+use Rattle.std.proofs.lemmas.Bool.{cond-true, cond-false, and_left, and_right, ne_eqb, le-leb, lt-leb, lt-ltb, le-ltb}
 use Rattle.std.proofs.lemmas.Option.{slice_get-get_or, slice_get_within, get_or_from_slice_get}
 use Rattle.list_laws.specs.Numbers.{upto}
-use Rattle.list_laws.proofs.Cases.{by_test, by_less}
+use Rattle.list_laws.proofs.Cases.{by_test, by_less, by_same}
 use Rattle.list_laws.proofs.Counts.{counted, count_upto_past, count_upto_same, count_upto_stays}
 use Rattle.list_laws.proofs.Prefixes.{count_take, count_all}
 use Rattle.list_laws.proofs.Numbers.{length-upto, get_or-upto}
@@ -113,3 +115,33 @@ count_along f p xs k x grows h =
     and_true : (b : Bool) → (b && true) ≡ b
     and_true true = refl
     and_true false = refl
+
+-- a filter that passes nothing, and one that passes everything
+filter_nothing : (p : ℕ → Bool) (xs : List ℕ) → All (λ x. p x ≡ false) xs → filter p xs ≡ []
+filter_nothing p [] h = refl
+filter_nothing p (x ∷ xs) h = rw (All-head (λ y. p y ≡ false) x xs h) (filter_nothing p xs (All-tail (λ y. p y ≡ false) x xs h))
+
+pub filter_everything : (p : ℕ → Bool) (xs : List ℕ) → All (λ x. p x ≡ true) xs → filter p xs ≡ xs
+filter_everything p [] h = refl
+filter_everything p (x ∷ xs) h = rw (All-head (λ y. p y ≡ true) x xs h) (ap (λ l. x ∷ l) (filter_everything p xs (All-tail (λ y. p y ≡ true) x xs h)))
+
+-- where a number doesn't fall along a list, those with it up to c are those with it below c, and behind them those with c
+split_filter : (g : ℕ → ℕ) (c : ℕ) (xs : List ℕ) → AllPairs (λ x y. g x ≤ g y) xs → filter (λ x. nat_lt (g x) (suc c)) xs ≡ filter (λ x. nat_lt (g x) c) xs ++ filter (λ x. g x == c) xs
+split_filter g c [] a = refl
+split_filter g c (x ∷ xs) a =
+    let rest = split_filter g c xs (λ i j d h l. a (suc i) (suc j) d (omega arith) (omega arith)) in
+    by_less (g x) c
+    (λ l. rw (lt-ltb (g x) (suc c) (omega arith), lt-ltb (g x) c l, ne_eqb (g x) c (λ e. omega (arith, e, l))) (ap (λ r. x ∷ r) rest))
+    (λ m. let none : filter (λ y. nat_lt (g y) c) xs ≡ [] = filter_nothing (λ y. nat_lt (g y) c) xs (λ k d h. le-ltb (g (get_or xs k d)) c (omega (arith, m, a 0 (suc k) d (omega arith) (omega arith)))) in
+    by_same (g x) c
+    (λ s. rw (lt-ltb (g x) (suc c) (omega (arith, s)), le-ltb (g x) c m, eq-eqb (g x) c s, none) (ap (λ r. x ∷ r) (rest ∙ ap (λ r. r ++ filter (λ y. g y == c) xs) none)))
+    (λ d. rw (le-ltb (g x) (suc c) (omega (arith, m, d)), le-ltb (g x) c m, ne_eqb (g x) c d) rest))
+
+-- so such a list is its classes by that number, one behind the other
+pub classes_follow : (g : ℕ → ℕ) (c : ℕ) (xs : List ℕ) → AllPairs (λ x y. g x ≤ g y) xs → filter (λ x. nat_lt (g x) c) xs ≡ flat_map (λ l. filter (λ x. g x == l) xs) (upto c)
+classes_follow g zero xs a = filter_nothing (λ x. nat_lt (g x) 0) xs (λ k d h. le-ltb (g (get_or xs k d)) 0 (omega arith))
+classes_follow g (suc c) xs a =
+    split_filter g c xs a
+    ∙ ap (λ r. r ++ filter (λ x. g x == c) xs) (classes_follow g c xs a)
+    ∙ ap (λ r. flat_map (λ l. filter (λ x. g x == l) xs) (upto c) ++ r) (sym (append-nil (filter (λ x. g x == c) xs)))
+    ∙ sym (flat_map-append (λ l. filter (λ x. g x == l) xs) (upto c) (c ∷ []))
