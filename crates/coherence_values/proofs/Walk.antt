@@ -3,7 +3,6 @@ use Rattle.std.proofs.Common.{◌≡◌, ℕ, zero, suc, ◌+◌, ◌-◌, ◌<�
 use Rattle.std.specs.Prelude.{nat_lt, nat_le}
 use Rattle.std.specs.Option.{option_or}
 use Rattle.std.proofs.lemmas.Bool.{cond-true, cond-false, and_from, and_left, and_right, lt-ltb, le-ltb, le-leb, lt-leb}
-use Rattle.relax_edges.specs.declared.kinds.Dir.{Dir}
 use Rattle.relax_edges.specs.declared.kinds.Dir.TheVariants as dirs
 use Rattle.relax_edges.specs.declared.edge.Edge.{Edge}
 use Rattle.relax_edges.specs.EdgeTable.{source_of, same_dir, is_external, is_diff}
@@ -16,7 +15,7 @@ use Rattle.cycle_resolve.proofs.Locations.{moves_on, moves_kept, moves_most, mov
 use Rattle.cycle_resolve.proofs.Arcs.{several_locations}
 use Rattle.coherence_values.specs.declared.valued.Arc.{Arc}
 use Rattle.coherence_values.specs.Values.{edge_into, is_write_at, way_place, value_of, write_count, write_at}
-use Rattle.coherence_values.specs.Arc.{is_later_entry, first_entry, inner_entry, last_entry, seen_of, writes_before, seen_before, seen_with, IsEvent, all_seen}
+use Rattle.coherence_values.specs.Arc.{is_later_entry, first_entry, inner_entry, last_entry, seen_of, writes_before, seen_with, LeadsOn, all_seen}
 use Rattle.coherence_values.proofs.Along.{is_write, value_at_end, value_most, write_count_most}
 use Rattle.coherence_values.proofs.Ways.{only_on_way}
 use Rattle.coherence_values.proofs.Writes.{write_of, is_write_number, write_at_from, value_from}
@@ -159,37 +158,17 @@ pub arcs_same : (es : List Edge) (i : ℕ) → i < length es → is_diff (edge_a
 arcs_same es i h f = ap (λ n. map (λ l. seen_of es l (write_count es l)) (upto n)) (moves_kept es i h f)
 
 -- the step of the code leads on to the next event
-pub with_next : (arc next : Arc) (i : ℕ) (into out : Edge) → next ≡ arc_with arc i into out → (es : List Edge) → IsEvent es i into out → arc ≡ seen_before es i → next ≡ seen_with es i
-with_next arc next i into out n es e a =
+pub with_leads_on : (arc next : Arc) (i : ℕ) (into out : Edge) → next ≡ arc_with arc i into out → LeadsOn arc i into out next
+unfolding LeadsOn
+with_leads_on arc next i into out n es e a =
     let before : arc ≡ seen_of es (location_of es i) (writes_so_far es i) = a ∙ ap (seen_of es (location_of es i)) (writes_before_is es i e.resolved e.below) in
     n ∙ rw (before, e.enters, e.leaves) (arc_step es i e.resolved e.below)
 
--- at a read
-pub read_next : (arc : Arc) (i : ℕ) (into out : Edge) → same_dir (source_of out) dirs.R ≡ true → (es : List Edge) → IsEvent es i into out → arc ≡ seen_before es i → arc ≡ seen_with es i
-read_next arc i into out t = with_next arc arc i into out (sym (cond-false {A = Arc} (same_dir (source_of out) dirs.W) _ arc (only_one (source_of out) t)))
-  where
-    only_one : (d : Dir) → same_dir d dirs.R ≡ true → same_dir d dirs.W ≡ false
-    only_one dirs.R e = refl
-    only_one dirs.W e = cc
-
--- at a write
-pub write_next : (arc : Arc) (i : ℕ) (into out : Edge) (inner entered : Option ℕ) → same_dir (source_of out) dirs.R ≡ false → inner ≡ option_or arc.inner arc.entered → entered ≡ cond (is_external into && nat_lt 0 arc.writes) (Some i) None
-    → (es : List Edge) → IsEvent es i into out → arc ≡ seen_before es i → ◌≡◌ {A = Arc} (record { writes = arc.writes + 1; inner = inner; entered = entered }) (seen_with es i)
-write_next arc i into out inner entered f a b =
-    with_next arc (record { writes = arc.writes + 1; inner = inner; entered = entered }) i into out
-    (same_arc (arc.writes + 1) (arc.writes + 1) inner (option_or arc.inner arc.entered) entered (cond (is_external into && nat_lt 0 arc.writes) (Some i) None) refl a b
-    ∙ sym (cond-true {A = Arc} (same_dir (source_of out) dirs.W) _ arc (only_one (source_of out) f)))
-  where
-    only_one : (d : Dir) → same_dir d dirs.R ≡ false → same_dir d dirs.W ≡ true
-    only_one dirs.R e = cc
-    only_one dirs.W e = refl
-
 -- the step of a walk that knows its arc
-pub walk_step : (es : List Edge) (i : ℕ) (arc next : Arc) (into : Edge) → IsResolved es → i < length es → into ≡ edge_into es i → arc ≡ seen_of es (location_of es i) (writes_so_far es i)
-    → ((fs : List Edge) → IsEvent fs i into (edge_at es i) → arc ≡ seen_before fs i → next ≡ seen_with fs i)
-    → next ≡ seen_with es i
-walk_step es i arc next into r h e a goes_on =
-    goes_on es (record { resolved = r; below = h; enters = e; leaves = refl }) (a ∙ ap (seen_of es (location_of es i)) (sym (writes_before_is es i r h)))
+pub walk_step : (es : List Edge) (i : ℕ) (arc next : Arc) (into : Edge) → IsResolved es → i < length es → into ≡ edge_into es i → arc ≡ seen_of es (location_of es i) (writes_so_far es i) → LeadsOn arc i into (edge_at es i) next → next ≡ seen_with es i
+unfolding LeadsOn
+walk_step es i arc next into r h e a leads =
+    leads es (record { resolved = r; below = h; enters = e; leaves = refl }) (a ∙ ap (seen_of es (location_of es i)) (sym (writes_before_is es i r h)))
 
 -- the writes of an arc are at most as many as the edges
 pub writes_before_most : (es : List Edge) (i : ℕ) → writes_so_far es i ≤ length es

@@ -47,6 +47,11 @@ pub record IsEvent (es : List Edge) (i : ℕ) (into out : Edge) : Type 0 where
   pub enters : into ≡ edge_into es i
   pub leaves : out ≡ edge_at es i
 
+-- where `arc` is what is kept before event i of any resolved cycle, with these edges into it and out of it, `next` is what
+-- is kept with the event
+unfoldable pub LeadsOn : Arc → ℕ → Edge → Edge → Arc → Type 0
+LeadsOn arc i into out next = (es : List Edge) → IsEvent es i into out → arc ≡ seen_before es i → next ≡ seen_with es i
+
 -- the values of all events
 abbrev pub values_of : List Edge → List ℕ
 values_of es = map (value_of es) (upto (length es))

@@ -1,8 +1,7 @@
-ghost use Rattle.std.specs.Prelude.{◌≡◌, ◌+◌, ◌<◌, ◌≤◌, ◌==◌, ◌&&◌, List, length, Some};
-ghost use Rattle.relax_edges.specs.declared.edge.Edge.{Edge};
+ghost use Rattle.std.specs.Prelude.{◌≡◌, ◌+◌, ◌<◌, ◌≤◌, ◌==◌, ◌&&◌, length, Some};
 ghost use Rattle.cycle_resolve.specs.Resolution.{move_count, IsResolved};
 ghost use Rattle.coherence_values.specs.Values.{value_of, write_count, write_at, is_write_at, is_observed, valuation_of};
-ghost use Rattle.coherence_values.specs.Arc.{IsEvent, seen_of, seen_before, seen_with, writes_before, values_of, all_seen};
+ghost use Rattle.coherence_values.specs.Arc.{LeadsOn, seen_of, writes_before, values_of, all_seen};
 
 use arrayvec::ArrayVec;
 use cycle_resolve::Resolved;
@@ -35,10 +34,11 @@ struct Arc {
 impl Arc {
     /// What is kept with one event more, the next of its arc, which the edge `into` enters and the
     /// edge `out` leaves.
+    #[tactic(auto, using(crate::proofs::Walk::with_leads_on))]
     fn with(self, event: u8, into: Edge, out: Edge) -> Arc
         requires { self.writes < 255 }
         ensures most { result.writes ≤ self.writes + 1 }
-        ensures next { (es : List Edge) → IsEvent es event into out → self ≡ seen_before es event → result ≡ seen_with es event }
+        ensures next { LeadsOn self event into out result }
     {
         if out.source() == Dir::R {
             return self;
