@@ -3,20 +3,16 @@ use Rattle.std.proofs.Common.{◌≡◌, ℕ, ◌+◌, ◌<◌, ◌≤◌, Bool,
 use Rattle.std.specs.List.{count_by}
 use Rattle.std.specs.Prelude.{nat_le}
 use Rattle.std.proofs.lemmas.Bool.{eqb-true, leb-true, le-leb, lt-leb, and_parts, and_from, and_left, and_right}
-use Rattle.relax_edges.specs.declared.kinds.Dir.TheVariants as dirs
 use Rattle.relax_edges.specs.declared.edge.Edge.{Edge}
-use Rattle.relax_edges.specs.EdgeTable.{source_of, same_dir, is_diff}
+use Rattle.relax_edges.specs.EdgeTable.{is_diff}
 use Rattle.list_laws.specs.Numbers.{upto}
 use Rattle.list_laws.proofs.Cases.{by_test, by_less, by_same}
 use Rattle.list_laws.proofs.Counts.{count_upto_one_more, count_upto_same, count_upto_none, count_upto_fewer, count_upto_less, count_upto-le}
 use Rattle.cycle_resolve.specs.Resolution.{edge_at, event_after, event_before, thread_of, location_of, IsResolved}
 use Rattle.cycle_resolve.proofs.Around.{by_after, after_below, before_below, after_before, moves_within, keeps_location}
 use Rattle.coherence_values.specs.Values.{is_write_at, way_place, value_of, write_count}
+pub use Rattle.coherence_values.specs.Values.{is_write}
 use Rattle.coherence_values.proofs.Ways.{only_on_way, way_next, first_on_arc, last_on_arc, way_in_thread}
-
--- event i is a write
-abbrev pub is_write : List Edge → ℕ → Bool
-is_write es i = same_dir (source_of (edge_at es i)) dirs.W
 
 -- the writes of a location up to a place of the way
 unfoldable pub writes_up_to : List Edge → ℕ → ℕ → ℕ → Bool

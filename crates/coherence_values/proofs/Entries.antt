@@ -1,5 +1,5 @@
 -- The writes that need an observer: the first one of a location, and whether there is one.
-use Rattle.std.proofs.Common.{◌≡◌, ℕ, zero, suc, ◌+◌, ◌-◌, ◌<◌, true, false, ◌&&◌, List, [], ◌∷◌, ◌++◌, length, Option, Some, None, Ok, Err, refl, sym, ◌∙◌, ap, arith, add-one}
+use Rattle.std.proofs.Common.{◌≡◌, ℕ, zero, suc, ◌+◌, ◌-◌, ◌<◌, Bool, true, false, ◌&&◌, cond, List, [], ◌∷◌, ◌++◌, length, Option, Some, None, Ok, Err, refl, sym, ◌∙◌, ap, arith, add-one}
 use Rattle.std.specs.Prelude.{nat_lt}
 use Rattle.std.specs.List.{find, filter_map, list_any}
 use Rattle.std.specs.Option.{option_map, option_or, is_some}
@@ -10,90 +10,92 @@ use Rattle.relax_edges.specs.declared.edge.Edge.{Edge}
 use Rattle.relax_edges.specs.EdgeTable.{is_external}
 use Rattle.list_laws.specs.Numbers.{upto}
 use Rattle.list_laws.proofs.Cases.{by_test, by_less, by_same, by_option}
-use Rattle.list_laws.proofs.Finds.{any_upto_none, any_upto_passing, any_upto_fails}
+use Rattle.list_laws.proofs.Finds.{any_upto_passing, any_upto_fails}
 use Rattle.coherence_values.specs.Values.{edge_into, is_write_at, value_of, write_count, write_at, is_inner_entry, first_inner_entry, need_at, first_need, observer_need, valuation_of}
 use Rattle.relax_edges.specs.declared.kinds.ObsMode.{ObsMode}
 use Rattle.relax_edges.specs.declared.kinds.ObsMode.TheVariants.{Accept, Avoid, Force}
 use Rattle.cycle_resolve.specs.Resolution.{move_count}
 use Rattle.coherence_values.specs.declared.valued.NeedsObserver.{NeedsObserver}
-use Rattle.coherence_values.specs.Arc.{entry, first_entry, inner_entry}
+use Rattle.coherence_values.specs.Arc.{is_later_entry, first_entry, inner_entry}
 use Rattle.coherence_values.proofs.Writes.{Write, write_of, is_write_number}
 
 or_none : (o : Option ℕ) → option_or o None ≡ o
 or_none None = refl
 or_none (Some x) = refl
 
--- whether write number k is an inner one that an external edge enters
-inner_test : (es : List Edge) (l k i : ℕ) → k + 1 < write_count es l → Write es l k i → is_inner_entry es l i ≡ (is_external (edge_into es i) && nat_lt 0 k)
-inner_test es l k i h w =
-    rw (w.writes, w.value)
-    (by_test (is_external (edge_into es i))
-    (λ t. rw t (by_less 0 k
-    (λ s. rw (lt-ltb 1 (k + 1) (omega (arith, s)), lt-ltb (k + 1) (write_count es l) h, lt-ltb 0 k s) refl)
-    (λ g. rw (le-ltb 1 (k + 1) (omega (arith, g)), le-ltb 0 k g) refl)))
-    (λ f. rw f refl))
+-- what is found among one number more
+pub find_more : (p : ℕ → Bool) (w : ℕ → Option ℕ) (n : ℕ) → find p (filter_map w (upto (suc n))) ≡ option_or (find p (filter_map w (upto n))) (find p (filter_map w (n ∷ [])))
+find_more p w n =
+    ap (find p) (filter_map-append w (upto n) (n ∷ []))
+    ∙ find-append p (filter_map w (upto n)) (filter_map w (n ∷ []))
+
+-- something is found where a number gives what passes, and nothing where none does
+some_found : (p : ℕ → Bool) (w : ℕ → Option ℕ) (n k i : ℕ) → k < n → w k ≡ Some i → p i ≡ true → is_some (find p (filter_map w (upto n))) ≡ true
+some_found p w zero k i h e t = absurd (omega arith)
+some_found p w (suc n) k i h e t =
+    ap is_some (find_more p w n)
+    ∙ by_option (find p (filter_map w (upto n)))
+    (λ none. by_same k n
+    (λ s. rw (none, ← s, e, t) refl)
+    (λ d. let a : is_some (find p (filter_map w (upto n))) ≡ true = some_found p w n k i (omega (arith, h, d)) e t in
+    let b : false ≡ true = sym (rw none refl) ∙ a in cc))
+    (λ x s. rw s refl)
+
+none_found : (p : ℕ → Bool) (w : ℕ → Option ℕ) (n : ℕ) → ((k i : ℕ) → k < n → w k ≡ Some i → p i ≡ false) → is_some (find p (filter_map w (upto n))) ≡ false
+none_found p w zero h = refl
+none_found p w (suc n) h =
+    ap is_some (find_more p w n)
+    ∙ by_option (find p (filter_map w (upto n)))
+    (λ none. by_option (w n)
+    (λ e. rw (none, e) refl)
+    (λ i e. rw (none, e, h n i (omega arith) e) refl))
+    (λ x s. let a : true ≡ false = sym (rw s refl) ∙ none_found p w n (λ k i g. h k i (omega arith)) in cc)
+
+-- a write that isn't the last one is an inner one, where it isn't the first and an external edge enters it
+inner_test : (es : List Edge) (l k i : ℕ) → k + 1 < write_count es l → Write es l k i → is_inner_entry es l i ≡ is_later_entry es i
+inner_test es l k i h w = rw (w.writes, lt-ltb (value_of es i) (write_count es l) (omega (arith, h, w.value))) (and_true (is_external (edge_into es i) && nat_lt 1 (value_of es i)))
+  where
+    and_true : (b : Bool) → (b && true) ≡ b
+    and_true true = refl
+    and_true false = refl
 
 -- the last write isn't an inner one
 last_isnt : (es : List Edge) (l k i : ℕ) → k + 1 ≡ write_count es l → Write es l k i → is_inner_entry es l i ≡ false
 last_isnt es l k i h w =
     and_right (is_write_at es l i && is_external (edge_into es i) && nat_lt 1 (value_of es i)) (nat_lt (value_of es i) (write_count es l)) (le-ltb (value_of es i) (write_count es l) (omega (arith, h, w.value)))
 
-found_one : (es : List Edge) (l k : ℕ) (o : Option ℕ) → write_at es l k ≡ o → k + 1 < write_count es l → find (is_inner_entry es l) (filter_map (write_at es l) (k ∷ [])) ≡ entry es k o
+found_one : (es : List Edge) (l k : ℕ) (o : Option ℕ) → write_at es l k ≡ o → k + 1 < write_count es l → find (is_inner_entry es l) (filter_map (write_at es l) (k ∷ [])) ≡ find (is_later_entry es) (filter_map (write_at es l) (k ∷ []))
 found_one es l k None e h = rw e refl
-found_one es l k (Some i) e h = rw (e, inner_test es l k i h (write_of es l k i e)) refl
+found_one es l k (Some i) e h = rw e (ap (λ b. cond b (Some i) None) (inner_test es l k i h (write_of es l k i e)))
 
 found_last : (es : List Edge) (l k : ℕ) (o : Option ℕ) → write_at es l k ≡ o → k + 1 ≡ write_count es l → find (is_inner_entry es l) (filter_map (write_at es l) (k ∷ [])) ≡ None
 found_last es l k None e h = rw e refl
 found_last es l k (Some i) e h = rw (e, last_isnt es l k i h (write_of es l k i e)) refl
 
 -- among the writes below number m, none of which is the last
-found_below : (es : List Edge) (l m : ℕ) → m < write_count es l → find (is_inner_entry es l) (filter_map (write_at es l) (upto m)) ≡ first_entry es l m
-unfolding first_entry
+found_below : (es : List Edge) (l m : ℕ) → m < write_count es l → find (is_inner_entry es l) (filter_map (write_at es l) (upto m)) ≡ find (is_later_entry es) (filter_map (write_at es l) (upto m))
 found_below es l zero h = refl
 found_below es l (suc m) h =
-    ap (find (is_inner_entry es l)) (filter_map-append (write_at es l) (upto m) (m ∷ []))
-    ∙ find-append (is_inner_entry es l) (filter_map (write_at es l) (upto m)) (filter_map (write_at es l) (m ∷ []))
-    ∙ rw (found_below es l m (omega arith)) (ap (option_or (first_entry es l m)) (found_one es l m (write_at es l m) refl (omega arith)))
+    find_more (is_inner_entry es l) (write_at es l) m
+    ∙ ap (λ o. option_or o (find (is_inner_entry es l) (filter_map (write_at es l) (m ∷ [])))) (found_below es l m (omega arith))
+    ∙ ap (option_or (find (is_later_entry es) (filter_map (write_at es l) (upto m)))) (found_one es l m (write_at es l m) refl (omega arith))
+    ∙ sym (find_more (is_later_entry es) (write_at es l) m)
 
 found_all : (es : List Edge) (l n : ℕ) → write_count es l ≡ n → find (is_inner_entry es l) (filter_map (write_at es l) (upto n)) ≡ inner_entry es l n
-unfolding inner_entry
+unfolding first_entry
 found_all es l zero h = refl
 found_all es l (suc m) h =
-    ap (find (is_inner_entry es l)) (filter_map-append (write_at es l) (upto m) (m ∷ []))
-    ∙ find-append (is_inner_entry es l) (filter_map (write_at es l) (upto m)) (filter_map (write_at es l) (m ∷ []))
-    ∙ rw (found_below es l m (omega (arith, h))) (ap (option_or (first_entry es l m)) (found_last es l m (write_at es l m) refl (omega (arith, h))) ∙ or_none (first_entry es l m))
+    let less : suc m - 1 ≡ m = omega arith in
+    find_more (is_inner_entry es l) (write_at es l) m
+    ∙ ap (option_or (find (is_inner_entry es l) (filter_map (write_at es l) (upto m)))) (found_last es l m (write_at es l m) refl (omega (arith, h)))
+    ∙ or_none (find (is_inner_entry es l) (filter_map (write_at es l) (upto m)))
+    ∙ found_below es l m (omega (arith, h))
+    ∙ ap (first_entry es l) (ap upto (sym less))
 
 -- the first inner write that an external edge enters, as a walk along the arc finds it
 pub first_inner_found : (es : List Edge) (l : ℕ) → inner_entry es l (write_count es l) ≡ first_inner_entry es l
 unfolding first_inner_entry
 first_inner_found es l = sym (found_all es l (write_count es l) refl)
-
--- an entry is a write of the location that isn't its first, and that an external edge enters
-entry_some : (es : List Edge) (k : ℕ) (o : Option ℕ) (i : ℕ) → entry es k o ≡ Some i → o ≡ Some i
-entry_some es k None i h = cc
-entry_some es k (Some j) i h = by_test (is_external (edge_into es j) && nat_lt 0 k)
-    (λ t. let a : Some j ≡ Some i = sym (rw t refl) ∙ h in a)
-    (λ f. let a : None ≡ Some i = sym (rw f refl) ∙ h in cc)
-
--- some entry below a number is found
-some_found : (es : List Edge) (l m k i : ℕ) → k < m → entry es k (write_at es l k) ≡ Some i → is_some (first_entry es l m) ≡ true
-unfolding first_entry
-some_found es l zero k i h e = absurd (omega arith)
-some_found es l (suc m) k i h e =
-    by_option (first_entry es l m)
-    (λ n. by_same k m
-    (λ s. rw (n, ← s, e) refl)
-    (λ d. let a : is_some (first_entry es l m) ≡ true = some_found es l m k i (omega (arith, h, d)) e in
-    let b : false ≡ true = sym (rw n refl) ∙ a in cc))
-    (λ x s. rw s refl)
-
-none_found : (es : List Edge) (l m : ℕ) → ((k : ℕ) → k < m → entry es k (write_at es l k) ≡ None) → is_some (first_entry es l m) ≡ false
-unfolding first_entry
-none_found es l zero h = refl
-none_found es l (suc m) h =
-    by_option (first_entry es l m)
-    (λ n. rw (n, h m (omega arith)) refl)
-    (λ x s. let a : true ≡ false = sym (rw s refl) ∙ none_found es l m (λ k g. h k (omega arith)) in cc)
 
 -- the parts of an inner write that an external edge enters
 pub record Inner (es : List Edge) (l i : ℕ) : Type 0 where
@@ -109,36 +111,17 @@ inner_parts es l i h =
     let c = and_parts (is_write_at es l i) (is_external (edge_into es i)) b.0 in
     record { writes = c.0; entered = c.1; later = ltb-true 1 (value_of es i) b.1; earlier = ltb-true (value_of es i) (write_count es l) a.1 }
 
--- an inner write that an external edge enters is found, by its number
-inner_is_found : (es : List Edge) (l i m : ℕ) → i < length es → Inner es l i → write_count es l ≡ suc m → is_some (first_entry es l m) ≡ true
-inner_is_found es l i m h w c =
-    let k = value_of es i - 1 in
-    let value : value_of es i ≡ (value_of es i - 1) + 1 = omega (arith, w.later) in
-    let number : write_at es l (value_of es i - 1) ≡ Some i = is_write_number es l (value_of es i - 1) i (record { below = h; writes = w.writes; value = value }) in
-    let late : nat_lt 0 (value_of es i - 1) ≡ true = lt-ltb 0 (value_of es i - 1) (omega (arith, w.later)) in
-    some_found es l m (value_of es i - 1) i (omega (arith, w.earlier, w.later, c)) (rw (number, w.entered, late) refl)
-
-none_is_found : (es : List Edge) (l m : ℕ) → write_count es l ≡ suc m → ((i : ℕ) → i < length es → is_inner_entry es l i ≡ false) → is_some (first_entry es l m) ≡ false
-none_is_found es l m c h =
-    none_found es l m (λ k g. by_option (write_at es l k)
-    (λ n. rw n refl)
-    (λ i s. let w = write_of es l k i s in
-    let f : (is_external (edge_into es i) && nat_lt 0 k) ≡ false = sym (inner_test es l k i (omega (arith, g, c)) w) ∙ h i w.below in
-    rw (s, f) refl))
-
 -- whether an arc has an inner write that an external edge enters
-inner_of_count : (es : List Edge) (l n : ℕ) → write_count es l ≡ n → is_some (inner_entry es l n) ≡ list_any (is_inner_entry es l) (upto (length es))
-unfolding inner_entry
-inner_of_count es l zero c =
-    sym (any_upto_none (is_inner_entry es l) (length es) (λ i h. and_right (is_write_at es l i && is_external (edge_into es i) && nat_lt 1 (value_of es i)) (nat_lt (value_of es i) (write_count es l)) (le-ltb (value_of es i) (write_count es l) (omega (arith, c)))))
-inner_of_count es l (suc m) c =
-    by_test (list_any (is_inner_entry es l) (upto (length es)))
-    (λ t. let p = any_upto_passing (is_inner_entry es l) (length es) t in
-    inner_is_found es l p.number m p.below (inner_parts es l p.number p.passes) c ∙ sym t)
-    (λ f. none_is_found es l m c (λ i h. any_upto_fails (is_inner_entry es l) (length es) i f h) ∙ sym f)
-
 pub inner_found : (es : List Edge) (l : ℕ) → is_some (inner_entry es l (write_count es l)) ≡ list_any (is_inner_entry es l) (upto (length es))
-inner_found es l = inner_of_count es l (write_count es l) refl
+unfolding first_inner_entry
+inner_found es l =
+    ap is_some (first_inner_found es l)
+    ∙ by_test (list_any (is_inner_entry es l) (upto (length es)))
+    (λ t. let p = any_upto_passing (is_inner_entry es l) (length es) t in
+    let w = inner_parts es l p.number p.passes in
+    let number = is_write_number es l (value_of es p.number - 1) p.number (record { below = p.below; writes = w.writes; value = omega (arith, w.later) }) in
+    some_found (is_inner_entry es l) (write_at es l) (write_count es l) (value_of es p.number - 1) p.number (omega (arith, w.later, w.earlier)) number p.passes ∙ sym t)
+    (λ f. none_found (is_inner_entry es l) (write_at es l) (write_count es l) (λ k i h s. any_upto_fails (is_inner_entry es l) (length es) i f (write_of es l k i s).below) ∙ sym f)
 
 -- what a location needs, by its walked arc
 need_is : (es : List Edge) (k e : ℕ) → inner_entry es k (write_count es k) ≡ Some e → need_at es k ≡ Some (record { location = k; event = e })

@@ -4,3 +4,5 @@ pub mod Writes
 pub mod Walk
 pub mod Entries
 pub mod Laws
+pub mod Lists
+pub mod Arcs

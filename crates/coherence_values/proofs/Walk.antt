@@ -1,64 +1,133 @@
 -- The steps of a walk along the arcs.
-use Rattle.std.proofs.Common.{◌≡◌, ℕ, zero, suc, ◌+◌, ◌-◌, ◌<◌, ◌≤◌, true, false, ◌&&◌, cond, List, [], ◌∷◌, ◌++◌, length, get_or, map, Option, Some, None, refl, sym, ◌∙◌, ap, arith, add-one}
-use Rattle.std.specs.Prelude.{nat_lt}
+use Rattle.std.proofs.Common.{◌≡◌, ℕ, zero, suc, ◌+◌, ◌-◌, ◌<◌, ◌≤◌, Bool, true, false, ◌==◌, ◌&&◌, cond, List, [], ◌∷◌, ◌++◌, length, get_or, map, Option, Some, None, refl, sym, ◌∙◌, ap, arith, add-one}
+use Rattle.std.specs.Prelude.{nat_lt, nat_le}
 use Rattle.std.specs.Option.{option_or}
-use Rattle.std.proofs.lemmas.Bool.{cond-true, cond-false}
+use Rattle.std.proofs.lemmas.Bool.{cond-true, cond-false, and_from, and_left, and_right, lt-ltb, le-ltb, le-leb, lt-leb}
 use Rattle.relax_edges.specs.declared.kinds.Dir.TheVariants as dirs
 use Rattle.relax_edges.specs.declared.edge.Edge.{Edge}
 use Rattle.relax_edges.specs.EdgeTable.{source_of, same_dir, is_external, is_diff}
 use Rattle.list_laws.specs.Numbers.{upto}
-use Rattle.list_laws.proofs.Cases.{by_test}
+use Rattle.list_laws.proofs.Cases.{by_test, by_less, by_same, by_option}
+use Rattle.list_laws.proofs.Counts.{count_upto_one_more, count_upto_same}
 use Rattle.list_laws.proofs.Numbers.{map-upto_more, length-map-upto, get_or-map-upto}
 use Rattle.cycle_resolve.specs.Resolution.{move_count, edge_at, event_before, moves_before, location_of, IsResolved}
 use Rattle.cycle_resolve.proofs.Locations.{moves_on, moves_kept, moves_most, moves_end, location_first, location_wrapped, location_kept}
 use Rattle.cycle_resolve.proofs.Arcs.{several_locations}
 use Rattle.coherence_values.specs.declared.valued.Arc.{Arc}
-use Rattle.coherence_values.specs.Values.{edge_into, value_of, write_count, write_at}
-use Rattle.coherence_values.specs.Arc.{arc_with, arc_of, first_entry, last_entry, inner_entry, writes_before, arcs_of}
+use Rattle.coherence_values.specs.Values.{edge_into, is_write_at, way_place, value_of, write_count, write_at}
+use Rattle.coherence_values.specs.Arc.{is_later_entry, first_entry, inner_entry, last_entry, seen_of, writes_before, seen_with, LeadsOn, all_seen}
 use Rattle.coherence_values.proofs.Along.{is_write, value_at_end, value_most, write_count_most}
-use Rattle.coherence_values.proofs.Writes.{is_write_number, write_at_from, value_from}
+use Rattle.coherence_values.proofs.Ways.{only_on_way}
+use Rattle.coherence_values.proofs.Writes.{write_of, is_write_number, write_at_from, value_from}
+use Rattle.coherence_values.proofs.Entries.{find_more}
+
+-- an arc with one event more, which the edge `into` enters and the edge `out` leaves
+abbrev pub arc_with : Arc → ℕ → Edge → Edge → Arc
+arc_with arc event into out =
+    cond (same_dir (source_of out) dirs.W)
+    (record { writes = arc.writes + 1; inner = option_or arc.inner arc.entered; entered = cond (is_external into && nat_lt 0 arc.writes) (Some event) None })
+    arc
+
+-- the writes of the arc of event i before it, by the event before
+abbrev pub writes_so_far : List Edge → ℕ → ℕ
+writes_so_far es i = cond (is_diff (edge_into es i)) 0 (value_of es (event_before es i))
+
+-- only the event itself stands at its place
+value_split : (es : List Edge) (i : ℕ) → i < length es → value_of es i ≡ writes_before es i + cond (is_write es i) 1 0
+unfolding value_of writes_before
+value_split es i h =
+    by_test (is_write es i)
+    (λ t. rw t (count_upto_one_more sooner up_to i (length es) h
+    (and_right (is_write_at es (location_of es i) i) (nat_lt (way_place es i) (way_place es i)) (le-ltb (way_place es i) (way_place es i) (omega arith)))
+    (and_from (is_write_at es (location_of es i) i) (nat_le (way_place es i) (way_place es i)) (write_at_from es (location_of es i) i t refl) (le-leb (way_place es i) (way_place es i) (omega arith)))
+    (λ j l d. ap (λ b. is_write_at es (location_of es i) j && b) (other j l d))))
+    (λ f. rw f (omega (
+      arith,
+      count_upto_same up_to sooner (length es) (λ j l. by_same j i
+          (λ e. rw e (both_none i (and_left (is_write es i) (location_of es i == location_of es i) f)))
+          (λ d. ap (λ b. is_write_at es (location_of es i) j && b) (other j l d))),
+    )))
+  where
+    up_to : ℕ → Bool
+    up_to j = is_write_at es (location_of es i) j && nat_le (way_place es j) (way_place es i)
+
+    sooner : ℕ → Bool
+    sooner j = is_write_at es (location_of es i) j && nat_lt (way_place es j) (way_place es i)
+
+    other : (j : ℕ) → j < length es → (j ≡ i → ⊥) → nat_le (way_place es j) (way_place es i) ≡ nat_lt (way_place es j) (way_place es i)
+    other j l d =
+        by_less (way_place es j) (way_place es i)
+        (λ s. le-leb (way_place es j) (way_place es i) (omega arith) ∙ sym (lt-ltb (way_place es j) (way_place es i) s))
+        (λ g. lt-leb (way_place es j) (way_place es i) (by_less (way_place es i) (way_place es j) (λ s. s) (λ s. absurd (d (only_on_way es j i l h (omega (arith, g, s)))))) ∙ sym (le-ltb (way_place es j) (way_place es i) g))
+
+    both_none : (j : ℕ) → is_write_at es (location_of es i) j ≡ false → up_to j ≡ sooner j
+    both_none j f =
+        and_left (is_write_at es (location_of es i) j) (nat_le (way_place es j) (way_place es i)) f
+        ∙ sym (and_left (is_write_at es (location_of es i) j) (nat_lt (way_place es j) (way_place es i)) f)
+
+-- so the writes before an event are those of the event before, on the same arc
+pub writes_before_is : (es : List Edge) (i : ℕ) → IsResolved es → i < length es → writes_before es i ≡ writes_so_far es i
+writes_before_is es i r h = omega (arith, value_split es i h, value_from es i r h)
+
+-- the first write isn't an entry
+first_isnt : (es : List Edge) (l : ℕ) → first_entry es l (0 ∷ []) ≡ None
+unfolding first_entry
+first_isnt es l =
+    by_option (write_at es l 0)
+    (λ n. rw n refl)
+    (λ i s. let w = write_of es l 0 i s in
+    rw (s, and_right (is_external (edge_into es i)) (nat_lt 1 (value_of es i)) (le-ltb 1 (value_of es i) (omega (arith, w.value)))) refl)
 
 -- one write more
 inner_more : (es : List Edge) (l n : ℕ) → inner_entry es l (suc n) ≡ option_or (inner_entry es l n) (last_entry es l n)
-unfolding inner_entry first_entry last_entry
-inner_more es l zero = refl
-inner_more es l (suc n) = refl
+unfolding first_entry
+inner_more es l zero = sym (first_isnt es l)
+inner_more es l (suc n) =
+    let more : suc (suc n) - 1 ≡ suc n = omega arith in
+    let less : suc n - 1 ≡ n = omega arith in
+    rw (more, less) (find_more (is_later_entry es) (write_at es l) n)
 
 last_more : (es : List Edge) (l n i : ℕ) → write_at es l n ≡ Some i → last_entry es l (suc n) ≡ cond (is_external (edge_into es i) && nat_lt 0 n) (Some i) None
-unfolding last_entry
-last_more es l n i h = rw h refl
+unfolding first_entry
+last_more es l n i h =
+    let less : suc n - 1 ≡ n = omega arith in
+    let later : nat_lt 1 (value_of es i) ≡ nat_lt 0 n = ap (nat_lt 1) (write_of es l n i h).value ∙ by_less 0 n
+    (λ s. lt-ltb 1 (n + 1) (omega (arith, s)) ∙ sym (lt-ltb 0 n s))
+    (λ g. le-ltb 1 (n + 1) (omega (arith, g)) ∙ sym (le-ltb 0 n g)) in
+    rw (less, h, later) refl
 
 same_arc : (a b : ℕ) (x y u v : Option ℕ) → a ≡ b → x ≡ y → u ≡ v → ◌≡◌ {A = Arc} (record { writes = a; inner = x; entered = u }) (record { writes = b; inner = y; entered = v })
 same_arc a b x y u v e f g = cc
 
--- an arc, with the event that comes next on it
-pub arc_step : (es : List Edge) (i : ℕ) → IsResolved es → i < length es → arc_with (arc_of es (location_of es i) (writes_before es i)) i (edge_into es i) (edge_at es i) ≡ arc_of es (location_of es i) (value_of es i)
+-- what is kept, with the event that comes next on the arc
+pub arc_step : (es : List Edge) (i : ℕ) → IsResolved es → i < length es → arc_with (seen_of es (location_of es i) (writes_so_far es i)) i (edge_into es i) (edge_at es i) ≡ seen_of es (location_of es i) (value_of es i)
 arc_step es i r h =
-    let from : value_of es i ≡ writes_before es i + cond (is_write es i) 1 0 = value_from es i r h in
+    let from : value_of es i ≡ writes_so_far es i + cond (is_write es i) 1 0 = value_from es i r h in
     let l = location_of es i in
-    let n = writes_before es i in
+    let n = writes_so_far es i in
     let more_arc : Arc = record { writes = n + 1; inner = option_or (inner_entry es l n) (last_entry es l n); entered = cond (is_external (edge_into es i) && nat_lt 0 n) (Some i) None } in
     by_test (is_write es i)
-    (λ t. let more : value_of es i ≡ suc (writes_before es i) = rw t at from ∙ add-one (writes_before es i) in
-    let here : write_at es (location_of es i) (writes_before es i) ≡ Some i = is_write_number es (location_of es i) (writes_before es i) i (record { below = h; writes = write_at_from es (location_of es i) i t refl; value = more ∙ sym (add-one (writes_before es i)) }) in
-    cond-true {A = Arc} (is_write es i) more_arc (arc_of es l n) t
+    (λ t. let more : value_of es i ≡ suc (writes_so_far es i) = rw t at from ∙ add-one (writes_so_far es i) in
+    let here : write_at es (location_of es i) (writes_so_far es i) ≡ Some i = is_write_number es (location_of es i) (writes_so_far es i) i (record { below = h; writes = write_at_from es (location_of es i) i t refl; value = more ∙ sym (add-one (writes_so_far es i)) }) in
+    cond-true {A = Arc} (is_write es i) more_arc (seen_of es l n) t
     ∙ same_arc (n + 1) (value_of es i) (option_or (inner_entry es l n) (last_entry es l n)) (inner_entry es l (value_of es i)) (cond (is_external (edge_into es i) && nat_lt 0 n) (Some i) None) (last_entry es l (value_of es i))
     (add-one n ∙ sym more) (sym (ap (inner_entry es l) more ∙ inner_more es l n)) (sym (ap (last_entry es l) more ∙ last_more es l n i here)))
-    (λ f. let same : value_of es i ≡ writes_before es i + 0 = rw f at from in
-    cond-false {A = Arc} (is_write es i) more_arc (arc_of es l n) f ∙ ap (arc_of es l) (omega (arith, same)))
+    (λ f. let same : value_of es i ≡ writes_so_far es i + 0 = rw f at from in
+    cond-false {A = Arc} (is_write es i) more_arc (seen_of es l n) f ∙ ap (seen_of es l) (omega (arith, same)))
 
 -- the arc that a `d` edge leads to begins with no writes
-pub arc_begins : (es : List Edge) (i : ℕ) → is_diff (edge_at es i) ≡ true → arc_of es (location_of es (i + 1)) (writes_before es (i + 1)) ≡ record { writes = 0; inner = None; entered = None }
-unfolding inner_entry last_entry
+pub arc_begins : (es : List Edge) (i : ℕ) → is_diff (edge_at es i) ≡ true → seen_of es (location_of es (i + 1)) (writes_so_far es (i + 1)) ≡ record { writes = 0; inner = None; entered = None }
+unfolding first_entry
 arc_begins es i t =
-    let none : writes_before es (suc i) ≡ 0 = cond-true {A = ℕ} (is_diff (edge_at es i)) 0 (value_of es i) t in
-    let none1 : writes_before es (i + 1) ≡ 0 = ap (writes_before es) (add-one i) ∙ none in
-    ap (arc_of es (location_of es (i + 1))) none1
+    let none : writes_so_far es (suc i) ≡ 0 = cond-true {A = ℕ} (is_diff (edge_at es i)) 0 (value_of es i) t in
+    let none1 : writes_so_far es (i + 1) ≡ 0 = ap (writes_so_far es) (add-one i) ∙ none in
+    let l = location_of es (i + 1) in
+    ap (seen_of es l) none1 ∙ same_arc 0 0 (inner_entry es l 0) None (last_entry es l 0) None refl refl (first_isnt es l)
 
 -- any other edge goes on with the arc
-pub arc_goes_on : (es : List Edge) (i : ℕ) → i < length es → is_diff (edge_at es i) ≡ false → arc_of es (location_of es (i + 1)) (writes_before es (i + 1)) ≡ arc_of es (location_of es i) (value_of es i)
+pub arc_goes_on : (es : List Edge) (i : ℕ) → i < length es → is_diff (edge_at es i) ≡ false → seen_of es (location_of es (i + 1)) (writes_so_far es (i + 1)) ≡ seen_of es (location_of es i) (value_of es i)
 arc_goes_on es i h f =
-    let on : writes_before es (i + 1) ≡ value_of es i = ap (writes_before es) (add-one i) ∙ cond-false {A = ℕ} (is_diff (edge_at es i)) 0 (value_of es i) f in
+    let on : writes_so_far es (i + 1) ≡ value_of es i = ap (writes_so_far es) (add-one i) ∙ cond-false {A = ℕ} (is_diff (edge_at es i)) 0 (value_of es i) f in
     rw (on, location_kept es i h f) refl
 
 -- the edge into the next event
@@ -66,10 +135,10 @@ pub into_next : (es : List Edge) (i : ℕ) → edge_into es (i + 1) ≡ edge_at 
 into_next es i = ap (edge_into es) (add-one i)
 
 -- the arc of location 0 goes on from the last event to event 0
-pub arc_wraps : (es : List Edge) → IsResolved es → arc_of es (location_of es (length es)) (writes_before es (length es)) ≡ arc_of es 0 (writes_before es 0)
+pub arc_wraps : (es : List Edge) → IsResolved es → seen_of es (location_of es (length es)) (writes_so_far es (length es)) ≡ seen_of es 0 (writes_so_far es 0)
 arc_wraps es r =
     let here : length es ≡ suc (length es - 1) = omega (arith, r.composes.some) in
-    let same : writes_before es (length es) ≡ writes_before es 0 = ap (writes_before es) here in
+    let same : writes_so_far es (length es) ≡ writes_so_far es 0 = ap (writes_so_far es) here in
     rw (same, location_wrapped es (length es) (moves_end es)) refl
 
 -- there are moves before the end
@@ -77,30 +146,32 @@ pub moves_made : (es : List Edge) → IsResolved es → 0 < moves_before es (len
 moves_made es r = omega (arith, several_locations es r, moves_end es)
 
 -- one location more whose arc is walked
-pub arcs_more : (es : List Edge) (i : ℕ) → IsResolved es → i < length es → is_diff (edge_at es i) ≡ true → map (λ l. arc_of es l (write_count es l)) (upto (moves_before es (i + 1))) ≡ map (λ l. arc_of es l (write_count es l)) (upto (moves_before es i)) ++ arc_of es (location_of es i) (value_of es i) ∷ []
+pub arcs_more : (es : List Edge) (i : ℕ) → IsResolved es → i < length es → is_diff (edge_at es i) ≡ true → map (λ l. seen_of es l (write_count es l)) (upto (moves_before es (i + 1))) ≡ map (λ l. seen_of es l (write_count es l)) (upto (moves_before es i)) ++ seen_of es (location_of es i) (value_of es i) ∷ []
 arcs_more es i r h t =
     let on = moves_on es i h t in
     let first : location_of es i ≡ moves_before es i = location_first es i (omega (arith, on, moves_most es (i + 1) (omega arith))) in
     let whole : value_of es i ≡ write_count es (moves_before es i) = value_at_end es i r h t ∙ ap (write_count es) first in
-    rw (on, whole, first) (map-upto_more (λ l. arc_of es l (write_count es l)) (moves_before es i))
+    rw (on, whole, first) (map-upto_more (λ l. seen_of es l (write_count es l)) (moves_before es i))
 
 -- and none more at any other edge
-pub arcs_same : (es : List Edge) (i : ℕ) → i < length es → is_diff (edge_at es i) ≡ false → map (λ l. arc_of es l (write_count es l)) (upto (moves_before es (i + 1))) ≡ map (λ l. arc_of es l (write_count es l)) (upto (moves_before es i))
-arcs_same es i h f = ap (λ n. map (λ l. arc_of es l (write_count es l)) (upto n)) (moves_kept es i h f)
+pub arcs_same : (es : List Edge) (i : ℕ) → i < length es → is_diff (edge_at es i) ≡ false → map (λ l. seen_of es l (write_count es l)) (upto (moves_before es (i + 1))) ≡ map (λ l. seen_of es l (write_count es l)) (upto (moves_before es i))
+arcs_same es i h f = ap (λ n. map (λ l. seen_of es l (write_count es l)) (upto n)) (moves_kept es i h f)
 
--- an event adds at most one write
-pub arc_with_most : (arc : Arc) (i : ℕ) (into out : Edge) → (arc_with arc i into out).writes ≤ arc.writes + 1
-arc_with_most arc i into out =
-    by_test (same_dir (source_of out) dirs.W)
-    (λ t. rw t (omega arith))
-    (λ f. rw f (omega arith))
+-- the step of the code leads on to the next event
+pub with_leads_on : (arc next : Arc) (i : ℕ) (into out : Edge) → next ≡ arc_with arc i into out → LeadsOn arc i into out next
+unfolding LeadsOn
+with_leads_on arc next i into out n es e a =
+    let before : arc ≡ seen_of es (location_of es i) (writes_so_far es i) = a ∙ ap (seen_of es (location_of es i)) (writes_before_is es i e.resolved e.below) in
+    n ∙ rw (before, e.enters, e.leaves) (arc_step es i e.resolved e.below)
 
 -- the step of a walk that knows its arc
-pub walk_step : (es : List Edge) (i : ℕ) (arc next : Arc) (into : Edge) → IsResolved es → i < length es → into ≡ edge_into es i → arc ≡ arc_of es (location_of es i) (writes_before es i) → next ≡ arc_with arc i into (edge_at es i) → next ≡ arc_of es (location_of es i) (value_of es i)
-walk_step es i arc next into r h e a n = n ∙ rw (e, a) (arc_step es i r h)
+pub walk_step : (es : List Edge) (i : ℕ) (arc next : Arc) (into : Edge) → IsResolved es → i < length es → into ≡ edge_into es i → arc ≡ seen_of es (location_of es i) (writes_so_far es i) → LeadsOn arc i into (edge_at es i) next → next ≡ seen_with es i
+unfolding LeadsOn
+walk_step es i arc next into r h e a leads =
+    leads es (record { resolved = r; below = h; enters = e; leaves = refl }) (a ∙ ap (seen_of es (location_of es i)) (sym (writes_before_is es i r h)))
 
 -- the writes of an arc are at most as many as the edges
-pub writes_before_most : (es : List Edge) (i : ℕ) → writes_before es i ≤ length es
+pub writes_before_most : (es : List Edge) (i : ℕ) → writes_so_far es i ≤ length es
 writes_before_most es i =
     by_test (is_diff (edge_into es i))
     (λ t. rw t (omega arith))
@@ -113,12 +184,12 @@ fresh_arc a h = same_arc a.writes 0 a.inner None a.entered None h.0 h.1.0 h.1.1
 -- an arc, read from the list of all
 pub record ArcRead (es : List Edge) (xs : List Arc) (k : ℕ) (d : Arc) : Type 0 where
   pub below : k < move_count es
-  pub is : get_or xs k d ≡ arc_of es k (write_count es k)
+  pub is : get_or xs k d ≡ seen_of es k (write_count es k)
 
-pub arc_read : (es : List Edge) (xs : List Arc) (k : ℕ) (d : Arc) → xs ≡ arcs_of es → k < length xs → ArcRead es xs k d
+pub arc_read : (es : List Edge) (xs : List Arc) (k : ℕ) (d : Arc) → xs ≡ all_seen es → k < length xs → ArcRead es xs k d
 arc_read es xs k d e h =
-    let below : k < move_count es = omega (arith, h, ap length e, length-map-upto (λ l. arc_of es l (write_count es l)) (move_count es)) in
+    let below : k < move_count es = omega (arith, h, ap length e, length-map-upto (λ l. seen_of es l (write_count es l)) (move_count es)) in
     record {
       below = below;
-      is = rw e (get_or-map-upto (λ l. arc_of es l (write_count es l)) (move_count es) k d below);
+      is = rw e (get_or-map-upto (λ l. seen_of es l (write_count es l)) (move_count es) k d below);
     }

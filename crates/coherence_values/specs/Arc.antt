@@ -1,53 +1,61 @@
--- What is kept of a location while its arc is walked, and of all locations afterwards.
-use Rattle.std.specs.Prelude.{ℕ, zero, suc, ◌+◌, ◌&&◌, nat_lt, if◌then◌else◌, List, length, map, Option, Some, None}
-use Rattle.std.specs.Option.{option_or}
-use Rattle.relax_edges.specs.declared.kinds.Dir.TheVariants as dirs
+-- What the code keeps of the writes on an arc, its struct `Arc`, and of all events: for the clauses of private functions
+-- and the invariant of `Valued`.
+use Rattle.std.specs.Prelude.{◌≡◌, ℕ, ◌-◌, ◌<◌, Bool, ◌&&◌, nat_lt, List, [], ◌∷◌, length, map, count_by, Option}
+use Rattle.std.specs.List.{find, filter_map}
 use Rattle.relax_edges.specs.declared.edge.Edge.{Edge}
-use Rattle.relax_edges.specs.EdgeTable.{source_of, is_external, is_diff, same_dir}
+use Rattle.relax_edges.specs.EdgeTable.{is_external}
 use Rattle.list_laws.specs.Numbers.{upto}
-use Rattle.cycle_resolve.specs.Resolution.{move_count, event_before}
+use Rattle.cycle_resolve.specs.Resolution.{edge_at, move_count, location_of, IsResolved}
 use Rattle.coherence_values.specs.declared.valued.Arc.{Arc}
-use Rattle.coherence_values.specs.Values.{edge_into, value_of, write_count, write_at}
+use Rattle.coherence_values.specs.Values.{edge_into, is_write_at, way_place, value_of, write_count, write_at}
 
--- an arc with one event more, which the edge `into` enters and the edge `out` leaves
-abbrev pub arc_with : Arc → ℕ → Edge → Edge → Arc
-arc_with arc event into out =
-    if same_dir (source_of out) dirs.W
-    then record { writes = arc.writes + 1; inner = option_or arc.inner arc.entered; entered = if is_external into && nat_lt 0 arc.writes then Some event else None }
-    else arc
+-- event i, a write, isn't the first write of its location, and an external edge enters it
+abbrev pub is_later_entry : List Edge → ℕ → Bool
+is_later_entry es i = is_external (edge_into es i) && nat_lt 1 (value_of es i)
 
--- an event that is write number k of its location, where k isn't the first and an external edge enters it
-abbrev pub entry : List Edge → ℕ → Option ℕ → Option ℕ
-entry es k None = None
-entry es k (Some event) = if is_external (edge_into es event) && nat_lt 0 k then Some event else None
+-- the first such event among the writes of a location with these numbers
+unfoldable pub first_entry : List Edge → ℕ → List ℕ → Option ℕ
+first_entry es location numbers = find (is_later_entry es) (filter_map (write_at es location) numbers)
 
--- the first such write of a location among its writes below number n
-unfoldable pub first_entry : List Edge → ℕ → ℕ → Option ℕ
-first_entry es location zero = None
-first_entry es location (suc n) = option_or (first_entry es location n) (entry es n (write_at es location n))
+-- the first one among the first n writes of a location, but for the last of these
+abbrev pub inner_entry : List Edge → ℕ → ℕ → Option ℕ
+inner_entry es location n = first_entry es location (upto (n - 1))
 
--- the last of the first n writes of a location, where it is such a write
-unfoldable pub last_entry : List Edge → ℕ → ℕ → Option ℕ
-last_entry es location zero = None
-last_entry es location (suc n) = entry es n (write_at es location n)
+-- the last of the first n writes of a location, where it is one
+abbrev pub last_entry : List Edge → ℕ → ℕ → Option ℕ
+last_entry es location n = first_entry es location ((n - 1) ∷ [])
 
--- the first such write among the first n writes, but for the last of these
-unfoldable pub inner_entry : List Edge → ℕ → ℕ → Option ℕ
-inner_entry es location zero = None
-inner_entry es location (suc n) = first_entry es location n
+-- what is kept of the first n writes of a location
+abbrev pub seen_of : List Edge → ℕ → ℕ → Arc
+seen_of es location n = record { writes = n; inner = inner_entry es location n; entered = last_entry es location n }
 
--- the arc of a location up to its write number n
-abbrev pub arc_of : List Edge → ℕ → ℕ → Arc
-arc_of es location n = record { writes = n; inner = inner_entry es location n; entered = last_entry es location n }
+-- how many writes the arc of event i has before it
+unfoldable pub writes_before : List Edge → ℕ → ℕ
+writes_before es i = count_by (λ j. is_write_at es (location_of es i) j && nat_lt (way_place es j) (way_place es i)) (upto (length es))
 
--- the writes of the arc of event i before it
-abbrev pub writes_before : List Edge → ℕ → ℕ
-writes_before es i = if is_diff (edge_into es i) then 0 else value_of es (event_before es i)
+-- what is kept of the arc of event i before it, and of the arc up to it and with it
+abbrev pub seen_before : List Edge → ℕ → Arc
+seen_before es i = seen_of es (location_of es i) (writes_before es i)
+
+abbrev pub seen_with : List Edge → ℕ → Arc
+seen_with es i = seen_of es (location_of es i) (value_of es i)
+
+-- event i of a resolved cycle, with the edges that enter and leave it
+pub record IsEvent (es : List Edge) (i : ℕ) (into out : Edge) : Type 0 where
+  pub resolved : IsResolved es
+  pub below : i < length es
+  pub enters : into ≡ edge_into es i
+  pub leaves : out ≡ edge_at es i
+
+-- where `arc` is what is kept before event i of any resolved cycle, with these edges into it and out of it, `next` is what
+-- is kept with the event
+unfoldable pub LeadsOn : Arc → ℕ → Edge → Edge → Arc → Type 0
+LeadsOn arc i into out next = (es : List Edge) → IsEvent es i into out → arc ≡ seen_before es i → next ≡ seen_with es i
 
 -- the values of all events
 abbrev pub values_of : List Edge → List ℕ
 values_of es = map (value_of es) (upto (length es))
 
--- the whole arcs of all locations
-abbrev pub arcs_of : List Edge → List Arc
-arcs_of es = map (λ location. arc_of es location (write_count es location)) (upto (move_count es))
+-- what is kept of all writes, for each location
+abbrev pub all_seen : List Edge → List Arc
+all_seen es = map (λ location. seen_of es location (write_count es location)) (upto (move_count es))

@@ -1,8 +1,8 @@
--- The values of the events of a resolved cycle, and the locations that have an observer. `es` is the list of edges in
--- which threads and locations are counted. Source: the diy part of the herdtools manual (values along the coherence
--- order, observers); which locations are observed in which mode is own.
-use Rattle.std.specs.Prelude.{ℕ, ◌+◌, Bool, false, ◌==◌, ◌&&◌, nat_lt, nat_le, if◌then◌else◌, List, [], ◌∷◌, length, count_by, Option, Some, None, Result, Ok, Err}
-use Rattle.std.specs.List.{find, list_any, filter_map}
+-- The arcs of the locations of a resolved cycle, the values of its events, and the locations that have an observer. `es`
+-- is the list of edges in which threads and locations are counted. Source: the diy part of the herdtools manual (values
+-- along the coherence order, observers); which locations are observed in which mode is own.
+use Rattle.std.specs.Prelude.{ℕ, ◌+◌, Bool, false, not, ◌==◌, ◌&&◌, nat_lt, nat_le, if◌then◌else◌, List, [], ◌∷◌, ◌++◌, length, count_by, Option, Some, None, Result, Ok, Err}
+use Rattle.std.specs.List.{filter, find, list_any, filter_map}
 use Rattle.std.specs.Option.{option_map, option_or}
 use Rattle.relax_edges.specs.declared.kinds.Dir.TheVariants as dirs
 use Rattle.relax_edges.specs.declared.kinds.ObsMode.{ObsMode}
@@ -13,12 +13,27 @@ use Rattle.list_laws.specs.Numbers.{upto}
 use Rattle.cycle_resolve.specs.Resolution.{edge_at, event_before, move_count, moves_before, location_of}
 use Rattle.coherence_values.specs.declared.valued.NeedsObserver.{NeedsObserver}
 
+-- event i is a write
+abbrev pub is_write : List Edge → ℕ → Bool
+is_write es i = same_dir (source_of (edge_at es i)) dirs.W
+
+-- event i stands behind the last edge to another location
+abbrev pub is_behind_moves : List Edge → ℕ → Bool
+is_behind_moves es i = moves_before es i == move_count es
+
+-- the way round the cycle that begins behind the last edge to another location: the events behind it, and then all others
+unfoldable pub way : List Edge → List ℕ
+way es = filter (is_behind_moves es) (upto (length es)) ++ filter (λ i. not (is_behind_moves es i)) (upto (length es))
+
+-- the arc of a location: its events, in the order in which they stand on that way
+unfoldable pub arc : List Edge → ℕ → List ℕ
+arc es location = filter (λ i. location_of es i == location) (way es)
+
 -- event i is a write at the location
 abbrev pub is_write_at : List Edge → ℕ → ℕ → Bool
 is_write_at es location i = same_dir (source_of (edge_at es i)) dirs.W && (location_of es i == location)
 
--- where event i stands on the way round the cycle that begins behind the last edge to another location: on that way
--- the events of a location follow one another, and are its arc
+-- a number for the place of event i on that way: it grows along the way, and so along each arc
 unfoldable pub way_place : List Edge → ℕ → ℕ
 way_place es i = if moves_before es i == move_count es then i else length es + i
 

@@ -1,7 +1,7 @@
-ghost use Rattle.std.specs.Prelude.{◌≡◌, ◌<◌, ◌==◌, ◌&&◌, length, Some};
+ghost use Rattle.std.specs.Prelude.{◌≡◌, ◌+◌, ◌<◌, ◌≤◌, ◌==◌, ◌&&◌, length, Some};
 ghost use Rattle.cycle_resolve.specs.Resolution.{move_count, IsResolved};
 ghost use Rattle.coherence_values.specs.Values.{value_of, write_count, write_at, is_write_at, is_observed, valuation_of};
-ghost use Rattle.coherence_values.specs.Arc.{arc_with, arc_of, writes_before, values_of, arcs_of};
+ghost use Rattle.coherence_values.specs.Arc.{LeadsOn, seen_of, writes_before, values_of, all_seen};
 
 use arrayvec::ArrayVec;
 use cycle_resolve::Resolved;
@@ -32,10 +32,13 @@ struct Arc {
 }
 
 impl Arc {
-    /// The arc with one event more, which the edge `into` enters and the edge `out` leaves.
+    /// What is kept with one event more, the next of its arc, which the edge `into` enters and the
+    /// edge `out` leaves.
+    #[tactic(auto, using(crate::proofs::Walk::with_leads_on))]
     fn with(self, event: u8, into: Edge, out: Edge) -> Arc
         requires { self.writes < 255 }
-        ensures { result ≡ arc_with self event into out }
+        ensures most { result.writes ≤ self.writes + 1 }
+        ensures next { LeadsOn self event into out result }
     {
         if out.source() == Dir::R {
             return self;
@@ -116,7 +119,7 @@ struct Walk {
 fn walked(edges: &[Edge]) -> Walk
     requires { IsResolved edges.now }
     ensures values { result.values.items ≡ values_of edges.now }
-    ensures arcs { result.arcs.items ≡ arcs_of edges.now }
+    ensures arcs { result.arcs.items ≡ all_seen edges.now }
 {
     let mut walk = Walk {
         values: ArrayVec::new(),
@@ -139,7 +142,7 @@ fn walked(edges: &[Edge]) -> Walk
 /// The arc of location 0, as far as it lies behind the last edge to another location.
 fn arc_behind(edges: &[Edge]) -> Arc
     requires { IsResolved edges.now }
-    ensures { result ≡ arc_of edges.now 0 (writes_before edges.now 0) }
+    ensures { result ≡ seen_of edges.now 0 (writes_before edges.now 0) }
 {
     let mut arc = Arc::default();
     let mut into = edges[edges.len() - 1];
@@ -208,7 +211,7 @@ impl<'a> Valued<'a> {
 
     fn arc(&self, location: u8) -> Arc
         requires { location < move_count self.now.edges }
-        ensures { result ≡ arc_of self.now.edges location (write_count self.now.edges location) }
+        ensures { result ≡ seen_of self.now.edges location (write_count self.now.edges location) }
     {
         self.arcs[usize::from(location)]
     }

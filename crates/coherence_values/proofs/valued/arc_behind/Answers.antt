@@ -3,7 +3,8 @@ use Rattle.relax_edges.specs.EdgeTable.{is_diff}
 use Rattle.cycle_resolve.specs.Resolution.{edge_at}
 use Rattle.cycle_resolve.proofs.Locations.{moves-zero, moves_kept}
 use Rattle.coherence_values.specs.declared.valued.Arc.{Arc}
-use Rattle.coherence_values.proofs.Walk.{into_next, arc_begins, arc_goes_on, walk_step, arc_with_most, fresh_arc, arc_wraps, moves_made}
+use Rattle.coherence_values.specs.Arc.{seen_of}
+use Rattle.coherence_values.proofs.Walk.{into_next, arc_begins, arc_goes_on, walk_step, fresh_arc, arc_wraps, moves_made, writes_before_is}
 use Rattle.coherence_values.proofs.valued.arc_behind.Goals as goal
 use Rattle.coherence_values.proofs.valued.arc_behind.Goals.{then-is_diff, else-is_diff}
 
@@ -27,11 +28,10 @@ loop-i-preserved c =
           }
       | else-is_diff w ↦
           let d : is_diff (edge_at c.args.edges.now c.loop-i.i) ≡ false = sym c.is_diff.ensures ∙ w.if-is_diff.false in
-          let most = arc_with_most c.loop-i.arc c.loop-i.i c.loop-i.into (edge_at c.args.edges.now c.loop-i.i) in
           record {
-            small = omega (arith, most, ap (λ (a : Arc). a.writes) w.arc-is, ap (λ (a : Arc). a.writes) c.with-arc.ensures, c.loop-i.invariant.small);
+            small = omega (arith, ap (λ (a : Arc). a.writes) w.arc-is, c.with-arc.ensures.most, c.loop-i.invariant.small);
             enters = sym (into_next c.args.edges.now c.loop-i.i);
-            goes = λ g. w.arc-is ∙ walk_step c.args.edges.now c.loop-i.i c.loop-i.arc c.with-arc.result c.loop-i.into c.requires (omega arith) c.loop-i.invariant.enters (c.loop-i.invariant.goes (omega (arith, g, moves_kept c.args.edges.now c.loop-i.i (omega arith) d))) c.with-arc.ensures
+            goes = λ g. w.arc-is ∙ walk_step c.args.edges.now c.loop-i.i c.loop-i.arc c.with-arc.result c.loop-i.into c.requires (omega arith) c.loop-i.invariant.enters (c.loop-i.invariant.goes (omega (arith, g, moves_kept c.args.edges.now c.loop-i.i (omega arith) d))) c.with-arc.ensures.next
                 ∙ sym (arc_goes_on c.args.edges.now c.loop-i.i (omega arith) d);
           }
     ]
@@ -41,3 +41,4 @@ returns c =
     let e : c.loop-i.i ≡ length c.args.edges.now = omega arith in
     let g = rw e at c.loop-i.invariant.goes in
     g (moves_made c.args.edges.now c.requires) ∙ arc_wraps c.args.edges.now c.requires
+    ∙ ap (seen_of c.args.edges.now 0) (sym (writes_before_is c.args.edges.now 0 c.requires (omega (arith, c.requires.composes.some))))

@@ -1,12 +1,13 @@
 use Rattle.std.proofs.Common.{◌≡◌, ◌<◌, ◌≤◌}
 use Rattle.cycle_resolve.specs.Resolution.{moves_before, location_of}
 use Rattle.coherence_values.specs.Values.{edge_into}
-use Rattle.coherence_values.specs.Arc.{arc_of, writes_before}
+use Rattle.coherence_values.specs.Arc.{seen_of}
+use Rattle.coherence_values.proofs.Walk.{writes_so_far}
 use Rattle.coherence_values.proofs.valued.arc_behind.Given as goal
 
 abbrev pub invariant-loop-i : goal.invariant-loop-i
 invariant-loop-i l = record {
   small : l.arc.writes ≤ l.i;
   enters : l.into ≡ edge_into l.edges l.i;
-  goes : 0 < moves_before l.edges l.i → l.arc ≡ arc_of l.edges (location_of l.edges l.i) (writes_before l.edges l.i);
+  goes : 0 < moves_before l.edges l.i → l.arc ≡ seen_of l.edges (location_of l.edges l.i) (writes_so_far l.edges l.i);
 }

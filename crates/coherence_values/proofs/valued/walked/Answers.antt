@@ -4,17 +4,17 @@ use Rattle.cycle_resolve.specs.Resolution.{edge_at, location_of, moves_before}
 use Rattle.cycle_resolve.proofs.Locations.{moves-zero, moves_few, moves_end, location-zero}
 use Rattle.coherence_values.specs.declared.valued.Arc.{Arc}
 use Rattle.coherence_values.specs.Values.{value_of, write_count}
-use Rattle.coherence_values.specs.Arc.{arc_of}
+use Rattle.coherence_values.specs.Arc.{seen_of}
 use Rattle.list_laws.specs.Numbers.{upto}
 use Rattle.list_laws.proofs.Numbers.{length-map-upto, map-upto_more}
-use Rattle.coherence_values.proofs.Walk.{into_next, arc_begins, arc_goes_on, walk_step, fresh_arc, writes_before_most, arcs_more, arcs_same}
+use Rattle.coherence_values.proofs.Walk.{into_next, arc_begins, arc_goes_on, walk_step, fresh_arc, writes_before_is, writes_before_most, arcs_more, arcs_same}
 use Rattle.coherence_values.proofs.valued.walked.Goals as goal
 use Rattle.coherence_values.proofs.valued.walked.Goals.{then-is_diff, else-is_diff}
 
 pub loop-i-init : goal.loop-i-init
 loop-i-init c = record {
   enters = refl;
-  goes = rw location-zero (c.arc_behind-arc.ensures);
+  goes = rw location-zero (c.arc_behind-arc.ensures ∙ ap (seen_of c.args.edges.now 0) (writes_before_is c.args.edges.now 0 c.requires (omega (arith, c.requires.composes.some))));
   values = c.new.ensures;
   arcs = rw moves-zero c.new-2.ensures;
 }
@@ -28,13 +28,13 @@ push-requires c = (omega arith, omega (arith, c.requires.composes.few, ap length
 pub push-requires-then-is_diff : goal.push-requires-then-is_diff
 push-requires-then-is_diff c = (
   omega arith,
-  omega (arith, c.requires.composes.few, ap length c.loop-i.invariant.arcs, length-map-upto (λ n. arc_of c.args.edges.now n (write_count c.args.edges.now n)) (moves_before c.args.edges.now c.loop-i.i), moves_few c.args.edges.now c.loop-i.i (omega arith)),
+  omega (arith, c.requires.composes.few, ap length c.loop-i.invariant.arcs, length-map-upto (λ n. seen_of c.args.edges.now n (write_count c.args.edges.now n)) (moves_before c.args.edges.now c.loop-i.i), moves_few c.args.edges.now c.loop-i.i (omega arith)),
 )
 
 pub loop-i-preserved : goal.loop-i-preserved
 loop-i-preserved c =
-    let stands : c.with-arc.result ≡ arc_of c.args.edges.now (location_of c.args.edges.now c.loop-i.i) (value_of c.args.edges.now c.loop-i.i) =
-    walk_step c.args.edges.now c.loop-i.i c.loop-i.arc c.with-arc.result c.loop-i.into c.requires (omega arith) c.loop-i.invariant.enters c.loop-i.invariant.goes c.with-arc.ensures in
+    let stands : c.with-arc.result ≡ seen_of c.args.edges.now (location_of c.args.edges.now c.loop-i.i) (value_of c.args.edges.now c.loop-i.i) =
+    walk_step c.args.edges.now c.loop-i.i c.loop-i.arc c.with-arc.result c.loop-i.into c.requires (omega arith) c.loop-i.invariant.enters c.loop-i.invariant.goes c.with-arc.ensures.next in
     let values : c.push.new.self.items ≡ map (value_of c.args.edges.now) (upto (c.loop-i.i + 1)) =
     c.push.ensures.items ∙ rw (c.loop-i.invariant.values, ap (λ (a : Arc). a.writes) stands) (sym (map-upto_more (value_of c.args.edges.now) c.loop-i.i)) in
     elim c.if-is_diff.branch [
