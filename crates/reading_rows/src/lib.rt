@@ -11,3 +11,5 @@ mod labels;
 mod limits;
 #[cfg(test)]
 mod readings;
+#[cfg(test)]
+mod slow;
