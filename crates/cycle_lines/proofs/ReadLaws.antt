@@ -4,10 +4,11 @@ use Rattle.std.specs.Prelude.{unwrap_or, MatchOption}
 use Rattle.std.specs.Result.{result_err}
 use Rattle.std.specs.List.{take_while}
 use Rattle.std.specs.Io.KnownBytes.{Consumes, IsAtEnd, Keeps}
-use Rattle.std.proofs.lemmas.List.{drop-drop}
+use Rattle.std.proofs.lemmas.List.{drop-drop, length-drop, length-take-le}
 use Rattle.std.proofs.lemmas.List.Folds.{list_all-append}
 use Rattle.std.proofs.lemmas.List.Sums.{take_while-cons}
 use Rattle.std.proofs.lemmas.Grind.{flat_map-append}
+use Rattle.std.proofs.Math.Seq.{take-add}
 use Rattle.diy_io.specs.declared.source.TheConstants.{MAX_INPUT}
 use Rattle.diy_io.specs.Count.{Rose, count_of, last_count}
 use Rattle.diy_io.specs.Sink.{line_feed_count}
@@ -23,8 +24,8 @@ use Rattle.cycle_lines.specs.declared.reader.Line.{Line}
 use Rattle.cycle_lines.specs.Lines.{without_return, ended_lines, unended, last_line, lines_of}
 use Rattle.cycle_lines.specs.Cycles.{line_said, fault_of, is_sound, are_sound, cycle_said, cycles_of, is_too_long}
 use Rattle.cycle_lines.specs.Reading.{TookUpTo, Untouched, ReadAll, ReadToFault, ReadToLimit, ReadToStop, ReadSome, whole_of, cycles_before}
-use Rattle.cycle_lines.specs.Steps.{Without, CutsAt, ReaderSeen, HasRead, GivesLine, GivesNext, said_by, work, Fills, Ended, Stops, Ends, LessToDo, Continues, last_cycle}
-use Rattle.cycle_lines.proofs.LineLaws.{by_test, ended_behind, unended_behind, lines_behind, ended_none, unended_all, ended_nil, unended_nil, ended_cut, unended_cut, lines_cut, long_first, ended_count}
+use Rattle.cycle_lines.specs.Steps.{Without, CutsAt, ReaderSeen, HasRead, GivesLine, GivesNext, said_by, work, Fills, FillsBuffer, Ended, Stops, Ends, LessToDo, Continues, last_cycle}
+use Rattle.cycle_lines.proofs.LineLaws.{by_test, ended_behind, unended_behind, lines_behind, ended_none, unended_all, ended_nil, unended_nil, ended_cut, unended_cut, lines_cut, short_pending, long_first, ended_count}
 
 -- bytes that are taken one after another
 consumes_both : (a b c : Option (List ℕ)) (x y : List ℕ) → Consumes a b x → Consumes b c y → Consumes a c (x ++ y)
@@ -224,6 +225,32 @@ more_read arch s t u r q cycles count h f =
       line_is = f.line_is ∙ h.line_is;
       taken_is = f.taken_is ∙ ap (λ n. n + length f.bytes) h.taken_is ∙ sym (length-append (h.given ++ r.pending) f.bytes) ∙ ap length bytes_are;
       few = f.few;
+    }
+
+-- how many bytes of a buffer are pending, where they are a line that isn't too long
+pub short_count : (buffer pending : List ℕ) (start end : ℕ) → take (end - start) (drop start buffer) ≡ pending → start ≤ end → end ≤ length buffer →
+    is_too_long (without_return pending) ≡ false → end - start ≤ 4097
+short_count buffer pending start end e order inside short =
+    let size = length-take-le (end - start) (drop start buffer) (omega (arith, order, inside, length-drop start buffer)) in
+    omega (arith, size, ap length e, short_pending pending short)
+
+-- bytes that were read into a buffer stand behind those that were pending at its front
+pub fills_behind : (s t : SourceSeen) (r q : ReaderSeen) (buffer : List ℕ) (middle room count : ℕ) →
+    FillsBuffer s t buffer middle room count → middle + room ≤ length buffer → r.taken + room ≤ MAX_INPUT →
+    take middle buffer ≡ r.pending → q.pending ≡ take (middle + count) buffer → q.line ≡ r.line → q.taken ≡ r.taken + count → Fills s t r q count
+fills_behind s t r q buffer middle room count f inside limit front pending line taken =
+    let bytes = take count (drop middle buffer) in
+    let size : length (take count (drop middle buffer)) ≡ count = length-take-le count (drop middle buffer) (omega (arith, f.within, inside, length-drop middle buffer)) in
+    record {
+      bytes = bytes;
+      took = f.took;
+      count_is = sym size;
+      at_end = f.at_end;
+      no_fault = f.no_fault;
+      pending = pending ∙ take-add middle count buffer ∙ ap (λ b. b ++ take count (drop middle buffer)) front;
+      line_is = line;
+      taken_is = taken ∙ ap (λ n. r.taken + n) (sym size);
+      few = omega (arith, taken, f.within, limit);
     }
 
 -- what has ended is what was given where no line feed is pending

@@ -1,4 +1,4 @@
-ghost use Rattle.std.specs.Prelude.{◌≡◌, ◌≤◌, ◌<◌, ℕ, ◌+◌, ◌-◌, [], false, length, take, drop, Some, IfOk, OnErr};
+ghost use Rattle.std.specs.Prelude.{◌≡◌, ◌≤◌, ◌<◌, ℕ, ◌+◌, ◌-◌, [], false, length, max, take, drop, Some, IfOk, OnErr};
 ghost use Rattle.diy_io.specs.Taken.{source_seen};
 ghost use Rattle.cycle_lines.specs.Cycles.{is_too_long};
 ghost use Rattle.cycle_lines.specs.Lines.{without_return};
@@ -12,8 +12,8 @@ use edge_algebra::Cycle;
 use relax_edges::ArchName;
 use std::marker::Model;
 
-/// How many bytes are read ahead at most.
-const BUFFER: usize = 32_768;
+/// Room for a line of `MAX_LINE` bytes, its carriage return and its line feed.
+const BUFFER: usize = MAX_LINE + 2;
 
 /// What is found behind the lines that were given.
 #[derive(Drop)]
@@ -38,6 +38,12 @@ enum Line {
 }
 
 /// Reads the lines of a source.
+///
+/// Never more than `MAX_LINE` bytes of a line are held, and behind so many only the one or two that
+/// show whether it ends there. Lines are read in pieces, up to `MAX_LINE` bytes in all. Where these
+/// are one line with no line feed among them, what comes behind them is read byte by byte: a line
+/// feed, or a carriage return and a line feed. Any other byte there shows that the line is too long,
+/// and nothing is read behind it.
 ///
 /// Contracts see the bytes that were taken and aren't given yet, the number of the line that they
 /// begin with, and how many bytes were taken.
@@ -103,7 +109,8 @@ impl LineReader {
 
     /// The bytes that were taken and aren't given yet.
     fn pending(&self) -> &[u8]
-        ensures { result.now ≡ self.now.pending }
+        ensures pending { result.now ≡ self.now.pending }
+        ensures held { length result.now ≤ MAX_LINE + 2 }
     {
         &self.buffer[self.start..self.end]
     }
@@ -178,16 +185,18 @@ impl LineReader {
         }
     }
 
-    /// Reads bytes behind those that are pending.
+    /// Reads bytes behind those that are pending: up to `MAX_LINE` bytes in all, and only one where so
+    /// many are pending already.
     fn fill<I: Source>(&mut self, input: &mut I) -> Result<usize, Failed>
-        requires short { length self.old.pending ≤ MAX_LINE + 1 }
+        requires short { is_too_long (without_return self.old.pending) ≡ false }
         requires few { self.old.taken < MAX_INPUT }
         ensures filled { IfOk result (λ count. Fills (source_seen (I.left input.old) (I.taken input.old) (I.faults input.old)) (source_seen (I.left input.new) (I.taken input.new) (I.faults input.new)) self.old self.new count) }
         ensures stopped { OnErr result (Stops (source_seen (I.left input.old) (I.taken input.old) (I.faults input.old)) (source_seen (I.left input.new) (I.taken input.new) (I.faults input.new)) × (self.new ≡ self.old)) }
+        ensures held { length self.new.pending ≤ max MAX_LINE (length self.old.pending + 1) }
     {
         self.end = move_to_front(&mut self.buffer, self.start, self.end);
         self.start = 0;
-        let room = (BUFFER - self.end).min((MAX_INPUT - self.taken) as usize);
+        let room = room_behind(self.end).min((MAX_INPUT - self.taken) as usize);
         let count = read_part(input, &mut self.buffer, self.end, room)?;
         self.end += count;
         self.taken += count as u64;
@@ -203,6 +212,13 @@ fn line_of(said: Result<Option<Cycle>, LineKind>) -> Line
         Ok(None) => Line::Blank,
         Err(kind) => Line::Wrong(kind),
     }
+}
+
+/// How many bytes are read at most behind so many that are held.
+fn room_behind(held: usize) -> usize
+    ensures { result ≡ max (MAX_LINE - held) 1 }
+{
+    MAX_LINE.saturating_sub(held).max(1)
 }
 
 /// Moves a part of a buffer to its front, and says where it ends there.

@@ -10,6 +10,8 @@ const POWER_LINES: &[u8] =
 const POWER_NAMES: &[u8] =
     b"MP+lwsync+addr: LwSyncdWW Rfe DpAddrdR Fre\nMP+lwsync+addr: LwSyncdWW Rfe DpAddrdR Fre\nMP+sync+lwsync: SyncdWW Rfe LwSyncdRR Fre\nR+lwsync+po: LwSyncdWW Wse PodWR Fre\n";
 
+const LONG_NAME: &[u8] = b"R+lwsync+po: LwSyncdWW Wse PodWR Fre\n";
+
 const X86_LINES: &[u8] =
     b"PodWR Fre PodWR Fre\na: Rfe PodRR Fre PodWW\nMFencedWR Fre PodWR Fre\nPodWW Wsi Wse PodWR Fre\nFre PodWR Fre PodWR";
 
@@ -70,6 +72,52 @@ fn lines_have_at_most_4096_bytes(rt: HostRuntime) -> Result<(), Fail> {
         normed(rt.alloc(), lines.as_slice(), 4096)?.0,
         wrong(3, LineKind::LineTooLong)
     );
+    Ok(())
+}
+
+/// Blanks and a cycle, of so many bytes in all.
+fn long_line(alloc: Global, len: usize) -> Result<Vec<u8>, Fail> {
+    let mut line = vec![in alloc; b' '; len.saturating_sub(23)]?;
+    line.extend_from_slice(b"LwSyncdWW Coe PodWR Fre")?;
+    Ok(line)
+}
+
+/// The carriage return and the line feed of a line of 4,096 bytes come by reads of their own.
+#[test]
+fn a_line_of_4096_bytes_is_read_with_any_end(rt: HostRuntime) -> Result<(), Fail> {
+    let alloc = rt.alloc();
+    let too_long = wrong(1, LineKind::LineTooLong);
+    for piece in [1, 4096, 9999] {
+        for (len, end, answer) in [
+            (4096, b"".as_slice(), Ok(())),
+            (4096, b"\n".as_slice(), Ok(())),
+            (4096, b"\r\n".as_slice(), Ok(())),
+            (4096, b"\r".as_slice(), too_long),
+            (4096, b"\r\r\n".as_slice(), too_long),
+            (4097, b"".as_slice(), too_long),
+            (4097, b"\n".as_slice(), too_long),
+            (4097, b"\r\n".as_slice(), too_long),
+        ] {
+            let mut lines = long_line(alloc, len)?;
+            lines.extend_from_slice(end)?;
+            let (answered, out) = normed(alloc, lines.as_slice(), piece)?;
+            let named = if answer.is_ok() { LONG_NAME } else { b"" };
+            assert_eq!(rt; answered, answer);
+            assert_eq!(rt; out.bytes(), named);
+        }
+    }
+    Ok(())
+}
+
+/// The first read gives 4,096 bytes of the line, and the second the one that makes it too long. A
+/// third would fail.
+#[test]
+fn nothing_is_read_behind_a_line_that_is_too_long(rt: HostRuntime) -> Result<(), Fail> {
+    let fail = Vec::from_slice(rt.alloc(), &[2])?;
+    let mut input = MemSource::new(long_line(rt.alloc(), 9000)?, 9999, fail);
+    let mut out = MemSink::new(rt.alloc(), 1000)?;
+    let answer = norm_lines(ArchName::PPC, &mut input, &mut out);
+    assert_eq!(rt; answer, wrong(1, LineKind::LineTooLong));
     Ok(())
 }
 

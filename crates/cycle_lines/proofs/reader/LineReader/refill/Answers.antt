@@ -3,7 +3,7 @@ use Rattle.cycle_lines.specs.declared.errors.LineKind.TheVariants.{LineTooLong}
 use Rattle.cycle_lines.specs.Lines.{without_return}
 use Rattle.diy_io.specs.Taken.{source_seen}
 use Rattle.cycle_lines.specs.Reading.{ReadToFault}
-use Rattle.cycle_lines.proofs.LineLaws.{is_long, is_short, short_pending}
+use Rattle.cycle_lines.proofs.LineLaws.{is_long, is_short}
 use Rattle.cycle_lines.proofs.ReadLaws.{long_given, stopped_there}
 use Rattle.cycle_lines.proofs.reader.LineReader.refill.Goals as goal
 
@@ -11,15 +11,14 @@ pub returns-then-without_return-gt-MAX_LINE-clause-refills : goal.returns-then-w
 returns-then-without_return-gt-MAX_LINE-clause-refills g c = λ arch first cycles h.
     subst (λ n. ReadToFault arch first (source_seen (g.I.Source.left c.args.input.now) (g.I.Source.taken c.args.input.now) (g.I.Source.faults c.args.input.now)) cycles n LineTooLong) (ap (λ r. r.line) (sym c.self.view_is))
     (long_given arch first _ c.args.self.now cycles h c.requires
-    (is_long (without_return c.args.self.now.pending) c.without_return.result.now (c.without_return.ensures ∙ ap without_return c.pending.ensures) c.if-without_return-gt-MAX_LINE.true))
+    (is_long (without_return c.args.self.now.pending) c.without_return.result.now (c.without_return.ensures ∙ ap without_return c.pending.ensures.pending) c.if-without_return-gt-MAX_LINE.true))
 
 pub fill-requires-clause-short : goal.fill-requires-clause-short
 fill-requires-clause-short g c =
-    short_pending c.args.self.now.pending
-    (is_short (without_return c.args.self.now.pending) c.without_return.result.now (c.without_return.ensures ∙ ap without_return c.pending.ensures) c.if-without_return-gt-MAX_LINE.false)
+    is_short (without_return c.args.self.now.pending) c.without_return.result.now (c.without_return.ensures ∙ ap without_return c.pending.ensures.pending) c.if-without_return-gt-MAX_LINE.false
 
 pub returns-in-Err-clause-refills : goal.returns-in-Err-clause-refills
 returns-in-Err-clause-refills g c = λ arch first cycles h.
     stopped_there arch first _ _ c.args.self.now cycles h c.requires
-    (is_short (without_return c.args.self.now.pending) c.without_return.result.now (c.without_return.ensures ∙ ap without_return c.pending.ensures) c.if-without_return-gt-MAX_LINE.false)
+    (is_short (without_return c.args.self.now.pending) c.without_return.result.now (c.without_return.ensures ∙ ap without_return c.pending.ensures.pending) c.if-without_return-gt-MAX_LINE.false)
     c.in-Err.ensures.stopped.0
