@@ -22,7 +22,7 @@ use Rattle.log_sum.specs.Summed.{StateSummed}
 use Rattle.log_sum.specs.States.{form_read}
 use Rattle.log_sum.specs.Counts.{last_count}
 use Rattle.log_sum.specs.Steps.{known_state}
-use Rattle.log_sum.specs.StateEntries.{sum_view, state_view, state_at, states_view, AreInOrder, ArePrinted, HasState}
+use Rattle.log_sum.specs.StateEntries.{sum_view, state_view, state_at, states_view, AreInOrder, AreWritten, written_as, HasState}
 use Rattle.log_sum.proofs.RunLaws.{by_test}
 use Rattle.log_sum.proofs.OrderLaws.{ordered_known, ordered_put, ordered_is}
 
@@ -100,16 +100,16 @@ sorted_written (e ∷ es) (suc i) w =
 pub order_written : (es : List (Vec ℕ Global × StateSum)) (i : ℕ) (w : StateSum) → AreInOrder es → AreInOrder (set_value_at es i w)
 order_written es i w h = subst T (sym (sorted_written es i w)) h
 
-pub printed_written : (es : List (Vec ℕ Global × StateSum)) (i : ℕ) (v w : StateSum) → slice_get (values_of es) i ≡ Some v → w.is_printed ≡ v.is_printed → ArePrinted es → ArePrinted (set_value_at es i w)
-printed_written [] i v w at_i same h j key sum e p = h j key sum e p
-printed_written (x ∷ es) zero v w at_i same h zero key sum e p =
+pub written_again : (es : List (Vec ℕ Global × StateSum)) (i : ℕ) (v w : StateSum) → slice_get (values_of es) i ≡ Some v → w.other_text ≡ v.other_text → AreWritten es → AreWritten (set_value_at es i w)
+written_again [] i v w at_i same h j key sum e = h j key sum e
+written_again (x ∷ es) zero v w at_i same h zero key sum e =
     let first : x.1 ≡ v = cc in
     let pair : ◌≡◌ {A = Vec ℕ Global × StateSum} (x.0, w) (key, sum) = cc in
-    let told = h zero x.0 x.1 refl (ap (λ (s : StateSum). s.is_printed) first ∙ sym same ∙ ap (λ (y : Vec ℕ Global × StateSum). y.1.is_printed) pair ∙ p) in
-    subst (λ (y : Vec ℕ Global × StateSum). form_read y.0.items ≡ Ok y.0.items) pair told
-printed_written (x ∷ es) zero v w at_i same h (suc j) key sum e p = h (suc j) key sum e p
-printed_written (x ∷ es) (suc i) v w at_i same h zero key sum e p = h zero key sum e p
-printed_written (x ∷ es) (suc i) v w at_i same h (suc j) key sum e p = printed_written es i v w at_i same (λ k. h (suc k)) j key sum e p
+    let told = ap (λ (o : Option (Vec ℕ Global)). form_read (written_as x.0.items o)) (same ∙ ap (λ (s : StateSum). s.other_text) (sym first)) ∙ h zero x.0 x.1 refl in
+    subst (λ (y : Vec ℕ Global × StateSum). form_read (written_as y.0.items y.1.other_text) ≡ Ok y.0.items) pair told
+written_again (x ∷ es) zero v w at_i same h (suc j) key sum e = h (suc j) key sum e
+written_again (x ∷ es) (suc i) v w at_i same h zero key sum e = h zero key sum e
+written_again (x ∷ es) (suc i) v w at_i same h (suc j) key sum e = written_again es i v w at_i same (λ k. h (suc k)) j key sum e
 
 -- a state that an earlier key has is another
 earlier_other : (es : List (Vec ℕ Global × StateSum)) (i : ℕ) (x text : List ℕ) → AllByRecursion (λ (y : Vec ℕ Global). bytes_eq x y.items ≡ false) (keys_of es) → state_at es i ≡ Some text → bytes_eq x text ≡ false
@@ -170,13 +170,13 @@ view_more es key w none =
     ordered_put (map state_view es) (map state_view (es ++ (key, w) ∷ [])) key.items (sum_view w)
     (λ q. ap (λ t. known_state t q) (map_more es key w) ∙ known_more (map state_view es) key.items (sum_view w) q (sym (ordered_known (map state_view es) key.items) ∙ none))
 
-pub printed_more : (es : List (Vec ℕ Global × StateSum)) (key : Vec ℕ Global) (w : StateSum) → (w.is_printed ≡ true → form_read key.items ≡ Ok key.items) → ArePrinted es → ArePrinted (es ++ (key, w) ∷ [])
-printed_more [] key w told h zero other sum e p =
+pub written_more : (es : List (Vec ℕ Global × StateSum)) (key : Vec ℕ Global) (w : StateSum) → form_read (written_as key.items w.other_text) ≡ Ok key.items → AreWritten es → AreWritten (es ++ (key, w) ∷ [])
+written_more [] key w told h zero other sum e =
     let pair : ◌≡◌ {A = Vec ℕ Global × StateSum} (key, w) (other, sum) = cc in
-    subst (λ (y : Vec ℕ Global × StateSum). form_read y.0.items ≡ Ok y.0.items) pair (told (ap (λ (y : Vec ℕ Global × StateSum). y.1.is_printed) pair ∙ p))
-printed_more [] key w told h (suc i) other sum e p = absurd (cc)
-printed_more (x ∷ es) key w told h zero other sum e p = h zero other sum e p
-printed_more (x ∷ es) key w told h (suc i) other sum e p = printed_more es key w told (λ k. h (suc k)) i other sum e p
+    subst (λ (y : Vec ℕ Global × StateSum). form_read (written_as y.0.items y.1.other_text) ≡ Ok y.0.items) pair told
+written_more [] key w told h (suc i) other sum e = cc
+written_more (x ∷ es) key w told h zero other sum e = h zero other sum e
+written_more (x ∷ es) key w told h (suc i) other sum e = written_more es key w told (λ k. h (suc k)) i other sum e
 
 -- what is known of the state at an index
 known_here : (es : List (Vec ℕ Global × StateSum)) (i : ℕ) (text : List ℕ) (v : StateSum) → IsDistinct (λ (x y : Vec ℕ Global). bytes_eq x.items y.items) (keys_of es) → state_at es i ≡ Some text
@@ -207,10 +207,10 @@ nothing_at (e ∷ es) (suc i) text h g = nothing_at es i text h g
 -- the state at an index, seen so often more
 pub view_added : (es : List (Vec ℕ Global × StateSum)) (i count total : ℕ) (v : StateSum) (text : List ℕ) (known : Mark × ℕ) → IsDistinct (λ (x y : Vec ℕ Global). bytes_eq x.items y.items) (keys_of es)
     → Some v ≡ slice_get (values_of es) i → total ≡ min (v.count + count) last_count → state_at es i ≡ Some text → known_state (states_view es) text ≡ Some known
-    → states_view (set_value_at es i (record { mark = v.mark; count = total; is_printed = v.is_printed })) ≡ insert_entry (slice_cmp nat_cmp) (states_view es) text (known.0, min (known.1 + count) last_count)
+    → states_view (set_value_at es i (record v { count = total })) ≡ insert_entry (slice_cmp nat_cmp) (states_view es) text (known.0, min (known.1 + count) last_count)
 view_added es i count total v text known d g sum h is =
     let told : ◌≡◌ {A = Mark × ℕ} (v.mark, v.count) known = let e = sym (known_at es i text v d h (sym g)) ∙ is in cc in
-    view_written es i (record { mark = v.mark; count = total; is_printed = v.is_printed }) text d h
+    view_written es i (record v { count = total }) text d h
     ∙ ap (λ n. insert_entry (slice_cmp nat_cmp) (states_view es) text (v.mark, n)) sum
     ∙ ap (λ (k : Mark × ℕ). insert_entry (slice_cmp nat_cmp) (states_view es) text (k.0, min (k.1 + count) last_count)) told
 
@@ -244,20 +244,20 @@ pub view_put : (es more : List (Vec ℕ Global × StateSum)) (key : Vec ℕ Glob
     → states_view more ≡ insert_entry (slice_cmp nat_cmp) (states_view es) key.items (sum_view w)
 view_put es more key w e h = ap states_view (e ∙ put_last es key w h) ∙ view_more es key w h
 
-pub printed_put : {X Y : Type 0} (es more : List (Vec ℕ Global × StateSum)) (key : Vec ℕ Global) (w : StateSum) → known_state (states_view es) key.items ≡ None → (w.is_printed ≡ true → form_read key.items ≡ Ok key.items) → ArePrinted es
-    → (r : Result X Y) → OnOk r (more ≡ indexed.insert_entry (λ (x y : Vec ℕ Global). bytes_eq x.items y.items) es key w) → OnErr r (more ≡ es) → ArePrinted more
-printed_put es more key w none told h (Ok x) e g = subst ArePrinted (sym (e ∙ put_last es key w none)) (printed_more es key w told h)
-printed_put es more key w none told h (Err x) e g = subst ArePrinted (sym g) h
+pub written_put : {X Y : Type 0} (es more : List (Vec ℕ Global × StateSum)) (key : Vec ℕ Global) (w : StateSum) → known_state (states_view es) key.items ≡ None → form_read (written_as key.items w.other_text) ≡ Ok key.items → AreWritten es
+    → (r : Result X Y) → OnOk r (more ≡ indexed.insert_entry (λ (x y : Vec ℕ Global). bytes_eq x.items y.items) es key w) → OnErr r (more ≡ es) → AreWritten more
+written_put es more key w none told h (Ok x) e g = subst AreWritten (sym (e ∙ put_last es key w none)) (written_more es key w told h)
+written_put es more key w none told h (Err x) e g = subst AreWritten (sym g) h
 
--- a text that is a state a log wrote as it is printed
-pub printed_at : (es : List (Vec ℕ Global × StateSum)) (i : ℕ) (text : List ℕ) (key : Vec ℕ Global) (sum : StateSum) (b : Bool) → ArePrinted es → Some (key, sum) ≡ slice_get es i → sum.is_printed ≡ true
-    → b ≡ bytes_eq key.items text → OnTrue b (HasState es text i)
-printed_at es i text key sum true h e p same = record {
+-- a text by which a log wrote a state
+pub written_at : (es : List (Vec ℕ Global × StateSum)) (i : ℕ) (text first : List ℕ) (key : Vec ℕ Global) (sum : StateSum) (b : Bool) → AreWritten es → Some (key, sum) ≡ slice_get es i
+    → first ≡ written_as key.items sum.other_text → b ≡ bytes_eq first text → OnTrue b (HasState es text i)
+written_at es i text first key sum true h e f same = record {
   state = key.items;
   stands = at_entry es i key sum e;
-  read = ap form_read (sym ((bytes_eq-Decides key.items text).0 (sym same))) ∙ h i key sum (sym e) p;
+  read = ap form_read (sym ((bytes_eq-Decides first text).0 (sym same)) ∙ f) ∙ h i key sum (sym e);
 }
-printed_at es i text key sum false h e p same = tt
+written_at es i text first key sum false h e f same = tt
 
 -- entries that stand in byte order are as the definitions see them
 pub in_order_view : (es : List (Vec ℕ Global × StateSum)) → AreInOrder es → states_view es ≡ map state_view es

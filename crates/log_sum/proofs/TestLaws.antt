@@ -7,33 +7,28 @@ use Rattle.std.specs.BTreeMap.{insert_entry}
 use Rattle.std.proofs.lemmas.Bool.Decides.{nat_tests}
 use Rattle.log_sum.specs.declared.errors.LogKind.TheVariants.{MarkDiffers, SumTooLarge}
 use Rattle.log_sum.specs.declared.kinds.Mark.{Mark}
-use Rattle.log_sum.specs.declared.state_table.StateSum.{StateSum}
 use Rattle.log_sum.specs.Counts.{last_count}
 use Rattle.log_sum.specs.Facts.{Row, a_row, is_other, same_mark}
 use Rattle.log_sum.specs.Summed.{Summed, StateSummed}
 use Rattle.log_sum.specs.Steps.{known_state, count_known, marked, with_marked, with_row, fact_to}
 use Rattle.log_sum.proofs.SumLaws.{same_mark_is}
 
-mark_of_known : (known : Option StateSum) → option_map (λ (k : Mark × ℕ). k.0) (option_map (λ known. (known.mark, known.count)) known) ≡ option_map (λ known. known.mark) known
-mark_of_known None = refl
-mark_of_known (Some k) = refl
-
 -- what putting a row answers
-pub row_other : (test : Summed) (row : Row) (known : Option StateSum) → option_map (λ known. (known.mark, known.count)) known ≡ known_state test.states row.state
-    → is_other same_mark (option_map (λ known. known.mark) known) row.mark ≡ true → fact_to test (a_row row) ≡ Err MarkDiffers
+pub row_other : (test : Summed) (row : Row) (known : Option (Mark × ℕ)) → known ≡ known_state test.states row.state
+    → is_other same_mark (option_map (λ (k : Mark × ℕ). k.0) known) row.mark ≡ true → fact_to test (a_row row) ≡ Err MarkDiffers
 unfolding fact_to
-row_other test row known e h = rw (sym e, mark_of_known known, h) refl
+row_other test row known e h = rw (sym e, h) refl
 
-pub row_large : (test : Summed) (row : Row) (known : Option StateSum) → option_map (λ known. (known.mark, known.count)) known ≡ known_state test.states row.state
-    → is_other same_mark (option_map (λ known. known.mark) known) row.mark ≡ false → nat_lt last_count (marked test row.mark + row.count) ≡ true → fact_to test (a_row row) ≡ Err SumTooLarge
+pub row_large : (test : Summed) (row : Row) (known : Option (Mark × ℕ)) → known ≡ known_state test.states row.state
+    → is_other same_mark (option_map (λ (k : Mark × ℕ). k.0) known) row.mark ≡ false → nat_lt last_count (marked test row.mark + row.count) ≡ true → fact_to test (a_row row) ≡ Err SumTooLarge
 unfolding fact_to
-row_large test row known e h f = rw (sym e, mark_of_known known, h, f) refl
+row_large test row known e h f = rw (sym e, h, f) refl
 
-pub row_put : (test : Summed) (row : Row) (known : Option StateSum) → option_map (λ known. (known.mark, known.count)) known ≡ known_state test.states row.state
-    → is_other same_mark (option_map (λ known. known.mark) known) row.mark ≡ false → nat_lt last_count (marked test row.mark + row.count) ≡ false → fact_to test (a_row row) ≡ Ok (with_row test row)
+pub row_put : (test : Summed) (row : Row) (known : Option (Mark × ℕ)) → known ≡ known_state test.states row.state
+    → is_other same_mark (option_map (λ (k : Mark × ℕ). k.0) known) row.mark ≡ false → nat_lt last_count (marked test row.mark + row.count) ≡ false → fact_to test (a_row row) ≡ Ok (with_row test row)
 unfolding fact_to
 row_put test row known e h f =
-    let mark : is_other same_mark (option_map (λ (k : Mark × ℕ). k.0) (known_state test.states row.state)) row.mark ≡ false = ap (λ o. is_other same_mark (option_map (λ (k : Mark × ℕ). k.0) o) row.mark) (sym e) ∙ ap (λ o. is_other same_mark o row.mark) (mark_of_known known) ∙ h in
+    let mark : is_other same_mark (option_map (λ (k : Mark × ℕ). k.0) (known_state test.states row.state)) row.mark ≡ false = ap (λ o. is_other same_mark (option_map (λ (k : Mark × ℕ). k.0) o) row.mark) (sym e) ∙ h in
     rw (mark, f) refl
 
 pub too_large : (sum count : ℕ) → last_count - sum < count → nat_lt last_count (sum + count) ≡ true
@@ -43,10 +38,10 @@ pub not_large : (sum count : ℕ) → sum ≤ last_count → count ≤ last_coun
 not_large sum count g h = grind (arith, nat_tests)
 
 -- what is kept of a state that is known, and of a new one
-pub known_kept : (known : StateSum) (row : Row) (count : ℕ) (there : Option (Mark × ℕ)) → Some (known.mark, known.count) ≡ there → same_mark known.mark row.mark ≡ true → count ≡ min (known.count + row.count) last_count
-    → ◌≡◌ {A = Mark × ℕ} (known.mark, count) (row.mark, min (count_known there + row.count) last_count)
+pub known_kept : (known : Mark × ℕ) (row : Row) (count : ℕ) (there : Option (Mark × ℕ)) → Some known ≡ there → same_mark known.0 row.mark ≡ true → count ≡ min (known.1 + row.count) last_count
+    → ◌≡◌ {A = Mark × ℕ} (known.0, count) (row.mark, min (count_known there + row.count) last_count)
 known_kept known row count there e h f =
-    ap (λ (m : Mark). (m, count)) (same_mark_is known.mark row.mark h) ∙ ap (λ (n : ℕ). (row.mark, n)) (f ∙ ap (λ (t : Option (Mark × ℕ)). min (count_known t + row.count) last_count) e)
+    ap (λ (m : Mark). (m, count)) (same_mark_is known.0 row.mark h) ∙ ap (λ (n : ℕ). (row.mark, n)) (f ∙ ap (λ (t : Option (Mark × ℕ)). min (count_known t + row.count) last_count) e)
 
 pub new_kept : (row : Row) (there : Option (Mark × ℕ)) → None ≡ there → row.count ≤ last_count → ◌≡◌ {A = Mark × ℕ} (row.mark, row.count) (row.mark, min (count_known there + row.count) last_count)
 new_kept row there e h =

@@ -1,6 +1,6 @@
 -- States with their sums, as a table keeps them.
 -- Source: own.
-use Rattle.std.specs.Prelude.{◌≡◌, ℕ, T, true, List, [], ◌∷◌, Option, Some, map, option_map, slice_get, Ok}
+use Rattle.std.specs.Prelude.{◌≡◌, ℕ, T, List, [], ◌∷◌, Option, Some, None, map, option_map, slice_get, Ok}
 use Rattle.std.specs.Ordering.{nat_cmp}
 use Rattle.std.specs.Cmp.Lexicographic.{slice_cmp}
 use Rattle.std.specs.BTreeMap.{insert_entry}
@@ -37,10 +37,15 @@ state_at entries i = option_map (λ entry. entry.0.items) (slice_get entries i)
 abbrev pub AreInOrder : List (Vec ℕ Global × StateSum) → Type 0
 AreInOrder entries = T (is_sorted (slice_cmp nat_cmp) (map state_view entries))
 
--- each state that is said to be written as it is printed is what it reads as
-abbrev pub ArePrinted : List (Vec ℕ Global × StateSum) → Type 0
-ArePrinted entries =
-    (i : ℕ) (key : Vec ℕ Global) (sum : StateSum) → slice_get entries i ≡ Some (key, sum) → sum.is_printed ≡ true → form_read key.items ≡ Ok key.items
+-- the text by which a log wrote a state first: its printed form, unless another is kept
+abbrev pub written_as : List ℕ → Option (Vec ℕ Global) → List ℕ
+written_as form None = form
+written_as form (Some text) = text.items
+
+-- that text is read as the state
+abbrev pub AreWritten : List (Vec ℕ Global × StateSum) → Type 0
+AreWritten entries =
+    (i : ℕ) (key : Vec ℕ Global) (sum : StateSum) → slice_get entries i ≡ Some (key, sum) → form_read (written_as key.items sum.other_text) ≡ Ok key.items
 
 -- the state that a text writes stands at an index
 pub record HasState (entries : List (Vec ℕ Global × StateSum)) (text : List ℕ) (i : ℕ) : Type 0 where

@@ -7,7 +7,7 @@ ghost use Rattle.log_sum.specs.declared.kinds.Mark.{Mark as StateMark};
 ghost use Rattle.log_sum.specs.Counts.{last_count};
 ghost use Rattle.log_sum.specs.States.{form_read};
 ghost use Rattle.log_sum.specs.Steps.{known_state};
-ghost use Rattle.log_sum.specs.StateEntries.{ArePrinted, AreInOrder, HasState, sum_view, state_at, states_view};
+ghost use Rattle.log_sum.specs.StateEntries.{AreInOrder, AreWritten, HasState, sum_view, state_at, states_view, written_as};
 
 use crate::errors::Fault;
 use crate::kinds::Mark;
@@ -16,12 +16,12 @@ use indexmap::IndexMap;
 use std::alloc::Global;
 
 /// The mark of a state, and the sum of its counts.
-#[derive(Clone, Copy)]
+#[derive(Drop)]
 pub(crate) struct StateSum {
     pub(crate) mark: Mark,
     pub(crate) count: u64,
-    /// A log wrote the state as it is printed.
-    pub(crate) is_printed: bool,
+    /// The text by which a log wrote the state first, where that isn't its printed form.
+    pub(crate) other_text: Option<Vec<u8>>,
 }
 
 /// The states of a test by their printed forms.
@@ -32,8 +32,20 @@ pub(crate) struct StateTable {
     next: usize,
     /// The states stand in byte order.
     pub(crate) in_order: bool,
-    ghost are_printed: { ArePrinted sums.entries },
+    ghost are_written: { AreWritten sums.entries },
     ghost are_in_order: { in_order ≡ true → AreInOrder sums.entries },
+}
+
+impl StateSum {
+    /// The text by which a log wrote the state first, which is printed so.
+    fn text<'a>(&'a self, state: &'a [u8]) -> &'a [u8]
+        ensures { result.now ≡ written_as state.now self.now.other_text }
+    {
+        match &self.other_text {
+            Some(text) => text.as_slice(),
+            None => state,
+        }
+    }
 }
 
 impl StateTable {
@@ -49,29 +61,33 @@ impl StateTable {
         }
     }
 
-    /// The index of the state that a text writes, where a log wrote it so before and it is printed so.
+    /// The index of the state that a text writes, where a log wrote it so first.
     ///
-    /// Logs of one test list its states in one order, so the state behind the last one is tried first.
-    pub(crate) fn printed_index(&self, text: &[u8]) -> Option<usize>
+    /// Logs of one test list its states in one order, so the two behind the last one are tried before all others.
+    pub(crate) fn written_index(&self, text: &[u8]) -> Option<usize>
         ensures { IfSome result (HasState self.now.sums.entries text.now) }
     {
-        if self.is_printed_at(self.next, text) {
+        if self.is_written_at(self.next, text) {
             return Some(self.next);
         }
+        let second = self.next.saturating_add(1);
+        if self.is_written_at(second, text) {
+            return Some(second);
+        }
         let i = self.sums.get_index_of(text)?;
-        if self.is_printed_at(i, text) {
+        if self.is_written_at(i, text) {
             Some(i)
         } else {
             None
         }
     }
 
-    /// Whether a text is the state at an index, which a log wrote so before.
-    fn is_printed_at(&self, i: usize, text: &[u8]) -> bool
+    /// Whether a log wrote the state at an index by this text first.
+    fn is_written_at(&self, i: usize, text: &[u8]) -> bool
         ensures { OnTrue result (HasState self.now.sums.entries text.now i) }
     {
         match self.sums.get_index(i) {
-            Some((state, sum)) => sum.is_printed && state.as_slice() == text,
+            Some((state, sum)) => sum.text(state.as_slice()) == text,
             None => false,
         }
     }
@@ -84,11 +100,11 @@ impl StateTable {
     }
 
     /// The mark and count of the state at an index.
-    pub(crate) fn sum_at(&self, i: usize) -> Option<StateSum>
-        ensures { MatchOption result (state_at self.now.sums.entries i ≡ None) (λ sum. (state : List ℕ) → state_at self.now.sums.entries i ≡ Some state → known_state (states_view self.now.sums.entries) state ≡ Some (sum_view sum)) }
+    pub(crate) fn sum_at(&self, i: usize) -> Option<(Mark, u64)>
+        ensures { MatchOption result (state_at self.now.sums.entries i ≡ None) (λ sum. (state : List ℕ) → state_at self.now.sums.entries i ≡ Some state → known_state (states_view self.now.sums.entries) state ≡ Some sum) }
     {
         match self.sums.get_index(i) {
-            Some((_, sum)) => Some(*sum),
+            Some((_, sum)) => Some((sum.mark, sum.count)),
             None => None,
         }
     }
@@ -112,7 +128,7 @@ impl StateTable {
     /// A state more.
     pub(crate) fn put(&mut self, state: Vec<u8>, sum: StateSum) -> Result<(), NoMemory>
         requires new { known_state (states_view self.old.sums.entries) state.items ≡ None }
-        requires printed { sum.is_printed ≡ true → form_read state.items ≡ Ok state.items }
+        requires written { form_read (written_as state.items sum.other_text) ≡ Ok state.items }
         ensures { OnOk result (states_view self.new.sums.entries ≡ insert_entry (slice_cmp nat_cmp) (states_view self.old.sums.entries) state.items (sum_view sum)) }
     {
         self.in_order = false;

@@ -1,8 +1,8 @@
-ghost use Rattle.std.specs.Prelude.{◌≡◌, ℕ, List, Some, None, Ok};
+ghost use Rattle.std.specs.Prelude.{◌≡◌, ℕ, List, Some, None, Ok, IfOk};
 ghost use Rattle.log_sum.specs.Classes.{Gives, GivesOr, row_read, test_view};
 ghost use Rattle.log_sum.specs.Facts.{same_kind, same_mark, a_kind, a_condition, a_hash, a_row, row_with};
 ghost use Rattle.log_sum.specs.States.{form_read};
-ghost use Rattle.log_sum.specs.StateEntries.{state_at};
+ghost use Rattle.log_sum.specs.StateEntries.{state_at, written_as};
 ghost use Rattle.log_sum.specs.Steps.{fact_to, of_kind, known_state, row_to, with_verdict, marked, with_marked};
 
 use crate::errors::{Fault, LogKind};
@@ -10,6 +10,7 @@ use crate::kinds::{Kind, Mark, Verdict};
 use crate::lines::Row;
 use crate::state_table::{StateSum, StateTable};
 use crate::states::StateReader;
+use diy_io::NoMemory;
 use std::alloc::Global;
 
 /// What the logs so far say of a test.
@@ -44,6 +45,16 @@ fn same_mark(one: Mark, other: Mark) -> bool
         (Mark::Plain, Mark::Plain) => true,
         _ => false,
     }
+}
+
+/// A text, where it isn't the printed form of the state that it writes.
+fn other_text(alloc: Global, text: &[u8], form: &[u8]) -> Result<Option<Vec<u8>>, NoMemory>
+    ensures { IfOk result (λ other. written_as form.now other ≡ text.now) }
+{
+    if text == form {
+        return Ok(None);
+    }
+    Ok(Some(Vec::from_slice(alloc, text)?))
 }
 
 impl TestSum {
@@ -144,7 +155,7 @@ impl TestSum {
     ) -> Result<(), Fault>
         ensures { GivesOr (λ _. test_view self.new) result (row_to (test_view self.old) (row_read row.entry)) }
     {
-        if let Some(i) = self.states.printed_index(row.text) {
+        if let Some(i) = self.states.written_index(row.text) {
             return self.add(i, row.mark, row.count);
         }
         reader.read(row.text)?;
@@ -159,10 +170,10 @@ impl TestSum {
         ensures { (state : List ℕ) → state_at self.old.states.sums.entries i ≡ Some state → GivesOr (λ _. test_view self.new) result (fact_to (test_view self.old) (a_row (row_with state mark count))) }
     {
         let sum = self.marked(mark);
-        let Some(known) = self.states.sum_at(i) else {
+        let Some((known, _)) = self.states.sum_at(i) else {
             return Ok(());
         };
-        if !same_mark(known.mark, mark) {
+        if !same_mark(known, mark) {
             return Err(Fault::Wrong(LogKind::MarkDiffers));
         }
         if count > u64::MAX - sum {
@@ -186,7 +197,7 @@ impl TestSum {
         let known = StateSum {
             mark: row.mark,
             count: row.count,
-            is_printed: row.text == state,
+            other_text: other_text(alloc, row.text, state)?,
         };
         self.states.put(Vec::from_slice(alloc, state)?, known)?;
         self.set_marked(row.mark, sum + row.count);

@@ -15,6 +15,10 @@ const B_LOG: &[u8] =
 const PRINTED: &[u8] =
     b"Test SB Allowed\nHistogram (4 states)\n96    *>0:EAX=0; 1:EAX=0;\n499898:>0:EAX=0; 1:EAX=1;\n499938:>0:EAX=1; 1:EAX=0;\n168   :>0:EAX=1; 1:EAX=1;\nOk\n\nWitnesses\nPositive: 96, Negative: 1000004\nCondition exists (0:EAX=0 /\\ 1:EAX=0) is validated\nObservation SB Sometimes 96 1000004\n\n";
 
+/// The sum of the second log and itself.
+const TWICE_PRINTED: &[u8] =
+    b"Test SB Allowed\nHistogram (3 states)\n72    :>0:EAX=0; 1:EAX=1;\n120   :>0:EAX=1; 1:EAX=0;\n8     :>0:EAX=1; 1:EAX=1;\nNo\n\nWitnesses\nPositive: 0, Negative: 200\nCondition exists (0:EAX=0 /\\ 1:EAX=0) is NOT validated\nObservation SB Never 0 200\n\n";
+
 /// A `~exists` test of two blocks, of which one says that its condition isn't validated, and a `forall`
 /// test of two blocks that say that theirs is.
 const KINDS_LOG: &[u8] =
@@ -58,7 +62,12 @@ fn fault(line: u64, kind: LogKind) -> Result<(), SumError> {
 
 #[test]
 fn two_logs_add_up_in_any_pieces(rt: HostRuntime) -> Result<(), Fail> {
-    for (one, other, printed) in [(A_LOG, B_LOG, PRINTED), (b"", KINDS_LOG, KINDS_PRINTED)] {
+    let rows = [
+        (A_LOG, B_LOG, PRINTED),
+        (B_LOG, B_LOG, TWICE_PRINTED),
+        (b"", KINDS_LOG, KINDS_PRINTED),
+    ];
+    for (one, other, printed) in rows {
         for length in [1, 7, 4096] {
             let mut sink = MemSink::new(rt.alloc(), 1000)?;
             write_both(rt.alloc(), (one, other), length, &mut sink)?;

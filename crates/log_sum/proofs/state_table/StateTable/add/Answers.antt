@@ -1,13 +1,13 @@
 use Rattle.std.proofs.Common.{sym, ap, ◌∙◌, refl}
 use Rattle.log_sum.specs.declared.state_table.StateTable.{StateTable}
 use Rattle.log_sum.specs.StateEntries.{states_view}
-use Rattle.log_sum.proofs.EntryLaws.{printed_written, order_written, view_added, nothing_at}
+use Rattle.log_sum.proofs.EntryLaws.{written_again, order_written, view_added, nothing_at}
 use Rattle.log_sum.proofs.state_table.StateTable.add.Goals as goal
 use Rattle.log_sum.proofs.state_table.StateTable.add.Goals.{in-Some, in_default}
 
 pub invariant_of-self : goal.invariant_of-self
 invariant_of-self c = record {
-  are_printed = printed_written c.args.self.now.sums.entries c.args.i c.in-Some.sum.now _ (sym c.in-Some.ensures.value) refl c.args.self.now.are_printed;
+  are_written = written_again c.args.self.now.sums.entries c.args.i c.in-Some.sum.now _ (sym c.in-Some.ensures.value) refl c.args.self.now.are_written;
   are_in_order = λ h. order_written c.args.self.now.sums.entries c.args.i _ (c.args.self.now.are_in_order h);
 }
 

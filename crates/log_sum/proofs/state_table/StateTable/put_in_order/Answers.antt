@@ -1,9 +1,9 @@
-use Rattle.log_sum.proofs.SortLaws.{view_reordered, printed_reordered, sorted_entries}
+use Rattle.log_sum.proofs.SortLaws.{view_reordered, written_reordered, sorted_entries}
 use Rattle.log_sum.proofs.state_table.StateTable.put_in_order.Goals as goal
 
 pub invariant_of-self-then-not-self : goal.invariant_of-self-then-not-self
 invariant_of-self-then-not-self c = record {
-  are_printed = printed_reordered c.args.self.now.sums.entries c.sort_unstable_keys.new.self.entries c.in_ok-sort_unstable_keys.ensures.unique c.in_ok-sort_unstable_keys.ensures.reordered.2 c.args.self.now.are_printed;
+  are_written = written_reordered c.args.self.now.sums.entries c.sort_unstable_keys.new.self.entries c.in_ok-sort_unstable_keys.ensures.unique c.in_ok-sort_unstable_keys.ensures.reordered.2 c.args.self.now.are_written;
   are_in_order = λ h. sorted_entries c.sort_unstable_keys.new.self.entries c.in_ok-sort_unstable_keys.ensures.sorted c.in_ok-sort_unstable_keys.ensures.unique;
 }
 

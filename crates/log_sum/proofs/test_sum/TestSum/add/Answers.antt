@@ -1,20 +1,20 @@
-use Rattle.std.proofs.Common.{◌+◌, ◌≤◌, ap, sym, ◌∙◌, refl, Some, Ok, arith, min}
+use Rattle.std.proofs.Common.{ℕ, ◌+◌, ◌≤◌, ap, sym, ◌∙◌, refl, Some, Ok, arith, min}
 use Rattle.std.specs.Prelude.{nat_lt, not}
+use Rattle.log_sum.specs.declared.kinds.Mark.{Mark}
 use Rattle.log_sum.specs.Counts.{last_count}
 use Rattle.log_sum.specs.Facts.{row_with}
 use Rattle.log_sum.specs.Classes.{test_view}
-use Rattle.log_sum.specs.StateEntries.{sum_view}
 use Rattle.log_sum.proofs.TestLaws.{row_other, row_large, row_put, too_large, not_large, known_kept, row_kept}
 use Rattle.log_sum.proofs.test_sum.TestSum.add.Goals as goal
 
 pub returns-then-not-same_mark : goal.returns-then-not-same_mark
 returns-then-not-same_mark c = λ state stands.
-    row_other (test_view c.args.self.now) (row_with state c.args.mark c.args.count) (Some c.in-Some.known)
+    row_other (test_view c.args.self.now) (row_with state c.args.mark c.args.count) (Some (c.in-Some.known, c.in-Some.field-0-1))
     (sym (c.in-Some.ensures state stands)) (ap not (sym c.same_mark.ensures ∙ c.if-not-same_mark.true))
 
 pub returns-then-count-sum : goal.returns-then-count-sum
 returns-then-count-sum c = λ state stands.
-    row_large (test_view c.args.self.now) (row_with state c.args.mark c.args.count) (Some c.in-Some.known)
+    row_large (test_view c.args.self.now) (row_with state c.args.mark c.args.count) (Some (c.in-Some.known, c.in-Some.field-0-1))
     (sym (c.in-Some.ensures state stands)) (ap not (sym c.same_mark.ensures ∙ c.if-not-same_mark.false))
     (ap (λ s. nat_lt last_count (s + c.args.count)) (sym c.marked-sum.ensures) ∙ too_large c.marked-sum.result c.args.count c.if-count-sum.true)
 
@@ -22,10 +22,10 @@ pub returns : goal.returns
 returns c = λ state stands.
     let test = test_view c.args.self.now in
     let row = row_with state c.args.mark c.args.count in
-    let known = c.in-Some.known in
+    let known : Mark × ℕ = (c.in-Some.known, c.in-Some.field-0-1) in
     let small : c.marked-sum.result ≤ last_count = omega arith in
     let found = sym (c.in-Some.ensures state stands) in
     row_put test row (Some known) found (ap not (sym c.same_mark.ensures ∙ c.if-not-same_mark.false))
     (ap (λ s. nat_lt last_count (s + c.args.count)) (sym c.marked-sum.ensures) ∙ not_large c.marked-sum.result c.args.count small c.if-count-sum.false)
-    ∙ ap Ok (sym (c.set_marked.ensures ∙ row_kept test row _ (known.mark, min (known.count + c.args.count) last_count) c.marked-sum.result (c.add.ensures state (sum_view known) stands (c.in-Some.ensures state stands))
-    (known_kept known row (min (known.count + c.args.count) last_count) _ found (sym c.same_mark.ensures ∙ c.if-not-same_mark.false) refl) c.marked-sum.ensures))
+    ∙ ap Ok (sym (c.set_marked.ensures ∙ row_kept test row _ (known.0, min (known.1 + c.args.count) last_count) c.marked-sum.result (c.add.ensures state known stands (c.in-Some.ensures state stands))
+    (known_kept known row (min (known.1 + c.args.count) last_count) _ found (sym c.same_mark.ensures ∙ c.if-not-same_mark.false) refl) c.marked-sum.ensures))
