@@ -12,8 +12,9 @@ use Rattle.log_sum.specs.Summed.{Summed, summed, or_else, is_validated}
 use Rattle.log_sum.specs.Standing.{Kept, StandsFor, kept_text}
 use Rattle.log_sum.specs.Reading.{Seen}
 use Rattle.log_sum.specs.Facts.{facts_of, tests_of}
-use Rattle.log_sum.specs.SumText.{test_text, sum_text, line_end, kind_word, verdict_word, how_often, hash_text, claim_text, head_text, verdict_text, condition_text, observation_text}
+use Rattle.log_sum.specs.SumText.{test_text, sum_text, line_end, kind_word, verdict_word, how_often, head_text, verdict_text, observation_text}
 use Rattle.std.proofs.lemmas.List.{take-replicate}
+use Rattle.log_sum.proofs.RunLaws.{map_more}
 
 pub length_map : {A B : Type 0} (f : A → B) (xs : List A) → length (map f xs) ≡ length xs
 length_map f [] = refl
@@ -40,10 +41,6 @@ pub observation_is : (name often starred plain : List ℕ) (test : Summed) → o
 unfolding observation_text
 observation_is name often starred plain test e f h = rw (e, f, h) refl
 
-pub condition_is : (test : Summed) → claim_text test ++ hash_text test.hash ≡ condition_text test
-unfolding condition_text
-condition_is test = refl
-
 -- growth by a text that is another
 pub ok_as : {A E : Type 0} (r : Result A E) (old new : Told) (s t : List ℕ) → s ≡ t → OnOk r (Grew old new s) → OnOk r (Grew old new t)
 ok_as r old new s t e h = subst (λ (x : List ℕ). OnOk r (Grew old new x)) e h
@@ -52,10 +49,6 @@ pub err_as : {A E : Type 0} (r : Result A E) (old new : Told) (s t : List ℕ) �
 err_as r old new s t e h = subst (λ (x : List ℕ). OnErr r (GrewByPrefix old new x)) e h
 
 -- a loop over states
-map_more : {A B : Type 0} (f : A → B) (xs : List A) (x : A) → map f (xs ++ x ∷ []) ≡ map f xs ++ f x ∷ []
-map_more f [] x = refl
-map_more f (y ∷ xs) x = ap (λ t. f y ∷ t) (map_more f xs x)
-
 lines_more : {T : Type 0} (line : T → List ℕ) (xs : List T) (x : T) → flat_map line (xs ++ x ∷ []) ≡ flat_map line xs ++ line x
 lines_more line xs x = flat_map-append line xs (x ∷ []) ∙ ap (λ t. flat_map line xs ++ t) (append-nil (line x))
 

@@ -12,7 +12,7 @@ use Rattle.log_sum.specs.Summed.{Summed, summed}
 use Rattle.log_sum.specs.Standing.{table_of}
 use Rattle.log_sum.specs.Reading.{Seen, ◌>>=◌, lines_judged, line_judged, lines_of, rest_of, but_last, last_of, bytes_judged, rest_judged, file_judged, files_judged, input_judged, nothing_seen}
 use Rattle.log_sum.specs.Feeding.{entry_of}
-use Rattle.log_sum.proofs.RunLaws.{by_test}
+use Rattle.log_sum.proofs.RunLaws.{by_test, map_more}
 
 abbrev is_feed : ℕ → Bool
 is_feed byte = byte == 10
@@ -122,12 +122,6 @@ lines_cut bytes rest =
     ∙ ap (λ t. slice_split is_feed bytes ++ but_last t) (sym behind.is)
     ∙ ap (λ t. t ++ but_last (slice_split is_feed rest)) (whole_split (slice_split is_feed bytes) first.line first.rest first.is)
 
-pub rest_cut : (bytes rest : List ℕ) → rest_of (bytes ++ 10 ∷ rest) ≡ rest_of rest
-unfolding rest_of
-rest_cut bytes rest =
-    let behind = first_line rest in
-    ap last_of (split_cut bytes rest) ∙ ap (λ t. last_of (slice_split is_feed bytes ++ t)) behind.is ∙ last_both (slice_split is_feed bytes) behind.line behind.rest ∙ ap last_of (sym behind.is)
-
 -- lines are judged one after another
 pub lines_both : (seen : Seen) (lines more : List (List ℕ)) → lines_judged seen (lines ++ more) ≡ (lines_judged seen lines >>= (λ next. lines_judged next more))
 lines_both seen [] more = refl
@@ -191,10 +185,6 @@ read_on seen (file ∷ files) bytes = by_result (λ next. read_on next files byt
     by_result law (Err e) = refl
 
 -- the facts of a test with an entry more
-map_more : {A B : Type 0} (f : A → B) (xs : List A) (x : A) → map f (xs ++ x ∷ []) ≡ map f xs ++ f x ∷ []
-map_more f [] x = refl
-map_more f (y ∷ xs) x = ap (λ t. f y ∷ t) (map_more f xs x)
-
 bytes_same : (t : List ℕ) → bytes_eq t t ≡ true
 bytes_same t = (bytes_eq-Decides t t).1 refl
 

@@ -1,6 +1,6 @@
 -- The front of a text as far as its bytes pass: how a walk finds it, and what it is where the text is known.
 use Rattle.std.proofs.Common.{◌≡◌, ℕ, suc, ◌+◌, ◌<◌, ◌≤◌, List, [], ◌∷◌, ◌++◌, length, get_or, take, drop, refl, sym, ap, ◌∙◌, arith, add-one, append_assoc, append-nil, length-append}
-use Rattle.std.specs.Prelude.{Bool, true, false}
+use Rattle.std.specs.Prelude.{Bool, true, false, map}
 use Rattle.std.specs.List.{list_all}
 use Rattle.std.proofs.Math.Seq.{drop-cons, drop-length, take-length}
 use Rattle.std.proofs.lemmas.List.{take_more}
@@ -9,6 +9,11 @@ use Rattle.log_sum.specs.Texts.{run_of, after_run}
 pub by_test : {G : Type 0} (b : Bool) → (b ≡ true → G) → (b ≡ false → G) → G
 by_test true p q = p refl
 by_test false p q = q refl
+
+-- a list with an element more, as it is mapped
+pub map_more : {A B : Type 0} (f : A → B) (xs : List A) (x : A) → map f (xs ++ x ∷ []) ≡ map f xs ++ f x ∷ []
+map_more f [] x = refl
+map_more f (y ∷ xs) x = ap (λ t. f y ∷ t) (map_more f xs x)
 
 run_goes : (passes : ℕ → Bool) (byte : ℕ) (text : List ℕ) → passes byte ≡ true → run_of passes (byte ∷ text) ≡ byte ∷ run_of passes text
 unfolding run_of

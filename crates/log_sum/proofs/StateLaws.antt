@@ -3,8 +3,7 @@ use Rattle.std.proofs.Common.{◌≡◌, ◌==◌, ℕ, zero, suc, ◌+◌, ◌<
 use Rattle.std.specs.Prelude.{Bool, ◌||◌, cond, Option, map, Result, Ok, Err, get_or, insert, take, slice_index_or, nat_lt}
 use Rattle.std.proofs.lemmas.Bool.Decides.{nat_tests}
 use Rattle.std.specs.List.{slice_split, list_any, onto_first}
-use Rattle.std.specs.Ordering.{nat_cmp, match_ordering}
-use Rattle.std.specs.declared.cmp.Ordering.{Ordering}
+use Rattle.std.specs.Ordering.{nat_cmp}
 use Rattle.std.specs.declared.cmp.Ordering.TheVariants.{Less, Equal, Greater}
 use Rattle.std.specs.Cmp.Lexicographic.{slice_cmp}
 use Rattle.std.specs.BTreeSet.{insert_key}
@@ -16,21 +15,7 @@ use Rattle.log_sum.specs.declared.errors.LogKind.TheVariants.{BadState}
 use Rattle.log_sum.specs.declared.errors.Fault.{Fault}
 use Rattle.log_sum.specs.declared.errors.Fault.TheVariants.{Wrong, NoMemory}
 use Rattle.log_sum.specs.Classes.{IsFault}
-use Rattle.log_sum.proofs.RunLaws.{by_test}
-
--- a set in which a key is put, as the list of what its keys show
-pub shown_insert : {K : Type 0} (show : K → List ℕ) (cmp : K → K → Ordering) → ((x y : K) → cmp x y ≡ slice_cmp nat_cmp (show x) (show y)) → (keys : List K) (key : K)
-    → map show (insert_key cmp keys key) ≡ insert_key (slice_cmp nat_cmp) (map show keys) (show key)
-shown_insert show cmp same [] key = refl
-shown_insert show cmp same (x ∷ keys) key =
-    rw (same key x) (by_ordering (shown_insert show cmp same keys key) (slice_cmp nat_cmp (show key) (show x)))
-  where
-    by_ordering : map show (insert_key cmp keys key) ≡ insert_key (slice_cmp nat_cmp) (map show keys) (show key) → (o : Ordering)
-        → map show (match_ordering o (key ∷ x ∷ keys) (x ∷ keys) (x ∷ insert_key cmp keys key))
-        ≡ match_ordering o (show key ∷ show x ∷ map show keys) (show x ∷ map show keys) (show x ∷ insert_key (slice_cmp nat_cmp) (map show keys) (show key))
-    by_ordering further Less = refl
-    by_ordering further Equal = refl
-    by_ordering further Greater = ap (λ t. show x ∷ t) further
+use Rattle.log_sum.proofs.RunLaws.{by_test, map_more}
 
 -- the pieces of a text, cut at its first semicolon
 pub pieces_cut : (sign : ℕ) (text : List ℕ) (parts : List ℕ × List ℕ) → cut_at sign text ≡ Some parts
@@ -177,10 +162,6 @@ pub separated_none : (form : List ℕ) → length form ≡ 0 → separated form 
 separated_none [] h = refl
 separated_none (b ∷ form) h = absurd (omega arith)
 
-map_more : {A B : Type 0} (f : A → B) (xs : List A) (x : A) → map f (xs ++ x ∷ []) ≡ map f xs ++ f x ∷ []
-map_more f [] x = refl
-map_more f (y ∷ xs) x = ap (λ t. f y ∷ t) (map_more f xs x)
-
 pub form_goes : {A : Type 0} (show : A → List ℕ) (xs : List A) (x : A) (form next : List ℕ) → form ≡ state_form (map show xs) → next ≡ form_with form (show x) → next ≡ state_form (map show (xs ++ x ∷ []))
 form_goes show xs x form next e f =
     f ∙ ap (λ t. form_with t (show x)) e ∙ form_more (map show xs) (show x) ∙ ap state_form (sym (map_more show xs x))
@@ -205,15 +186,6 @@ no_equality state sides e = ap (λ o. or_bad (with_equality state o)) (sym e)
 pub fault_on : {Y Z : Type 0} (fault : Fault) (read : Result Y LogKind) (other : Result Z LogKind) → ((kind : LogKind) → read ≡ Err kind → other ≡ Err kind) → IsFault fault read → IsFault fault other
 fault_on (Wrong kind) read other f h = f kind h
 fault_on NoMemory read other f h = tt
-
--- a loop has gone over one element more
-pub covers_goes : {A B : Type 0} (f : A → List ℕ) (g : B → List ℕ) (ys : List A) (it rest : List B) (x : A) (y : B) (all : List (List ℕ)) → f x ≡ g y → it ≡ y ∷ rest → map f ys ++ map g it ≡ all
-    → map f (ys ++ x ∷ []) ++ map g rest ≡ all
-covers_goes f g ys it rest x y all e h k =
-    ap (λ t. t ++ map g rest) (map_more f ys x) ∙ append_assoc (map f ys) (f x ∷ []) (map g rest) ∙ ap (λ t. map f ys ++ t ∷ map g rest) e ∙ ap (λ t. map f ys ++ map g t) (sym h) ∙ k
-
-pub covers_all : {A B : Type 0} (f : A → List ℕ) (g : B → List ℕ) (ys : List A) (it : List B) (all : List (List ℕ)) → it ≡ [] → map f ys ++ map g it ≡ all → map f ys ≡ all
-covers_all f g ys it all e k = sym (append-nil (map f ys)) ∙ ap (λ t. map f ys ++ map g t) (sym e) ∙ k
 
 -- where a text goes in a set
 abbrev pub text_at : List (List ℕ) → ℕ → List ℕ
@@ -262,13 +234,6 @@ insert_map show (x ∷ keys) (suc i) key = ap (λ t. show x ∷ t) (insert_map s
 pub as_many : {K : Type 0} (show : K → List ℕ) (keys : List K) → length keys ≡ length (map show keys)
 as_many show [] = refl
 as_many show (key ∷ keys) = ap suc (as_many show keys)
-
-pub take_one_more : {K : Type 0} (keys : List K) (i : ℕ) (d : K) → i < length keys → take (i + 1) keys ≡ take i keys ++ slice_index_or keys i d ∷ []
-take_one_more [] i d h = absurd (omega (arith, h))
-take_one_more (key ∷ keys) zero d h = refl
-take_one_more (key ∷ keys) (suc i) d h =
-    let more : suc i + 1 ≡ suc (i + 1) = omega arith in
-    ap (λ n. take n (key ∷ keys)) more ∙ ap (λ t. key ∷ t) (take_one_more keys i d (omega (arith, h)))
 
 pub take_whole : {K : Type 0} (keys : List K) (i : ℕ) → length keys ≤ i → take i keys ≡ keys
 take_whole [] zero h = refl

@@ -28,7 +28,7 @@ use Rattle.log_sum.specs.Facts.{Row, Fact, a_kind, a_row, a_condition, a_hash, k
 use Rattle.log_sum.specs.Summed.{Summed, StateSummed, or_else, state_by, summed}
 use Rattle.log_sum.specs.Steps.{or_this, marked, with_marked, known_state, count_known, with_row, fact_to}
 use Rattle.log_sum.specs.Feeding.{Marked}
-use Rattle.log_sum.proofs.RunLaws.{by_test}
+use Rattle.log_sum.proofs.RunLaws.{by_test, map_more}
 
 -- the facts of a sort, with a fact more
 kinds_more : (facts : List Fact) (fact : Fact) → kinds (facts ++ fact ∷ []) ≡ kinds facts ++ kinds (fact ∷ [])
@@ -76,10 +76,6 @@ all_more : (bs : List Bool) (b : Bool) → list_all (λ v. v) (bs ++ b ∷ []) �
 all_more [] b = by_test b (λ e. rw e refl) (λ e. rw e refl)
 all_more (true ∷ bs) b = all_more bs b
 all_more (false ∷ bs) b = refl
-
-map_more : {A B : Type 0} (f : A → B) (xs : List A) (x : A) → map f (xs ++ x ∷ []) ≡ map f xs ++ f x ∷ []
-map_more f [] x = refl
-map_more f (y ∷ xs) x = ap (λ t. f y ∷ t) (map_more f xs x)
 
 -- sums with a row more
 marked_more : (mark : Mark) (rs : List Row) (row : Row) → marked_sum mark (rs ++ row ∷ []) ≡ marked_sum mark rs + cond (same_mark row.mark mark) row.count 0
