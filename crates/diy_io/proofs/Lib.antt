@@ -5,3 +5,4 @@ pub mod SureSourceLemmas
 pub mod FilesLaws
 pub mod EntriesLaws
 pub mod ShelfLaws
+pub mod PageLemmas

@@ -1,10 +1,8 @@
 -- Pieces joined up to a place and from it on.
-use Rattle.std.proofs.Common.{◌≡◌, ℕ, ◌+◌, ◌<◌, List, Bor, [], ◌∷◌, ◌++◌, length, take, drop, get_or, fold, sym, ap, ◌∙◌, append_assoc, append-nil, subst}
+use Rattle.std.proofs.Common.{◌≡◌, ℕ, ◌+◌, ◌<◌, List, Bor, [], ◌∷◌, ◌++◌, length, take, drop, get_or, fold, sym, ap, ◌∙◌, append_assoc, append-nil}
 use Rattle.std.proofs.lemmas.List.{take-append-drop}
 use Rattle.std.proofs.lemmas.List.Sums.{fold-append, fold_more}
 use Rattle.diy_io.specs.Pieces.{joined_text}
-use Rattle.diy_io.specs.Sink.{Told, told_kept, Grew, GrewByPrefix}
-use Rattle.diy_io.specs.SinkLaws.{grew_both, prefix_after, within_more}
 
 abbrev Piece : Type 0
 Piece = Bor (List ℕ)
@@ -29,17 +27,3 @@ pub joined_text_at : (pieces : List Piece) (i : ℕ) (d : Piece) → i < length 
 joined_text_at pieces i d h =
     ap joined_text (sym (take-append-drop (i + 1) pieces)) ∙ joined_text-append (take (i + 1) pieces) (drop (i + 1) pieces)
     ∙ ap (λ front. front ++ joined_text (drop (i + 1) pieces)) (joined_text_more pieces i d h)
-
--- a write of the piece at a place, with the pieces before it written, has written one piece more
-pub written_at : (a b c : Told) (pieces : List Piece) (i : ℕ) (d : Piece) → i < length pieces
-    → Grew a b (joined_text (take i pieces)) → Grew b c (get_or pieces i d).now → Grew a c (joined_text (take (i + 1) pieces))
-written_at a b c pieces i d h p q =
-    subst (Grew a c) (sym (joined_text_more pieces i d h)) (grew_both a b c (joined_text (take i pieces)) (get_or pieces i d).now p q)
-
--- a write that stops in the piece at a place, with the pieces before it written, has written a front of all pieces
-pub stopped_at : (a b c : Told) (pieces : List Piece) (i : ℕ) (d : Piece) → i < length pieces
-    → Grew a b (joined_text (take i pieces)) → GrewByPrefix b c (get_or pieces i d).now → GrewByPrefix a c (joined_text pieces)
-stopped_at a b c pieces i d h p q =
-    let front = prefix_after a b c (joined_text (take i pieces)) (get_or pieces i d).now p q in
-    let more = within_more (told_kept a) (told_kept c) (joined_text (take i pieces) ++ (get_or pieces i d).now) (joined_text (drop (i + 1) pieces)) front in
-    subst (GrewByPrefix a c) (sym (joined_text_at pieces i d h)) more

@@ -1,6 +1,8 @@
 pub mod Count
 pub mod MemSink
 pub mod MemSource
+pub mod Page
+pub mod PageLaws
 pub mod Pieces
 pub mod Sink
 pub mod SinkLaws

@@ -1,7 +1,8 @@
 -- A sink in memory, of bounded room.
 use Rattle.std.specs.Prelude.{ℕ, ◌+◌, List, ◌++◌, length, take, nat_le, if◌then◌else◌}
 use Rattle.diy_io.specs.Count.{next_count}
-use Rattle.diy_io.specs.Sink.{Told, written_told}
+use Rattle.diy_io.specs.Sink.{written_told}
+use Rattle.diy_io.specs.Wrote.{SinkSeen}
 
 -- how many bytes it takes in all, those that it has taken, and how many writes failed
 pub record MemSinkState : Type 0 where
@@ -18,5 +19,5 @@ mem_sink_after sink text = record {
 }
 
 -- it tells the bytes that it has taken
-abbrev pub mem_sink_told : MemSinkState → Told
-mem_sink_told sink = written_told sink.bytes
+abbrev pub mem_sink_seen : MemSinkState → SinkSeen
+mem_sink_seen sink = record { told = written_told sink.bytes; faults = sink.faults }

@@ -1,7 +1,8 @@
 -- A source in memory that fails at chosen calls.
-use Rattle.std.specs.Prelude.{ℕ, List}
+use Rattle.std.specs.Prelude.{ℕ, List, Some}
 use Rattle.diy_io.specs.Count.{next_count}
 use Rattle.diy_io.specs.SureSource.{SureSourceState, sure_source_after}
+use Rattle.diy_io.specs.Taken.{SourceSeen}
 
 -- what it gives, the numbers of the calls that fail, the number of the next call, and how many calls failed
 pub record MemSourceState : Type 0 where
@@ -27,3 +28,7 @@ mem_source_failed it = record {
   calls = next_count it.calls;
   faults = next_count it.faults;
 }
+
+-- it tells the bytes to come
+abbrev pub mem_source_seen : MemSourceState → SourceSeen
+mem_source_seen it = record { left = Some it.source.left; taken = it.source.taken; faults = it.faults }

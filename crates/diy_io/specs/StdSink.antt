@@ -1,6 +1,8 @@
 -- A sink over a writer of the standard library.
 use Rattle.std.specs.Prelude.{ℕ, List, ◌++◌, ◌≡◌, Option}
 use Rattle.std.specs.Io.KnownBytes.{Appends}
+use Rattle.diy_io.specs.Sink.{nothing_told}
+use Rattle.diy_io.specs.Wrote.{SinkSeen}
 use Rattle.diy_io.specs.declared.std_sink.StdSink.{StdSink}
 
 -- the writer below
@@ -10,6 +12,10 @@ writer_of sink = sink.writer
 -- how often a write failed
 abbrev pub std_sink_faults : {W : Type 0} → StdSink W → ℕ
 std_sink_faults sink = sink.faults
+
+-- it tells nothing of its bytes
+abbrev pub std_sink_seen : {W : Type 0} → StdSink W → SinkSeen
+std_sink_seen sink = record { told = nothing_told; faults = sink.faults }
 
 -- the bytes that a writer holds, where it says them, grew by a front of a text
 pub record AppendsPrefix (old new : Option (List ℕ)) (text : List ℕ) : Type 0 where

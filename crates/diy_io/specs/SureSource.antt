@@ -1,6 +1,7 @@
 -- A source in memory that never fails.
-use Rattle.std.specs.Prelude.{ℕ, ◌+◌, List, length, drop, min}
+use Rattle.std.specs.Prelude.{ℕ, ◌+◌, List, length, drop, min, Some}
 use Rattle.diy_io.specs.Count.{count_of}
+use Rattle.diy_io.specs.Taken.{SourceSeen}
 
 -- the bytes still to come, how many of them a call gives at most, and how many were taken
 pub record SureSourceState : Type 0 where
@@ -19,3 +20,7 @@ sure_source_after source len = record {
   piece = source.piece;
   taken = count_of (source.taken + given_count source len);
 }
+
+-- it tells the bytes to come, and never fails
+abbrev pub sure_source_seen : SureSourceState → SourceSeen
+sure_source_seen source = record { left = Some source.left; taken = source.taken; faults = 0 }

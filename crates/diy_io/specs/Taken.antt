@@ -1,7 +1,8 @@
 -- What a source tells, and what it means that bytes were taken from it.
-use Rattle.std.specs.Prelude.{◌≡◌, ℕ, ◌+◌, List, length, Option}
-use Rattle.std.specs.Io.KnownBytes.{Consumes}
-use Rattle.diy_io.specs.Count.{count_of}
+use Rattle.std.specs.Prelude.{◌≡◌, ◌≤◌, ℕ, ◌+◌, List, length, Option, Result, IfOk, OnOk, OnErr}
+use Rattle.std.specs.Io.KnownBytes.{Consumes, ReadConsumes}
+use Rattle.diy_io.specs.declared.errors.Failed.{Failed}
+use Rattle.diy_io.specs.Count.{count_of, Rose}
 
 -- the bytes that are still to come, where the source tells them, how many bytes were taken, and the count of faults
 pub record SourceSeen : Type 0 where
@@ -9,8 +10,16 @@ pub record SourceSeen : Type 0 where
   pub taken : ℕ
   pub faults : ℕ
 
-abbrev pub source_seen : Option (List ℕ) → ℕ → ℕ → SourceSeen
-source_seen left taken faults = record { left = left; taken = taken; faults = faults }
+-- a call answers how many bytes it gave to the front of a buffer: they are the first that were left, and none only at the end
+-- or to an empty buffer; they are counted. It fails only where the count of faults rises, and gives nothing then
+pub record Gives (old new : SourceSeen) (buffer : List ℕ) (result : Result ℕ Failed) : Type 0 where
+  pub bound : IfOk result (λ n. n ≤ length buffer)
+  pub bytes : ReadConsumes old.left new.left result buffer
+  pub counted : IfOk result (λ n. new.taken ≡ count_of (old.taken + n))
+  pub uncounted : OnErr result (new.taken ≡ old.taken)
+  pub no_fault : OnOk result (new.faults ≡ old.faults)
+  pub fault : OnErr result (Rose old.faults new.faults)
+  pub never_falls : old.faults ≤ new.faults
 
 -- these bytes were taken: they are the first that were left, where that is told
 pub record Took (old new : SourceSeen) (bytes : List ℕ) : Type 0 where

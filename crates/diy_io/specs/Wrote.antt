@@ -2,15 +2,16 @@
 use Rattle.std.specs.Prelude.{◌≡◌, ◌≤◌, ℕ, List, Result, OnOk, OnErr}
 use Rattle.diy_io.specs.declared.errors.Failed.{Failed}
 use Rattle.diy_io.specs.Count.{Rose}
-use Rattle.diy_io.specs.Sink.{Told, Grew, GrewByPrefix}
+use Rattle.diy_io.specs.Sink.{Tally, Told, Grew, GrewByPrefix, tally_told}
 
 -- what a sink tells, and its count of faults
 pub record SinkSeen : Type 0 where
   pub told : Told
   pub faults : ℕ
 
-abbrev pub sink_seen : Told → ℕ → SinkSeen
-sink_seen told faults = record { told = told; faults = faults }
+-- a sink that tells a tally alone and never fails
+abbrev pub tally_seen : Tally → SinkSeen
+tally_seen tally = record { told = tally_told tally; faults = 0 }
 
 -- a sink grew by the whole text, without a fault
 pub record WroteAll (old new : SinkSeen) (text : List ℕ) : Type 0 where

@@ -4,40 +4,12 @@ use Rattle.std.specs.Prelude.{Result, OnOk, OnErr}
 use Rattle.std.specs.Result.{IsErrAnd}
 use Rattle.diy_io.specs.declared.errors.Failed.{Failed}
 use Rattle.diy_io.specs.Count.{Rose}
-use Rattle.diy_io.specs.Sink.{Told, Grew, GrewByPrefix, told_kept}
+use Rattle.diy_io.specs.Sink.{told_kept}
 use Rattle.diy_io.specs.SinkLaws.{grew_nothing, grew_both, prefix_after, within_more}
-use Rattle.diy_io.specs.Wrote.{SinkSeen, sink_seen, WroteAll, WrotePart, Wrote}
+use Rattle.diy_io.specs.Wrote.{SinkSeen, WroteAll, WrotePart, Wrote}
 
 abbrev Answer : Type 0
 Answer = Result (Unit {0}) Failed
-
--- the clauses of a sink, joined
-pub wrote_clauses : (a b : Told) (m n : ℕ) (text : List ℕ) (result : Answer)
-    → OnOk result (Grew a b text) → OnErr result (GrewByPrefix a b text)
-    → OnOk result (n ≡ m) → OnErr result (Rose m n) → m ≤ n → Wrote (sink_seen a m) (sink_seen b n) text result
-wrote_clauses a b m n text (Ok _) grew part none rose falls = record { ok = record { grew = grew; no_fault = none }; failed = tt }
-wrote_clauses a b m n text (Err _) grew part none rose falls = record { ok = tt; failed = record { grew = part; fault = rose; never_falls = falls } }
-
--- and taken apart
-pub wrote_grew : (a b : SinkSeen) (text : List ℕ) (result : Answer) → Wrote a b text result → OnOk result (Grew a.told b.told text)
-wrote_grew a b text (Ok _) h = h.ok.grew
-wrote_grew a b text (Err _) h = tt
-
-pub wrote_front : (a b : SinkSeen) (text : List ℕ) (result : Answer) → Wrote a b text result → OnErr result (GrewByPrefix a.told b.told text)
-wrote_front a b text (Ok _) h = tt
-wrote_front a b text (Err _) h = h.failed.grew
-
-pub wrote_no_fault : (a b : SinkSeen) (text : List ℕ) (result : Answer) → Wrote a b text result → OnOk result (b.faults ≡ a.faults)
-wrote_no_fault a b text (Ok _) h = h.ok.no_fault
-wrote_no_fault a b text (Err _) h = tt
-
-pub wrote_fault : (a b : SinkSeen) (text : List ℕ) (result : Answer) → Wrote a b text result → OnErr result (Rose a.faults b.faults)
-wrote_fault a b text (Ok _) h = tt
-wrote_fault a b text (Err _) h = h.failed.fault
-
-pub wrote_never_falls : (a b : SinkSeen) (text : List ℕ) (result : Answer) → Wrote a b text result → a.faults ≤ b.faults
-wrote_never_falls a b text (Ok _) h = let e : b.faults ≡ a.faults = h.ok.no_fault in omega arith
-wrote_never_falls a b text (Err _) h = h.failed.never_falls
 
 -- nothing is written
 pub nothing_wrote : (a : SinkSeen) → WroteAll a a []

@@ -1,7 +1,6 @@
-ghost use Rattle.std.specs.Prelude.{◌≡◌, ◌+◌, ◌≤◌, ◌↔◌, ℕ, [], length, vec_len, vec_capacity, IsOk, IfOk, OnOk, OnErr};
-ghost use Rattle.diy_io.specs.Count.{Rose};
-ghost use Rattle.diy_io.specs.MemSink.{MemSinkState, mem_sink_after, mem_sink_told};
-ghost use Rattle.diy_io.specs.Sink.{Grew, GrewByPrefix};
+ghost use Rattle.std.specs.Prelude.{◌≡◌, ◌+◌, ◌≤◌, ◌↔◌, ℕ, [], length, vec_len, vec_capacity, IsOk, IfOk};
+ghost use Rattle.diy_io.specs.MemSink.{MemSinkState, mem_sink_after, mem_sink_seen};
+ghost use Rattle.diy_io.specs.Wrote.{Wrote};
 
 use crate::errors::{Failed, NoMemory};
 use crate::sink::Sink;
@@ -48,20 +47,13 @@ impl MemSink {
 
 #[tactic(auto, using(crate::proofs::MemSinkLemmas::took_all, crate::proofs::MemSinkLemmas::took_front, crate::specs::SinkLaws::written_grew, crate::specs::SinkLaws::written_stopped))]
 impl Sink for MemSink {
-    ghost told = { mem_sink_told };
-
-    ghost faults = { λ sink. sink.faults };
+    ghost seen = { mem_sink_seen };
 
     /// Fails exactly where the bytes would pass the room, and then takes those that still fit.
     fn write_all(&mut self, bytes: &[u8]) -> Result<(), Failed>
         ensures after { self.new ≡ mem_sink_after self.old bytes.now }
         ensures answer { IsOk result ↔ (length self.old.bytes + length bytes.now ≤ self.old.room) }
-
-        ensures ok { OnOk result (Grew (mem_sink_told self.old) (mem_sink_told self.new) bytes.now) }
-        ensures failed { OnErr result (GrewByPrefix (mem_sink_told self.old) (mem_sink_told self.new) bytes.now) }
-        ensures no_fault { OnOk result (self.new.faults ≡ self.old.faults) }
-        ensures fault { OnErr result (Rose self.old.faults self.new.faults) }
-        ensures never_falls { self.old.faults ≤ self.new.faults }
+        ensures wrote { Wrote (mem_sink_seen self.old) (mem_sink_seen self.new) bytes.now result }
     {
         let free = self.room - self.bytes.len();
         if bytes.len() <= free {

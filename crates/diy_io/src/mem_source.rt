@@ -1,8 +1,7 @@
 ghost use Rattle.std.specs.Prelude.{◌≡◌, ◌+◌, ◌≤◌, ◌++◌, ◌↔◌, ℕ, Some, drop, take, length, Contains, IfOk, IsErr, OnOk, OnErr};
-ghost use Rattle.std.specs.Io.KnownBytes.{ReadConsumes};
-ghost use Rattle.diy_io.specs.Count.{count_of, Rose};
-ghost use Rattle.diy_io.specs.MemSource.{MemSourceState, mem_source_after, mem_source_failed};
+ghost use Rattle.diy_io.specs.MemSource.{MemSourceState, mem_source_after, mem_source_failed, mem_source_seen};
 ghost use Rattle.diy_io.specs.SureSource.{given_count};
+ghost use Rattle.diy_io.specs.Taken.{Gives};
 
 use crate::errors::Failed;
 use crate::source::Source;
@@ -43,11 +42,7 @@ impl MemSource {
 }
 
 impl Source for MemSource {
-    ghost left = { λ it. Some it.source.left };
-
-    ghost taken = { λ it. it.source.taken };
-
-    ghost faults = { λ it. it.faults };
+    ghost seen = { mem_source_seen };
 
     /// Fails exactly where the call's number is one that is to fail.
     fn read(&mut self, buf: &mut [u8]) -> Result<usize, Failed>
@@ -56,14 +51,7 @@ impl Source for MemSource {
         ensures after { OnOk result (self.new ≡ mem_source_after self.old (length buf.old)) }
         ensures copied { IfOk result (λ n. buf.new ≡ take n self.old.source.left ++ drop n buf.old) }
         ensures unchanged { OnErr result ((self.new ≡ mem_source_failed self.old) × (buf.new ≡ buf.old)) }
-
-        ensures bound { IfOk result (λ n. n ≤ length buf.new) }
-        ensures bytes { ReadConsumes (Some self.old.source.left) (Some self.new.source.left) result buf.new }
-        ensures counted { IfOk result (λ n. self.new.source.taken ≡ count_of (self.old.source.taken + n)) }
-        ensures uncounted { OnErr result (self.new.source.taken ≡ self.old.source.taken) }
-        ensures no_fault { OnOk result (self.new.faults ≡ self.old.faults) }
-        ensures fault { OnErr result (Rose self.old.faults self.new.faults) }
-        ensures never_falls { self.old.faults ≤ self.new.faults }
+        ensures gives { Gives (mem_source_seen self.old) (mem_source_seen self.new) buf.new result }
     {
         let call = self.calls;
         self.calls = self.calls.saturating_add(1);

@@ -1,7 +1,7 @@
 ghost use Rattle.std.specs.Prelude.{◌≡◌, ◌≤◌, ℕ, OnOk, OnErr};
 ghost use Rattle.std.specs.Io.KnownBytes.{Appends};
 ghost use Rattle.diy_io.specs.Count.{next_count};
-ghost use Rattle.diy_io.specs.Sink.{Grew, GrewByPrefix, nothing_told};
+ghost use Rattle.diy_io.specs.Wrote.{Wrote};
 
 use crate::errors::Failed;
 use crate::sink::Sink;
@@ -44,24 +44,19 @@ impl<W: Write> StdSink<W> {
 }
 
 impl<W: Write> Sink for StdSink<W> {
-    ghost use Rattle.diy_io.specs.StdSink.{writer_of, std_sink_faults, AppendsPrefix};
+    ghost use Rattle.diy_io.specs.StdSink.{writer_of, std_sink_faults, std_sink_seen, AppendsPrefix};
 
-    ghost told = { λ _. nothing_told };
-
-    ghost faults = { std_sink_faults };
+    ghost seen = { std_sink_seen };
 
     #[tactic(auto, using(crate::specs::SinkLaws::nothing_grew, crate::specs::SinkLaws::nothing_stopped, crate::proofs::StdSinkLemmas::took_more, crate::proofs::StdSinkLemmas::took_all, crate::proofs::StdSinkLemmas::took_front))]
     fn write_all(&mut self, bytes: &[u8]) -> Result<(), Failed>
-        ensures ok { OnOk result (Grew nothing_told nothing_told bytes.now) }
-        ensures failed { OnErr result (GrewByPrefix nothing_told nothing_told bytes.now) }
+        ensures wrote { Wrote (std_sink_seen self.old) (std_sink_seen self.new) bytes.now result }
 
         // What the writer below holds, where it says that, as a writer in memory does.
         ensures written { OnOk result (Appends (W.contents (writer_of self.old)) (W.contents (writer_of self.new)) bytes.now) }
         ensures cut_off { OnErr result (AppendsPrefix (W.contents (writer_of self.old)) (W.contents (writer_of self.new)) bytes.now) }
 
-        ensures no_fault { OnOk result (std_sink_faults self.new ≡ std_sink_faults self.old) }
         ensures one_fault { OnErr result (std_sink_faults self.new ≡ next_count (std_sink_faults self.old)) }
-        ensures never_falls { std_sink_faults self.old ≤ std_sink_faults self.new }
     {
         let mut rest = bytes;
         while !rest.is_empty() {

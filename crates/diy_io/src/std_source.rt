@@ -1,6 +1,7 @@
-ghost use Rattle.std.specs.Prelude.{◌≡◌, ◌+◌, ◌≤◌, ℕ, None, length, IfOk, OnOk, OnErr};
+ghost use Rattle.std.specs.Prelude.{◌≡◌, ℕ, OnErr};
 ghost use Rattle.std.specs.Io.KnownBytes.{ReadConsumes};
-ghost use Rattle.diy_io.specs.Count.{count_of, next_count};
+ghost use Rattle.diy_io.specs.Count.{next_count};
+ghost use Rattle.diy_io.specs.Taken.{Gives};
 
 use crate::errors::Failed;
 use crate::source::Source;
@@ -35,24 +36,16 @@ impl<R: Read> StdSource<R> {
 }
 
 impl<R: Read> Source for StdSource<R> {
-    ghost use Rattle.diy_io.specs.StdSource.{reader_of, std_source_faults, std_source_taken};
+    ghost use Rattle.diy_io.specs.StdSource.{reader_of, std_source_faults, std_source_seen};
 
-    ghost left = { λ _. None };
-
-    ghost taken = { std_source_taken };
-
-    ghost faults = { std_source_faults };
+    ghost seen = { std_source_seen };
 
     fn read(&mut self, buf: &mut [u8]) -> Result<usize, Failed>
-        ensures bound { IfOk result (λ n. n ≤ length buf.new) }
+        ensures gives { Gives (std_source_seen self.old) (std_source_seen self.new) buf.new result }
+
         // What the reader below has left, where it says that, as a reader in memory does.
         ensures read { ReadConsumes (R.remaining (reader_of self.old)) (R.remaining (reader_of self.new)) result buf.new }
-
-        ensures counted { IfOk result (λ n. std_source_taken self.new ≡ count_of (std_source_taken self.old + n)) }
-        ensures uncounted { OnErr result (std_source_taken self.new ≡ std_source_taken self.old) }
-        ensures no_fault { OnOk result (std_source_faults self.new ≡ std_source_faults self.old) }
         ensures one_fault { OnErr result (std_source_faults self.new ≡ next_count (std_source_faults self.old)) }
-        ensures never_falls { std_source_faults self.old ≤ std_source_faults self.new }
     {
         match self.reader.read(buf) {
             Ok(count) => {

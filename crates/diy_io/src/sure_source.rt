@@ -1,7 +1,6 @@
-ghost use Rattle.std.specs.Prelude.{◌≡◌, ◌+◌, ◌≤◌, ◌++◌, ℕ, Some, Ok, drop, take, length, vec_len, IfOk, IsOk};
-ghost use Rattle.std.specs.Io.KnownBytes.{ReadConsumes};
-ghost use Rattle.diy_io.specs.Count.{count_of};
-ghost use Rattle.diy_io.specs.SureSource.{SureSourceState, given_count, sure_source_after};
+ghost use Rattle.std.specs.Prelude.{◌≡◌, ◌≤◌, ◌++◌, Ok, drop, take, length, vec_len, IfOk};
+ghost use Rattle.diy_io.specs.SureSource.{SureSourceState, given_count, sure_source_after, sure_source_seen};
+ghost use Rattle.diy_io.specs.Taken.{Gives};
 
 use crate::errors::Failed;
 use crate::source::Source;
@@ -56,20 +55,14 @@ impl SureSource {
 
 #[tactic(auto, using(crate::proofs::SureSourceLemmas::gives_front, crate::proofs::SureSourceLemmas::gives_none))]
 impl Source for SureSource {
-    ghost left = { λ source. Some source.left };
-
-    ghost taken = { λ source. source.taken };
-
-    ghost faults = { λ _. 0 };
+    ghost seen = { sure_source_seen };
 
     /// Gives as many bytes as the buffer, a piece and the rest allow.
     fn read(&mut self, buf: &mut [u8]) -> Result<usize, Failed>
         ensures answer { result ≡ Ok (given_count self.old (length buf.old)) }
         ensures after { self.new ≡ sure_source_after self.old (length buf.old) }
         ensures copied { IfOk result (λ n. buf.new ≡ take n self.old.left ++ drop n buf.old) }
-
-        ensures bound { IfOk result (λ n. n ≤ length buf.new) }
-        ensures bytes { ReadConsumes (Some self.old.left) (Some self.new.left) result buf.new }
+        ensures gives { Gives (sure_source_seen self.old) (sure_source_seen self.new) buf.new result }
     {
         Ok(self.give(buf))
     }

@@ -1,5 +1,6 @@
-ghost use Rattle.std.specs.Prelude.{◌≡◌, IsOk, OnOk};
-ghost use Rattle.diy_io.specs.Sink.{Tally, tally_after, tally_told, Grew};
+ghost use Rattle.std.specs.Prelude.{◌≡◌, IsOk};
+ghost use Rattle.diy_io.specs.Sink.{Tally, tally_after};
+ghost use Rattle.diy_io.specs.Wrote.{Wrote, tally_seen};
 
 use crate::errors::Failed;
 use crate::sink::Sink;
@@ -42,16 +43,13 @@ impl TallySink {
 
 #[tactic(auto, using(crate::specs::SinkLaws::tally_grew))]
 impl Sink for TallySink {
-    ghost told = { tally_told };
-
-    ghost faults = { λ _. 0 };
+    ghost seen = { tally_seen };
 
     /// Never fails.
     fn write_all(&mut self, bytes: &[u8]) -> Result<(), Failed>
         ensures after { self.new ≡ tally_after self.old bytes.now }
         ensures answer { IsOk result }
-
-        ensures ok { OnOk result (Grew (tally_told self.old) (tally_told self.new) bytes.now) }
+        ensures wrote { Wrote (tally_seen self.old) (tally_seen self.new) bytes.now result }
     {
         let line_feeds = bytes.iter().filter(|byte| **byte == b'\n').count();
         self.bytes = self.bytes.saturating_add(bytes.len() as u64);

@@ -2,8 +2,8 @@ ghost use Rattle.std.specs.Prelude.{◌≡◌};
 ghost use Rattle.diy_io.specs.Shelf.{Idle, IsReading};
 
 use crate::{
-    DirShelf, Failed, MemShelf, MemSink, MemSource, OpenError, Shelf, Sink, Source, StdSink,
-    StdSource, SureSource, TallySink, Words, write_pieces,
+    DirShelf, Failed, MemShelf, MemSink, MemSource, OpenError, Page, Shelf, Sink, Source, StdSink,
+    StdSource, SureSource, TallySink, Words,
 };
 use std::io::{ErrorKind, Write};
 use std::test::Fail;
@@ -40,8 +40,10 @@ impl Write for Unsteady {
 fn memory_sink_cuts_off_at_its_room(rt: HostRuntime) -> Result<(), Fail> {
     let mut sink = MemSink::new(rt.alloc(), 20)?;
     assert_eq!(rt; sink.write_all(b"X86 SB\n"), Ok(()));
+    let mut page = Page::new();
     let pieces: [&[u8]; 2] = [b"\"PodWR Fre ", b"PodWR Fre\"\n"];
-    assert_eq!(rt; write_pieces(&mut sink, &pieces), Err(Failed));
+    assert_eq!(rt; page.send_pieces(&pieces, &mut sink), Ok(()));
+    assert_eq!(rt; page.flush(&mut sink), Err(Failed));
     assert_eq!(rt; sink.bytes(), b"X86 SB\n\"PodWR Fre Po".as_slice());
     Ok(())
 }

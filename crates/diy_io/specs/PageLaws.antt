@@ -1,0 +1,144 @@
+-- Laws of pages, for functions that print to one and send its text to a sink.
+use Rattle.std.proofs.Common.{◌≡◌, ◌≤◌, ◌<◌, ℕ, ◌+◌, ◌-◌, List, [], ◌∷◌, ◌++◌, length, take, drop, get_or, zero, suc, Ok, Err, refl, sym, ap, ◌∙◌, subst, arith, append_assoc, append-nil, length-append}
+use Rattle.std.specs.Prelude.{Result, OnOk, OnErr}
+use Rattle.std.specs.Result.{IsErrAnd}
+use Rattle.std.specs.List.{flat_map}
+use Rattle.std.proofs.lemmas.List.{take_all, take-append-drop, take_more}
+use Rattle.std.proofs.lemmas.List.Concat.{flat_map-append}
+use Rattle.diy_io.specs.declared.errors.Failed.{Failed}
+use Rattle.diy_io.specs.declared.page.TheConstants.{SPILL, LINE_ROOM, PAGE_ROOM}
+use Rattle.diy_io.specs.Wrote.{SinkSeen, WroteAll, WrotePart, Wrote}
+use Rattle.diy_io.specs.WroteLaws.{nothing_wrote, all_then_all, all_then_part, part_more}
+use Rattle.diy_io.specs.SinkLaws.{flat_map_more, flat_map_at}
+use Rattle.diy_io.specs.Page.{put_within, page_after, SentAll, Sends}
+
+abbrev Answer : Type 0
+Answer = Result (Unit {0}) Failed
+
+within_fits : (n : ℕ) (held text : List ℕ) → length held + length text ≤ n → put_within n held text ≡ held ++ text
+unfolding put_within
+within_fits n held [] h = sym (append-nil held)
+within_fits n held (byte ∷ text) h = take_all n (held ++ byte ∷ text) (omega (arith, length-append held (byte ∷ text)))
+
+cut_twice : (n : ℕ) (x y : List ℕ) → take n (take n x ++ y) ≡ take n (x ++ y)
+cut_twice zero x y = refl
+cut_twice (suc n) [] y = refl
+cut_twice (suc n) (a ∷ x) y = ap (λ t. a ∷ t) (cut_twice n x y)
+
+within_more : (n : ℕ) (held x y : List ℕ) → put_within n (put_within n held x) y ≡ put_within n held (x ++ y)
+unfolding put_within
+within_more n held [] y = refl
+within_more n held (byte ∷ x) [] = ap (λ t. take n (held ++ byte ∷ t)) (sym (append-nil x))
+within_more n held (byte ∷ x) (other ∷ y) =
+    cut_twice n (held ++ byte ∷ x) (other ∷ y) ∙ ap (take n) (append_assoc held (byte ∷ x) (other ∷ y))
+
+-- nothing is put
+pub page_nothing : (page : List ℕ) → page_after page [] ≡ page
+unfolding page_after put_within
+page_nothing page = refl
+
+-- a text that fits is put whole
+pub page_fits : (page text : List ℕ) → length page + length text ≤ PAGE_ROOM → page_after page text ≡ page ++ text
+unfolding page_after
+page_fits page text h = within_fits PAGE_ROOM page text h
+
+-- a text and then another is both
+pub page_more : (page x y : List ℕ) → page_after (page_after page x) y ≡ page_after page (x ++ y)
+unfolding page_after
+page_more page x y = within_more PAGE_ROOM page x y
+
+-- the same from the right
+pub page_both : (page x y : List ℕ) → page_after page (x ++ y) ≡ page_after (page_after page x) y
+page_both page x y = sym (page_more page x y)
+
+-- the texts of a list's elements: none, and one more
+pub page_each_none : {X : Type 0} (f : X → List ℕ) (page : List ℕ) (xs : List X) → page ≡ page_after page (flat_map f (take 0 xs))
+page_each_none f page xs = sym (page_nothing page)
+
+pub page_each : {X : Type 0} (f : X → List ℕ) (page : List ℕ) (xs : List X) (i : ℕ) (d : X) → i < length xs
+    → page_after page (flat_map f (take (i + 1) xs)) ≡ page_after (page_after page (flat_map f (take i xs))) (f (get_or xs i d))
+page_each f page xs i d h = ap (page_after page) (flat_map_more f xs i d h) ∙ page_both page (flat_map f (take i xs)) (f (get_or xs i d))
+
+-- nothing is sent
+pub sent_nothing : (a : SinkSeen) (held : List ℕ) → SentAll a held a held []
+sent_nothing a held = record { front = []; parts = append-nil held; wrote = nothing_wrote a }
+
+-- a text that the page takes whole
+pub sent_put : (a : SinkSeen) (held text : List ℕ) → length held + length text ≤ PAGE_ROOM → SentAll a held a (page_after held text) text
+sent_put a held text h = record { front = []; parts = sym (page_fits held text h); wrote = nothing_wrote a }
+
+-- what the page held is written
+pub sent_flushed : (a b : SinkSeen) (held : List ℕ) → WroteAll a b held → SentAll a held b [] []
+sent_flushed a b held h = record { front = held; parts = refl; wrote = h }
+
+-- a text and then another
+pub sent_both : (a b c : SinkSeen) (held mid kept x y : List ℕ) → SentAll a held b mid x → SentAll b mid c kept y → SentAll a held c kept (x ++ y)
+sent_both a b c held mid kept x y h k = record {
+  front = h.front ++ k.front;
+  parts =
+      sym (append_assoc held x y) ∙ ap (λ t. t ++ y) h.parts ∙ append_assoc h.front mid y ∙ ap (λ t. h.front ++ t) k.parts
+      ∙ sym (append_assoc h.front k.front kept);
+  wrote = all_then_all a b c h.front k.front h.wrote k.wrote;
+}
+
+-- a text, and then a prefix of what the page holds and another
+pub sent_part : (a b c : SinkSeen) (held mid x y : List ℕ) → SentAll a held b mid x → WrotePart b c (mid ++ y) → WrotePart a c (held ++ (x ++ y))
+sent_part a b c held mid x y h k =
+    let whole : h.front ++ (mid ++ y) ≡ held ++ (x ++ y) =
+    sym (append_assoc h.front mid y) ∙ ap (λ t. t ++ y) (sym h.parts) ∙ append_assoc held x y in
+    subst (WrotePart a c) whole (all_then_part a b c h.front (mid ++ y) h.wrote k)
+
+-- a prefix of a text is one of that text and more
+pub sent_part_more : (a b : SinkSeen) (held x y : List ℕ) → WrotePart a b (held ++ x) → WrotePart a b (held ++ (x ++ y))
+sent_part_more a b held x y h = subst (WrotePart a b) (append_assoc held x y) (part_more a b (held ++ x) y h)
+
+-- the same, where results are known
+pub sends_then : (a b c : SinkSeen) (held mid kept x y : List ℕ) (u : Unit {0}) (result : Answer)
+    → Sends a held b mid x (Ok u) → Sends b mid c kept y result → Sends a held c kept (x ++ y) result
+sends_then a b c held mid kept x y u (Ok _) h k = record { ok = sent_both a b c held mid kept x y h.ok k.ok; failed = tt }
+sends_then a b c held mid kept x y u (Err _) h k = record { ok = tt; failed = sent_part a b c held mid x y h.ok k.failed }
+
+pub sends_stopped : (Q : Failed → Type 0) (a b : SinkSeen) (held mid kept x y : List ℕ) (e : Failed) (result : Answer)
+    → Sends a held b mid x (Err e) → IsErrAnd result Q → Sends a held b kept (x ++ y) result
+sends_stopped Q a b held mid kept x y e (Ok _) h is_err = absurd is_err
+sends_stopped Q a b held mid kept x y e (Err _) h is_err = record { ok = tt; failed = sent_part_more a b held x y h.failed }
+
+-- a text by another name
+pub sends_same : (a b : SinkSeen) (held kept x y : List ℕ) (result : Answer) → Sends a held b kept x result → x ≡ y → Sends a held b kept y result
+sends_same a b held kept x y result h e = subst (λ t. Sends a held b kept t result) e h
+
+pub sent_same : (a b : SinkSeen) (held kept x y : List ℕ) → SentAll a held b kept x → x ≡ y → SentAll a held b kept y
+sent_same a b held kept x y h e = subst (SentAll a held b kept) e h
+
+-- room is made, and then a line is put
+pub sent_line : (a b c : SinkSeen) (held mid kept x line : List ℕ) → SentAll a held b mid x → SentAll b mid c kept [] → length kept < SPILL → length line ≤ LINE_ROOM
+    → SentAll a held c (page_after kept line) (x ++ line)
+sent_line a b c held mid kept x line h k room short =
+    sent_same a c held (page_after kept line) (x ++ ([] ++ line)) (x ++ line)
+    (sent_both a b c held mid (page_after kept line) x ([] ++ line) h
+    (sent_both b c c mid kept (page_after kept line) [] line k (sent_put c kept line (omega arith)))) refl
+
+-- the texts of a list's elements: one more is sent
+pub each_sent : {X : Type 0} (f : X → List ℕ) (a b c : SinkSeen) (held mid kept : List ℕ) (xs : List X) (i : ℕ) (d : X) → i < length xs
+    → SentAll a held b mid (flat_map f (take i xs)) → SentAll b mid c kept (f (get_or xs i d)) → SentAll a held c kept (flat_map f (take (i + 1) xs))
+each_sent f a b c held mid kept xs i d h p q =
+    subst (SentAll a held c kept) (sym (flat_map_more f xs i d h)) (sent_both a b c held mid kept (flat_map f (take i xs)) (f (get_or xs i d)) p q)
+
+-- one is sent in part
+pub each_unsent : {X : Type 0} (f : X → List ℕ) (a b c : SinkSeen) (held mid : List ℕ) (xs : List X) (i : ℕ) (d : X) → i < length xs
+    → SentAll a held b mid (flat_map f (take i xs)) → WrotePart b c (mid ++ f (get_or xs i d)) → WrotePart a c (held ++ flat_map f xs)
+each_unsent f a b c held mid xs i d h p q =
+    subst (λ t. WrotePart a c (held ++ t)) (sym (flat_map_at f xs i d h))
+    (sent_part_more a c held (flat_map f (take i xs) ++ f (get_or xs i d)) (flat_map f (drop (i + 1) xs))
+    (sent_part a b c held mid (flat_map f (take i xs)) (f (get_or xs i d)) p q))
+
+-- a text that was sent from an empty page is written once the page is handed on
+pub sent_wrote : (a b c : SinkSeen) (kept text : List ℕ) (result : Answer) → SentAll a [] b kept text → Wrote b c kept result → Wrote a c text result
+sent_wrote a b c kept text (Ok _) h k = record { ok = subst (WroteAll a c) (sym h.parts) (all_then_all a b c h.front kept h.wrote k.ok); failed = tt }
+sent_wrote a b c kept text (Err _) h k = record { ok = tt; failed = subst (WrotePart a c) (sym h.parts) (all_then_part a b c h.front kept h.wrote k.failed) }
+
+-- and is written in part where it was sent in part
+pub unsent_wrote : (Q : Failed → Type 0) (a b : SinkSeen) (kept text : List ℕ) (e : Failed) (result : Answer)
+    → Sends a [] b kept text (Err e) → IsErrAnd result Q → Wrote a b text result
+unsent_wrote Q a b kept text e (Ok _) h is_err = absurd is_err
+unsent_wrote Q a b kept text e (Err _) h is_err = record { ok = tt; failed = h.failed }

@@ -1,0 +1,149 @@
+ghost use Rattle.std.specs.Prelude.{◌≡◌, ◌+◌, ◌<◌, ◌≤◌, ◌++◌, [], length, take, OnOk};
+ghost use Rattle.diy_io.specs.Page.{Sends, page_after};
+ghost use Rattle.diy_io.specs.Pieces.{joined_text};
+ghost use Rattle.diy_io.specs.Wrote.{Wrote};
+
+use crate::errors::Failed;
+use crate::sink::Sink;
+use std::marker::Model;
+
+/// As many bytes of a page are handed on at once: 65,536.
+pub const SPILL: usize = 65_536;
+
+/// The most bytes of a line that is put to a page as a whole.
+pub const LINE_ROOM: usize = 8_192;
+
+/// How many bytes a page has room for: a line stands after what isn't handed on yet.
+pub const PAGE_ROOM: usize = SPILL + LINE_ROOM;
+
+/// A page of text in memory, which is printed line by line and handed to a sink in few calls.
+///
+/// Contracts see it as the list of its bytes. It takes no memory.
+#[derive(Drop)]
+pub struct Page {
+    bytes: [u8; PAGE_ROOM],
+    len: usize,
+}
+
+impl Model for Page {
+    ghost use Rattle.std.specs.Prelude.{ℕ, List, ◌≤◌, take};
+    ghost use Rattle.diy_io.specs.declared.page.TheConstants.{PAGE_ROOM};
+
+    ghost Value = { List ℕ };
+
+    ghost view = { λ page. take page.len page.bytes };
+
+    ghost invariant = { λ page. page.len ≤ PAGE_ROOM };
+}
+
+impl Page {
+    /// An empty page.
+    pub fn new() -> Page
+        ensures { result ≡ [] }
+    {
+        Page {
+            bytes: [0; PAGE_ROOM],
+            len: 0,
+        }
+    }
+
+    /// The bytes that it holds.
+    pub fn as_slice(&self) -> &[u8]
+        ensures { result.now ≡ self.now }
+    {
+        &self.bytes[..self.len]
+    }
+
+    /// Drops what it holds.
+    pub fn clear(&mut self)
+        ensures { self.new ≡ [] }
+    {
+        self.len = 0;
+    }
+
+    /// How many bytes it has room for after those that it holds.
+    fn free(&self) -> usize
+        ensures { result + length self.now ≡ PAGE_ROOM }
+    {
+        PAGE_ROOM - self.len
+    }
+
+    /// Puts a text after what it holds, as far as there is room.
+    pub fn put(&mut self, text: &[u8])
+        ensures { self.new ≡ page_after self.old text.now }
+    {
+        let count = text.len().min(PAGE_ROOM - self.len);
+        copy_to(&mut self.bytes, self.len, &text[..count]);
+        self.len += count;
+    }
+
+    /// Hands what it holds to a sink, in one call, or in none where it holds nothing.
+    pub fn flush<O: Sink>(&mut self, out: &mut O) -> Result<(), Failed>
+        ensures wrote { Wrote (O.seen out.old) (O.seen out.new) self.old result }
+        ensures empty { OnOk result (self.new ≡ []) }
+    {
+        if self.len == 0 {
+            return Ok(());
+        }
+        out.write_all(&self.bytes[..self.len])?;
+        self.len = 0;
+        Ok(())
+    }
+
+    /// Hands what it holds to a sink where that is `SPILL` bytes or more, so that there is room for a
+    /// line.
+    pub fn spill<O: Sink>(&mut self, out: &mut O) -> Result<(), Failed>
+        ensures sends { Sends (O.seen out.old) self.old (O.seen out.new) self.new [] result }
+        ensures room { OnOk result (length self.new < SPILL) }
+    {
+        if self.len < SPILL {
+            return Ok(());
+        }
+        self.flush(out)
+    }
+
+    /// Sends a text of any length by way of this page. Each call of the sink but the last one of all
+    /// has a full page at least.
+    pub fn send<O: Sink>(&mut self, text: &[u8], out: &mut O) -> Result<(), Failed>
+        ensures { Sends (O.seen out.old) self.old (O.seen out.new) self.new text.now result }
+    {
+        let free = self.free();
+        if text.len() <= free {
+            self.put(text);
+            return Ok(());
+        }
+        self.put(&text[..free]);
+        self.flush(out)?;
+        self.send_rest(&text[free..], out)
+    }
+
+    /// Sends a text by way of this page, which is empty.
+    fn send_rest<O: Sink>(&mut self, text: &[u8], out: &mut O) -> Result<(), Failed>
+        requires { self.old ≡ [] }
+        ensures { Sends (O.seen out.old) self.old (O.seen out.new) self.new text.now result }
+    {
+        if text.len() > PAGE_ROOM {
+            return out.write_all(text);
+        }
+        self.put(text);
+        Ok(())
+    }
+
+    /// Sends pieces of a text one after another.
+    pub fn send_pieces<O: Sink>(&mut self, pieces: &[&[u8]], out: &mut O) -> Result<(), Failed>
+        ensures { Sends (O.seen out.old) self.old (O.seen out.new) self.new (joined_text pieces.now) result }
+    {
+        for piece in pieces {
+            self.send(piece, out)?;
+        }
+        Ok(())
+    }
+}
+
+/// Copies a text into a part of a buffer.
+fn copy_to(buffer: &mut [u8], at: usize, text: &[u8])
+    requires { at + length text.now ≤ length buffer.old }
+    ensures { take (at + length text.now) buffer.new ≡ take at buffer.old ++ text.now }
+{
+    buffer[at..at + text.len()].copy_from_slice(text);
+}
