@@ -17,6 +17,10 @@ use Rattle.arch_trait.specs.Threads.{Puts}
 use Rattle.arch_trait.specs.Writing.{Writing, WritesBack, name_in}
 use Rattle.diy_io.specs.Count.{Rose}
 use Rattle.diy_io.specs.Sink.{Grew, GrewByPrefix, told_kept, told_after, written_told}
+use Rattle.diy_io.specs.Wrote.{WroteAll, WrotePart}
+use Rattle.listed_tests.specs.Texts.{text_seen}
+use Rattle.listed_tests.specs.declared.text.TestText.{TestText}
+use Rattle.listed_tests.specs.declared.text.TheConstants.{TEXT_ROOM}
 use Rattle.litmus_text.specs.declared.test.Test.{Test}
 use Rattle.litmus_text.specs.Printable as printable
 use Rattle.litmus_text.specs.Printable.{IsTestName}
@@ -38,16 +42,22 @@ front_of bytes text h =
     let f : bytes ≡ h.front = cc in
     rw (f, h.parts) (omega (arith, length-append h.front h.rest))
 
-pub all_of : (bytes text : List ℕ) → Grew (written_told []) (written_told bytes) text → bytes ≡ text
+grown_is : (bytes text : List ℕ) → Grew (written_told []) (written_told bytes) text → bytes ≡ text
 unfolding told_kept told_after
-all_of bytes text h =
+grown_is bytes text h =
     let e : Some bytes ≡ Some text = ap (λ t. t.written) h in cc
 
+-- a text that was written to an empty one
+pub all_of : (old new : TestText) (text : List ℕ) → old.bytes.items ≡ [] → WroteAll (text_seen old) (text_seen new) text → new.bytes.items ≡ text
+all_of old new text none h = grown_is new.bytes.items text (rw none at h.grew)
+
 -- no shorter text fails
-pub never_full : (bytes text : List ℕ) (faults : ℕ) → GrewByPrefix (written_told []) (written_told bytes) text → Rose 0 faults → (0 < faults → length bytes ≡ 262145) → length text ≤ 262144 → ⊥
-never_full bytes text faults h rose full short =
-    let long : length bytes ≡ 262145 = full (omega arith) in
-    omega (arith, front_of bytes text h)
+pub never_full : (old new : TestText) (text : List ℕ) → old.bytes.items ≡ [] → old.faults ≡ 0 → WrotePart (text_seen old) (text_seen new) text
+    → (0 < new.faults → length new.bytes.items ≡ TEXT_ROOM) → length text ≤ 262144 → ⊥
+never_full old new text empty none h full short =
+    let rose : Rose old.faults new.faults = h.fault in
+    let long : length new.bytes.items ≡ TEXT_ROOM = full (omega arith) in
+    omega (arith, front_of new.bytes.items text (rw empty at h.grew))
 
 -- a byte of a cycle's name is one of a test's
 name_byte : (b : ℕ) → cycles.is_name_byte b ≡ true → printable.is_name_byte b ≡ true

@@ -1,4 +1,5 @@
 pub mod Files
+pub mod Texts
 pub mod Putting
 pub mod Plans
 pub mod Ends

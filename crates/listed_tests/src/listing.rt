@@ -5,7 +5,7 @@ ghost use Rattle.relax_edges.specs.declared.edge.Edge.{Edge as EdgeValue};
 ghost use Rattle.walk_laws.specs.Composable.{IsCycle};
 ghost use Rattle.cycle_enum.specs.Walking.{KnowsOf, Lists, Says};
 ghost use Rattle.diy_io.specs.Shelf.{Idle};
-ghost use Rattle.diy_io.specs.Wrote.{Wrote, sink_seen};
+ghost use Rattle.diy_io.specs.Wrote.{Wrote};
 ghost use Rattle.test_maker.specs.Refusals.{refusal_of};
 ghost use Rattle.listed_tests.specs.Ends.{BeginsBehind, EndsBehind, EndsListing, StopsAtTest};
 ghost use Rattle.listed_tests.specs.Files.{count_line, path_of, file_of};
@@ -23,10 +23,13 @@ use arch_trait::Arch;
 use arrayvec::ArrayString;
 use cycle_enum::{Limits, Walk};
 use cycle_names::{MAX_NAME, name_of};
-use diy_io::{Failed, Shelf, Sink, write_pieces};
+use diy_io::{Failed, Shelf, Sink};
 use edge_algebra::Cycle;
 use itoa::Buffer;
 use relax_edges::{Edge, ObsMode, Relaxes};
+
+/// The most bytes of the line on how many tests there are, whose number has at most 39 digits.
+const MAX_COUNT_LINE: usize = 65;
 
 /// A listing: which cycles have a test in it, and where the files of the tests lie.
 #[derive(Drop)]
@@ -69,7 +72,7 @@ pub fn list_tests<A: Arch, H: Shelf, O: Sink>(
     requires size { listing.limits.size ≤ MAX_EDGES }
     requires folder { ForSome listing.folder (λ folder. length folder.now ≤ MAX_FOLDER) }
     requires idle { (H.seen shelf.old).mode ≡ Idle }
-    ensures { EndsListing (λ sink. sink_seen (O.told sink) (O.faults sink)) (plan_of A.puts A.writing (record { threads = listing.entry.threads; mode = listing.entry.mode; folder = listing.entry.folder }) listing.entry.relaxes listing.entry.limits) listing.entry.after result (H.seen shelf.old) (H.seen shelf.new) out.old out.new }
+    ensures { EndsListing O.seen (plan_of A.puts A.writing (record { threads = listing.entry.threads; mode = listing.entry.mode; folder = listing.entry.folder }) listing.entry.relaxes listing.entry.limits) listing.entry.after result (H.seen shelf.old) (H.seen shelf.new) out.old out.new }
 {
     let Listing {
         relaxes,
@@ -119,7 +122,7 @@ fn list_walk<A: Arch, H: Shelf, O: Sink, K: Fn(&[Edge]) -> bool, P: Fn(&Cycle) -
     requires wanted { (cycle : List EdgeValue) → IsCycle cycle → Says P.Fn.post walk.old.take cycle true ↔ (is_wanted A.puts wanted.now.mode wanted.now.threads cycle ≡ true) }
     requires folder { ForSome wanted.now.folder (λ folder. length folder.now ≤ MAX_FOLDER) }
     requires idle { (H.seen shelf.old).mode ≡ Idle }
-    ensures { EndsBehind (λ sink. sink_seen (O.told sink) (O.faults sink)) (plan_of A.puts A.writing wanted.now walk.old.relaxes walk.old.limits) walk.old.last result (H.seen shelf.old) (H.seen shelf.new) out.old out.new }
+    ensures { EndsBehind O.seen (plan_of A.puts A.writing wanted.now walk.old.relaxes walk.old.limits) walk.old.last result (H.seen shelf.old) (H.seen shelf.new) out.old out.new }
 {
     let mut names = Names::new();
     let count = match put_tests::<A, H, K, P>(wanted, walk, &mut names, shelf) {
@@ -190,9 +193,11 @@ fn put_test<A: Arch, H: Shelf>(
 
 /// Writes the line on how many tests there are.
 fn write_count<O: Sink>(count: u128, out: &mut O) -> Result<(), Failed>
-    ensures { Wrote (sink_seen (O.told out.old) (O.faults out.old)) (sink_seen (O.told out.new) (O.faults out.new)) (count_line count) result }
+    ensures { Wrote (O.seen out.old) (O.seen out.new) (count_line count) result }
 {
-    let mut digits = Buffer::new();
-    let digits = digits.format(count).as_bytes();
-    write_pieces(out, &[b"Generator produced ", digits, b" tests\n"])
+    let mut line: ArrayString<MAX_COUNT_LINE> = ArrayString::new();
+    line.push_str("Generator produced ");
+    line.push_str(Buffer::new().format(count));
+    line.push_str(" tests\n");
+    out.write_all(line.as_str().as_bytes())
 }

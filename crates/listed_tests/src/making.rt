@@ -5,16 +5,17 @@ ghost use Rattle.test_maker.specs.Refusals.{refusal_of};
 
 use crate::text::TestText;
 use arch_trait::Arch;
-use diy_io::Failed;
+use diy_io::{Failed, Page};
 use edge_algebra::Cycle;
-use litmus_text::{Test, print_test};
+use litmus_text::{Test, print_test_by};
 use relax_edges::ObsMode;
 use test_maker::make_into;
 
-/// Where tests are made, one after another: a test and its text.
+/// Where tests are made, one after another: a test, the page that it is printed to, and its text.
 #[derive(Drop)]
 pub(crate) struct Desk {
     pub(crate) test: Test,
+    pub(crate) page: Page,
     pub(crate) text: TestText,
 }
 
@@ -22,6 +23,7 @@ impl Desk {
     pub(crate) fn new() -> Desk {
         Desk {
             test: Test::new(),
+            page: Page::new(),
             text: TestText::new(),
         }
     }
@@ -38,7 +40,8 @@ impl Desk {
             Err(_) => unreachable!(),
         }
         self.text.clear();
-        match print_test::<A, TestText>(&self.test, name, &mut self.text) {
+        self.page.clear();
+        match print_test_by::<A, TestText>(&self.test, name, &mut self.page, &mut self.text) {
             Ok(()) => {}
             Err(Failed) => unreachable!(),
         }

@@ -1,6 +1,6 @@
 ghost use Rattle.std.specs.Prelude.{◌≡◌, ◌<◌, []};
 ghost use Rattle.arrayvec.specs.ArrayVec.{array_vec_len};
-ghost use Rattle.diy_io.specs.Sink.{written_told};
+ghost use Rattle.listed_tests.specs.Texts.{text_seen};
 ghost use Rattle.listed_tests.specs.declared.text.TheConstants.{TEXT_ROOM};
 
 use arrayvec::ArrayVec;
@@ -45,9 +45,7 @@ impl TestText {
 
 #[tactic(auto, using(diy_io::specs::SinkLaws::written_grew, diy_io::specs::SinkLaws::written_stopped))]
 impl Sink for TestText {
-    ghost told = { λ text. written_told text.bytes.items };
-
-    ghost faults = { λ text. text.faults };
+    ghost seen = { text_seen };
 
     fn write_all(&mut self, bytes: &[u8]) -> Result<(), Failed> {
         let free = self.bytes.remaining_capacity();
