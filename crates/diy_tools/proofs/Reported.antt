@@ -1,15 +1,13 @@
 -- The names of locations, as a report finds them, and the line of words where none shows the fault.
 use Rattle.std.proofs.Common.{◌≡◌, ℕ, ◌+◌, ◌<◌, ◌≤◌, List, [], ◌++◌, ◌∙◌, ap, arith, length, get_or, append-nil, inl, inr}
-use Rattle.std.specs.Prelude.{codes, slice_get, None, Result, Ok, Err, OnOk, OnErr}
+use Rattle.std.specs.Prelude.{codes, slice_get, None, Result, Ok, Err}
 use Rattle.std.proofs.lemmas.Option.{slice_get_past}
 use Rattle.std.proofs.lemmas.List.FromFn.{get_or-map-range_with_len, length-map-range_with_len}
 use Rattle.arch_trait.specs.Names.{letters, location_name}
 use Rattle.diy_words.specs.declared.usage.UsageKind.{UsageKind}
 use Rattle.diy_tools.specs.declared.status.Status.TheVariants.{Usage}
 use Rattle.diy_io.specs.declared.errors.Failed.{Failed}
-use Rattle.diy_io.specs.Count.{Rose}
-use Rattle.diy_io.specs.Sink.{Told, Grew, GrewByPrefix}
-use Rattle.diy_io.specs.Wrote.{sink_seen}
+use Rattle.diy_io.specs.Wrote.{SinkSeen, Wrote}
 use Rattle.diy_tools.specs.Answers.{TakesLine}
 use Rattle.diy_tools.specs.Report.{status_line, usage_line, usage_text, shown_word}
 
@@ -31,9 +29,7 @@ bare_line words word kind h =
 abbrev Answer : Type 0
 Answer = Result (Unit {0}) Failed
 
--- a sink that took the line of a status, or a front of it
-pub takes_line : (a b : Told) (m n : ℕ) (line : List ℕ) (result : Answer)
-    → OnOk result (Grew a b line) → OnErr result (GrewByPrefix a b line)
-    → OnOk result (n ≡ m) → OnErr result (Rose m n) → m ≤ n → TakesLine line (sink_seen a m) (sink_seen b n)
-takes_line a b m n line (Ok _) grew part none rose falls = inl (record { grew = grew; no_fault = none })
-takes_line a b m n line (Err _) grew part none rose falls = inr (record { grew = part; fault = rose; never_falls = falls })
+-- a sink that took the line of a status, or a prefix of it
+pub takes_line : (a b : SinkSeen) (line : List ℕ) (result : Answer) → Wrote a b line result → TakesLine line a b
+takes_line a b line (Ok _) h = inl h.ok
+takes_line a b line (Err _) h = inr h.failed

@@ -2,7 +2,6 @@ ghost use Rattle.std.specs.Prelude.{◌≡◌, ◌≤◌, length};
 ghost use Rattle.std.specs.Option.{ForSome};
 ghost use Rattle.relax_edges.specs.declared.TheConstants.{MAX_EDGES};
 ghost use Rattle.diy_io.specs.Shelf.{Idle};
-ghost use Rattle.diy_io.specs.Wrote.{sink_seen};
 ghost use Rattle.diy_words.specs.Given.{HasForm, list_kept};
 ghost use Rattle.diy_words.specs.declared.request.Request.TheVariants.{List};
 ghost use Rattle.diy_tools.specs.Answers.{AnswersList, EndsOn};
@@ -25,7 +24,7 @@ use relax_edges::ArchName;
 pub(crate) fn list<H: Shelf, O: Sink>(request: Diy, shelf: &mut H, out: &mut O) -> Status
     requires idle { (H.seen shelf.old).mode ≡ Idle }
     requires form { HasForm (List request) }
-    ensures answers { AnswersList (list_kept request.entry) result (H.seen shelf.old) (H.seen shelf.new) (sink_seen (O.told out.old) (O.faults out.old)) (sink_seen (O.told out.new) (O.faults out.new)) }
+    ensures answers { AnswersList (list_kept request.entry) result (H.seen shelf.old) (H.seen shelf.new) (O.seen out.old) (O.seen out.new) }
     ensures location { NamesLocation result }
 {
     let Diy {
@@ -59,7 +58,7 @@ fn list_on<H: Shelf, O: Sink>(
     requires idle { (H.seen shelf.old).mode ≡ Idle }
     requires size { listing.limits.size ≤ MAX_EDGES }
     requires folder { ForSome listing.folder (λ folder. length folder.now ≤ MAX_FOLDER) }
-    ensures { EndsOn (machine_of arch) listing.entry result (H.seen shelf.old) (H.seen shelf.new) (sink_seen (O.told out.old) (O.faults out.old)) (sink_seen (O.told out.new) (O.faults out.new)) }
+    ensures { EndsOn (machine_of arch) listing.entry result (H.seen shelf.old) (H.seen shelf.new) (O.seen out.old) (O.seen out.new) }
 {
     match arch {
         ArchName::X86 => list_tests::<X86, H, O>(listing, shelf, out),

@@ -1,6 +1,4 @@
 ghost use Rattle.std.specs.Prelude.{◌≡◌};
-ghost use Rattle.diy_io.specs.Taken.{source_seen};
-ghost use Rattle.diy_io.specs.Wrote.{sink_seen};
 ghost use Rattle.cycle_lines.specs.Normed.{Norms, name_line};
 ghost use Rattle.diy_tools.specs.Answers.{AnswersEdges, AnswersFamilies, AnswersKept, AnswersLines, AnswersName, Prints, edges_kept, refused_edges};
 ghost use Rattle.diy_tools.specs.Report.{NamesLocation};
@@ -21,7 +19,7 @@ use std::alloc::Global;
 
 /// Prints the names of the cycles that are sought, and their edges.
 pub(crate) fn norm<I: Source, O: Sink>(request: &Norm, input: &mut I, out: &mut O) -> Status
-    ensures answers { AnswersKept request.now.arch request.now.cycle result (source_seen (I.left input.old) (I.taken input.old) (I.faults input.old)) (source_seen (I.left input.new) (I.taken input.new) (I.faults input.new)) (sink_seen (O.told out.old) (O.faults out.old)) (sink_seen (O.told out.new) (O.faults out.new)) }
+    ensures answers { AnswersKept request.now.arch request.now.cycle result (I.seen input.old) (I.seen input.new) (O.seen out.old) (O.seen out.new) }
     ensures location { NamesLocation result }
 {
     match &request.cycle {
@@ -32,7 +30,7 @@ pub(crate) fn norm<I: Source, O: Sink>(request: &Norm, input: &mut I, out: &mut 
 }
 
 fn norm_edges<O: Sink>(list: &EdgeList, arch: ArchName, out: &mut O) -> Status
-    ensures answers { AnswersEdges (refused_edges arch list.now) (name_line (edges_kept list.now)) result (sink_seen (O.told out.old) (O.faults out.old)) (sink_seen (O.told out.new) (O.faults out.new)) }
+    ensures answers { AnswersEdges (refused_edges arch list.now) (name_line (edges_kept list.now)) result (O.seen out.old) (O.seen out.new) }
     ensures location { NamesLocation result }
 {
     match cycle_of_edges(list, arch) {
@@ -42,7 +40,7 @@ fn norm_edges<O: Sink>(list: &EdgeList, arch: ArchName, out: &mut O) -> Status
 }
 
 fn norm_named<O: Sink>(named: Named, arch: ArchName, out: &mut O) -> Status
-    ensures answers { AnswersName arch named.entry.word named.entry.name.now result (sink_seen (O.told out.old) (O.faults out.old)) (sink_seen (O.told out.new) (O.faults out.new)) }
+    ensures answers { AnswersName arch named.entry.word named.entry.name.now result (O.seen out.old) (O.seen out.new) }
     ensures location { NamesLocation result }
 {
     match cycle_of(named.name, arch) {
@@ -56,7 +54,7 @@ fn norm_named<O: Sink>(named: Named, arch: ArchName, out: &mut O) -> Status
 
 /// Prints the line of a cycle: its name, and its edges in the rotation that it is named from.
 fn print_line<O: Sink>(cycle: &Cycle, out: &mut O) -> Status
-    ensures prints { Prints (name_line cycle.now) result (sink_seen (O.told out.old) (O.faults out.old)) (sink_seen (O.told out.new) (O.faults out.new)) }
+    ensures prints { Prints (name_line cycle.now) result (O.seen out.old) (O.seen out.new) }
     ensures location { NamesLocation result }
 {
     match write_name_line(cycle, out) {
@@ -67,7 +65,7 @@ fn print_line<O: Sink>(cycle: &Cycle, out: &mut O) -> Status
 
 /// Prints the names of the cycles of the input's lines, and their edges.
 fn norm_input<I: Source, O: Sink>(arch: ArchName, input: &mut I, out: &mut O) -> Status
-    ensures answers { AnswersLines arch result (source_seen (I.left input.old) (I.taken input.old) (I.faults input.old)) (source_seen (I.left input.new) (I.taken input.new) (I.faults input.new)) (sink_seen (O.told out.old) (O.faults out.old)) (sink_seen (O.told out.new) (O.faults out.new)) }
+    ensures answers { AnswersLines arch result (I.seen input.old) (I.seen input.new) (O.seen out.old) (O.seen out.new) }
     ensures location { NamesLocation result }
 {
     norm_status(norm_lines(arch, input, out))
@@ -91,7 +89,7 @@ pub(crate) fn families<I: Source, O: Sink>(
     input: &mut I,
     out: &mut O,
 ) -> Status
-    ensures answers { AnswersFamilies arch result (source_seen (I.left input.old) (I.taken input.old) (I.faults input.old)) (source_seen (I.left input.new) (I.taken input.new) (I.faults input.new)) (sink_seen (O.told out.old) (O.faults out.old)) (sink_seen (O.told out.new) (O.faults out.new)) }
+    ensures answers { AnswersFamilies arch result (I.seen input.old) (I.seen input.new) (O.seen out.old) (O.seen out.new) }
     ensures location { NamesLocation result }
 {
     classify_status(classify_lines(alloc, arch, input, out))

@@ -1,64 +1,84 @@
-ghost use Rattle.std.specs.Prelude.{◌≡◌, ◌≤◌, ◌<◌, ◌++◌, codes, slice_get, OnOk, OnErr};
+ghost use Rattle.std.specs.Prelude.{◌≡◌, ◌<◌, ◌++◌, codes, slice_get};
 ghost use Rattle.std.specs.Fmt.{decimal};
 ghost use Rattle.arch_trait.specs.Names.{location_name};
-ghost use Rattle.diy_io.specs.Count.{Rose};
-ghost use Rattle.diy_io.specs.Sink.{Grew, GrewByPrefix};
+ghost use Rattle.diy_io.specs.Page.{Sends};
+ghost use Rattle.diy_io.specs.Wrote.{Wrote};
 ghost use Rattle.diy_tools.specs.Report.{status_line, refusal_line, refusal_text, usage_line, usage_text, line_text, log_text, kind_text, word_at, file_text, shown_word, device_text, NamesLocation, RefusesLocation};
 
 use crate::status::{Device, Refusal, Status, TextKind};
 use arch_trait::Places;
 use cycle_lines::LineKind;
-use diy_io::{Failed, Sink, Words, write_pieces};
+use diy_io::{Failed, Page, Sink, Words};
 use diy_words::UsageKind;
 use itoa::Buffer;
 use log_sum::LogKind;
 
 /// Writes the line of a status, where it has one.
-#[tactic(auto, using(diy_io::specs::SinkLaws::grew_nothing))]
 pub(crate) fn report<E: Sink>(status: Status, words: &Words, err: &mut E) -> Result<(), Failed>
     requires { NamesLocation status }
-    ensures ok { OnOk result (Grew (E.told err.old) (E.told err.new) (status_line words.now status)) }
-    ensures failed { OnErr result (GrewByPrefix (E.told err.old) (E.told err.new) (status_line words.now status)) }
-    ensures no_fault { OnOk result (E.faults err.new ≡ E.faults err.old) }
-    ensures fault { OnErr result (Rose (E.faults err.old) (E.faults err.new)) }
-    ensures never_falls { E.faults err.old ≤ E.faults err.new }
+    ensures { Wrote (E.seen err.old) (E.seen err.new) (status_line words.now status) result }
+{
+    if let Status::Done = status {
+        return Ok(());
+    }
+    let mut page = Page::new();
+    send_line(status, words, &mut page, err)?;
+    page.flush(err)
+}
+
+/// Sends the line of a status by way of a page.
+fn send_line<E: Sink>(
+    status: Status,
+    words: &Words,
+    page: &mut Page,
+    err: &mut E,
+) -> Result<(), Failed>
+    requires { NamesLocation status }
+    ensures { Sends (E.seen err.old) page.old (E.seen err.new) page.new (status_line words.now status) result }
 {
     match status {
         Status::Done => Ok(()),
-        Status::Refused(refusal) => report_refusal(refusal, err),
-        Status::Usage { word, kind } => {
-            let name = usage_name(kind);
-            if word < words.len() {
-                report_word(name, words.get(word).as_bytes(), err)
-            } else {
-                write_pieces(err, &[b"diy: usage ", name, b"\n"])
-            }
-        }
+        Status::Refused(refusal) => send_refusal(refusal, page, err),
+        Status::Usage { word, kind } => send_usage(word, kind, words, page, err),
         Status::BadText { file, line, kind } => {
-            report_text(file_name(file, words), line, kind_name(kind), err)
+            send_text(file_name(file, words), line, kind_name(kind), page, err)
         }
         Status::NoFile { word } => {
-            write_pieces(err, &[b"diy: no file: ", word_at(word, words), b"\n"])
+            page.send_pieces(&[b"diy: no file: ", word_at(word, words), b"\n"], err)
         }
         Status::ReadFault { of } => {
-            write_pieces(err, &[b"diy: read fault: ", device_name(of), b"\n"])
+            page.send_pieces(&[b"diy: read fault: ", device_name(of), b"\n"], err)
         }
         Status::WriteFault { of } => {
-            write_pieces(err, &[b"diy: write fault: ", device_name(of), b"\n"])
+            page.send_pieces(&[b"diy: write fault: ", device_name(of), b"\n"], err)
         }
-        Status::NoMemory => write_pieces(err, &[b"diy: no memory\n"]),
+        Status::NoMemory => page.send_pieces(&[b"diy: no memory\n"], err),
     }
 }
 
-/// Writes the line of a word that is wrong.
-fn report_word<E: Sink>(name: &[u8], word: &[u8], err: &mut E) -> Result<(), Failed>
-    ensures ok { OnOk result (Grew (E.told err.old) (E.told err.new) (usage_line name.now (codes ": " ++ word.now))) }
-    ensures failed { OnErr result (GrewByPrefix (E.told err.old) (E.told err.new) (usage_line name.now (codes ": " ++ word.now))) }
-    ensures no_fault { OnOk result (E.faults err.new ≡ E.faults err.old) }
-    ensures fault { OnErr result (Rose (E.faults err.old) (E.faults err.new)) }
-    ensures never_falls { E.faults err.old ≤ E.faults err.new }
+/// Sends the line of words that make no request.
+fn send_usage<E: Sink>(
+    word: usize,
+    kind: UsageKind,
+    words: &Words,
+    page: &mut Page,
+    err: &mut E,
+) -> Result<(), Failed>
+    ensures { Sends (E.seen err.old) page.old (E.seen err.new) page.new (usage_line (usage_text kind) (shown_word (slice_get words.now word))) result }
 {
-    write_pieces(err, &[b"diy: usage ", name, b": ", word, b"\n"])
+    let name = usage_name(kind);
+    if word < words.len() {
+        send_word(name, words.get(word).as_bytes(), page, err)
+    } else {
+        page.send_pieces(&[b"diy: usage ", name, b"\n"], err)
+    }
+}
+
+/// Sends the line of a word that is wrong.
+fn send_word<E: Sink>(name: &[u8], word: &[u8], page: &mut Page, err: &mut E) -> Result<(), Failed>
+    ensures { Sends (E.seen err.old) page.old (E.seen err.new) page.new (usage_line name.now (codes ": " ++ word.now)) result }
+{
+    page.send_pieces(&[b"diy: usage ", name, b": ", word, b"\n"], err)
 }
 
 fn device_name(device: Device) -> &'static [u8]
@@ -158,79 +178,58 @@ fn file_name(file: Option<usize>, words: &Words) -> &[u8]
     }
 }
 
-/// Writes the line of a text that is wrong.
-fn report_text<E: Sink>(file: &[u8], line: u64, kind: &[u8], err: &mut E) -> Result<(), Failed>
-    ensures ok { OnOk result (Grew (E.told err.old) (E.told err.new) (codes "diy: " ++ file.now ++ codes ":" ++ decimal line ++ codes ": " ++ kind.now ++ codes "\n")) }
-    ensures failed { OnErr result (GrewByPrefix (E.told err.old) (E.told err.new) (codes "diy: " ++ file.now ++ codes ":" ++ decimal line ++ codes ": " ++ kind.now ++ codes "\n")) }
-    ensures no_fault { OnOk result (E.faults err.new ≡ E.faults err.old) }
-    ensures fault { OnErr result (Rose (E.faults err.old) (E.faults err.new)) }
-    ensures never_falls { E.faults err.old ≤ E.faults err.new }
+/// Sends the line of a text that is wrong.
+fn send_text<E: Sink>(file: &[u8], line: u64, kind: &[u8], page: &mut Page, err: &mut E) -> Result<(), Failed>
+    ensures { Sends (E.seen err.old) page.old (E.seen err.new) page.new (codes "diy: " ++ file.now ++ codes ":" ++ decimal line ++ codes ": " ++ kind.now ++ codes "\n") result }
 {
     let mut digits = Buffer::new();
     let digits = digits.format(line).as_bytes();
-    write_pieces(err, &[b"diy: ", file, b":", digits, b": ", kind, b"\n"])
+    page.send_pieces(&[b"diy: ", file, b":", digits, b": ", kind, b"\n"], err)
 }
 
-fn report_refusal<E: Sink>(refusal: Refusal, err: &mut E) -> Result<(), Failed>
+fn send_refusal<E: Sink>(refusal: Refusal, page: &mut Page, err: &mut E) -> Result<(), Failed>
     requires { RefusesLocation refusal }
-    ensures ok { OnOk result (Grew (E.told err.old) (E.told err.new) (refusal_line (refusal_text refusal))) }
-    ensures failed { OnErr result (GrewByPrefix (E.told err.old) (E.told err.new) (refusal_line (refusal_text refusal))) }
-    ensures no_fault { OnOk result (E.faults err.new ≡ E.faults err.old) }
-    ensures fault { OnErr result (Rose (E.faults err.old) (E.faults err.new)) }
-    ensures never_falls { E.faults err.old ≤ E.faults err.new }
+    ensures { Sends (E.seen err.old) page.old (E.seen err.new) page.new (refusal_line (refusal_text refusal)) result }
 {
     match refusal {
-        Refusal::Empty => refuse(b"Empty", err),
-        Refusal::TooLong => refuse(b"TooLong", err),
-        Refusal::NotOfArch { at } => refuse_at(b"NotOfArch ", at, err),
-        Refusal::DoesNotCompose { at } => refuse_at(b"DoesNotCompose ", at, err),
-        Refusal::TooFewThreads => refuse(b"TooFewThreads", err),
-        Refusal::CoherenceOnly => refuse(b"CoherenceOnly", err),
-        Refusal::NeedsObserver { location, event } => refuse_unobserved(location, event, err),
-        Refusal::TooManyRegisters { thread } => refuse_at(b"TooManyRegisters ", thread, err),
+        Refusal::Empty => refuse(b"Empty", page, err),
+        Refusal::TooLong => refuse(b"TooLong", page, err),
+        Refusal::NotOfArch { at } => refuse_at(b"NotOfArch ", at, page, err),
+        Refusal::DoesNotCompose { at } => refuse_at(b"DoesNotCompose ", at, page, err),
+        Refusal::TooFewThreads => refuse(b"TooFewThreads", page, err),
+        Refusal::CoherenceOnly => refuse(b"CoherenceOnly", page, err),
+        Refusal::NeedsObserver { location, event } => refuse_unobserved(location, event, page, err),
+        Refusal::TooManyRegisters { thread } => refuse_at(b"TooManyRegisters ", thread, page, err),
     }
 }
 
-/// Writes the line of a refusal with this name.
-fn refuse<E: Sink>(name: &[u8], err: &mut E) -> Result<(), Failed>
-    ensures ok { OnOk result (Grew (E.told err.old) (E.told err.new) (refusal_line name.now)) }
-    ensures failed { OnErr result (GrewByPrefix (E.told err.old) (E.told err.new) (refusal_line name.now)) }
-    ensures no_fault { OnOk result (E.faults err.new ≡ E.faults err.old) }
-    ensures fault { OnErr result (Rose (E.faults err.old) (E.faults err.new)) }
-    ensures never_falls { E.faults err.old ≤ E.faults err.new }
+/// Sends the line of a refusal with this name.
+fn refuse<E: Sink>(name: &[u8], page: &mut Page, err: &mut E) -> Result<(), Failed>
+    ensures { Sends (E.seen err.old) page.old (E.seen err.new) page.new (refusal_line name.now) result }
 {
-    write_pieces(err, &[b"diy: refused ", name, b"\n"])
+    page.send_pieces(&[b"diy: refused ", name, b"\n"], err)
 }
 
-/// Writes the line of a refusal whose name is followed by a number.
-fn refuse_at<E: Sink>(name: &[u8], number: u8, err: &mut E) -> Result<(), Failed>
-    ensures ok { OnOk result (Grew (E.told err.old) (E.told err.new) (refusal_line (name.now ++ decimal number))) }
-    ensures failed { OnErr result (GrewByPrefix (E.told err.old) (E.told err.new) (refusal_line (name.now ++ decimal number))) }
-    ensures no_fault { OnOk result (E.faults err.new ≡ E.faults err.old) }
-    ensures fault { OnErr result (Rose (E.faults err.old) (E.faults err.new)) }
-    ensures never_falls { E.faults err.old ≤ E.faults err.new }
+/// Sends the line of a refusal whose name is followed by a number.
+fn refuse_at<E: Sink>(name: &[u8], number: u8, page: &mut Page, err: &mut E) -> Result<(), Failed>
+    ensures { Sends (E.seen err.old) page.old (E.seen err.new) page.new (refusal_line (name.now ++ decimal number)) result }
 {
     let mut digits = Buffer::new();
     let digits = digits.format(number).as_bytes();
-    write_pieces(err, &[b"diy: refused ", name, digits, b"\n"])
+    page.send_pieces(&[b"diy: refused ", name, digits, b"\n"], err)
 }
 
-/// Writes the line of a write that needs an observer.
+/// Sends the line of a write that needs an observer.
 #[tactic(auto, using(crate::proofs::Reported::letter_at, crate::proofs::Reported::letters_long))]
-fn refuse_unobserved<E: Sink>(location: u8, event: u8, err: &mut E) -> Result<(), Failed>
+fn refuse_unobserved<E: Sink>(location: u8, event: u8, page: &mut Page, err: &mut E) -> Result<(), Failed>
     requires { location < 48 }
-    ensures ok { OnOk result (Grew (E.told err.old) (E.told err.new) (refusal_line (codes "NeedsObserver " ++ location_name location ++ codes " " ++ decimal event))) }
-    ensures failed { OnErr result (GrewByPrefix (E.told err.old) (E.told err.new) (refusal_line (codes "NeedsObserver " ++ location_name location ++ codes " " ++ decimal event))) }
-    ensures no_fault { OnOk result (E.faults err.new ≡ E.faults err.old) }
-    ensures fault { OnErr result (Rose (E.faults err.old) (E.faults err.new)) }
-    ensures never_falls { E.faults err.old ≤ E.faults err.new }
+    ensures { Sends (E.seen err.old) page.old (E.seen err.new) page.new (refusal_line (codes "NeedsObserver " ++ location_name location ++ codes " " ++ decimal event)) result }
 {
     let places = Places::letters(location + 1);
     let name = places.get(location).as_str().as_bytes();
     let mut digits = Buffer::new();
     let digits = digits.format(event).as_bytes();
-    write_pieces(
-        err,
+    page.send_pieces(
         &[
             b"diy: refused ",
             b"NeedsObserver ",
@@ -239,5 +238,6 @@ fn refuse_unobserved<E: Sink>(location: u8, event: u8, err: &mut E) -> Result<()
             digits,
             b"\n",
         ],
+        err,
     )
 }

@@ -1,7 +1,5 @@
 ghost use Rattle.std.specs.Prelude.{◌≡◌, ◌<◌, length};
 ghost use Rattle.diy_io.specs.Shelf.{Idle};
-ghost use Rattle.diy_io.specs.Taken.{source_seen};
-ghost use Rattle.diy_io.specs.Wrote.{sink_seen};
 ghost use Rattle.diy_tools.specs.Devices.{devices};
 ghost use Rattle.diy_tools.specs.Report.{NamesLocation};
 ghost use Rattle.diy_tools.specs.Sums.{AnswersSum, SumsFiles, SumsInput, sum_status};
@@ -21,7 +19,7 @@ pub(crate) fn sum<I: Source, O: Sink, H: Shelf>(
     out: &mut O,
 ) -> Status
     requires { (H.seen shelf.old).mode ≡ Idle }
-    ensures answers { AnswersSum words.now result (devices (source_seen (I.left input.old) (I.taken input.old) (I.faults input.old)) (sink_seen (O.told out.old) (O.faults out.old)) (H.seen shelf.old)) (devices (source_seen (I.left input.new) (I.taken input.new) (I.faults input.new)) (sink_seen (O.told out.new) (O.faults out.new)) (H.seen shelf.new)) }
+    ensures answers { AnswersSum words.now result (devices (I.seen input.old) (O.seen out.old) (H.seen shelf.old)) (devices (I.seen input.new) (O.seen out.new) (H.seen shelf.new)) }
     ensures idle { (H.seen shelf.new).mode ≡ Idle }
     ensures location { NamesLocation result }
 {
@@ -36,7 +34,7 @@ pub(crate) fn sum<I: Source, O: Sink, H: Shelf>(
 fn sum_logs<H: Shelf, O: Sink>(alloc: Global, words: &Words, shelf: &mut H, out: &mut O) -> Status
     requires idle { (H.seen shelf.old).mode ≡ Idle }
     requires some { 1 < length words.now }
-    ensures sums { SumsFiles words.now result (H.seen shelf.old) (H.seen shelf.new) (sink_seen (O.told out.old) (O.faults out.old)) (sink_seen (O.told out.new) (O.faults out.new)) }
+    ensures sums { SumsFiles words.now result (H.seen shelf.old) (H.seen shelf.new) (O.seen out.old) (O.seen out.new) }
     ensures idle { (H.seen shelf.new).mode ≡ Idle }
     ensures location { NamesLocation result }
 {
@@ -45,7 +43,7 @@ fn sum_logs<H: Shelf, O: Sink>(alloc: Global, words: &Words, shelf: &mut H, out:
 
 /// Sums the input.
 fn sum_one<I: Source, O: Sink>(alloc: Global, input: &mut I, out: &mut O) -> Status
-    ensures sums { SumsInput result (source_seen (I.left input.old) (I.taken input.old) (I.faults input.old)) (source_seen (I.left input.new) (I.taken input.new) (I.faults input.new)) (sink_seen (O.told out.old) (O.faults out.old)) (sink_seen (O.told out.new) (O.faults out.new)) }
+    ensures sums { SumsInput result (I.seen input.old) (I.seen input.new) (O.seen out.old) (O.seen out.new) }
     ensures location { NamesLocation result }
 {
     sum_status(sum_input(alloc, input, out))

@@ -1,7 +1,6 @@
 ghost use Rattle.std.specs.Prelude.{◌≡◌, IfOk, IfErr};
 ghost use Rattle.litmus_text.specs.Tests.{test_seen};
 ghost use Rattle.litmus_text.specs.TestText.{test_text};
-ghost use Rattle.diy_io.specs.Wrote.{sink_seen};
 ghost use Rattle.test_maker.specs.CycleText.{cycle_text};
 ghost use Rattle.test_maker.specs.Made.{CanPrint};
 ghost use Rattle.test_maker.specs.Refusals.{refusal_of};
@@ -28,7 +27,7 @@ use test_maker::make;
 
 /// Prints the test that is asked for.
 pub(crate) fn diyone<O: Sink>(request: &DiyOne, out: &mut O) -> Status
-    ensures answers { AnswersEdges (refused_kept (machine_of request.now.arch) request.now.mode request.now.edges) (cycle_text (machine_of request.now.arch).puts (machine_of request.now.arch).writing request.now.mode (test_name (name_kept request.now.name) (edges_kept request.now.edges)) (edges_kept request.now.edges)) result (sink_seen (O.told out.old) (O.faults out.old)) (sink_seen (O.told out.new) (O.faults out.new)) }
+    ensures answers { AnswersEdges (refused_kept (machine_of request.now.arch) request.now.mode request.now.edges) (cycle_text (machine_of request.now.arch).puts (machine_of request.now.arch).writing request.now.mode (test_name (name_kept request.now.name) (edges_kept request.now.edges)) (edges_kept request.now.edges)) result (O.seen out.old) (O.seen out.new) }
     ensures location { NamesLocation result }
 {
     match request.arch {
@@ -41,7 +40,7 @@ pub(crate) fn diyone<O: Sink>(request: &DiyOne, out: &mut O) -> Status
 
 /// Prints the test that is asked for, on an architecture.
 fn diyone_on<A: Arch, O: Sink>(request: &DiyOne, out: &mut O) -> Status
-    ensures answers { AnswersEdges (refused_kept (machine A.puts A.writing) request.now.mode request.now.edges) (cycle_text A.puts A.writing request.now.mode (test_name (name_kept request.now.name) (edges_kept request.now.edges)) (edges_kept request.now.edges)) result (sink_seen (O.told out.old) (O.faults out.old)) (sink_seen (O.told out.new) (O.faults out.new)) }
+    ensures answers { AnswersEdges (refused_kept (machine A.puts A.writing) request.now.mode request.now.edges) (cycle_text A.puts A.writing request.now.mode (test_name (name_kept request.now.name) (edges_kept request.now.edges)) (edges_kept request.now.edges)) result (O.seen out.old) (O.seen out.new) }
     ensures location { NamesLocation result }
 {
     match cycle_on::<A>(&request.edges) {
@@ -67,7 +66,7 @@ fn answer_cycle<A: Arch, O: Sink>(
     name: &Option<TestName>,
     out: &mut O,
 ) -> Status
-    ensures answers { AnswersEdges (refused_making (refusal_of A.puts cycle.now mode)) (cycle_text A.puts A.writing mode (test_name (name_kept name.now) cycle.now) cycle.now) result (sink_seen (O.told out.old) (O.faults out.old)) (sink_seen (O.told out.new) (O.faults out.new)) }
+    ensures answers { AnswersEdges (refused_making (refusal_of A.puts cycle.now mode)) (cycle_text A.puts A.writing mode (test_name (name_kept name.now) cycle.now) cycle.now) result (O.seen out.old) (O.seen out.new) }
     ensures location { NamesLocation result }
 {
     match test_of::<A>(cycle, mode) {
@@ -95,7 +94,7 @@ fn print_named<A: Arch, O: Sink>(
     out: &mut O,
 ) -> Status
     requires { CanPrint A.puts A.REGISTERS test.now }
-    ensures prints { Prints (test_text A.puts.name A.writing (test_name (name_kept name.now) cycle.now) (test_seen test.now)) result (sink_seen (O.told out.old) (O.faults out.old)) (sink_seen (O.told out.new) (O.faults out.new)) }
+    ensures prints { Prints (test_text A.puts.name A.writing (test_name (name_kept name.now) cycle.now) (test_seen test.now)) result (O.seen out.old) (O.seen out.new) }
     ensures location { NamesLocation result }
 {
     match name {
@@ -111,7 +110,7 @@ fn print_named<A: Arch, O: Sink>(
 /// Prints a test.
 fn print<A: Arch, O: Sink>(test: &Test, name: &str, out: &mut O) -> Status
     requires { CanPrint A.puts A.REGISTERS test.now }
-    ensures prints { Prints (test_text A.puts.name A.writing name.now (test_seen test.now)) result (sink_seen (O.told out.old) (O.faults out.old)) (sink_seen (O.told out.new) (O.faults out.new)) }
+    ensures prints { Prints (test_text A.puts.name A.writing name.now (test_seen test.now)) result (O.seen out.old) (O.seen out.new) }
     ensures location { NamesLocation result }
 {
     match print_test::<A, O>(test, name, out) {

@@ -1,7 +1,5 @@
 ghost use Rattle.std.specs.Prelude.{◌≡◌};
 ghost use Rattle.diy_io.specs.Shelf.{Idle};
-ghost use Rattle.diy_io.specs.Taken.{source_seen};
-ghost use Rattle.diy_io.specs.Wrote.{sink_seen};
 ghost use Rattle.diy_tools.specs.Answers.{Answers, TakesLine};
 ghost use Rattle.diy_tools.specs.Devices.{devices};
 ghost use Rattle.diy_tools.specs.Headline.{Headline};
@@ -34,10 +32,10 @@ pub fn run<I: Source, O: Sink, E: Sink, H: Shelf>(
     shelf: &mut H,
 ) -> Status
     requires { (H.seen shelf.old).mode ≡ Idle }
-    ensures answers { Answers words.now result (devices (source_seen (I.left input.old) (I.taken input.old) (I.faults input.old)) (sink_seen (O.told out.old) (O.faults out.old)) (H.seen shelf.old)) (devices (source_seen (I.left input.new) (I.taken input.new) (I.faults input.new)) (sink_seen (O.told out.new) (O.faults out.new)) (H.seen shelf.new)) }
+    ensures answers { Answers words.now result (devices (I.seen input.old) (O.seen out.old) (H.seen shelf.old)) (devices (I.seen input.new) (O.seen out.new) (H.seen shelf.new)) }
     ensures idle { (H.seen shelf.new).mode ≡ Idle }
-    ensures headline { Headline words.now result (devices (source_seen (I.left input.old) (I.taken input.old) (I.faults input.old)) (sink_seen (O.told out.old) (O.faults out.old)) (H.seen shelf.old)) (devices (source_seen (I.left input.new) (I.taken input.new) (I.faults input.new)) (sink_seen (O.told out.new) (O.faults out.new)) (H.seen shelf.new)) }
-    ensures line { TakesLine (status_line words.now result) (sink_seen (E.told err.old) (E.faults err.old)) (sink_seen (E.told err.new) (E.faults err.new)) }
+    ensures headline { Headline words.now result (devices (I.seen input.old) (O.seen out.old) (H.seen shelf.old)) (devices (I.seen input.new) (O.seen out.new) (H.seen shelf.new)) }
+    ensures line { TakesLine (status_line words.now result) (E.seen err.old) (E.seen err.new) }
 {
     let status = answer(alloc, words, input, out, shelf);
     let _ = report(status, words, err);
@@ -53,7 +51,7 @@ fn answer<I: Source, O: Sink, H: Shelf>(
     shelf: &mut H,
 ) -> Status
     requires { (H.seen shelf.old).mode ≡ Idle }
-    ensures answers { Answers words.now result (devices (source_seen (I.left input.old) (I.taken input.old) (I.faults input.old)) (sink_seen (O.told out.old) (O.faults out.old)) (H.seen shelf.old)) (devices (source_seen (I.left input.new) (I.taken input.new) (I.faults input.new)) (sink_seen (O.told out.new) (O.faults out.new)) (H.seen shelf.new)) }
+    ensures answers { Answers words.now result (devices (I.seen input.old) (O.seen out.old) (H.seen shelf.old)) (devices (I.seen input.new) (O.seen out.new) (H.seen shelf.new)) }
     ensures idle { (H.seen shelf.new).mode ≡ Idle }
     ensures location { NamesLocation result }
 {

@@ -10,7 +10,7 @@ use Rattle.diy_tools.proofs.tools.answer.Goals as goal
 pub returns-in-Ok-Name-clause-answers : goal.returns-in-Ok-Name-clause-answers
 returns-in-Ok-Name-clause-answers g c =
     name_answered c.args.words.now c.in-Ok-Name.request c.norm.result (g.H.Shelf.seen c.args.shelf.now)
-    (source_seen (g.I.Source.left c.args.input.now) (g.I.Source.taken c.args.input.now) (g.I.Source.faults c.args.input.now))
-    (source_seen (g.I.Source.left c.norm.new.input) (g.I.Source.taken c.norm.new.input) (g.I.Source.faults c.norm.new.input))
-    (sink_seen (g.O.Sink.told c.args.out.now) (g.O.Sink.faults c.args.out.now)) (sink_seen (g.O.Sink.told c.norm.new.out) (g.O.Sink.faults c.norm.new.out))
+    (g.I.Source.seen c.args.input.now)
+    (g.I.Source.seen c.norm.new.input)
+    (g.O.Sink.seen c.args.out.now) (g.O.Sink.seen c.norm.new.out)
     (subst (λ (r : Request). Gives (Ok r) (asked_of c.args.words.now)) c.in-Ok-Name.field-0-is c.in-Ok-Name.ensures.given) c.norm.ensures.answers

@@ -1,0 +1,7 @@
+use Rattle.diy_tools.proofs.report.send_refusal.Goals as goal
+
+pub returns-in-DoesNotCompose : goal.returns-in-DoesNotCompose
+returns-in-DoesNotCompose g c = rw c.in-DoesNotCompose.is c.refuse_at-in-DoesNotCompose.ensures
+
+pub returns-in-TooFewThreads : goal.returns-in-TooFewThreads
+returns-in-TooFewThreads g c = rw c.in-TooFewThreads.is c.refuse-in-TooFewThreads.ensures

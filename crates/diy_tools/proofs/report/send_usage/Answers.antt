@@ -1,0 +1,8 @@
+use Rattle.std.proofs.Common.{arith, sym}
+use Rattle.diy_tools.proofs.Reported.{bare_line}
+use Rattle.diy_tools.proofs.report.send_usage.Goals as goal
+
+pub returns-else-word-len : goal.returns-else-word-len
+returns-else-word-len g c =
+    let line = bare_line c.args.words.now c.args.word c.args.kind (omega (arith, c.len.ensures, c.if-word-len.false)) in
+    rw (line, sym c.usage_name-name.ensures) c.send_pieces.ensures
