@@ -12,6 +12,10 @@ pub flat_map-flat_map : {X Y : Type 0} (g : Y → List ℕ) (f : X → List Y) (
 flat_map-flat_map g f [] = refl
 flat_map-flat_map g f (x ∷ xs) = flat_map-append g (f x) (flat_map f xs) ∙ ap (λ rest. flat_map g (f x) ++ rest) (flat_map-flat_map g f xs)
 
+-- the lines of the items of a thread, as they are printed
+abbrev pub printed_items : Writing → List (List ℕ) → ℕ × ThreadCode → List ℕ
+printed_items w places t = flat_map ended (items_lines w places t.0 t.1.links)
+
 -- no line where there are no items
 pub no_items : (w : Writing) (places : List (List ℕ)) (thread : ℕ) (links read : List (ℕ × ℕ)) → read ≡ links → length read ≡ 0 → [] ≡ flat_map ended (items_lines w places thread links)
 no_items w places thread [] read e h = refl

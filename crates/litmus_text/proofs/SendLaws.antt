@@ -1,5 +1,5 @@
 -- Laws of sending a text line by line, by way of a page.
-use Rattle.std.proofs.Common.{◌≡◌, ◌≤◌, ◌<◌, ◌+◌, ℕ, List, [], ◌∷◌, ◌++◌, Ok, Err, length, take, get_or, map}
+use Rattle.std.proofs.Common.{◌≡◌, ◌≤◌, ◌<◌, ◌+◌, ℕ, List, [], ◌++◌, Ok, Err, length, take, get_or, map}
 use Rattle.std.proofs.Common.{sym, ap, ◌∙◌, subst, arith, zero-add}
 use Rattle.std.specs.Prelude.{Result}
 use Rattle.std.specs.Result.{IsErrAnd}
@@ -8,7 +8,7 @@ use Rattle.std.proofs.lemmas.List.{length-map, take_all}
 use Rattle.std.proofs.lemmas.List.FromFn.{length-enumerate_from, length-range_with_len, get_or-range_with_len}
 use Rattle.diy_io.specs.declared.errors.Failed.{Failed}
 use Rattle.diy_io.specs.declared.page.TheConstants.{SPILL, LINE_ROOM}
-use Rattle.diy_io.specs.Wrote.{SinkSeen, WrotePart, Wrote}
+use Rattle.diy_io.specs.Wrote.{SinkSeen, WrotePart}
 use Rattle.diy_io.specs.Page.{page_after, SentAll, Sends}
 use Rattle.diy_io.specs.PageLaws.{sent_both, sent_put, sends_then, sends_stopped, sends_same, each_sent, each_unsent}
 use Rattle.litmus_text.proofs.ElementLaws.{numbered_at}
@@ -17,7 +17,8 @@ abbrev Answer : Type 0
 Answer = Result (Unit {0}) Failed
 
 -- what is left where a sending fails
-pub sends_err : (Q : Failed → Type 0) (a b : SinkSeen) (held kept text : List ℕ) (result : Answer) → WrotePart a b (held ++ text) → IsErrAnd result Q → Sends a held b kept text result
+pub sends_err : (Q : Failed → Type 0) (a b : SinkSeen) (held kept text : List ℕ) (result : Answer)
+    → WrotePart a b (held ++ text) → IsErrAnd result Q → Sends a held b kept text result
 sends_err Q a b held kept text (Ok _) h is_err = absurd is_err
 sends_err Q a b held kept text (Err _) h is_err = record { ok = tt; failed = h }
 
@@ -61,7 +62,8 @@ from_nothing a b held kept text result e h = subst (λ p. Sends a p b kept text 
 length_numbered : {X Y : Type 0} (view : X → Y) (xs : List X) → length (enumerate_from 0 (map view xs)) ≡ length xs
 length_numbered view xs = omega (arith, length-enumerate_from 0 (map view xs), length-map xs view)
 
-numbered_is : {X Y : Type 0} (view : X → Y) (xs : List X) (i : ℕ) (x : X) → i < length xs → x ≡ get_or xs i x → get_or (enumerate_from 0 (map view xs)) i (i, view x) ≡ (i, view x)
+numbered_is : {X Y : Type 0} (view : X → Y) (xs : List X) (i : ℕ) (x : X) → i < length xs → x ≡ get_or xs i x
+    → get_or (enumerate_from 0 (map view xs)) i (i, view x) ≡ (i, view x)
 numbered_is view xs i x h is = numbered_at view xs i x (i, view x) h ∙ ap (λ y. (i, view y)) (sym is)
 
 -- texts of numbered elements: one more is sent

@@ -1,5 +1,6 @@
 -- The columns and rows of the table.
-use Rattle.std.proofs.Common.{◌≡◌, ◌≤◌, ◌<◌, ◌+◌, ◌-◌, ℕ, zero, suc, List, [], ◌∷◌, ◌++◌, length, map, take, get_or, max, fold, add-one, inl, inr, refl, sym, ap, ◌∙◌, arith, append_assoc}
+use Rattle.std.proofs.Common.{◌≡◌, ◌≤◌, ◌<◌, ◌+◌, ◌-◌, ℕ, zero, suc, List, [], ◌∷◌, ◌++◌, length, map, take, get_or, max, fold}
+use Rattle.std.proofs.Common.{add-one, inl, inr, refl, sym, ap, ◌∙◌, arith, append_assoc}
 use Rattle.std.specs.Prelude.{codes}
 use Rattle.std.specs.List.{flat_map, join_by, enumerate_from, range_with_len}
 use Rattle.std.specs.Fmt.{decimal}
@@ -145,7 +146,8 @@ abbrev pub printed_row : List (List (List ℕ)) → ℕ → List ℕ
 printed_row columns row = ended (row_line columns row)
 
 pub table_is : (w : Writing) (places : List (List ℕ)) (threads : List Code) (rows : ℕ) → rows ≡ fold (λ count code. max count (length code.instrs.items + 1)) 0 threads
-    → flat_map (printed_row (columns_of w places (map thread_of threads))) (range_with_len 0 rows) ≡ flat_map ended (table_lines (columns_of w places (map thread_of threads)))
+    → flat_map (printed_row (columns_of w places (map thread_of threads))) (range_with_len 0 rows)
+    ≡ flat_map ended (table_lines (columns_of w places (map thread_of threads)))
 unfolding table_lines
 table_is w places threads rows e =
     ap (λ n. flat_map (printed_row (columns_of w places (map thread_of threads))) (range_with_len 0 n)) (e ∙ rows_are w places threads)

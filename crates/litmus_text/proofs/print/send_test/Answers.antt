@@ -14,7 +14,8 @@ returns-in_err-send_header g c =
     let second = ended (edges_line test.edges) in
     let rest = code_text g.A.Arch.writing test in
     let header = ap (λ arch. ended (header_line arch c.args.name.now)) c.NAME.ensures in
-    three_first _ _ _ _ _ _ first second rest _ _ c.from_residual.result (sends_same _ _ _ _ _ _ _ c.in_err-send_header.ensures header) c.from_residual.ensures.1
+    three_first _ _ _ _ _ _ first second rest _ _ c.from_residual.result (sends_same _ _ _ _ _ _ _ c.in_err-send_header.ensures header)
+    c.from_residual.ensures.1
     (parts_are g.A.Arch.NAME g.A.Arch.writing c.args.name.now test)
 
 pub returns-in_err-send_edges : goal.returns-in_err-send_edges

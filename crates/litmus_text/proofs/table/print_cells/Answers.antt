@@ -1,4 +1,4 @@
-use Rattle.std.proofs.Common.{◌≡◌, ◌++◌, ◌∙◌, codes, ap, map, arith, get_or, []}
+use Rattle.std.proofs.Common.{◌∙◌, map, arith, get_or, []}
 use Rattle.arch_trait.specs.Codes.{thread_of}
 use Rattle.litmus_text.specs.TestText.{columns_of, column_of}
 use Rattle.litmus_text.proofs.JoinLaws.{none_put, one_text_put, all_put, all_short}
