@@ -1,5 +1,4 @@
-ghost use Rattle.diy_io.specs.Taken.{source_seen};
-ghost use Rattle.diy_io.specs.Wrote.{sink_seen, Wrote};
+ghost use Rattle.diy_io.specs.Wrote.{Wrote};
 ghost use Rattle.cycle_lines.specs.Normed.{name_line, Norms, WritesLast, last_lines};
 
 use crate::errors::NormError;
@@ -28,7 +27,7 @@ pub fn norm_lines<I: Source, O: Sink>(
     input: &mut I,
     out: &mut O,
 ) -> Result<(), NormError>
-    ensures { Norms arch (source_seen (I.left input.old) (I.taken input.old) (I.faults input.old)) (source_seen (I.left input.new) (I.taken input.new) (I.faults input.new)) (sink_seen (O.told out.old) (O.faults out.old)) (sink_seen (O.told out.new) (O.faults out.new)) result }
+    ensures { Norms arch (I.seen input.old) (I.seen input.new) (O.seen out.old) (O.seen out.new) result }
 {
     let mut reader = LineReader::new();
     let mut words: ArrayString<MAX_NAME> = ArrayString::new();
@@ -46,7 +45,7 @@ pub fn norm_lines<I: Source, O: Sink>(
 }
 
 fn write_last<O: Sink>(cycle: &Option<Cycle>, out: &mut O) -> Result<(), NormError>
-    ensures { WritesLast (last_lines cycle.now) (sink_seen (O.told out.old) (O.faults out.old)) (sink_seen (O.told out.new) (O.faults out.new)) result }
+    ensures { WritesLast (last_lines cycle.now) (O.seen out.old) (O.seen out.new) result }
 {
     match cycle {
         Some(cycle) => match write_name_line(cycle, out) {
@@ -60,7 +59,7 @@ fn write_last<O: Sink>(cycle: &Option<Cycle>, out: &mut O) -> Result<(), NormErr
 /// Writes the line of a cycle: its name, a colon and a blank, and its edges in the rotation that it
 /// is named from, joined by blanks. Where the sink fails, it has taken a front of the line.
 pub fn write_name_line<O: Sink>(cycle: &Cycle, out: &mut O) -> Result<(), Failed>
-    ensures { Wrote (sink_seen (O.told out.old) (O.faults out.old)) (sink_seen (O.told out.new) (O.faults out.new)) (name_line cycle.now) result }
+    ensures { Wrote (O.seen out.old) (O.seen out.new) (name_line cycle.now) result }
 {
     let mut words: ArrayString<MAX_NAME> = ArrayString::new();
     let mut line: ArrayString<MAX_NAME_LINE> = ArrayString::new();
@@ -75,7 +74,7 @@ fn write_line<O: Sink>(
     line: &mut ArrayString<MAX_NAME_LINE>,
     out: &mut O,
 ) -> Result<(), Failed>
-    ensures { Wrote (sink_seen (O.told out.old) (O.faults out.old)) (sink_seen (O.told out.new) (O.faults out.new)) (name_line cycle.now) result }
+    ensures { Wrote (O.seen out.old) (O.seen out.new) (name_line cycle.now) result }
 {
     let rotation = name_and_rotation(cycle, words);
     line.clear();

@@ -1,5 +1,4 @@
 ghost use Rattle.std.specs.Prelude.{◌≡◌, ◌≤◌, ◌<◌, ℕ, ◌+◌, ◌-◌, [], false, length, max, take, drop, Some, IfOk, OnErr};
-ghost use Rattle.diy_io.specs.Taken.{source_seen};
 ghost use Rattle.cycle_lines.specs.Cycles.{is_too_long};
 ghost use Rattle.cycle_lines.specs.Lines.{without_return};
 ghost use Rattle.cycle_lines.specs.Steps.{ReaderSeen, Without, GivesNext, said_by, Fills, FillsBuffer, Stops, ReadsOn, Refills, LessToDo, ReadsLast, Ends, work};
@@ -89,7 +88,7 @@ impl LineReader {
         arch: ArchName,
         input: &mut I,
     ) -> Result<Found, LinesError>
-        ensures reads { ReadsOn arch (source_seen (I.left input.old) (I.taken input.old) (I.faults input.old)) (source_seen (I.left input.new) (I.taken input.new) (I.faults input.new)) self.old self.new result }
+        ensures reads { ReadsOn arch (I.seen input.old) (I.seen input.new) self.old self.new result }
         ensures less { LessToDo (work self.old) (work self.new) result }
     {
         loop {
@@ -150,7 +149,7 @@ impl LineReader {
     /// Reads bytes behind those that are pending, none only at the end of the source.
     fn refill<I: Source>(&mut self, input: &mut I) -> Result<usize, LinesError>
         requires { Without 10 self.old.pending }
-        ensures refills { Refills (source_seen (I.left input.old) (I.taken input.old) (I.faults input.old)) (source_seen (I.left input.new) (I.taken input.new) (I.faults input.new)) self.old self.new result }
+        ensures refills { Refills (I.seen input.old) (I.seen input.new) self.old self.new result }
         ensures pending { IfOk result (λ count. count ≡ 0 → Without 10 self.new.pending) }
         ensures less { IfOk result (λ count. 0 < count → work self.new < work self.old) }
     {
@@ -174,7 +173,7 @@ impl LineReader {
         requires one_line { Without 10 self.now.pending }
         requires short { is_too_long (without_return self.now.pending) ≡ false }
         requires full { self.now.taken ≡ MAX_INPUT }
-        ensures refills { Refills (source_seen (I.left input.old) (I.taken input.old) (I.faults input.old)) (source_seen (I.left input.new) (I.taken input.new) (I.faults input.new)) self.now self.now result }
+        ensures refills { Refills (I.seen input.old) (I.seen input.new) self.now self.now result }
         ensures none { IfOk result (λ count. count ≡ 0) }
     {
         let mut byte = [0];
@@ -190,8 +189,8 @@ impl LineReader {
     fn fill<I: Source>(&mut self, input: &mut I) -> Result<usize, Failed>
         requires short { is_too_long (without_return self.old.pending) ≡ false }
         requires few { self.old.taken < MAX_INPUT }
-        ensures filled { IfOk result (λ count. Fills (source_seen (I.left input.old) (I.taken input.old) (I.faults input.old)) (source_seen (I.left input.new) (I.taken input.new) (I.faults input.new)) self.old self.new count) }
-        ensures stopped { OnErr result (Stops (source_seen (I.left input.old) (I.taken input.old) (I.faults input.old)) (source_seen (I.left input.new) (I.taken input.new) (I.faults input.new)) × (self.new ≡ self.old)) }
+        ensures filled { IfOk result (λ count. Fills (I.seen input.old) (I.seen input.new) self.old self.new count) }
+        ensures stopped { OnErr result (Stops (I.seen input.old) (I.seen input.new) × (self.new ≡ self.old)) }
         ensures held { length self.new.pending ≤ max MAX_LINE (length self.old.pending + 1) }
     {
         self.end = move_to_front(&mut self.buffer, self.start, self.end);
@@ -242,8 +241,8 @@ fn read_part<I: Source>(
     requires within { start + room ≤ length buffer.old }
     requires some { 0 < room }
     ensures front { take start buffer.new ≡ take start buffer.old }
-    ensures filled { IfOk result (λ count. FillsBuffer (source_seen (I.left input.old) (I.taken input.old) (I.faults input.old)) (source_seen (I.left input.new) (I.taken input.new) (I.faults input.new)) buffer.new start room count) }
-    ensures stopped { OnErr result (Stops (source_seen (I.left input.old) (I.taken input.old) (I.faults input.old)) (source_seen (I.left input.new) (I.taken input.new) (I.faults input.new))) }
+    ensures filled { IfOk result (λ count. FillsBuffer (I.seen input.old) (I.seen input.new) buffer.new start room count) }
+    ensures stopped { OnErr result (Stops (I.seen input.old) (I.seen input.new)) }
 {
     input.read(&mut buffer[start..start + room])
 }

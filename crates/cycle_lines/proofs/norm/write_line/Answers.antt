@@ -1,5 +1,5 @@
 use Rattle.std.proofs.Common.{ap, ◌∙◌, ◌++◌}
-use Rattle.diy_io.specs.WroteLaws.{wrote_clauses, wrote_same}
+use Rattle.diy_io.specs.WroteLaws.{wrote_same}
 use Rattle.std.specs.List.{join_by}
 use Rattle.std.specs.Prelude.{codes}
 use Rattle.relax_edges.specs.Words.{word_of}
@@ -8,8 +8,7 @@ use Rattle.cycle_lines.proofs.norm.write_line.Goals as goal
 
 pub returns : goal.returns
 returns g c =
-    wrote_same _ _ _ _ _
-    (wrote_clauses _ _ _ _ _ _ c.write_all.ensures.ok c.write_all.ensures.failed c.write_all.ensures.no_fault c.write_all.ensures.fault c.write_all.ensures.never_falls)
+    wrote_same _ _ _ _ _ c.write_all.ensures
     (c.as_bytes.ensures.value ∙ c.as_str-3.ensures.value ∙ c.push_str-4.ensures.bytes ∙ ap (λ t. t ++ codes "\n") (c.push_str-3.ensures.bytes ∙ ap (λ t. t ++ c.as_str-2.result.now) (c.push_str-2.ensures.bytes
     ∙ ap (λ t. t ++ codes ": ") (c.push_str.ensures.bytes ∙ ap (λ t. t ++ c.as_str.result.now) c.clear.ensures)))
     ∙ line_text c.args.cycle.now c.as_str.result.now c.as_str-2.result.now
