@@ -1,8 +1,7 @@
-ghost use Rattle.std.specs.Prelude.{◌≡◌, ◌<◌, [], length, IfOk, OnOk, OnErr};
+ghost use Rattle.std.specs.Prelude.{◌≡◌, ◌<◌, [], length, OnOk, OnErr};
 ghost use Rattle.diy_io.specs.Page.{Sends};
 ghost use Rattle.diy_io.specs.Wrote.{Wrote};
 ghost use Rattle.cycle_lines.specs.Normed.{name_line, Norms, WritesLast, last_lines};
-ghost use Rattle.cycle_lines.specs.Steps.{Without, Refills, work};
 
 use crate::errors::{LinesError, NormError};
 use crate::reader::{Line, LineReader};
@@ -58,7 +57,7 @@ pub fn norm_lines<I: Source, O: Sink>(
                     Ok(()) => {}
                     Err(Failed) => return Err(NormError::OutFault),
                 }
-                match read_more(&mut reader, &page, input) {
+                match reader.read_more(&page, input) {
                     Ok(0) => {
                         return match reader.last_cycle(arch) {
                             Ok(cycle) => write_last(&cycle, out),
@@ -71,21 +70,6 @@ pub fn norm_lines<I: Source, O: Sink>(
             }
         }
     }
-}
-
-/// Reads more of the input. No line of a cycle that was read before is still on the page then.
-fn read_more<I: Source>(
-    reader: &mut LineReader,
-    page: &Page,
-    input: &mut I,
-) -> Result<usize, LinesError>
-    requires sent { page.now ≡ [] }
-    requires unended { Without 10 reader.old.pending }
-    ensures refills { Refills (I.seen input.old) (I.seen input.new) reader.old reader.new result }
-    ensures pending { IfOk result (λ count. count ≡ 0 → Without 10 reader.new.pending) }
-    ensures less { IfOk result (λ count. 0 < count → work reader.new < work reader.old) }
-{
-    reader.refill(input)
 }
 
 /// Hands on what a page holds, if it holds anything.

@@ -6,7 +6,7 @@ ghost use Rattle.cycle_lines.specs.Steps.{ReaderSeen, Without, GivesNext, said_b
 use crate::MAX_LINE;
 use crate::errors::{LineKind, LinesError};
 use crate::line::{cut, read_line, without_return};
-use diy_io::{Failed, MAX_INPUT, Source};
+use diy_io::{Failed, MAX_INPUT, Page, Source};
 use edge_algebra::Cycle;
 use relax_edges::ArchName;
 use std::marker::Model;
@@ -165,8 +165,24 @@ impl LineReader {
         }
     }
 
+    /// Reads on, as `refill` does, once the page is handed on to which the lines of the cycles were put:
+    /// no line of a cycle that was read before waits for more input.
+    pub(crate) fn read_more<I: Source>(
+        &mut self,
+        page: &Page,
+        input: &mut I,
+    ) -> Result<usize, LinesError>
+        requires sent { page.now ≡ [] }
+        requires unended { Without 10 self.old.pending }
+        ensures refills { Refills (I.seen input.old) (I.seen input.new) self.old self.new result }
+        ensures pending { IfOk result (λ count. count ≡ 0 → Without 10 self.new.pending) }
+        ensures less { IfOk result (λ count. 0 < count → work self.new < work self.old) }
+    {
+        self.refill(input)
+    }
+
     /// Reads a piece after the bytes that are pending, which is empty only at the end of the source.
-    pub(crate) fn refill<I: Source>(&mut self, input: &mut I) -> Result<usize, LinesError>
+    fn refill<I: Source>(&mut self, input: &mut I) -> Result<usize, LinesError>
         requires { Without 10 self.old.pending }
         ensures refills { Refills (I.seen input.old) (I.seen input.new) self.old self.new result }
         ensures pending { IfOk result (λ count. count ≡ 0 → Without 10 self.new.pending) }

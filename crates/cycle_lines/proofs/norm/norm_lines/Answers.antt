@@ -31,7 +31,7 @@ pub loop-cycle-preserved : goal.loop-cycle-preserved
 loop-cycle-preserved g c =
     let given = c.loop-cycle.invariant in
     let unmoved = subst (λ r. HasRead c.args.arch (g.I.Source.seen c.args.input.now) (g.I.Source.seen c.loop-cycle.input) r given.cycles) (sym c.in-Unended.ensures.1) given.read in
-    more_normed c.args.arch _ _ _ _ c.read_more.new.reader _ given.cycles (c.in-Ok-read_more.ensures.refills c.args.arch _ given.cycles unmoved).0
+    more_normed c.args.arch _ _ _ _ c.read_more.new.self _ given.cycles (c.in-Ok-read_more.ensures.refills c.args.arch _ given.cycles unmoved).0
     (all_written _ _ _ _ _ given.sent c.in-Ok-hand_on-2.ensures.wrote.ok) c.in-Ok-hand_on-2.ensures.empty
 
 pub returns-in-Err-read_more : goal.returns-in-Err-read_more
