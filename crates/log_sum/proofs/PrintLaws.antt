@@ -29,27 +29,35 @@ filled blanks text e =
     ap (take (6 - min (length text) 6)) e ∙ take-replicate (6 - min (length text) 6) 6 32 (omega arith) ∙ ap (λ n. replicate n 32) (let k : 6 - min (length text) 6 ≡ 6 - length text = omega arith in k)
 
 -- the texts by their pieces, each literal whole
-joined_head : (x feed histogram count states : List ℕ) → x ++ (feed ++ histogram) ++ count ++ (states ++ feed) ≡ x ++ feed ++ histogram ++ count ++ states ++ feed
+joined_head : (x feed histogram count states : List ℕ)
+    → x ++ (feed ++ histogram) ++ count ++ (states ++ feed) ≡ x ++ feed ++ histogram ++ count ++ states ++ feed
 joined_head x feed histogram count states =
-    ap (λ t. t ++ count ++ (states ++ feed)) (sym (append_assoc x feed histogram)) ∙ sym (append_assoc (x ++ feed ++ histogram ++ count) states feed)
+    ap (λ t. t ++ count ++ (states ++ feed)) (sym (append_assoc x feed histogram))
+    ∙ sym (append_assoc (x ++ feed ++ histogram ++ count) states feed)
 
 pub head_is : (name kind count : List ℕ) (test : Summed) → kind ≡ kind_word (or_else Allowed test.kind) → count ≡ decimal (length test.states)
-    → codes "Test " ++ name ++ codes " " ++ kind ++ (line_end ++ codes "Histogram (") ++ count ++ (codes " states)" ++ line_end) ≡ head_text name test
+    → codes "Test " ++ name ++ codes " " ++ kind ++ (line_end ++ codes "Histogram (") ++ count ++ (codes " states)" ++ line_end)
+    ≡ head_text name test
 unfolding head_text
 head_is name kind count test e f =
-    rw (e, f) (joined_head (codes "Test " ++ name ++ codes " " ++ kind_word (or_else Allowed test.kind)) line_end (codes "Histogram (") (decimal (length test.states)) (codes " states)"))
+    let line = codes "Test " ++ name ++ codes " " ++ kind_word (or_else Allowed test.kind) in
+    rw (e, f) (joined_head line line_end (codes "Histogram (") (decimal (length test.states)) (codes " states)"))
 
-pub verdict_is : (word starred plain : List ℕ) (test : Summed) → word ≡ verdict_word (is_validated test) → starred ≡ decimal test.starred → plain ≡ decimal test.plain
-    → word ++ (line_end ++ line_end ++ codes "Witnesses" ++ line_end ++ codes "Positive: ") ++ starred ++ codes ", Negative: " ++ plain ++ line_end ≡ verdict_text test
+pub verdict_is : (word starred plain : List ℕ) (test : Summed)
+    → word ≡ verdict_word (is_validated test) → starred ≡ decimal test.starred → plain ≡ decimal test.plain
+    → word ++ (line_end ++ line_end ++ codes "Witnesses" ++ line_end ++ codes "Positive: ") ++ starred ++ codes ", Negative: " ++ plain ++ line_end
+    ≡ verdict_text test
 unfolding verdict_text
 verdict_is word starred plain test e f h = rw (e, f, h) (simp append_assoc)
 
-pub observation_is : (name often starred plain : List ℕ) (test : Summed) → often ≡ how_often test.starred test.plain → starred ≡ decimal test.starred → plain ≡ decimal test.plain
-    → codes "Observation " ++ name ++ codes " " ++ often ++ codes " " ++ starred ++ codes " " ++ plain ++ (line_end ++ line_end) ≡ observation_text name test
+pub observation_is : (name often starred plain : List ℕ) (test : Summed)
+    → often ≡ how_often test.starred test.plain → starred ≡ decimal test.starred → plain ≡ decimal test.plain
+    → codes "Observation " ++ name ++ codes " " ++ often ++ codes " " ++ starred ++ codes " " ++ plain ++ (line_end ++ line_end)
+    ≡ observation_text name test
 unfolding observation_text
 observation_is name often starred plain test e f h =
-    let line = codes "Observation " ++ name ++ codes " " ++ how_often test.starred test.plain ++ codes " " ++ decimal test.starred ++ codes " " ++ decimal test.plain in
-    rw (e, f, h) (sym (append_assoc line line_end line_end))
+    let often = codes "Observation " ++ name ++ codes " " ++ how_often test.starred test.plain in
+    rw (e, f, h) (sym (append_assoc (often ++ codes " " ++ decimal test.starred ++ codes " " ++ decimal test.plain) line_end line_end))
 
 abbrev Answer : Type 0
 Answer = Result (Unit {0}) Failed
@@ -70,20 +78,22 @@ pub second_stopped : (Q : Failed → Type 0) (a b c : SinkSeen) (held one mid ke
 second_stopped Q a b c held one mid kept x y z u e result h k is_err =
     sends_stopped Q a c held mid kept (x ++ y) z e result (sends_then a b c held one mid x y u (Err e) h k) is_err
 
--- a loop over elements, each of which has a text: one more is sent, or it is sent in part, or all are sent
+-- a loop over elements, each of which has a text: one more is sent, or it is sent in part
 lines_more : {T : Type 0} (line : T → List ℕ) (xs : List T) (x : T) → flat_map line (xs ++ x ∷ []) ≡ flat_map line xs ++ line x
 lines_more line xs x = flat_map-append line xs (x ∷ []) ∙ ap (λ t. flat_map line xs ++ t) (append-nil (line x))
 
 pub lines_go : {A T : Type 0} (f : A → T) (line : T → List ℕ) (a b c : SinkSeen) (held mid kept : List ℕ) (ys : List A) (x : A) (text : List ℕ)
-    → SentAll a held b mid (flat_map line (map f ys)) → SentAll b mid c kept text → text ≡ line (f x) → SentAll a held c kept (flat_map line (map f (ys ++ x ∷ [])))
+    → SentAll a held b mid (flat_map line (map f ys)) → SentAll b mid c kept text → text ≡ line (f x)
+    → SentAll a held c kept (flat_map line (map f (ys ++ x ∷ [])))
 lines_go f line a b c held mid kept ys x text p q e =
     let parts : flat_map line (map f ys) ++ text ≡ flat_map line (map f (ys ++ x ∷ [])) =
     ap (λ t. flat_map line (map f ys) ++ t) e ∙ sym (ap (flat_map line) (map_more f ys x) ∙ lines_more line (map f ys) (f x)) in
     subst (SentAll a held c kept) parts (sent_both a b c held mid kept (flat_map line (map f ys)) text p q)
 
-pub lines_stop : {A T : Type 0} (Q : Failed → Type 0) (f : A → T) (line : T → List ℕ) (a b c : SinkSeen) (held mid kept : List ℕ) (ys : List A) (x : A) (rest all : List T) (text : List ℕ) (result : Answer)
-    → SentAll a held b mid (flat_map line (map f ys)) → WrotePart b c (mid ++ text) → text ≡ line (f x) → map f ys ++ f x ∷ rest ≡ all → IsErrAnd result Q
-    → Sends a held c kept (flat_map line all) result
+pub lines_stop : {A T : Type 0} (Q : Failed → Type 0) (f : A → T) (line : T → List ℕ) (a b c : SinkSeen) (held mid kept : List ℕ)
+    (ys : List A) (x : A) (rest all : List T) (text : List ℕ) (result : Answer)
+    → SentAll a held b mid (flat_map line (map f ys)) → WrotePart b c (mid ++ text) → text ≡ line (f x) → map f ys ++ f x ∷ rest ≡ all
+    → IsErrAnd result Q → Sends a held c kept (flat_map line all) result
 lines_stop Q f line a b c held mid kept ys x rest all text (Ok _) p q e covers is_err = absurd is_err
 lines_stop Q f line a b c held mid kept ys x rest all text (Err _) p q e covers is_err =
     let same : (flat_map line (map f ys) ++ text) ++ flat_map line rest ≡ flat_map line all =
@@ -95,10 +105,6 @@ lines_stop Q f line a b c held mid kept ys x rest all text (Err _) p q e covers 
       failed = subst (λ t. WrotePart a c (held ++ t)) same
           (sent_part_more a c held (flat_map line (map f ys) ++ text) (flat_map line rest) (sent_part a b c held mid (flat_map line (map f ys)) text p q));
     }
-
-pub lines_end : {T : Type 0} (line : T → List ℕ) (a b : SinkSeen) (held kept : List ℕ) (xs all : List T) (u : Unit {0})
-    → SentAll a held b kept (flat_map line xs) → xs ≡ all → Sends a held b kept (flat_map line all) (Ok u)
-lines_end line a b held kept xs all u h e = record { ok = subst (λ t. SentAll a held b kept (flat_map line t)) e h; failed = tt }
 
 pub covers_next : {A B T : Type 0} (f : A → T) (g : B → T) (ys : List A) (it rest : List B) (x : A) (y : B) (all : List T) → f x ≡ g y → it ≡ y ∷ rest → map f ys ++ map g it ≡ all
     → map f (ys ++ x ∷ []) ++ map g rest ≡ all

@@ -3,7 +3,8 @@ ghost use Rattle.std.specs.List.{flat_map};
 ghost use Rattle.diy_io.specs.Page.{Sends};
 ghost use Rattle.log_sum.specs.Classes.{test_view};
 ghost use Rattle.log_sum.specs.Summed.{is_validated, or_else};
-ghost use Rattle.log_sum.specs.SumText.{kind_word, mark_sign, verdict_word, verdict_end, how_often, filling, head_text, state_line, verdict_text, claim_text, hash_text, condition_text, observation_text, test_text};
+ghost use Rattle.log_sum.specs.SumText.{kind_word, mark_sign, verdict_word, verdict_end, how_often, filling};
+ghost use Rattle.log_sum.specs.SumText.{head_text, state_line, verdict_text, claim_text, hash_text, condition_text, observation_text, test_text};
 
 use crate::kinds::{Kind, Mark};
 use crate::state_table::StateSum;
@@ -225,7 +226,8 @@ fn print_upper<O: Sink>(
     out: &mut O,
 ) -> Result<(), Failed>
     requires { test.now.states.in_order ≡ true }
-    ensures { Sends (O.seen out.old) page.old (O.seen out.new) page.new (head_text name.now (test_view test.now) ++ flat_map state_line (test_view test.now).states ++ verdict_text (test_view test.now)) result }
+    ensures { Sends (O.seen out.old) page.old (O.seen out.new) page.new
+        (head_text name.now (test_view test.now) ++ flat_map state_line (test_view test.now).states ++ verdict_text (test_view test.now)) result }
 {
     print_head(name, test, page, out)?;
     print_states(test, page, out)?;

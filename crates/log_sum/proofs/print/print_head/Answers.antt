@@ -1,4 +1,4 @@
-use Rattle.std.proofs.Common.{◌≡◌, List, ℕ, ap, ◌∙◌, sym, length}
+use Rattle.std.proofs.Common.{ap, ◌∙◌, sym, length}
 use Rattle.std.specs.Fmt.{decimal}
 use Rattle.diy_io.specs.PageLaws.{sends_same}
 use Rattle.log_sum.specs.Classes.{test_view}
@@ -10,7 +10,8 @@ use Rattle.log_sum.proofs.print.print_head.Goals as goal
 pub returns : goal.returns
 returns g c =
     let states = c.args.test.now.states.sums.entries in
-    let number = c.len.ensures.len ∙ sym (ap length (in_order_view states (c.args.test.now.states.are_in_order c.requires)) ∙ length_map state_view states) in
+    let viewed = in_order_view states (c.args.test.now.states.are_in_order c.requires) in
+    let number = c.len.ensures.len ∙ sym (ap length viewed ∙ length_map state_view states) in
     sends_same _ _ _ _ _ _ c.send_pieces.result c.send_pieces.ensures
     (head_is c.args.name.now c.kind_word-kind.result.now c.as_bytes-count.result.now (test_view c.args.test.now)
     c.kind_word-kind.ensures (c.as_bytes-count.ensures.value ∙ c.format.ensures.text ∙ ap decimal number))

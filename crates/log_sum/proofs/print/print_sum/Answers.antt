@@ -9,8 +9,10 @@ returns-in_err-print_upper g c = first_stopped _ _ _ _ _ _ _ _ _ _ c.from_residu
 pub returns-in_err-print_condition : goal.returns-in_err-print_condition
 unfolding test_text
 returns-in_err-print_condition g c =
-    second_stopped _ _ _ _ _ _ _ _ _ _ _ _ _ c.from_residual-in_err-print_condition.result c.in_ok-print_upper.ensures c.in_err-print_condition.ensures c.from_residual-in_err-print_condition.ensures.1
+    let exit = c.from_residual-in_err-print_condition in
+    second_stopped _ _ _ _ _ _ _ _ _ _ _ _ _ exit.result c.in_ok-print_upper.ensures c.in_err-print_condition.ensures exit.ensures.1
 
 pub returns : goal.returns
 unfolding test_text
-returns g c = three_sent _ _ _ _ _ _ _ _ _ _ _ _ _ c.print_observation.result c.in_ok-print_upper.ensures c.in_ok-print_condition.ensures c.print_observation.ensures
+returns g c =
+    three_sent _ _ _ _ _ _ _ _ _ _ _ _ _ c.print_observation.result c.in_ok-print_upper.ensures c.in_ok-print_condition.ensures c.print_observation.ensures

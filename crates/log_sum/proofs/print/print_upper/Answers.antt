@@ -6,7 +6,9 @@ returns-in_err-print_head g c = first_stopped _ _ _ _ _ _ _ _ _ _ c.from_residua
 
 pub returns-in_err-print_states : goal.returns-in_err-print_states
 returns-in_err-print_states g c =
-    second_stopped _ _ _ _ _ _ _ _ _ _ _ _ _ c.from_residual-in_err-print_states.result c.in_ok-print_head.ensures c.in_err-print_states.ensures c.from_residual-in_err-print_states.ensures.1
+    let exit = c.from_residual-in_err-print_states in
+    second_stopped _ _ _ _ _ _ _ _ _ _ _ _ _ exit.result c.in_ok-print_head.ensures c.in_err-print_states.ensures exit.ensures.1
 
 pub returns : goal.returns
-returns g c = three_sent _ _ _ _ _ _ _ _ _ _ _ _ _ c.print_verdict.result c.in_ok-print_head.ensures c.in_ok-print_states.ensures c.print_verdict.ensures
+returns g c =
+    three_sent _ _ _ _ _ _ _ _ _ _ _ _ _ c.print_verdict.result c.in_ok-print_head.ensures c.in_ok-print_states.ensures c.print_verdict.ensures

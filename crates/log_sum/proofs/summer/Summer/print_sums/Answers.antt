@@ -40,7 +40,9 @@ loop-name-preserved g c = record {
       (ap (λ t. test_text t (test_view c.in-Some.test.now)) c.as_slice.ensures.value);
   covers = covers_next shown named_view c.loop-name.yielded c.loop-name.name-iterator c.next.new.self (c.in-Some.name, c.in-Some.test)
       (c.in-Some.name.now, c.in-Some.test.now) c.args.self.now.progress.tests refl c.in-Some.ensures.steps c.loop-name.invariant.covers;
-  ordered = (ordered_first c.loop-name.name-iterator c.next.new.self (c.in-Some.name.now, c.in-Some.test.now) c.in-Some.ensures.steps c.loop-name.invariant.ordered).1;
+  ordered =
+      (ordered_first c.loop-name.name-iterator c.next.new.self (c.in-Some.name.now, c.in-Some.test.now) c.in-Some.ensures.steps
+      c.loop-name.invariant.ordered).1;
 }
 
 pub returns-in_err-print_sum : goal.returns-in_err-print_sum

@@ -8,13 +8,14 @@ use Rattle.diy_io.specs.PageLaws.{sent_wrote, unsent_wrote}
 use Rattle.log_sum.proofs.summer.Summer.write_sum.Goals as goal
 
 -- a text that was sent by way of an empty page, which is handed on at the end; and where it was sent in part
-own_wrote : (a b c : SinkSeen) (held kept text : List ℕ) (result : Result (Unit {0}) Failed) → held ≡ [] → SentAll a held b kept text → Wrote b c kept result
-    → Wrote a c text result
+own_wrote : (a b c : SinkSeen) (held kept text : List ℕ) (result : Result (Unit {0}) Failed)
+    → held ≡ [] → SentAll a held b kept text → Wrote b c kept result → Wrote a c text result
 own_wrote a b c held kept text result e h k = sent_wrote a b c kept text result (subst (λ t. SentAll a t b kept text) e h) k
 
-own_unsent : (Q : Failed → Type 0) (a b : SinkSeen) (held kept text : List ℕ) (error : Failed) (result : Result (Unit {0}) Failed) → held ≡ []
-    → Sends a held b kept text (Err error) → IsErrAnd result Q → Wrote a b text result
-own_unsent Q a b held kept text error result e h is_err = unsent_wrote Q a b kept text error result (subst (λ t. Sends a t b kept text (Err error)) e h) is_err
+own_unsent : (Q : Failed → Type 0) (a b : SinkSeen) (held kept text : List ℕ) (error : Failed) (result : Result (Unit {0}) Failed)
+    → held ≡ [] → Sends a held b kept text (Err error) → IsErrAnd result Q → Wrote a b text result
+own_unsent Q a b held kept text error result e h is_err =
+    unsent_wrote Q a b kept text error result (subst (λ t. Sends a t b kept text (Err error)) e h) is_err
 
 pub returns-in_err-print_sums : goal.returns-in_err-print_sums
 returns-in_err-print_sums g c = own_unsent _ _ _ _ _ _ _ c.from_residual.result c.new-page.ensures c.in_err-print_sums.ensures c.from_residual.ensures.1
