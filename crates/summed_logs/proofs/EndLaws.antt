@@ -1,19 +1,16 @@
 -- How a call that sums logs ended.
-use Rattle.std.proofs.Common.{◌≡◌, ℕ, List, [], ◌∷◌, refl, subst, Some, None}
-use Rattle.std.specs.Prelude.{Result, Ok, Err, Option}
+use Rattle.std.proofs.Common.{◌≡◌, [], ◌∷◌, refl, None}
+use Rattle.std.specs.Prelude.{Ok, Err}
 use Rattle.diy_io.specs.Taken.{SourceSeen}
-use Rattle.diy_io.specs.Wrote.{SinkSeen, WroteAll, WrotePart, Wrote}
+use Rattle.diy_io.specs.Wrote.{SinkSeen}
 use Rattle.diy_io.specs.declared.errors.Failed.{Failed}
 use Rattle.summed_logs.specs.declared.feeding.Feeding.{Feeding}
 use Rattle.summed_logs.specs.declared.feeding.LogFault.{LogFault}
 use Rattle.summed_logs.specs.declared.feeding.LogFault.TheVariants.{Wrong, TooMuch, NoMemory}
-use Rattle.summed_logs.specs.declared.feeding.ReadFault.{ReadFault}
-use Rattle.summed_logs.specs.declared.feeding.ReadFault.TheVariants.{Log, Device}
-use Rattle.summed_logs.specs.declared.sum_end.SumEnd.{SumEnd}
 use Rattle.summed_logs.specs.declared.sum_end.SumEnd.TheVariants as ends
 use Rattle.summed_logs.specs.Faults.{end_at}
 use Rattle.summed_logs.specs.Feeding.{LogSummed, LogFaulty, LogFailed, SumWrote}
-use Rattle.summed_logs.specs.SumEnds.{InputRead, InputWritten, InputUnwritten, InputSummed}
+use Rattle.summed_logs.specs.SumEnds.{InputWritten, InputUnwritten, InputSummed}
 
 -- the sum of an input was written
 pub input_written : (old new : SourceSeen) (a b : SinkSeen) (feeding : Feeding) (u : Unit {0})

@@ -1,6 +1,6 @@
 -- Pieces of a log that are fed, and a device that is read.
-use Rattle.std.proofs.Common.{◌≡◌, ◌≤◌, ◌<◌, ◌^◌, ℕ, ◌+◌, ◌-◌, List, [], ◌∷◌, ◌++◌, length, take, drop, min, Some, None, refl, sym, ap, ◌∙◌, subst, arith, length-append, length-drop, append_assoc, append-nil, inl, inr, cond}
-use Rattle.std.specs.Prelude.{Option, Result, Ok, Err, IfSome, ◌==◌}
+use Rattle.std.proofs.Common.{◌≡◌, ◌≤◌, ◌<◌, ◌^◌, ℕ, ◌+◌, List, [], ◌++◌, length, take, drop, Some, None, refl, sym, ap, ◌∙◌, subst, arith, length-append, length-drop, append_assoc, append-nil, inl, cond}
+use Rattle.std.specs.Prelude.{Option, Err, ◌==◌}
 use Rattle.std.proofs.lemmas.List.{take-append-drop, length-take-le}
 use Rattle.std.proofs.lemmas.List.Sums.{sum_by-append}
 use Rattle.std.specs.Io.KnownBytes.{Consumes, IsAtEnd}
@@ -8,18 +8,15 @@ use Rattle.std.proofs.KnownBytes.{Consumes-nil, Consumes-trans, Consumes-whole}
 use Rattle.diy_io.specs.Count.{count_of, Rose}
 use Rattle.diy_io.specs.Sink.{line_feed_count}
 use Rattle.diy_io.specs.Taken.{SourceSeen, Took}
-use Rattle.log_sum.specs.declared.errors.LogError.{LogError}
 use Rattle.log_sum.specs.declared.errors.SumError.{SumError}
 use Rattle.log_sum.specs.declared.errors.SumError.TheVariants as sums
-use Rattle.log_sum.specs.Reading.{Seen, input_judged}
-use Rattle.log_sum.specs.Standing.{Kept, StandsFor, FedTo, EndedTo, logs_text}
-use Rattle.log_sum.proofs.StandingLaws.{standing_text, fault_stays, end_fault_stays}
+use Rattle.log_sum.specs.Standing.{Kept, StandsFor, FedTo, EndedTo}
+use Rattle.log_sum.proofs.StandingLaws.{end_fault_stays}
 use Rattle.summed_logs.specs.declared.feeding.Feeding.{Feeding}
 use Rattle.summed_logs.specs.declared.feeding.LogFault.{LogFault}
-use Rattle.summed_logs.specs.declared.feeding.LogFault.TheVariants.{Wrong, TooMuch, NoMemory}
 use Rattle.summed_logs.specs.Faults.{fault_of}
-use Rattle.summed_logs.specs.Logs.{IsText, IsShort, max_piece, ShowsNone, FrontWrong, FrontFull, TookCount}
-use Rattle.summed_logs.specs.Feeding.{Reads, IsFault, FedOn, IsEndFault, EndedOn, ReadSoFar, ReadWhole, ReadPart, LogFailed, ReadTo}
+use Rattle.summed_logs.specs.Logs.{IsText, IsShort, max_piece, ShowsNone, FrontFull, TookCount}
+use Rattle.summed_logs.specs.Feeding.{Reads, IsFault, IsEndFault, ReadSoFar, ReadWhole, ReadPart, LogFailed}
 
 parts_of : (bytes piece : List ℕ) (n : ℕ) → bytes ++ piece ≡ (bytes ++ take n piece) ++ drop n piece
 parts_of bytes piece n = ap (λ p. bytes ++ p) (sym (take-append-drop n piece)) ∙ sym (append_assoc bytes (take n piece) (drop n piece))

@@ -1,24 +1,22 @@
 -- Files of a shelf that are summed, one after another.
-use Rattle.std.proofs.Common.{◌≡◌, ◌≤◌, ◌<◌, ◌^◌, ◌+◌, ℕ, Bool, true, false, List, [], ◌∷◌, ◌++◌, length, refl, sym, ap, ◌∙◌, subst, arith, Some, None, inl, inr, length-append, get_or}
-use Rattle.std.specs.Prelude.{Option, Result, Ok, Err, IfSome, IsSome, MatchOption, All, slice_get, nat_lt, zero, suc}
+use Rattle.std.proofs.Common.{◌≡◌, ◌+◌, ℕ, List, [], ◌∷◌, ◌++◌, length, refl, sym, ap, ◌∙◌, subst, arith, Some, None, inl, inr, length-append, get_or}
+use Rattle.std.specs.Prelude.{Option, Ok, Err, IfSome, IsSome, MatchOption, All, slice_get, zero, suc}
 use Rattle.std.specs.Option.{option_and_then}
 use Rattle.std.proofs.lemmas.List.Elements.{All-append}
-use Rattle.std.proofs.lemmas.Option.{slice_get_within}
 use Rattle.diy_io.specs.Count.{count_of, next_count, Rose}
-use Rattle.diy_io.specs.Shelf.{Files, ShelfSeen, Mode, Idle, left_to_read, CountsStay, Opened, NotThere, Stopped}
+use Rattle.diy_io.specs.Shelf.{Files, ShelfSeen, left_to_read, CountsStay, Opened, NotThere, Stopped}
 use Rattle.diy_io.specs.Wrote.{SinkSeen}
 use Rattle.diy_io.specs.declared.errors.Failed.{Failed}
 use Rattle.summed_logs.specs.declared.feeding.Feeding.{Feeding}
-use Rattle.summed_logs.specs.declared.feeding.LogFault.{LogFault}
 use Rattle.summed_logs.specs.declared.feeding.LogFault.TheVariants.{Wrong, TooMuch, NoMemory}
 use Rattle.summed_logs.specs.declared.feeding.ReadFault.{ReadFault}
 use Rattle.summed_logs.specs.declared.feeding.ReadFault.TheVariants.{Log, Device}
 use Rattle.summed_logs.specs.declared.files.FileFault.{FileFault}
 use Rattle.summed_logs.specs.declared.files.FileFault.TheVariants.{Missing, Read}
-use Rattle.summed_logs.specs.Logs.{IsText, IsShort, TookCount, AreRight}
-use Rattle.summed_logs.specs.Feeding.{Reads, LogSummed, LogFaulty, LogFailed, IsFaulty, ClosedTo, SumWrote}
+use Rattle.summed_logs.specs.Logs.{IsText, IsShort, TookCount}
+use Rattle.summed_logs.specs.Feeding.{Reads, LogSummed, ClosedTo, SumWrote}
 use Rattle.summed_logs.specs.SumEnds.{IsLog, AreLogs, TookFiles, last_taken, IsBegun, IsAtWord, FilesWritten, FilesUnwritten, FilesSummed}
-use Rattle.summed_logs.specs.Files.{log_seen, FileSummed, FileFaulty, FileAbsent, FileFailed, FileTo, FilesSoFar, file_end}
+use Rattle.summed_logs.specs.Files.{log_seen, FileSummed, FileTo, FilesSoFar, file_end}
 use Rattle.summed_logs.proofs.LogLaws.{are_right}
 
 one_text : (told : Option (List ℕ)) (log : List ℕ) → IsSome told → IsText told log → told ≡ Some log

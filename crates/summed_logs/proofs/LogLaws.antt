@@ -1,5 +1,5 @@
 -- A log that was read, summed or refused.
-use Rattle.std.proofs.Common.{◌≡◌, ◌≤◌, ◌<◌, ◌^◌, ◌+◌, ℕ, List, [], ◌∷◌, ◌++◌, length, refl, sym, ap, ◌∙◌, subst, arith, length-append, append_assoc, append-nil, inl, inr}
+use Rattle.std.proofs.Common.{◌≡◌, ◌≤◌, ◌^◌, ℕ, List, [], ◌∷◌, ◌++◌, length, refl, sym, ap, ◌∙◌, subst, arith, append_assoc, append-nil, inl, inr}
 use Rattle.std.specs.Prelude.{Result, Ok, Err, OnOk, OnErr}
 use Rattle.std.specs.Io.KnownBytes.{IsAtEnd}
 use Rattle.diy_io.specs.Count.{count_of, Rose}
@@ -15,7 +15,7 @@ use Rattle.summed_logs.specs.declared.feeding.LogFault.{LogFault}
 use Rattle.summed_logs.specs.declared.feeding.LogFault.TheVariants.{Wrong, TooMuch, NoMemory}
 use Rattle.summed_logs.specs.declared.feeding.ReadFault.{ReadFault}
 use Rattle.summed_logs.specs.declared.feeding.ReadFault.TheVariants.{Log, Device}
-use Rattle.summed_logs.specs.Logs.{IsText, IsShort, TookCount, AreRight, ShowsNone, FrontWrong, UpToFault, IsWrong, IsTooMuch}
+use Rattle.summed_logs.specs.Logs.{IsShort, AreRight, ShowsNone, FrontWrong, UpToFault, IsWrong}
 use Rattle.summed_logs.specs.Feeding.{Reads, IsFault, IsEndFault, ReadWhole, ReadPart, LogFailed, ReadTo, LogSummed, LogFaulty, IsFaulty, SummedTo}
 
 -- logs that were fed without a fault

@@ -1,7 +1,6 @@
-use Rattle.std.proofs.Common.{◌≡◌, ◌≤◌, ◌<◌, ◌^◌, length, take, refl, arith, ◌∙◌}
-use Rattle.diy_io.specs.Taken.{SourceSeen}
+use Rattle.std.proofs.Common.{take, refl, arith, ◌∙◌}
 use Rattle.summed_logs.specs.Files.{log_seen}
-use Rattle.summed_logs.proofs.FeedingLaws.{reads_nothing, took_of, reads_more, read_end, reads_part, reads_failed, short_piece}
+use Rattle.summed_logs.proofs.FeedingLaws.{reads_nothing, reads_more, reads_part, reads_failed, short_piece}
 use Rattle.summed_logs.proofs.FileLaws.{gave_took, gave_whole, gave_mode}
 use Rattle.summed_logs.proofs.files.read_file.Goals as goal
 

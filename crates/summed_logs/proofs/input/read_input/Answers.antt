@@ -1,4 +1,4 @@
-use Rattle.std.proofs.Common.{◌≡◌, ◌≤◌, ◌<◌, ◌^◌, length, take, refl, arith}
+use Rattle.std.proofs.Common.{take, arith}
 use Rattle.diy_io.specs.Taken.{SourceSeen, source_seen}
 use Rattle.summed_logs.proofs.FeedingLaws.{reads_nothing, took_of, reads_more, read_end, reads_part, reads_failed, short_piece}
 use Rattle.summed_logs.proofs.input.read_input.Goals as goal

@@ -1,5 +1,4 @@
-use Rattle.std.proofs.Common.{refl, ap, ◌∙◌, Err}
-use Rattle.diy_io.specs.Taken.{SourceSeen, source_seen}
+use Rattle.std.proofs.Common.{ap, ◌∙◌, Err}
 use Rattle.summed_logs.proofs.LogLaws.{part_faulty, end_faulty, whole_summed, at_part, at_failed}
 use Rattle.summed_logs.proofs.input.sum_source.Goals as goal
 
