@@ -1,23 +1,29 @@
 -- How the lines of cycles are written one after another.
-use Rattle.std.proofs.Common.{◌≡◌, ℕ, List, [], ◌∷◌, ◌++◌, Option, Some, None, Ok, Err, refl, sym, ap, ◌∙◌, subst, append-nil}
+use Rattle.std.proofs.Common.{◌≡◌, ◌==◌, ◌≤◌, ◌<◌, ℕ, true, List, [], ◌∷◌, ◌++◌, length, Option, Some, None, Ok, Err, refl, sym, ap, ◌∙◌, subst, arith, append-nil, length-append}
 use Rattle.std.specs.Prelude.{codes, Result}
 use Rattle.std.specs.List.{join_by}
+use Rattle.std.proofs.lemmas.Bool.Decides.{nat_tests}
 use Rattle.std.proofs.lemmas.Grind.{flat_map-append}
+use Rattle.diy_io.specs.declared.page.TheConstants.{SPILL, LINE_ROOM}
+use Rattle.diy_io.specs.Page.{page_after, SentAll, Sends}
+use Rattle.diy_io.specs.PageLaws.{sent_nothing, sent_same, sent_both, sent_part, sent_line}
 use Rattle.diy_io.specs.Taken.{SourceSeen}
 use Rattle.diy_io.specs.Wrote.{SinkSeen, WroteAll, WrotePart}
-use Rattle.diy_io.specs.WroteLaws.{nothing_wrote, all_then_all, all_then_part, part_more}
+use Rattle.diy_io.specs.WroteLaws.{all_then_all, all_then_part, part_more}
 use Rattle.relax_edges.specs.declared.kinds.ArchName.{ArchName}
 use Rattle.relax_edges.specs.declared.edge.Edge.{Edge}
 use Rattle.relax_edges.specs.Words.{word_of}
 use Rattle.cycle_names.specs.Names.{name_of}
 use Rattle.cycle_names.specs.Rotations.{named_rotation}
+use Rattle.cycle_lines.specs.declared.errors.LineKind.{LineKind}
 use Rattle.cycle_lines.specs.declared.errors.LinesError.{LinesError}
+use Rattle.cycle_lines.specs.declared.errors.LinesError.TheVariants.{Wrong}
 use Rattle.cycle_lines.specs.declared.errors.NormError.{NormError}
 use Rattle.cycle_lines.specs.declared.errors.NormError.TheVariants.{Lines, OutFault}
-use Rattle.cycle_lines.specs.Reading.{ReadAll, ReadUpTo, whole_of, cycles_before}
+use Rattle.cycle_lines.specs.Reading.{ReadAll, ReadUpTo}
 use Rattle.cycle_lines.specs.Normed.{name_line, name_lines, last_lines, WritesLast, NormedUpTo, NormedPart, Norms}
-use Rattle.cycle_lines.specs.Steps.{ReaderSeen, HasRead, last_cycle}
-use Rattle.cycle_lines.proofs.ReadLaws.{Before, nothing_read, given_before, all_before}
+use Rattle.cycle_lines.specs.Steps.{ReaderSeen, HasRead, GivesLine, last_cycle}
+use Rattle.cycle_lines.proofs.ReadLaws.{Before, nothing_read, line_given, no_cycle_given, fault_given, no_cycles, given_before, all_before}
 
 pub line_text : (cycle : List Edge) (name words : List ℕ) → name ≡ name_of cycle → words ≡ join_by word_of (codes " ") (named_rotation cycle) →
     ((name ++ codes ": ") ++ words) ++ codes "\n" ≡ name_line cycle
@@ -27,61 +33,123 @@ line_text cycle name words e f = rw (e, f) refl
 lines_more : (cycles more : List (List Edge)) → name_lines (cycles ++ more) ≡ name_lines cycles ++ name_lines more
 lines_more cycles more = flat_map-append name_line cycles more
 
+last_text : (cycles : List (List Edge)) (cycle : Option (List Edge)) → name_lines cycles ++ last_lines cycle ≡ name_lines (cycles ++ last_cycle cycle)
+last_text cycles (Some cycle) = sym (lines_more cycles (cycle ∷ []) ∙ ap (λ t. name_lines cycles ++ t) (append-nil (name_line cycle)))
+last_text cycles None = append-nil (name_lines cycles) ∙ ap name_lines (sym (append-nil cycles))
+
 one_line : (cycle : List Edge) → name_lines (cycle ∷ []) ≡ name_line cycle
 one_line cycle = append-nil (name_line cycle)
 
--- the lines of the cycles that were given are written
-pub record Normed (arch : ArchName) (first now : SourceSeen) (before after : SinkSeen) (reader : ReaderSeen) : Type 0 where
+-- a page that was found empty
+is_zero : (n : ℕ) → true ≡ (n == 0) → n ≡ 0
+is_zero n h = grind (arith, nat_tests, h)
+
+pub nothing_held : (shown page : List ℕ) → shown ≡ page → true ≡ (length shown == 0) → [] ≡ page
+nothing_held [] page e h = e
+nothing_held (byte ∷ shown) page e h = let none = is_zero (length (byte ∷ shown)) h in absurd (omega arith)
+
+-- where a page holds something, a line was sent
+no_bytes : (front page : List ℕ) → 0 < length page → [] ++ [] ≡ front ++ page → ⊥
+no_bytes front page some e = absurd (omega (arith, some, ap length e, length-append front page))
+
+-- the lines of the cycles that were given are sent by way of a page
+pub record Normed (arch : ArchName) (first now : SourceSeen) (before after : SinkSeen) (reader : ReaderSeen) (page : List ℕ) : Type 0 where
   pub cycles : List (List Edge)
   pub read : HasRead arch first now reader cycles
-  pub wrote : WroteAll before after (name_lines cycles)
+  pub sent : SentAll before [] after page (name_lines cycles)
 
--- a line more
-wrote_more : (a b c : SinkSeen) (cycles : List (List Edge)) (cycle : List Edge) → WroteAll a b (name_lines cycles) → WroteAll b c (name_line cycle) → WroteAll a c (name_lines (cycles ++ cycle ∷ []))
-wrote_more a b c cycles cycle h k =
-    subst (WroteAll a c) (sym (lines_more cycles (cycle ∷ []) ∙ ap (λ t. name_lines cycles ++ t) (one_line cycle))) (all_then_all a b c (name_lines cycles) (name_line cycle) h k)
+pub nothing_normed : (arch : ArchName) (s : SourceSeen) (a : SinkSeen) (r : ReaderSeen) (page : List ℕ) → r ≡ record { pending = []; line = 1; taken = 0 } → page ≡ [] → Normed arch s s a a r page
+nothing_normed arch s a r page e f =
+    subst (λ p. Normed arch s s a a r p) (sym f)
+    (subst (λ q. Normed arch s s a a q []) (sym e) (record { cycles = []; read = nothing_read arch s; sent = sent_nothing a [] }))
 
-pub normed_more : (arch : ArchName) (s t : SourceSeen) (a b c : SinkSeen) (r : ReaderSeen) (cycles : List (List Edge)) (cycle : List Edge) →
-    HasRead arch s t r (cycles ++ cycle ∷ []) → WroteAll a b (name_lines cycles) → WroteAll b c (name_line cycle) → Normed arch s t a c r
-normed_more arch s t a b c r cycles cycle h w k = record { cycles = cycles ++ cycle ∷ []; read = h; wrote = wrote_more a b c cycles cycle w k }
+-- the line of a cycle more
+name_lines_more : (cycles : List (List Edge)) (cycle : List Edge) → name_lines cycles ++ name_line cycle ≡ name_lines (cycles ++ cycle ∷ [])
+name_lines_more cycles cycle = sym (lines_more cycles (cycle ∷ []) ∙ ap (λ t. name_lines cycles ++ t) (one_line cycle))
 
--- the sink fails at a line
-part_before : (arch : ArchName) (s t : SourceSeen) (a b c : SinkSeen) (cycles : List (List Edge)) (cycle : List Edge) →
-    Before arch s t (cycles ++ cycle ∷ []) → WroteAll a b (name_lines cycles) → WrotePart b c (name_line cycle) → NormedPart arch s t a c
-part_before arch s t a b c cycles cycle h w k =
-    let part = all_then_part a b c (name_lines cycles) (name_line cycle) w k in
-    let text_is : (name_lines cycles ++ name_line cycle) ++ name_lines h.more ≡ name_lines (cycles_before arch (whole_of h.text t)) =
-    ap (λ x. (name_lines cycles ++ x) ++ name_lines h.more) (sym (one_line cycle)) ∙ ap (λ x. x ++ name_lines h.more) (sym (lines_more cycles (cycle ∷ [])))
-    ∙ sym (lines_more (cycles ++ cycle ∷ []) h.more) ∙ ap name_lines (sym h.before) in
-    record {
-      text = h.text;
-      read = h.read;
-      wrote = subst (WrotePart a c) text_is (part_more a c (name_lines cycles ++ name_line cycle) (name_lines h.more) part);
-    }
+pub line_normed : (arch : ArchName) (s t : SourceSeen) (a b c : SinkSeen) (r q : ReaderSeen) (page next : List ℕ) (cycle : List Edge)
+    → Normed arch s t a b r page → GivesLine arch r q (Ok (Some cycle)) → SentAll b page c next (name_line cycle) → Normed arch s t a c q next
+line_normed arch s t a b c r q page next cycle given g k = record {
+  cycles = given.cycles ++ cycle ∷ [];
+  read = line_given arch s t r q given.cycles (Some cycle) given.read g;
+  sent =
+      sent_same a c [] next (name_lines given.cycles ++ name_line cycle) (name_lines (given.cycles ++ cycle ∷ []))
+      (sent_both a b c [] page next (name_lines given.cycles) (name_line cycle) given.sent k) (name_lines_more given.cycles cycle);
+}
 
-pub normed_part : (arch : ArchName) (s t : SourceSeen) (a b c : SinkSeen) (r : ReaderSeen) (cycles : List (List Edge)) (cycle : List Edge) →
-    HasRead arch s t r (cycles ++ cycle ∷ []) → WroteAll a b (name_lines cycles) → WrotePart b c (name_line cycle) → NormedPart arch s t a c
-normed_part arch s t a b c r cycles cycle h w k = part_before arch s t a b c cycles cycle (given_before arch s t r cycles cycle h) w k
+-- a line of blanks
+pub blank_normed : (arch : ArchName) (s t : SourceSeen) (a b : SinkSeen) (r q : ReaderSeen) (page : List ℕ)
+    → Normed arch s t a b r page → GivesLine arch r q (Ok None) → Normed arch s t a b q page
+blank_normed arch s t a b r q page given g = record { cycles = given.cycles; read = no_cycle_given arch s t r q given.cycles given.read g; sent = given.sent }
+
+-- the sink fails, and has taken a prefix of the lines of cycles that stand before the first fault
+part_before : (arch : ArchName) (s t : SourceSeen) (a b : SinkSeen) (cycles : List (List Edge)) → Before arch s t cycles → WrotePart a b (name_lines cycles) → NormedPart arch s t a b
+part_before arch s t a b cycles h part = record {
+  text = h.text;
+  read = h.read;
+  wrote =
+      subst (WrotePart a b) (sym (lines_more cycles h.more) ∙ ap name_lines (sym h.before))
+      (part_more a b (name_lines cycles) (name_lines h.more) part);
+}
+
+-- at the line of a cycle
+pub line_stopped : (arch : ArchName) (s t : SourceSeen) (a b c : SinkSeen) (r q : ReaderSeen) (page : List ℕ) (cycle : List Edge)
+    → Normed arch s t a b r page → GivesLine arch r q (Ok (Some cycle)) → WrotePart b c (page ++ name_line cycle) → NormedPart arch s t a c
+line_stopped arch s t a b c r q page cycle given g part =
+    part_before arch s t a c (given.cycles ++ cycle ∷ [])
+    (given_before arch s t q (given.cycles ++ cycle ∷ []) (line_given arch s t r q given.cycles (Some cycle) given.read g) (no_cycles given.cycles cycle))
+    (subst (WrotePart a c) (name_lines_more given.cycles cycle) (sent_part a b c [] page (name_lines given.cycles) (name_line cycle) given.sent part))
+
+-- where the page is handed on
+pub hand_on_stopped : (arch : ArchName) (s t : SourceSeen) (a b c : SinkSeen) (r : ReaderSeen) (page : List ℕ)
+    → Normed arch s t a b r page → 0 < length page → WrotePart b c page → NormedPart arch s t a c
+hand_on_stopped arch s t a b c r page given some part =
+    part_before arch s t a c given.cycles
+    (given_before arch s t r given.cycles given.read (λ none. no_bytes given.sent.front page some (ap name_lines (sym none) ∙ given.sent.parts)))
+    (subst (WrotePart a c) (sym given.sent.parts) (all_then_part a b c given.sent.front page given.sent.wrote part))
+
+-- what was sent is written once the page is handed on
+pub all_written : (a b c : SinkSeen) (page text : List ℕ) → SentAll a [] b page text → WroteAll b c page → WroteAll a c text
+all_written a b c page text h w = subst (WroteAll a c) (sym h.parts) (all_then_all a b c h.front page h.wrote w)
+
+-- a line has a fault
+pub fault_normed : (arch : ArchName) (s t : SourceSeen) (a b c : SinkSeen) (r q : ReaderSeen) (page : List ℕ) (number : ℕ) (kind : LineKind)
+    → Normed arch s t a b r page → GivesLine arch r q (Err kind) → number ≡ r.line → WroteAll b c page → NormedUpTo arch s t a c (Wrong number kind)
+fault_normed arch s t a b c r q page number kind given g e w = record {
+  cycles = given.cycles;
+  read = fault_given arch s t r q given.cycles number kind given.read g e;
+  wrote = all_written a b c page (name_lines given.cycles) given.sent w;
+}
+
+-- more is read once the page is handed on
+all_sent : (a c : SinkSeen) (page text : List ℕ) → page ≡ [] → WroteAll a c text → SentAll a [] c page text
+all_sent a c page text e w = subst (λ p. SentAll a [] c p text) (sym e) (record { front = text; parts = sym (append-nil text); wrote = w })
+
+pub more_normed : (arch : ArchName) (s t : SourceSeen) (a b : SinkSeen) (r : ReaderSeen) (page : List ℕ) (cycles : List (List Edge))
+    → HasRead arch s t r cycles → WroteAll a b (name_lines cycles) → page ≡ [] → Normed arch s t a b r page
+more_normed arch s t a b r page cycles h w e = record { cycles = cycles; read = h; sent = all_sent a b page (name_lines cycles) e w }
 
 -- the last line
 pub normed_last : (arch : ArchName) (s t : SourceSeen) (a b c : SinkSeen) (cycles : List (List Edge)) (cycle : Option (List Edge)) (result : Result (Unit {0}) NormError) →
     ReadAll arch s t (cycles ++ last_cycle cycle) → WroteAll a b (name_lines cycles) → WritesLast (last_lines cycle) b c result → Norms arch s t a c result
-normed_last arch s t a b c cycles (Some cycle) (Ok u) h w k = record { cycles = cycles ++ cycle ∷ []; read = h; wrote = wrote_more a b c cycles cycle w k }
-normed_last arch s t a b c cycles None (Ok u) h w k =
-    record { cycles = cycles; read = subst (ReadAll arch s t) (append-nil cycles) h; wrote = subst (WroteAll a c) (append-nil (name_lines cycles)) (all_then_all a b c (name_lines cycles) [] w k) }
-normed_last arch s t a b c cycles (Some cycle) (Err OutFault) h w k = part_before arch s t a b c cycles cycle (all_before arch s t (cycles ++ cycle ∷ []) h) w k
-normed_last arch s t a b c cycles None (Err OutFault) h w k =
-    let all = all_before arch s t (cycles ++ []) h in
-    let part = all_then_part a b c (name_lines cycles) [] w k in
-    let text_is : (name_lines cycles ++ []) ++ name_lines all.more ≡ name_lines (cycles_before arch (whole_of all.text t)) =
-    ap (λ x. x ++ name_lines all.more) (append-nil (name_lines cycles) ∙ ap name_lines (sym (append-nil cycles)))
-    ∙ sym (lines_more (cycles ++ []) all.more) ∙ ap name_lines (sym all.before) in
-    record { text = all.text; read = all.read; wrote = subst (WrotePart a c) text_is (part_more a c (name_lines cycles ++ []) (name_lines all.more) part) }
+normed_last arch s t a b c cycles cycle (Ok u) h w k = record {
+  cycles = cycles ++ last_cycle cycle;
+  read = h;
+  wrote = subst (WroteAll a c) (last_text cycles cycle) (all_then_all a b c (name_lines cycles) (last_lines cycle) w k);
+}
+normed_last arch s t a b c cycles cycle (Err OutFault) h w k =
+    part_before arch s t a c (cycles ++ last_cycle cycle) (all_before arch s t (cycles ++ last_cycle cycle) h)
+    (subst (WrotePart a c) (last_text cycles cycle) (all_then_part a b c (name_lines cycles) (last_lines cycle) w k))
 normed_last arch s t a b c cycles cycle (Err (Lines error)) h w k = absurd k
 
 -- the source wasn't read to its end
 pub normed_up_to : (arch : ArchName) (s t : SourceSeen) (a b : SinkSeen) (cycles : List (List Edge)) (error : LinesError) → ReadUpTo arch s t cycles error → WroteAll a b (name_lines cycles) → NormedUpTo arch s t a b error
 normed_up_to arch s t a b cycles error h w = record { cycles = cycles; read = h; wrote = w }
 
-pub nothing_normed : (arch : ArchName) (s : SourceSeen) (a : SinkSeen) (r : ReaderSeen) → r ≡ record { pending = []; line = 1; taken = 0 } → Normed arch s s a a r
-nothing_normed arch s a r e = subst (Normed arch s s a a) (sym e) (record { cycles = []; read = nothing_read arch s; wrote = nothing_wrote a })
+-- room is made on a page, and then a line is put
+pub line_sent : (a b : SinkSeen) (held kept page text line : List ℕ) → page ≡ page_after kept text → text ≡ line → SentAll a held b kept [] → length kept < SPILL → length text ≤ LINE_ROOM
+    → Sends a held b page line (Ok tt)
+line_sent a b held kept page text line e f h room short =
+    subst (λ p. Sends a held b p line (Ok tt)) (sym e)
+    (subst (λ x. Sends a held b (page_after kept text) x (Ok tt)) f
+    (record { ok = sent_line a a b held held kept [] text (sent_nothing a held) h room short; failed = tt }))

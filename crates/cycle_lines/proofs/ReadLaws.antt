@@ -395,25 +395,24 @@ pub record Before (arch : ArchName) (s t : SourceSeen) (cycles : List (List Edge
   pub more : List (List Edge)
   pub before : cycles_before arch (whole_of text t) ≡ cycles ++ more
 
-no_cycles : (cycles : List (List Edge)) (cycle : List Edge) → cycles ++ cycle ∷ [] ≡ [] → ⊥
+pub no_cycles : (cycles : List (List Edge)) (cycle : List Edge) → cycles ++ cycle ∷ [] ≡ [] → ⊥
 no_cycles [] cycle e = cc e
 no_cycles (c ∷ cycles) cycle e = cc e
 
 -- where a cycle was given, bytes were taken
-took_cycle : (arch : ArchName) (s t : SourceSeen) (r : ReaderSeen) (cycles : List (List Edge)) (cycle : List Edge) (h : HasRead arch s t r (cycles ++ cycle ∷ [])) →
-    Took s t (h.given ++ r.pending)
-took_cycle arch s t r cycles cycle h = by_given h.given h.cycles_are (took_some s t (h.given ++ r.pending) h.took)
+took_cycle : (arch : ArchName) (s t : SourceSeen) (r : ReaderSeen) (cycles : List (List Edge)) (h : HasRead arch s t r cycles) → (cycles ≡ [] → ⊥) → Took s t (h.given ++ r.pending)
+took_cycle arch s t r cycles h some = by_given h.given h.cycles_are (took_some s t (h.given ++ r.pending) h.took)
   where
-    by_given : (given : List ℕ) → cycles ++ cycle ∷ [] ≡ cycles_of arch (ended_lines given) → (0 < length (given ++ r.pending) → Took s t (h.given ++ r.pending)) → Took s t (h.given ++ r.pending)
-    by_given [] e k = absurd (no_cycles cycles cycle (e ∙ ap (cycles_of arch) ended_nil))
+    by_given : (given : List ℕ) → cycles ≡ cycles_of arch (ended_lines given) → (0 < length (given ++ r.pending) → Took s t (h.given ++ r.pending)) → Took s t (h.given ++ r.pending)
+    by_given [] e k = absurd (some (e ∙ ap (cycles_of arch) ended_nil))
     by_given (b ∷ given) e k = k (omega arith)
 
-pub given_before : (arch : ArchName) (s t : SourceSeen) (r : ReaderSeen) (cs : List (List Edge)) (c : List Edge) → HasRead arch s t r (cs ++ c ∷ []) → Before arch s t (cs ++ c ∷ [])
-given_before arch s t r cs c h =
+pub given_before : (arch : ArchName) (s t : SourceSeen) (r : ReaderSeen) (cycles : List (List Edge)) → HasRead arch s t r cycles → (cycles ≡ [] → ⊥) → Before arch s t cycles
+given_before arch s t r cycles h some =
     let behind = lines_of (r.pending ++ unwrap_or t.left []) in
     record {
       text = h.given ++ r.pending;
-      read = record { took = took_cycle arch s t r cs c h; few = subst (λ n. n ≤ MAX_INPUT) h.taken_is h.few; no_fault = h.no_fault };
+      read = record { took = took_cycle arch s t r cycles h some; few = subst (λ n. n ≤ MAX_INPUT) h.taken_is h.few; no_fault = h.no_fault };
       more = cycles_of arch (take_while (is_sound arch) behind);
       before =
           ap (λ b. cycles_before arch b) (append_assoc h.given r.pending (unwrap_or t.left []))

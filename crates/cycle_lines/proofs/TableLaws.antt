@@ -2,6 +2,7 @@
 use Rattle.std.proofs.Common.{◌≡◌, ◌≤◌, ◌<◌, ◌+◌, ℕ, zero, suc, List, [], ◌∷◌, ◌++◌, length, take, get_or, Option, Some, None, Ok, Err, true, false, refl, sym, ap, inl, inr, ◌∙◌, subst, arith, append-nil, append_assoc}
 use Rattle.std.specs.Prelude.{cond, map, filter, fold, codes, Result, OnOk, IsTrue, ◌↔◌, slice_set}
 use Rattle.std.specs.List.{flat_map}
+use Rattle.std.specs.Result.{IsErrAnd}
 use Rattle.std.specs.Ordering.{nat_cmp, match_ordering}
 use Rattle.std.specs.declared.cmp.Ordering.{Ordering}
 use Rattle.std.specs.declared.cmp.Ordering.TheVariants.{Less, Equal, Greater}
@@ -15,10 +16,11 @@ use Rattle.std.proofs.lemmas.List.Sums.{fold-append}
 use Rattle.std.proofs.lemmas.List.Folds.{flat_map-map}
 use Rattle.std.proofs.lemmas.Grind.{flat_map-append}
 use Rattle.diy_io.specs.declared.source.TheConstants.{MAX_INPUT}
-use Rattle.diy_io.specs.SinkLaws.{each_written, each_stopped}
+use Rattle.diy_io.specs.declared.errors.Failed.{Failed}
+use Rattle.diy_io.specs.Page.{SentAll, Sends}
+use Rattle.diy_io.specs.PageLaws.{sent_nothing, sent_same, sent_both, sent_part, sent_part_more, each_sent, each_unsent}
 use Rattle.diy_io.specs.Taken.{SourceSeen}
 use Rattle.diy_io.specs.Wrote.{SinkSeen, WroteAll, WrotePart}
-use Rattle.diy_io.specs.WroteLaws.{all_then_all, all_then_part, part_more}
 use Rattle.relax_edges.specs.declared.kinds.ArchName.{ArchName}
 use Rattle.relax_edges.specs.declared.edge.Edge.{Edge}
 use Rattle.cycle_names.specs.declared.family.Family.{Family}
@@ -118,19 +120,36 @@ pub ok_then : {A E P Q : Type 0} (r : Result A E) → (P → Q) → OnOk r P →
 ok_then (Ok x) f h = f h
 ok_then (Err e) f h = tt
 
--- names that are written one after another
-entry_as : (a b : SinkSeen) (s t : List ℕ) → s ≡ t → WroteAll a b (name_entry s) → WroteAll a b (name_entry t)
-entry_as a b s t e h = subst (λ x. WroteAll a b (name_entry x)) e h
+-- nothing is sent
+pub sends_nothing : (a : SinkSeen) (held text : List ℕ) → [] ≡ text → Sends a held a held text (Ok tt)
+sends_nothing a held text e = record { ok = sent_same a a held held [] text (sent_nothing a held) e; failed = tt }
+
+-- what is left where a call of the sink fails
+pub unsent_err : (Q : Failed → Type 0) (a b : SinkSeen) (held kept text : List ℕ) (result : Result (Unit {0}) Failed) → WrotePart a b (held ++ text) → IsErrAnd result Q → Sends a held b kept text result
+unsent_err Q a b held kept text (Ok _) h is_err = absurd is_err
+unsent_err Q a b held kept text (Err _) h is_err = record { ok = tt; failed = h }
+
+-- a page that was empty
+pub sent_of : (a b : SinkSeen) (held kept text : List ℕ) → held ≡ [] → SentAll a held b kept text → SentAll a [] b kept text
+sent_of a b held kept text e h = subst (λ p. SentAll a p b kept text) e h
+
+pub sends_of : (a b : SinkSeen) (held kept text : List ℕ) (result : Result (Unit {0}) Failed) → held ≡ [] → Sends a held b kept text result → Sends a [] b kept text result
+sends_of a b held kept text result e h = subst (λ p. Sends a p b kept text result) e h
+
+-- names that are sent one after another
+entry_as : (a b : SinkSeen) (held kept s t : List ℕ) → s ≡ t → SentAll a held b kept (name_entry s) → SentAll a held b kept (name_entry t)
+entry_as a b held kept s t e h = subst (λ x. SentAll a held b kept (name_entry x)) e h
 
 names_then : (names : List (List ℕ)) (name : List ℕ) → flat_map name_entry (names ++ name ∷ []) ≡ flat_map name_entry names ++ name_entry name
 names_then names name = flat_map-append name_entry names (name ∷ []) ∙ ap (λ t. flat_map name_entry names ++ t) (append-nil (name_entry name))
 
-pub names_go : (a b c : SinkSeen) (ys : List (Bor (Vec ℕ Global))) (x : Bor (Vec ℕ Global)) (text : List ℕ) → text ≡ x.now.items →
-    WroteAll a b (flat_map name_entry (map (λ name. name.now.items) ys)) → WroteAll b c (name_entry text) → WroteAll a c (flat_map name_entry (map (λ name. name.now.items) (ys ++ x ∷ [])))
-names_go a b c ys x text e h k =
+pub names_go : (a b c : SinkSeen) (held mid kept : List ℕ) (ys : List (Bor (Vec ℕ Global))) (x : Bor (Vec ℕ Global)) (text : List ℕ) → text ≡ x.now.items
+    → SentAll a held b mid (flat_map name_entry (map (λ name. name.now.items) ys)) → SentAll b mid c kept (name_entry text)
+    → SentAll a held c kept (flat_map name_entry (map (λ name. name.now.items) (ys ++ x ∷ [])))
+names_go a b c held mid kept ys x text e h k =
     let shown = map (λ (name : Bor (Vec ℕ Global)). name.now.items) ys in
-    subst (WroteAll a c) (sym (ap (flat_map name_entry) (map_more (λ (name : Bor (Vec ℕ Global)). name.now.items) ys x) ∙ names_then shown x.now.items))
-    (all_then_all a b c (flat_map name_entry shown) (name_entry x.now.items) h (entry_as b c text x.now.items e k))
+    subst (SentAll a held c kept) (sym (ap (flat_map name_entry) (map_more (λ (name : Bor (Vec ℕ Global)). name.now.items) ys x) ∙ names_then shown x.now.items))
+    (sent_both a b c held mid kept (flat_map name_entry shown) (name_entry x.now.items) h (entry_as b c mid kept text x.now.items e k))
 
 pub names_cover : (ys : List (Bor (Vec ℕ Global))) (it rest : List (Vec ℕ Global)) (x : Bor (Vec ℕ Global)) (all : List (List ℕ)) → it ≡ x.now ∷ rest →
     map (λ name. name.now.items) ys ++ map (λ name. name.items) it ≡ all → map (λ name. name.now.items) (ys ++ x ∷ []) ++ map (λ name. name.items) rest ≡ all
@@ -139,14 +158,17 @@ names_cover ys it rest x all h k =
     let g = λ (name : Vec ℕ Global). name.items in
     ap (λ t. t ++ map g rest) (map_more f ys x) ∙ append_assoc (map f ys) (f x ∷ []) (map g rest) ∙ ap (λ t. map f ys ++ map g t) (sym h) ∙ k
 
-pub names_stop : (a b c : SinkSeen) (ys : List (Bor (Vec ℕ Global))) (it rest : List (Vec ℕ Global)) (x : Bor (Vec ℕ Global)) (text : List ℕ) (all : List (List ℕ)) → text ≡ x.now.items → it ≡ x.now ∷ rest →
-    map (λ name. name.now.items) ys ++ map (λ name. name.items) it ≡ all → WroteAll a b (flat_map name_entry (map (λ name. name.now.items) ys)) → WrotePart b c (name_entry text) → WrotePart a c (flat_map name_entry all)
-names_stop a b c ys it rest x text all e h k w p =
+pub names_stop : (a b c : SinkSeen) (held mid : List ℕ) (ys : List (Bor (Vec ℕ Global))) (it rest : List (Vec ℕ Global)) (x : Bor (Vec ℕ Global)) (text : List ℕ) (all : List (List ℕ))
+    → text ≡ x.now.items → it ≡ x.now ∷ rest → map (λ name. name.now.items) ys ++ map (λ name. name.items) it ≡ all
+    → SentAll a held b mid (flat_map name_entry (map (λ name. name.now.items) ys)) → WrotePart b c (mid ++ name_entry text) → WrotePart a c (held ++ flat_map name_entry all)
+names_stop a b c held mid ys it rest x text all e h k w p =
     let shown = map (λ (name : Bor (Vec ℕ Global)). name.now.items) ys in
     let left = map (λ (name : Vec ℕ Global). name.items) rest in
-    let here = subst (λ t. WrotePart b c (name_entry t)) e p in
-    let part = part_more a c (flat_map name_entry shown ++ name_entry x.now.items) (flat_map name_entry left) (all_then_part a b c (flat_map name_entry shown) (name_entry x.now.items) w here) in
-    subst (WrotePart a c)
+    let here = subst (λ t. WrotePart b c (mid ++ name_entry t)) e p in
+    let part =
+    sent_part_more a c held (flat_map name_entry shown ++ name_entry x.now.items) (flat_map name_entry left)
+    (sent_part a b c held mid (flat_map name_entry shown) (name_entry x.now.items) w here) in
+    subst (λ t. WrotePart a c (held ++ t))
     (ap (λ t. t ++ flat_map name_entry left) (sym (names_then shown x.now.items) ∙ ap (flat_map name_entry) (sym (map_more (λ (name : Bor (Vec ℕ Global)). name.now.items) ys x)))
     ∙ sym (flat_map-append name_entry (map (λ (name : Bor (Vec ℕ Global)). name.now.items) (ys ++ x ∷ [])) left) ∙ ap (flat_map name_entry) (names_cover ys it rest x all h k))
     part
@@ -155,22 +177,18 @@ pub names_done : (ys : List (Bor (Vec ℕ Global))) (it : List (Vec ℕ Global))
 names_done ys it all e k =
     sym (append-nil (map (λ name. name.now.items) ys)) ∙ ap (λ t. map (λ (name : Bor (Vec ℕ Global)). name.now.items) ys ++ map (λ (name : Vec ℕ Global). name.items) t) (sym e) ∙ k
 
--- texts that are written one after another
-pub each_all : {X : Type 0} (f : X → List ℕ) (a b c : SinkSeen) (xs : List X) (i : ℕ) (d : X) → i < length xs → WroteAll a b (flat_map f (take i xs)) → WroteAll b c (f (get_or xs i d)) → WroteAll a c (flat_map f (take (i + 1) xs))
-each_all f a b c xs i d h p q = record { grew = each_written f a.told b.told c.told xs i d h p.grew q.grew; no_fault = q.no_fault ∙ p.no_fault }
+-- the lines of families one after another
+pub each_entry : (a b c : SinkSeen) (held mid kept : List ℕ) (table : List FamilyNames) (i : ℕ) (entry : FamilyNames) → i < length table → entry ≡ get_or table i entry
+    → SentAll a held b mid (flat_map (λ e. entry_text (entry_view e)) (take i table)) → SentAll b mid c kept (entry_text (entry_view entry))
+    → SentAll a held c kept (flat_map (λ e. entry_text (entry_view e)) (take (i + 1) table))
+each_entry a b c held mid kept table i entry h is p q =
+    each_sent (λ e. entry_text (entry_view e)) a b c held mid kept table i entry h p (subst (λ e. SentAll b mid c kept (entry_text (entry_view e))) is q)
 
-pub each_part : {X : Type 0} (f : X → List ℕ) (a b c : SinkSeen) (xs : List X) (i : ℕ) (d : X) → i < length xs → WroteAll a b (flat_map f (take i xs)) → WrotePart b c (f (get_or xs i d)) → WrotePart a c (flat_map f xs)
-each_part f a b c xs i d h p q =
-    let part = all_then_part a b c (flat_map f (take i xs)) (f (get_or xs i d)) p q in
-    record { grew = each_stopped f a.told b.told c.told xs i d h p.grew q.grew; fault = part.fault; never_falls = part.never_falls }
-
-pub each_entry : (a b c : SinkSeen) (table : List FamilyNames) (i : ℕ) (entry : FamilyNames) → i < length table → entry ≡ get_or table i entry →
-    WroteAll a b (flat_map (λ e. entry_text (entry_view e)) (take i table)) → WroteAll b c (entry_text (entry_view entry)) → WroteAll a c (flat_map (λ e. entry_text (entry_view e)) (take (i + 1) table))
-each_entry a b c table i entry h is p q = each_all (λ e. entry_text (entry_view e)) a b c table i entry h p (subst (λ e. WroteAll b c (entry_text (entry_view e))) is q)
-
-pub part_entry : (a b c : SinkSeen) (table : List FamilyNames) (i : ℕ) (entry : FamilyNames) → i < length table → entry ≡ get_or table i entry →
-    WroteAll a b (flat_map (λ e. entry_text (entry_view e)) (take i table)) → WrotePart b c (entry_text (entry_view entry)) → WrotePart a c (flat_map (λ e. entry_text (entry_view e)) table)
-part_entry a b c table i entry h is p q = each_part (λ e. entry_text (entry_view e)) a b c table i entry h p (subst (λ e. WrotePart b c (entry_text (entry_view e))) is q)
+pub part_entry : (a b c : SinkSeen) (held mid : List ℕ) (table : List FamilyNames) (i : ℕ) (entry : FamilyNames) → i < length table → entry ≡ get_or table i entry
+    → SentAll a held b mid (flat_map (λ e. entry_text (entry_view e)) (take i table)) → WrotePart b c (mid ++ entry_text (entry_view entry))
+    → WrotePart a c (held ++ flat_map (λ e. entry_text (entry_view e)) table)
+part_entry a b c held mid table i entry h is p q =
+    each_unsent (λ e. entry_text (entry_view e)) a b c held mid table i entry h p (subst (λ e. WrotePart b c (mid ++ entry_text (entry_view e))) is q)
 
 -- the text of a family
 pub no_text : (f : Family) (names : List (List ℕ)) → length names ≡ 0 → family_text f names ≡ []

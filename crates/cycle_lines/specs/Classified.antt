@@ -75,8 +75,8 @@ pub record ReadsPart (old new : SourceSeen) : Type 0 where
   pub no_fault : new.faults ≡ old.faults
 
 -- the families of the cycles of a source are written; or nothing is, for the reason that is given; or the sink fails
-abbrev pub Classifies : {Sink : Type 0} → (Sink → SinkSeen) → ArchName → SourceSeen → SourceSeen → Sink → Sink → Result (Unit {0}) ClassifyError → Type 0
-Classifies seen arch old new before after (Ok _) = ClassifiedAll arch old new (seen before) (seen after)
-Classifies seen arch old new before after (Err OutFault) = ClassifiedPart arch old new (seen before) (seen after)
-Classifies seen arch old new before after (Err (Lines error)) = ReadsUpTo arch old new error × (after ≡ before)
-Classifies seen arch old new before after (Err NoMemory) = ReadsPart old new × (after ≡ before)
+abbrev pub Classifies : ArchName → SourceSeen → SourceSeen → SinkSeen → SinkSeen → Result (Unit {0}) ClassifyError → Type 0
+Classifies arch old new before after (Ok _) = ClassifiedAll arch old new before after
+Classifies arch old new before after (Err OutFault) = ClassifiedPart arch old new before after
+Classifies arch old new before after (Err (Lines error)) = ReadsUpTo arch old new error × (after ≡ before)
+Classifies arch old new before after (Err NoMemory) = ReadsPart old new × (after ≡ before)

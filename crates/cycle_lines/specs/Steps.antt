@@ -112,9 +112,19 @@ abbrev pub ReadsOn : ArchName → SourceSeen → SourceSeen → ReaderSeen → R
 ReadsOn arch old new before after result =
     (first : SourceSeen) (cycles : List (List Edge)) → HasRead arch first old before cycles → Continues arch first new after cycles result
 
+-- a source was read to its end, or to the fault of its last line
+abbrev pub ReadToEnd : ArchName → SourceSeen → SourceSeen → List (List Edge) → Result (Option (List Edge)) LinesError → Type 0
+ReadToEnd arch old new cycles (Ok cycle) = ReadAll arch old new (cycles ++ last_cycle cycle)
+ReadToEnd arch old new cycles (Err error) = ReadUpTo arch old new cycles error
+
 -- a call reads the last line, where the source is at its end, whatever was read before it
-abbrev pub ReadsLast : ArchName → ReaderSeen → Result Found LinesError → Type 0
+abbrev pub ReadsLast : ArchName → ReaderSeen → Result (Option (List Edge)) LinesError → Type 0
 ReadsLast arch reader result =
+    (first last : SourceSeen) (cycles : List (List Edge)) → HasRead arch first last reader cycles → Ended last → ReadToEnd arch first last cycles result
+
+-- the same, and what is found is told
+abbrev pub FindsLast : ArchName → ReaderSeen → Result Found LinesError → Type 0
+FindsLast arch reader result =
     (first last : SourceSeen) (cycles : List (List Edge)) → HasRead arch first last reader cycles → Ended last → Continues arch first last reader cycles result
 
 -- what is found isn't a cycle that more may follow

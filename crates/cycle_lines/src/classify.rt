@@ -1,6 +1,4 @@
 ghost use Rattle.std.specs.Prelude.{◌≡◌, length};
-ghost use Rattle.diy_io.specs.Taken.{source_seen};
-ghost use Rattle.diy_io.specs.Wrote.{sink_seen};
 ghost use Rattle.cycle_lines.specs.Classified.{Classifies};
 ghost use Rattle.cycle_lines.specs.Tables.{Gathers, PutsLast};
 
@@ -17,14 +15,14 @@ use std::alloc::Global;
 /// cycles, each once and behind two blanks, in byte order.
 ///
 /// Where the lines can't be read to the end, or there is no memory, nothing is written. Where the
-/// sink fails, it has taken a front of the text.
+/// sink fails, it has taken a prefix of the text.
 pub fn classify_lines<I: Source, O: Sink>(
     alloc: Global,
     arch: ArchName,
     input: &mut I,
     out: &mut O,
 ) -> Result<(), ClassifyError>
-    ensures { Classifies (λ sink. sink_seen (O.told sink) (O.faults sink)) arch (source_seen (I.left input.old) (I.taken input.old) (I.faults input.old)) (source_seen (I.left input.new) (I.taken input.new) (I.faults input.new)) out.old out.new result }
+    ensures { Classifies arch (I.seen input.old) (I.seen input.new) (O.seen out.old) (O.seen out.new) result }
 {
     match gather(alloc, arch, input) {
         Ok(table) => match write_families(table.as_slice(), out) {
@@ -41,7 +39,7 @@ fn gather<I: Source>(
     arch: ArchName,
     input: &mut I,
 ) -> Result<Vec<FamilyNames>, ClassifyError>
-    ensures { Gathers arch (source_seen (I.left input.old) (I.taken input.old) (I.faults input.old)) (source_seen (I.left input.new) (I.taken input.new) (I.faults input.new)) result }
+    ensures { Gathers arch (I.seen input.old) (I.seen input.new) result }
 {
     let mut table = match no_names(alloc) {
         Ok(table) => table,

@@ -1,12 +1,13 @@
-ghost use Rattle.diy_io.specs.Taken.{source_seen};
-ghost use Rattle.diy_io.specs.Wrote.{sink_seen, Wrote};
+ghost use Rattle.std.specs.Prelude.{◌≡◌, ◌<◌, [], length, OnOk, OnErr};
+ghost use Rattle.diy_io.specs.Page.{Sends};
+ghost use Rattle.diy_io.specs.Wrote.{Wrote};
 ghost use Rattle.cycle_lines.specs.Normed.{name_line, Norms, WritesLast, last_lines};
 
-use crate::errors::NormError;
-use crate::reader::{Found, LineReader};
+use crate::errors::{LinesError, NormError};
+use crate::reader::{Line, LineReader};
 use arrayvec::ArrayString;
 use cycle_names::{MAX_NAME, name_and_rotation, push_words};
-use diy_io::{Failed, Sink, Source};
+use diy_io::{Failed, Page, Sink, Source};
 use edge_algebra::Cycle;
 use relax_edges::ArchName;
 
@@ -14,39 +15,78 @@ use relax_edges::ArchName;
 const MAX_NAME_LINE: usize = 2 * MAX_NAME + 3;
 
 /// Reads lines of cycles of an architecture, and writes for each cycle the line of its name and its
-/// edges, in order. Each is written before more is read, and no memory is taken.
+/// edges, in order. These lines are gathered on a page, and each is at the sink before more of the
+/// input is read. No memory is taken.
 ///
 /// A line ends with a line feed, and a carriage return right before that is dropped; a last line
 /// without a line feed counts if it has a byte. A line of blanks alone is passed over; else all up
 /// to its first colon is dropped, and the rest is edges, which blanks (spaces and tabs) separate.
 ///
 /// Where a line has a fault, where there are more than `MAX_INPUT` bytes, or where the source fails,
-/// the lines of the cycles before that are written. Where the sink fails, it has taken a front of
+/// the lines of the cycles before that are written. Where the sink fails, it has taken a prefix of
 /// them.
 pub fn norm_lines<I: Source, O: Sink>(
     arch: ArchName,
     input: &mut I,
     out: &mut O,
 ) -> Result<(), NormError>
-    ensures { Norms arch (source_seen (I.left input.old) (I.taken input.old) (I.faults input.old)) (source_seen (I.left input.new) (I.taken input.new) (I.faults input.new)) (sink_seen (O.told out.old) (O.faults out.old)) (sink_seen (O.told out.new) (O.faults out.new)) result }
+    ensures { Norms arch (I.seen input.old) (I.seen input.new) (O.seen out.old) (O.seen out.new) result }
 {
     let mut reader = LineReader::new();
+    let mut page = Page::new();
     let mut words: ArrayString<MAX_NAME> = ArrayString::new();
     let mut line: ArrayString<MAX_NAME_LINE> = ArrayString::new();
     loop {
-        match reader.next_cycle(arch, input) {
-            Ok(Found::Next(cycle)) => match write_line(&cycle, &mut words, &mut line, out) {
-                Ok(()) => {}
-                Err(Failed) => return Err(NormError::OutFault),
-            },
-            Ok(Found::Last(cycle)) => return write_last(&cycle, out),
-            Err(error) => return Err(NormError::Lines(error)),
+        let number = reader.line();
+        match reader.next_line(arch) {
+            Line::Cycle(cycle) => {
+                match send_line(&cycle, &mut words, &mut line, &mut page, out) {
+                    Ok(()) => {}
+                    Err(Failed) => return Err(NormError::OutFault),
+                }
+            }
+            Line::Blank => {}
+            Line::Wrong(kind) => {
+                return match hand_on(&mut page, out) {
+                    Ok(()) => Err(NormError::Lines(LinesError::Wrong { line: number, kind })),
+                    Err(Failed) => Err(NormError::OutFault),
+                };
+            }
+            Line::Unended => {
+                match hand_on(&mut page, out) {
+                    Ok(()) => {}
+                    Err(Failed) => return Err(NormError::OutFault),
+                }
+                match reader.read_more(&page, input) {
+                    Ok(0) => {
+                        return match reader.last_cycle(arch) {
+                            Ok(cycle) => write_last(&cycle, out),
+                            Err(error) => Err(NormError::Lines(error)),
+                        };
+                    }
+                    Ok(_) => {}
+                    Err(error) => return Err(NormError::Lines(error)),
+                }
+            }
         }
     }
 }
 
+/// Hands on what a page holds, if it holds anything.
+fn hand_on<O: Sink>(page: &mut Page, out: &mut O) -> Result<(), Failed>
+    ensures wrote { Wrote (O.seen out.old) (O.seen out.new) page.old result }
+    ensures empty { OnOk result (page.new ≡ []) }
+    ensures held { OnErr result (0 < length page.old) }
+{
+    if page.as_slice().is_empty() {
+        return Ok(());
+    }
+    page.flush(out)
+}
+
+/// Writes the line of a last cycle, if there is one.
 fn write_last<O: Sink>(cycle: &Option<Cycle>, out: &mut O) -> Result<(), NormError>
-    ensures { WritesLast (last_lines cycle.now) (sink_seen (O.told out.old) (O.faults out.old)) (sink_seen (O.told out.new) (O.faults out.new)) result }
+    ensures { WritesLast (last_lines cycle.now) (O.seen out.old) (O.seen out.new) result }
 {
     match cycle {
         Some(cycle) => match write_name_line(cycle, out) {
@@ -58,24 +98,41 @@ fn write_last<O: Sink>(cycle: &Option<Cycle>, out: &mut O) -> Result<(), NormErr
 }
 
 /// Writes the line of a cycle: its name, a colon and a blank, and its edges in the rotation that it
-/// is named from, joined by blanks. Where the sink fails, it has taken a front of the line.
+/// is named from, joined by blanks. Where the sink fails, it has taken a prefix of the line.
 pub fn write_name_line<O: Sink>(cycle: &Cycle, out: &mut O) -> Result<(), Failed>
-    ensures { Wrote (sink_seen (O.told out.old) (O.faults out.old)) (sink_seen (O.told out.new) (O.faults out.new)) (name_line cycle.now) result }
+    ensures { Wrote (O.seen out.old) (O.seen out.new) (name_line cycle.now) result }
 {
     let mut words: ArrayString<MAX_NAME> = ArrayString::new();
     let mut line: ArrayString<MAX_NAME_LINE> = ArrayString::new();
-    write_line(cycle, &mut words, &mut line, out)
+    make_line(cycle, &mut words, &mut line);
+    out.write_all(line.as_str().as_bytes())
 }
 
-/// Writes the line of a cycle, which is made in `line`; its name and its edges are made in `words`
-/// before. What they held doesn't count.
-fn write_line<O: Sink>(
+/// Sends the line of a cycle by way of a page, as a whole. What `words` and `line` held doesn't
+/// count.
+fn send_line<O: Sink>(
     cycle: &Cycle,
     words: &mut ArrayString<MAX_NAME>,
     line: &mut ArrayString<MAX_NAME_LINE>,
+    page: &mut Page,
     out: &mut O,
 ) -> Result<(), Failed>
-    ensures { Wrote (sink_seen (O.told out.old) (O.faults out.old)) (sink_seen (O.told out.new) (O.faults out.new)) (name_line cycle.now) result }
+    ensures { Sends (O.seen out.old) page.old (O.seen out.new) page.new (name_line cycle.now) result }
+{
+    make_line(cycle, words, line);
+    page.spill(out)?;
+    page.put(line.as_str().as_bytes());
+    Ok(())
+}
+
+/// Makes `line` the line of a cycle; its name and its edges are made in `words` before. What they
+/// held doesn't count.
+fn make_line(
+    cycle: &Cycle,
+    words: &mut ArrayString<MAX_NAME>,
+    line: &mut ArrayString<MAX_NAME_LINE>,
+)
+    ensures { line.new.bytes ≡ name_line cycle.now }
 {
     let rotation = name_and_rotation(cycle, words);
     line.clear();
@@ -85,5 +142,4 @@ fn write_line<O: Sink>(
     push_words(rotation.edges(), " ", words);
     line.push_str(words.as_str());
     line.push_str("\n");
-    out.write_all(line.as_str().as_bytes())
 }

@@ -1,19 +1,21 @@
-ghost use Rattle.std.specs.Prelude.{◌≡◌, ◌≤◌, ◌<◌, ℕ, ◌+◌, ◌-◌, [], false, length, max, take, drop, Some, IfOk, OnErr};
-ghost use Rattle.diy_io.specs.Taken.{source_seen};
+ghost use Rattle.std.specs.Prelude.{◌≡◌, ◌≤◌, ◌<◌, ℕ, ◌+◌, ◌-◌, [], false, length, take, drop, Some, IfOk, OnErr};
 ghost use Rattle.cycle_lines.specs.Cycles.{is_too_long};
 ghost use Rattle.cycle_lines.specs.Lines.{without_return};
-ghost use Rattle.cycle_lines.specs.Steps.{ReaderSeen, Without, GivesNext, said_by, Fills, FillsBuffer, Stops, ReadsOn, Refills, LessToDo, ReadsLast, Ends, work};
+ghost use Rattle.cycle_lines.specs.Steps.{ReaderSeen, Without, GivesNext, said_by, Fills, FillsBuffer, Stops, ReadsOn, Refills, LessToDo, FindsLast, ReadsLast, Ends, work};
 
 use crate::MAX_LINE;
 use crate::errors::{LineKind, LinesError};
 use crate::line::{cut, read_line, without_return};
-use diy_io::{Failed, MAX_INPUT, Source};
+use diy_io::{Failed, MAX_INPUT, Page, Source};
 use edge_algebra::Cycle;
 use relax_edges::ArchName;
 use std::marker::Model;
 
-/// Room for a line of `MAX_LINE` bytes, its carriage return and its line feed.
-const BUFFER: usize = MAX_LINE + 2;
+/// The most bytes that are read at once: 65,536.
+const PIECE: usize = 65_536;
+
+/// Room for a piece, after a line of `MAX_LINE` bytes and its carriage return.
+const BUFFER: usize = PIECE + MAX_LINE + 1;
 
 /// What is found behind the lines that were given.
 #[derive(Drop)]
@@ -26,7 +28,7 @@ pub(crate) enum Found {
 
 /// What the next line says.
 #[derive(Drop)]
-enum Line {
+pub(crate) enum Line {
     /// A cycle.
     Cycle(Cycle),
     /// Nothing.
@@ -39,11 +41,9 @@ enum Line {
 
 /// Reads the lines of a source.
 ///
-/// Never more than `MAX_LINE` bytes of a line are held, and behind so many only the one or two that
-/// show whether it ends there. Lines are read in pieces, up to `MAX_LINE` bytes in all. Where these
-/// are one line with no line feed among them, what comes behind them is read byte by byte: a line
-/// feed, or a carriage return and a line feed. Any other byte there shows that the line is too long,
-/// and nothing is read behind it.
+/// It is read in pieces of up to 65,536 bytes, and read on only where no whole line is pending. Of a
+/// line that isn't whole at most `MAX_LINE` bytes and a carriage return are held then, and the next
+/// piece stands after them: a line of more bytes is too long, and nothing is read after it.
 ///
 /// Contracts see the bytes that were taken and aren't given yet, the number of the line that they
 /// begin with, and how many bytes were taken.
@@ -89,7 +89,7 @@ impl LineReader {
         arch: ArchName,
         input: &mut I,
     ) -> Result<Found, LinesError>
-        ensures reads { ReadsOn arch (source_seen (I.left input.old) (I.taken input.old) (I.faults input.old)) (source_seen (I.left input.new) (I.taken input.new) (I.faults input.new)) self.old self.new result }
+        ensures reads { ReadsOn arch (I.seen input.old) (I.seen input.new) self.old self.new result }
         ensures less { LessToDo (work self.old) (work self.new) result }
     {
         loop {
@@ -99,7 +99,7 @@ impl LineReader {
                 Line::Blank => {}
                 Line::Wrong(kind) => return Err(LinesError::Wrong { line, kind }),
                 Line::Unended => match self.refill(input) {
-                    Ok(0) => return self.last_cycle(arch),
+                    Ok(0) => return self.last_found(arch),
                     Ok(_) => {}
                     Err(error) => return Err(error),
                 },
@@ -107,16 +107,23 @@ impl LineReader {
         }
     }
 
+    /// The number of the next line.
+    pub(crate) fn line(&self) -> u64
+        ensures { result ≡ self.now.line }
+    {
+        self.line
+    }
+
     /// The bytes that were taken and aren't given yet.
     fn pending(&self) -> &[u8]
         ensures pending { result.now ≡ self.now.pending }
-        ensures held { length result.now ≤ MAX_LINE + 2 }
+        ensures held { length result.now ≤ BUFFER }
     {
         &self.buffer[self.start..self.end]
     }
 
     /// What the next line says, which is given then, if all of it is pending.
-    fn next_line(&mut self, arch: ArchName) -> Line
+    pub(crate) fn next_line(&mut self, arch: ArchName) -> Line
         ensures { GivesNext arch self.old self.new result }
     {
         let Some((bytes, _)) = cut(b'\n', self.pending()) else {
@@ -129,17 +136,28 @@ impl LineReader {
         line
     }
 
-    /// What the last line says, which no line feed ends.
-    fn last_cycle(&self, arch: ArchName) -> Result<Found, LinesError>
+    /// The end, and the cycle of a last line, if there is one.
+    fn last_found(&self, arch: ArchName) -> Result<Found, LinesError>
         requires { Without 10 self.now.pending }
-        ensures reads { ReadsLast arch self.now result }
+        ensures reads { FindsLast arch self.now result }
         ensures ends { Ends result }
     {
+        match self.last_cycle(arch) {
+            Ok(cycle) => Ok(Found::Last(cycle)),
+            Err(error) => Err(error),
+        }
+    }
+
+    /// The cycle of the last line, which no line feed ends, if there is one.
+    pub(crate) fn last_cycle(&self, arch: ArchName) -> Result<Option<Cycle>, LinesError>
+        requires { Without 10 self.now.pending }
+        ensures { ReadsLast arch self.now result }
+    {
         if self.pending().is_empty() {
-            return Ok(Found::Last(None));
+            return Ok(None);
         }
         match read_line(arch, self.pending()) {
-            Ok(cycle) => Ok(Found::Last(cycle)),
+            Ok(cycle) => Ok(cycle),
             Err(kind) => Err(LinesError::Wrong {
                 line: self.line,
                 kind,
@@ -147,10 +165,26 @@ impl LineReader {
         }
     }
 
-    /// Reads bytes behind those that are pending, none only at the end of the source.
+    /// Reads on, as `refill` does, once the page is handed on to which the lines of the cycles were put:
+    /// no line of a cycle that was read before waits for more input.
+    pub(crate) fn read_more<I: Source>(
+        &mut self,
+        page: &Page,
+        input: &mut I,
+    ) -> Result<usize, LinesError>
+        requires sent { page.now ≡ [] }
+        requires unended { Without 10 self.old.pending }
+        ensures refills { Refills (I.seen input.old) (I.seen input.new) self.old self.new result }
+        ensures pending { IfOk result (λ count. count ≡ 0 → Without 10 self.new.pending) }
+        ensures less { IfOk result (λ count. 0 < count → work self.new < work self.old) }
+    {
+        self.refill(input)
+    }
+
+    /// Reads a piece after the bytes that are pending, which is empty only at the end of the source.
     fn refill<I: Source>(&mut self, input: &mut I) -> Result<usize, LinesError>
         requires { Without 10 self.old.pending }
-        ensures refills { Refills (source_seen (I.left input.old) (I.taken input.old) (I.faults input.old)) (source_seen (I.left input.new) (I.taken input.new) (I.faults input.new)) self.old self.new result }
+        ensures refills { Refills (I.seen input.old) (I.seen input.new) self.old self.new result }
         ensures pending { IfOk result (λ count. count ≡ 0 → Without 10 self.new.pending) }
         ensures less { IfOk result (λ count. 0 < count → work self.new < work self.old) }
     {
@@ -174,7 +208,7 @@ impl LineReader {
         requires one_line { Without 10 self.now.pending }
         requires short { is_too_long (without_return self.now.pending) ≡ false }
         requires full { self.now.taken ≡ MAX_INPUT }
-        ensures refills { Refills (source_seen (I.left input.old) (I.taken input.old) (I.faults input.old)) (source_seen (I.left input.new) (I.taken input.new) (I.faults input.new)) self.now self.now result }
+        ensures refills { Refills (I.seen input.old) (I.seen input.new) self.now self.now result }
         ensures none { IfOk result (λ count. count ≡ 0) }
     {
         let mut byte = [0];
@@ -185,18 +219,17 @@ impl LineReader {
         }
     }
 
-    /// Reads bytes behind those that are pending: up to `MAX_LINE` bytes in all, and only one where so
-    /// many are pending already.
+    /// Reads a piece after the bytes that are pending.
     fn fill<I: Source>(&mut self, input: &mut I) -> Result<usize, Failed>
         requires short { is_too_long (without_return self.old.pending) ≡ false }
         requires few { self.old.taken < MAX_INPUT }
-        ensures filled { IfOk result (λ count. Fills (source_seen (I.left input.old) (I.taken input.old) (I.faults input.old)) (source_seen (I.left input.new) (I.taken input.new) (I.faults input.new)) self.old self.new count) }
-        ensures stopped { OnErr result (Stops (source_seen (I.left input.old) (I.taken input.old) (I.faults input.old)) (source_seen (I.left input.new) (I.taken input.new) (I.faults input.new)) × (self.new ≡ self.old)) }
-        ensures held { length self.new.pending ≤ max MAX_LINE (length self.old.pending + 1) }
+        ensures filled { IfOk result (λ count. Fills (I.seen input.old) (I.seen input.new) self.old self.new count) }
+        ensures stopped { OnErr result (Stops (I.seen input.old) (I.seen input.new) × (self.new ≡ self.old)) }
+        ensures held { length self.new.pending ≤ length self.old.pending + PIECE }
     {
         self.end = move_to_front(&mut self.buffer, self.start, self.end);
         self.start = 0;
-        let room = room_behind(self.end).min((MAX_INPUT - self.taken) as usize);
+        let room = PIECE.min((MAX_INPUT - self.taken) as usize);
         let count = read_part(input, &mut self.buffer, self.end, room)?;
         self.end += count;
         self.taken += count as u64;
@@ -212,13 +245,6 @@ fn line_of(said: Result<Option<Cycle>, LineKind>) -> Line
         Ok(None) => Line::Blank,
         Err(kind) => Line::Wrong(kind),
     }
-}
-
-/// How many bytes are read at most behind so many that are held.
-fn room_behind(held: usize) -> usize
-    ensures { result ≡ max (MAX_LINE - held) 1 }
-{
-    MAX_LINE.saturating_sub(held).max(1)
 }
 
 /// Moves a part of a buffer to its front, and says where it ends there.
@@ -242,8 +268,8 @@ fn read_part<I: Source>(
     requires within { start + room ≤ length buffer.old }
     requires some { 0 < room }
     ensures front { take start buffer.new ≡ take start buffer.old }
-    ensures filled { IfOk result (λ count. FillsBuffer (source_seen (I.left input.old) (I.taken input.old) (I.faults input.old)) (source_seen (I.left input.new) (I.taken input.new) (I.faults input.new)) buffer.new start room count) }
-    ensures stopped { OnErr result (Stops (source_seen (I.left input.old) (I.taken input.old) (I.faults input.old)) (source_seen (I.left input.new) (I.taken input.new) (I.faults input.new))) }
+    ensures filled { IfOk result (λ count. FillsBuffer (I.seen input.old) (I.seen input.new) buffer.new start room count) }
+    ensures stopped { OnErr result (Stops (I.seen input.old) (I.seen input.new)) }
 {
     input.read(&mut buffer[start..start + room])
 }

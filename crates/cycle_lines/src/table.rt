@@ -1,13 +1,14 @@
 ghost use Rattle.std.specs.Prelude.{◌≡◌, ◌<◌, [], ◌++◌, codes, length, map, IfOk, OnOk};
 ghost use Rattle.std.specs.List.{flat_map};
-ghost use Rattle.diy_io.specs.Wrote.{sink_seen, Wrote};
+ghost use Rattle.diy_io.specs.Page.{Sends};
+ghost use Rattle.diy_io.specs.Wrote.{Wrote};
 ghost use Rattle.cycle_names.specs.Families.{family_word};
 ghost use Rattle.cycle_lines.specs.Classified.{name_entry};
 ghost use Rattle.cycle_lines.specs.Tables.{place_of, texts_of, entry_view, entry_text, Holds, Adds, name_put};
 
 use arrayvec::ArrayString;
 use cycle_names::{Family, MAX_NAME, family_of, name_of};
-use diy_io::{Failed, NoMemory, Sink, write_pieces};
+use diy_io::{Failed, NoMemory, Page, Sink};
 use edge_algebra::Cycle;
 use std::alloc::Global;
 use std::collections::BTreeSet;
@@ -102,44 +103,56 @@ fn put_name(table: &mut Vec<FamilyNames>, place: usize, name: Vec<u8>) -> Result
     Ok(())
 }
 
-/// Writes the lines of the families that have a name. Where the sink fails, it has taken a front of
+/// Writes the lines of the families that have a name. Where the sink fails, it has taken a prefix of
 /// them.
 pub(crate) fn write_families<O: Sink>(table: &[FamilyNames], out: &mut O) -> Result<(), Failed>
-    ensures { Wrote (sink_seen (O.told out.old) (O.faults out.old)) (sink_seen (O.told out.new) (O.faults out.new)) (flat_map (λ entry. entry_text (entry_view entry)) table.now) result }
+    ensures { Wrote (O.seen out.old) (O.seen out.new) (flat_map (λ entry. entry_text (entry_view entry)) table.now) result }
+{
+    let mut page = Page::new();
+    send_families(table, &mut page, out)?;
+    page.flush(out)
+}
+
+fn send_families<O: Sink>(table: &[FamilyNames], page: &mut Page, out: &mut O) -> Result<(), Failed>
+    ensures { Sends (O.seen out.old) page.old (O.seen out.new) page.new (flat_map (λ entry. entry_text (entry_view entry)) table.now) result }
 {
     for entry in table {
-        write_family(entry, out)?;
+        send_family(entry, page, out)?;
     }
     Ok(())
 }
 
-fn write_family<O: Sink>(entry: &FamilyNames, out: &mut O) -> Result<(), Failed>
-    ensures { Wrote (sink_seen (O.told out.old) (O.faults out.old)) (sink_seen (O.told out.new) (O.faults out.new)) (entry_text (entry_view entry.now)) result }
+fn send_family<O: Sink>(entry: &FamilyNames, page: &mut Page, out: &mut O) -> Result<(), Failed>
+    ensures { Sends (O.seen out.old) page.old (O.seen out.new) page.new (entry_text (entry_view entry.now)) result }
 {
     if entry.names.is_empty() {
         return Ok(());
     }
-    write_title(entry.family, out)?;
-    write_names(&entry.names, out)
+    send_title(entry.family, page, out)?;
+    send_names(&entry.names, page, out)
 }
 
-fn write_title<O: Sink>(family: Family, out: &mut O) -> Result<(), Failed>
-    ensures { Wrote (sink_seen (O.told out.old) (O.faults out.old)) (sink_seen (O.told out.new) (O.faults out.new)) (family_word family ++ codes ":\n") result }
+fn send_title<O: Sink>(family: Family, page: &mut Page, out: &mut O) -> Result<(), Failed>
+    ensures { Sends (O.seen out.old) page.old (O.seen out.new) page.new (family_word family ++ codes ":\n") result }
 {
-    write_pieces(out, &[family.word().as_bytes(), b":\n"])
+    page.send_pieces(&[family.word().as_bytes(), b":\n"], out)
 }
 
-fn write_names<O: Sink>(names: &BTreeSet<Vec<u8>>, out: &mut O) -> Result<(), Failed>
-    ensures { Wrote (sink_seen (O.told out.old) (O.faults out.old)) (sink_seen (O.told out.new) (O.faults out.new)) (flat_map name_entry (texts_of names.now)) result }
+fn send_names<O: Sink>(
+    names: &BTreeSet<Vec<u8>>,
+    page: &mut Page,
+    out: &mut O,
+) -> Result<(), Failed>
+    ensures { Sends (O.seen out.old) page.old (O.seen out.new) page.new (flat_map name_entry (texts_of names.now)) result }
 {
     for name in names {
-        write_name(name.as_slice(), out)?;
+        send_name(name.as_slice(), page, out)?;
     }
     Ok(())
 }
 
-fn write_name<O: Sink>(name: &[u8], out: &mut O) -> Result<(), Failed>
-    ensures { Wrote (sink_seen (O.told out.old) (O.faults out.old)) (sink_seen (O.told out.new) (O.faults out.new)) (name_entry name.now) result }
+fn send_name<O: Sink>(name: &[u8], page: &mut Page, out: &mut O) -> Result<(), Failed>
+    ensures { Sends (O.seen out.old) page.old (O.seen out.new) page.new (name_entry name.now) result }
 {
-    write_pieces(out, &[b"  ", name, b"\n"])
+    page.send_pieces(&[b"  ", name, b"\n"], out)
 }

@@ -82,7 +82,8 @@ fn long_line(alloc: Global, len: usize) -> Result<Vec<u8>, Fail> {
     Ok(line)
 }
 
-/// The carriage return and the line feed of a line of 4,096 bytes come by reads of their own.
+/// The carriage return and the line feed of a line of 4,096 bytes come by a read of their own, by one
+/// each, or with the line.
 #[test]
 fn a_line_of_4096_bytes_is_read_with_any_end(rt: HostRuntime) -> Result<(), Fail> {
     let alloc = rt.alloc();
@@ -109,15 +110,57 @@ fn a_line_of_4096_bytes_is_read_with_any_end(rt: HostRuntime) -> Result<(), Fail
     Ok(())
 }
 
-/// The first read gives 4,096 bytes of the line, and the second the one that makes it too long. A
-/// third would fail.
+/// The first read, or the second where a read gives 4,096 bytes, makes the line too long. One more
+/// would fail.
 #[test]
 fn nothing_is_read_behind_a_line_that_is_too_long(rt: HostRuntime) -> Result<(), Fail> {
-    let fail = Vec::from_slice(rt.alloc(), &[2])?;
-    let mut input = MemSource::new(long_line(rt.alloc(), 9000)?, 9999, fail);
+    for (piece, reads) in [(4096, 2), (9000, 1), (99_999, 1)] {
+        let fail = Vec::from_slice(rt.alloc(), &[reads])?;
+        let mut input = MemSource::new(long_line(rt.alloc(), 99_000)?, piece, fail);
+        let mut out = MemSink::new(rt.alloc(), 1000)?;
+        let answer = norm_lines(ArchName::PPC, &mut input, &mut out);
+        assert_eq!(rt; answer, wrong(1, LineKind::LineTooLong));
+    }
+    Ok(())
+}
+
+/// The twenty-first read would fail.
+#[test]
+fn lines_of_900_kilobytes_are_read_in_few_calls(rt: HostRuntime) -> Result<(), Fail> {
+    let fail = Vec::from_slice(rt.alloc(), &[20])?;
+    let lines = vec![in rt.alloc(); b'\n'; 900_000]?;
+    let mut input = MemSource::new(lines, 1_000_000, fail);
     let mut out = MemSink::new(rt.alloc(), 1000)?;
     let answer = norm_lines(ArchName::PPC, &mut input, &mut out);
-    assert_eq!(rt; answer, wrong(1, LineKind::LineTooLong));
+    assert_eq!(rt; answer, Ok(()));
+    Ok(())
+}
+
+/// The lines of one piece make more than a page.
+#[test]
+fn names_of_more_than_a_page_are_written(rt: HostRuntime) -> Result<(), Fail> {
+    let mut lines = Vec::new(rt.alloc());
+    let mut names = Vec::new(rt.alloc());
+    for _ in 0..5000 {
+        lines.extend_from_slice(b"LwSyncdWW Coe PodWR Fre\n")?;
+        names.extend_from_slice(LONG_NAME)?;
+    }
+    let mut input = SureSource::new(lines, 99_999);
+    let mut out = MemSink::new(rt.alloc(), 999_999)?;
+    let answer = norm_lines(ArchName::PPC, &mut input, &mut out);
+    assert_eq!(rt; answer, Ok(()));
+    assert_eq!(rt; out.bytes(), names.as_slice());
+    Ok(())
+}
+
+#[test]
+fn a_sink_that_fails_comes_before_a_faulty_line(rt: HostRuntime) -> Result<(), Fail> {
+    let lines = b"LwSyncdWW Coe PodWR Fre\nFoo\n";
+    let mut input = SureSource::new(Vec::from_slice(rt.alloc(), lines)?, 9999);
+    let mut out = MemSink::new(rt.alloc(), 9)?;
+    let answer = norm_lines(ArchName::PPC, &mut input, &mut out);
+    assert_eq!(rt; answer, Err(NormError::OutFault));
+    assert_eq!(rt; out.bytes(), b"R+lwsync+".as_slice());
     Ok(())
 }
 

@@ -1,10 +1,9 @@
 -- Laws of pages, for functions that print to one and send its text to a sink.
-use Rattle.std.proofs.Common.{◌≡◌, ◌≤◌, ◌<◌, ℕ, ◌+◌, ◌-◌, List, [], ◌∷◌, ◌++◌, length, take, drop, get_or, zero, suc, Ok, Err, refl, sym, ap, ◌∙◌, subst, arith, append_assoc, append-nil, length-append}
-use Rattle.std.specs.Prelude.{Result, OnOk, OnErr}
+use Rattle.std.proofs.Common.{◌≡◌, ◌≤◌, ◌<◌, ℕ, ◌+◌, List, [], ◌∷◌, ◌++◌, length, take, drop, get_or, zero, suc, Ok, Err, refl, sym, ap, ◌∙◌, subst, arith, append_assoc, append-nil, length-append}
+use Rattle.std.specs.Prelude.{Result}
 use Rattle.std.specs.Result.{IsErrAnd}
 use Rattle.std.specs.List.{flat_map}
-use Rattle.std.proofs.lemmas.List.{take_all, take-append-drop, take_more}
-use Rattle.std.proofs.lemmas.List.Concat.{flat_map-append}
+use Rattle.std.proofs.lemmas.List.{take_all}
 use Rattle.diy_io.specs.declared.errors.Failed.{Failed}
 use Rattle.diy_io.specs.declared.page.TheConstants.{SPILL, LINE_ROOM, PAGE_ROOM}
 use Rattle.diy_io.specs.Wrote.{SinkSeen, WroteAll, WrotePart, Wrote}
@@ -46,18 +45,6 @@ page_fits page text h = within_fits PAGE_ROOM page text h
 pub page_more : (page x y : List ℕ) → page_after (page_after page x) y ≡ page_after page (x ++ y)
 unfolding page_after
 page_more page x y = within_more PAGE_ROOM page x y
-
--- the same from the right
-pub page_both : (page x y : List ℕ) → page_after page (x ++ y) ≡ page_after (page_after page x) y
-page_both page x y = sym (page_more page x y)
-
--- the texts of a list's elements: none, and one more
-pub page_each_none : {X : Type 0} (f : X → List ℕ) (page : List ℕ) (xs : List X) → page ≡ page_after page (flat_map f (take 0 xs))
-page_each_none f page xs = sym (page_nothing page)
-
-pub page_each : {X : Type 0} (f : X → List ℕ) (page : List ℕ) (xs : List X) (i : ℕ) (d : X) → i < length xs
-    → page_after page (flat_map f (take (i + 1) xs)) ≡ page_after (page_after page (flat_map f (take i xs))) (f (get_or xs i d))
-page_each f page xs i d h = ap (page_after page) (flat_map_more f xs i d h) ∙ page_both page (flat_map f (take i xs)) (f (get_or xs i d))
 
 -- nothing is sent
 pub sent_nothing : (a : SinkSeen) (held : List ℕ) → SentAll a held a held []

@@ -97,10 +97,6 @@ within_more s u x y p = record {
 pub prefix_nothing : (a : Told) (x : List ℕ) → GrewByPrefix a a x
 prefix_nothing a x = record { front = []; rest = x; parts = refl; grew = grew_nothing a }
 
--- a whole text is a front of itself
-pub prefix_whole : (a b : Told) (x : List ℕ) → Grew a b x → GrewByPrefix a b x
-prefix_whole a b x p = record { front = x; rest = []; parts = sym (append-nil x); grew = p }
-
 -- growth by a text and then by a front of another is growth by a front of both
 pub prefix_after : (a b c : Told) (x y : List ℕ) → Grew a b x → GrewByPrefix b c y → GrewByPrefix a c (x ++ y)
 prefix_after a b c x y p q = within_after (told_kept a) (told_kept c) x y (subst (λ s. EndsWithin s (told_kept c) y) p q)
@@ -113,20 +109,6 @@ pub flat_map_at : {X : Type 0} (f : X → List ℕ) (xs : List X) (i : ℕ) (d :
 flat_map_at f xs i d h =
     ap (flat_map f) (sym (take-append-drop (i + 1) xs)) ∙ flat_map-append f (take (i + 1) xs) (drop (i + 1) xs)
     ∙ ap (λ front. front ++ flat_map f (drop (i + 1) xs)) (flat_map_more f xs i d h)
-
--- the texts of a list's elements one after another: one more is written
-pub each_written : {X : Type 0} (f : X → List ℕ) (a b c : Told) (xs : List X) (i : ℕ) (d : X) → i < length xs
-    → Grew a b (flat_map f (take i xs)) → Grew b c (f (get_or xs i d)) → Grew a c (flat_map f (take (i + 1) xs))
-each_written f a b c xs i d h p q =
-    subst (Grew a c) (sym (flat_map_more f xs i d h)) (grew_both a b c (flat_map f (take i xs)) (f (get_or xs i d)) p q)
-
--- the texts of a list's elements one after another: one is written in part, and then none
-pub each_stopped : {X : Type 0} (f : X → List ℕ) (a b c : Told) (xs : List X) (i : ℕ) (d : X) → i < length xs
-    → Grew a b (flat_map f (take i xs)) → GrewByPrefix b c (f (get_or xs i d)) → GrewByPrefix a c (flat_map f xs)
-each_stopped f a b c xs i d h p q =
-    let front = prefix_after a b c (flat_map f (take i xs)) (f (get_or xs i d)) p q in
-    let more = within_more (told_kept a) (told_kept c) (flat_map f (take i xs) ++ f (get_or xs i d)) (flat_map f (drop (i + 1) xs)) front in
-    subst (GrewByPrefix a c) (sym (flat_map_at f xs i d h)) more
 
 -- a sink that tells its bytes grew by a text where that stands behind them
 pub written_grew : (taken text : List ℕ) → Grew (written_told taken) (written_told (taken ++ text)) text
@@ -156,21 +138,6 @@ nothing_grew text = refl
 -- and by a front of any text
 pub nothing_stopped : (text : List ℕ) → GrewByPrefix nothing_told nothing_told text
 nothing_stopped text = prefix_nothing nothing_told text
-
--- where a sink tells its bytes, growth by a text is that text behind them
-pub grew_written : (a b : Told) (taken text : List ℕ) → Grew a b text → a.written ≡ Some taken → b.written ≡ Some (taken ++ text)
-unfolding told_after told_kept
-grew_written a b taken text p e = ap (λ t. t.written) p ∙ ap (option_map (λ bytes. bytes ++ text)) e
-
--- where a sink tells a tally, growth by a text is that text tallied
-pub grew_tallied : (a b : Told) (t u : Tally) (text : List ℕ) → Grew a b text → a.tallied ≡ Some t → b.tallied ≡ Some u → tally_kept u ≡ tally_after t text
-unfolding told_after told_kept
-grew_tallied a b t u text p e f =
-    let kept_u : Some (tally_kept u) ≡ Some (tally_after (tally_kept t) text) =
-    ap (option_map tally_kept) (sym f) ∙ ap (λ told. told.tallied) p
-    ∙ ap (λ tallied. option_map (λ tally. tally_after tally text) (option_map tally_kept tallied)) e in
-    let kept_is : tally_kept u ≡ tally_after (tally_kept t) text = cc in
-    kept_is ∙ tally_after_kept t text
 
 -- what holds anyway holds where a call fails
 pub on_err : {A E P : Type 0} (r : Result A E) → P → OnErr r P

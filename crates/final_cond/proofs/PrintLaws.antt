@@ -1,27 +1,21 @@
--- The text of a term is that of its pieces.
-use Rattle.std.proofs.Common.{◌≡◌, ℕ, ◌+◌, ◌-◌, ◌<◌, ◌≤◌, List, [], ◌∷◌, ◌++◌, length, get_or, take, drop, map, arith, refl, sym, ap, subst, ◌∙◌, append_assoc}
-use Rattle.std.specs.Fmt.{decimal}
+-- The text of a term is that of its pieces, and how long the texts of terms are.
+use Rattle.std.proofs.Common.{◌≡◌, ℕ, ◌+◌, ◌-◌, ◌*◌, ◌<◌, ◌≤◌, List, [], ◌∷◌, ◌++◌, length, get_or, take, drop, map}
+use Rattle.std.proofs.Common.{arith, refl, sym, ap, subst, ◌∙◌, length-append}
 use Rattle.std.proofs.Math.Seq.{take-length}
 use Rattle.std.specs.List.{flat_map}
-use Rattle.diy_io.specs.Sink.{Told, Grew, GrewByPrefix}
-use Rattle.diy_io.specs.SinkLaws.{each_written, each_stopped}
-use Rattle.arrayvec.specs.ArrayString.{ArrayString}
-use Rattle.final_cond.specs.declared.cond.Left.TheVariants.{Register, Place}
+use Rattle.std.specs.Prelude.{Result}
+use Rattle.diy_io.specs.declared.errors.Failed.{Failed}
+use Rattle.diy_io.specs.declared.page.TheConstants.{LINE_ROOM}
+use Rattle.diy_io.specs.Page.{page_after}
+use Rattle.diy_io.specs.PageLaws.{page_nothing, page_fits, page_more}
+use Rattle.diy_io.specs.SinkLaws.{flat_map_more}
+use Rattle.diy_io.specs.Wrote.{SinkSeen, Wrote}
 use Rattle.final_cond.specs.declared.cond.Term.{Term}
+use Rattle.final_cond.specs.declared.print.TheConstants.{TERM_ROOM}
 use Rattle.final_cond.specs.Conditions.{term_view}
-use Rattle.final_cond.specs.CondText.{left_text, term_text, further_term_text, terms_text}
+use Rattle.final_cond.specs.CondText.{term_text, further_term_text, terms_text}
 
-pub register_pieces : (before number name value : List ℕ) (term : Term) (thread : ℕ) (text : ArrayString) → term.left ≡ Register thread text → number ≡ decimal thread → name ≡ text.bytes → value ≡ decimal term.value
-    → ((((before ++ number) ++ 58 ∷ []) ++ name) ++ 61 ∷ []) ++ value ≡ before ++ term_text (term_view term)
-unfolding left_text term_text
-register_pieces before number name value term thread text is number_is name_is value_is = rw (is, number_is, name_is, value_is) (simp append_assoc)
-
-pub place_pieces : (before name value : List ℕ) (term : Term) (text : ArrayString) → term.left ≡ Place text → name ≡ text.bytes → value ≡ decimal term.value
-    → ((((before ++ 91 ∷ []) ++ name) ++ 93 ∷ []) ++ 61 ∷ []) ++ value ≡ before ++ term_text (term_view term)
-unfolding left_text term_text
-place_pieces before name value term text is name_is value_is = rw (is, name_is, value_is) (simp append_assoc)
-
--- the text of terms of which each stands behind ` /\ `
+-- the text of terms of which each stands after ` /\ `
 abbrev pub further : List Term → List ℕ
 further terms = flat_map further_term_text (map term_view terms)
 
@@ -29,26 +23,51 @@ further_is : (terms : List Term) → flat_map (λ term. further_term_text (term_
 further_is [] = refl
 further_is (term ∷ terms) = ap (λ text. further_term_text (term_view term) ++ text) (further_is terms)
 
-pub further_written : (a b c : Told) (terms : List Term) (i : ℕ) (term : Term) → i < length terms → term ≡ get_or terms i term
-    → Grew a b (further (take i terms)) → Grew b c (further_term_text (term_view term)) → Grew a c (further (take (i + 1) terms))
-further_written a b c terms i term inside is p q =
-    subst (Grew a c) (further_is (take (i + 1) terms))
-    (each_written (λ t. further_term_text (term_view t)) a b c terms i term inside (subst (Grew a b) (sym (further_is (take i terms))) p) (subst (λ t. Grew b c (further_term_text (term_view t))) is q))
+further_more : (terms : List Term) (i : ℕ) (term : Term) → i < length terms → term ≡ get_or terms i term
+    → further (take (i + 1) terms) ≡ further (take i terms) ++ further_term_text (term_view term)
+further_more terms i term inside is =
+    sym (further_is (take (i + 1) terms)) ∙ flat_map_more (λ t. further_term_text (term_view t)) terms i term inside
+    ∙ ap (λ t. t ++ further_term_text (term_view (get_or terms i term))) (further_is (take i terms))
+    ∙ ap (λ t. further (take i terms) ++ further_term_text (term_view t)) (sym is)
 
-pub further_stopped : (a b c : Told) (terms : List Term) (i : ℕ) (term : Term) → i < length terms → term ≡ get_or terms i term
-    → Grew a b (further (take i terms)) → GrewByPrefix b c (further_term_text (term_view term)) → GrewByPrefix a c (further terms)
-further_stopped a b c terms i term inside is p q =
-    subst (GrewByPrefix a c) (further_is terms)
-    (each_stopped (λ t. further_term_text (term_view t)) a b c terms i term inside (subst (Grew a b) (sym (further_is (take i terms))) p) (subst (λ t. GrewByPrefix b c (further_term_text (term_view t))) is q))
+-- the terms so far are put, and are short
+pub record Further (old new : List ℕ) (terms : List Term) (count : ℕ) : Type 0 where
+  pub text : new ≡ page_after old (further (take count terms))
+  pub short : length (further (take count terms)) ≤ TERM_ROOM * count
+
+pub none_put : (page : List ℕ) (terms : List Term) → Further page page terms 0
+none_put page terms = record { text = sym (page_nothing page); short = omega arith }
+
+pub one_more_put : (old page new : List ℕ) (terms : List Term) (i : ℕ) (term : Term) → i < length terms → term ≡ get_or terms i term
+    → Further old page terms i → new ≡ page_after page (further_term_text (term_view term)) → length (further_term_text (term_view term)) ≤ TERM_ROOM
+    → Further old new terms (i + 1)
+one_more_put old page new terms i term inside is so_far put short =
+    let more = further_more terms i term inside is in
+    record {
+      text =
+          put ∙ ap (λ p. page_after p (further_term_text (term_view term))) so_far.text
+          ∙ page_more old (further (take i terms)) (further_term_text (term_view term)) ∙ ap (page_after old) (sym more);
+      short =
+          let parts = ap length more ∙ length-append (further (take i terms)) (further_term_text (term_view term)) in
+          let before = so_far.short in
+          omega arith;
+    }
 
 -- no terms have no text
-pub no_terms : (terms : List Term) → length terms < 1 → terms_text (map term_view terms) ≡ []
-no_terms [] h = refl
-no_terms (term ∷ terms) h = absurd (omega arith)
+pub no_terms : (page : List ℕ) (terms : List Term) → length terms < 1 → page ≡ page_after page (terms_text (map term_view terms))
+no_terms page [] h = sym (page_nothing page)
+no_terms page (term ∷ terms) h = absurd (omega arith)
 
--- the first term and those behind it
-pub first_and_further : (terms : List Term) (first : Term) → 1 ≤ length terms → first ≡ get_or terms 0 first → terms_text (map term_view terms) ≡ term_text (term_view first) ++ further (take (length terms - 1) (drop 1 terms))
+-- the first term and those after it
+pub first_and_further : (terms : List Term) (first : Term) → 1 ≤ length terms → first ≡ get_or terms 0 first
+    → terms_text (map term_view terms) ≡ term_text (term_view first) ++ further (take (length terms - 1) (drop 1 terms))
 first_and_further [] first h is = absurd (omega arith)
 first_and_further (term ∷ terms) first h is =
     let e : take (length (term ∷ terms) - 1) (drop 1 (term ∷ terms)) ≡ terms = ap (λ n. take n terms) (omega arith) ∙ take-length terms in
     rw (e, is) refl
+
+-- a text that an empty page took whole is written once the page is handed on
+pub put_wrote : (a b : SinkSeen) (page held text : List ℕ) (result : Result (Unit {0}) Failed)
+    → page ≡ [] → held ≡ page_after page text → length text < LINE_ROOM → Wrote a b held result → Wrote a b text result
+put_wrote a b page held text result empty put short wrote =
+    subst (λ t. Wrote a b t result) (put ∙ ap (λ p. page_after p text) empty ∙ page_fits [] text (omega arith)) wrote

@@ -1,16 +1,20 @@
-ghost use Rattle.std.specs.Prelude.{◌≡◌, ◌≤◌, ◌++◌, List, map, codes, OnOk, OnErr};
+ghost use Rattle.std.specs.Prelude.{◌≡◌, ◌≤◌, ◌<◌, ◌*◌, ◌++◌, List, map, codes, length};
 ghost use Rattle.std.specs.List.{flat_map};
-ghost use Rattle.diy_io.specs.Count.{Rose};
-ghost use Rattle.diy_io.specs.Sink.{Grew, GrewByPrefix};
-ghost use Rattle.final_cond.specs.Conditions.{term_view, cond_view};
-ghost use Rattle.final_cond.specs.CondText.{quantifier_word, term_text, further_term_text, terms_text, cond_text};
+ghost use Rattle.diy_io.specs.Page.{page_after};
+ghost use Rattle.diy_io.specs.Wrote.{Wrote};
+ghost use Rattle.final_cond.specs.Conditions.{left_view, term_view, cond_view};
+ghost use Rattle.final_cond.specs.CondText.{quantifier_word, left_text, term_text, further_term_text, terms_text, cond_text};
 
 use crate::cond::{Cond, Left, Quantifier, Term};
-use diy_io::{Failed, Sink, write_pieces};
+use diy_io::{Failed, LINE_ROOM, Page, Sink};
 use itoa::Buffer;
 
+/// The most bytes of a term with ` /\ ` before it: a thread, a name of 16 bytes, a value.
+const TERM_ROOM: usize = 36;
+
 fn opening(quantifier: Quantifier) -> &'static [u8]
-    ensures { result.now ≡ quantifier_word quantifier ++ codes " (" }
+    ensures text { result.now ≡ quantifier_word quantifier ++ codes " (" }
+    ensures short { length result.now ≤ 9 }
 {
     match quantifier {
         Quantifier::Exists => b"exists (",
@@ -19,75 +23,81 @@ fn opening(quantifier: Quantifier) -> &'static [u8]
     }
 }
 
-/// Appends a term behind `before`.
-fn print_term<O: Sink>(before: &[u8], term: &Term, out: &mut O) -> Result<(), Failed>
-    ensures ok { OnOk result (Grew (O.told out.old) (O.told out.new) (before.now ++ term_text (term_view term.now))) }
-    ensures failed { OnErr result (GrewByPrefix (O.told out.old) (O.told out.new) (before.now ++ term_text (term_view term.now))) }
-    ensures no_fault { OnOk result (O.faults out.new ≡ O.faults out.old) }
-    ensures fault { OnErr result (Rose (O.faults out.old) (O.faults out.new)) }
-    ensures never_falls { O.faults out.old ≤ O.faults out.new }
+/// Puts the left side of a term.
+#[tactic(auto, using(diy_io::specs::PageLaws::page_more, std::proofs::Common::append_assoc), unfolding(crate::specs::CondText::left_text))]
+fn print_left(left: &Left, page: &mut Page)
+    ensures text { page.new ≡ page_after page.old (left_text (left_view left.now)) }
+    ensures short { length (left_text (left_view left.now)) ≤ 20 }
 {
-    let mut value = Buffer::new();
-    let value = value.format(term.value).as_bytes();
-    match &term.left {
+    match left {
         Left::Register { thread, name } => {
-            let mut number = Buffer::new();
-            let number = number.format(*thread).as_bytes();
-            let name = name.as_str().as_bytes();
-            write_pieces(out, &[before, number, b":", name, b"=", value])
+            page.put(Buffer::new().format(*thread).as_bytes());
+            page.put(b":");
+            page.put(name.as_str().as_bytes());
         }
         Left::Place { name } => {
-            let name = name.as_str().as_bytes();
-            write_pieces(out, &[before, b"[", name, b"]", b"=", value])
+            page.put(b"[");
+            page.put(name.as_str().as_bytes());
+            page.put(b"]");
         }
     }
 }
 
-/// Appends terms, each behind ` /\ `.
-#[tactic(auto, using(crate::proofs::PrintLaws::further_written, crate::proofs::PrintLaws::further_stopped, diy_io::specs::SinkLaws::grew_nothing))]
-fn print_further<O: Sink>(terms: &[Term], out: &mut O) -> Result<(), Failed>
-    ensures ok { OnOk result (Grew (O.told out.old) (O.told out.new) (flat_map further_term_text (map term_view terms.now))) }
-    ensures failed { OnErr result (GrewByPrefix (O.told out.old) (O.told out.new) (flat_map further_term_text (map term_view terms.now))) }
-    ensures no_fault { OnOk result (O.faults out.new ≡ O.faults out.old) }
-    ensures fault { OnErr result (Rose (O.faults out.old) (O.faults out.new)) }
-    ensures never_falls { O.faults out.old ≤ O.faults out.new }
+/// Puts a term after `before`.
+#[tactic(auto, using(diy_io::specs::PageLaws::page_more, std::proofs::Common::append_assoc), unfolding(crate::specs::CondText::term_text))]
+fn print_term(before: &[u8], term: &Term, page: &mut Page)
+    ensures text { page.new ≡ page_after page.old (before.now ++ term_text (term_view term.now)) }
+    ensures short { length (further_term_text (term_view term.now)) ≤ TERM_ROOM }
+{
+    page.put(before);
+    print_left(&term.left, page);
+    page.put(b"=");
+    page.put(Buffer::new().format(term.value).as_bytes());
+}
+
+/// Puts terms, each with ` /\ ` before it.
+fn print_further(terms: &[Term], page: &mut Page)
+    ensures text { page.new ≡ page_after page.old (flat_map further_term_text (map term_view terms.now)) }
+    ensures short { length (flat_map further_term_text (map term_view terms.now)) ≤ TERM_ROOM * length terms.now }
 {
     for term in terms {
-        print_term(b" /\\ ", term, out)?;
+        print_term(b" /\\ ", term, page);
     }
-    Ok(())
 }
 
-/// Appends terms, with ` /\ ` between.
-#[tactic(auto, using(diy_io::specs::SinkLaws::grew_nothing, diy_io::specs::SinkLaws::grew_both, diy_io::specs::SinkLaws::prefix_after, diy_io::specs::SinkLaws::within_more))]
-fn print_terms<O: Sink>(terms: &[Term], out: &mut O) -> Result<(), Failed>
-    ensures ok { OnOk result (Grew (O.told out.old) (O.told out.new) (terms_text (map term_view terms.now))) }
-    ensures failed { OnErr result (GrewByPrefix (O.told out.old) (O.told out.new) (terms_text (map term_view terms.now))) }
-    ensures no_fault { OnOk result (O.faults out.new ≡ O.faults out.old) }
-    ensures fault { OnErr result (Rose (O.faults out.old) (O.faults out.new)) }
-    ensures never_falls { O.faults out.old ≤ O.faults out.new }
+/// Puts terms, with ` /\ ` between.
+#[tactic(auto, using(diy_io::specs::PageLaws::page_more, crate::proofs::PrintLaws::first_and_further, crate::proofs::PrintLaws::no_terms))]
+fn print_terms(terms: &[Term], page: &mut Page)
+    ensures text { page.new ≡ page_after page.old (terms_text (map term_view terms.now)) }
+    ensures short { length (terms_text (map term_view terms.now)) ≤ TERM_ROOM * length terms.now }
 {
     match terms {
-        [] => Ok(()),
+        [] => {}
         [first, others @ ..] => {
-            print_term(b"", first, out)?;
-            print_further(others, out)
+            print_term(b"", first, page);
+            print_further(others, page);
         }
     }
+}
+
+/// Puts the text of a condition to a page, without a line feed, for which there is room too.
+#[tactic(auto, using(diy_io::specs::PageLaws::page_more, std::proofs::Common::append_assoc), unfolding(crate::specs::CondText::cond_text))]
+pub fn put_cond(cond: &Cond, page: &mut Page)
+    ensures text { page.new ≡ page_after page.old (cond_text (cond_view cond.now)) }
+    ensures short { length (cond_text (cond_view cond.now)) < LINE_ROOM }
+{
+    page.put(opening(cond.quantifier));
+    print_terms(cond.terms.as_slice(), page);
+    page.put(b")");
 }
 
 /// Appends the text of a condition, without a line feed.
 ///
-/// Where the sink fails, it has taken a front of that text.
-#[tactic(auto, using(diy_io::specs::SinkLaws::grew_both, diy_io::specs::SinkLaws::prefix_after, diy_io::specs::SinkLaws::within_more), unfolding(crate::specs::CondText::cond_text))]
+/// Where the sink fails, it has taken a prefix of that text.
 pub fn print_cond<O: Sink>(cond: &Cond, out: &mut O) -> Result<(), Failed>
-    ensures ok { OnOk result (Grew (O.told out.old) (O.told out.new) (cond_text (cond_view cond.now))) }
-    ensures failed { OnErr result (GrewByPrefix (O.told out.old) (O.told out.new) (cond_text (cond_view cond.now))) }
-    ensures no_fault { OnOk result (O.faults out.new ≡ O.faults out.old) }
-    ensures fault { OnErr result (Rose (O.faults out.old) (O.faults out.new)) }
-    ensures never_falls { O.faults out.old ≤ O.faults out.new }
+    ensures { Wrote (O.seen out.old) (O.seen out.new) (cond_text (cond_view cond.now)) result }
 {
-    out.write_all(opening(cond.quantifier))?;
-    print_terms(cond.terms.as_slice(), out)?;
-    out.write_all(b")")
+    let mut page = Page::new();
+    put_cond(cond, &mut page);
+    page.flush(out)
 }

@@ -1,17 +1,20 @@
 -- The initial state, thread by thread.
 use Rattle.std.proofs.Common.{◌≡◌, ◌≢◌, ℕ, List, [], ◌∷◌, ◌++◌, length, refl, sym, ap, ◌∙◌, arith, append-nil}
 use Rattle.std.specs.Prelude.{codes, Bool, true, false, nat_eq}
-use Rattle.std.specs.Fmt.{decimal}
 use Rattle.std.proofs.lemmas.Bool.{eqb-true, eqb-false}
 use Rattle.std.specs.List.{flat_map, join_by, enumerate_from}
 use Rattle.std.proofs.lemmas.List.Concat.{flat_map-append}
 use Rattle.arch_trait.specs.Threads.{ThreadCode}
-use Rattle.arch_trait.specs.Writing.{Writing, name_in}
+use Rattle.arch_trait.specs.Writing.{Writing}
 use Rattle.litmus_text.specs.TestText.{item_text, items_lines, initial_lines, ended}
 
 pub flat_map-flat_map : {X Y : Type 0} (g : Y → List ℕ) (f : X → List Y) (xs : List X) → flat_map g (flat_map f xs) ≡ flat_map (λ x. flat_map g (f x)) xs
 flat_map-flat_map g f [] = refl
 flat_map-flat_map g f (x ∷ xs) = flat_map-append g (f x) (flat_map f xs) ∙ ap (λ rest. flat_map g (f x) ++ rest) (flat_map-flat_map g f xs)
+
+-- the lines of the items of a thread, as they are printed
+abbrev pub printed_items : Writing → List (List ℕ) → ℕ × ThreadCode → List ℕ
+printed_items w places t = flat_map ended (items_lines w places t.0 t.1.links)
 
 -- no line where there are no items
 pub no_items : (w : Writing) (places : List (List ℕ)) (thread : ℕ) (links read : List (ℕ × ℕ)) → read ≡ links → length read ≡ 0 → [] ≡ flat_map ended (items_lines w places thread links)
@@ -26,7 +29,7 @@ some_items w places thread (link ∷ links) read e h =
     ap (λ links. join_by (item_text w places thread) (codes " ") links ++ codes "\n") e
     ∙ sym (append-nil (join_by (item_text w places thread) (codes " ") (link ∷ links) ++ codes "\n"))
 
--- the lines of the initial state as they are written
+-- the lines of the initial state as they are printed
 pub initial_is : (w : Writing) (places : List (List ℕ)) (threads : List ThreadCode)
     → codes "{\n" ++ (flat_map (λ t. flat_map ended (items_lines w places t.0 t.1.links)) (enumerate_from 0 threads) ++ codes "}\n") ≡ flat_map ended (initial_lines w places threads)
 unfolding initial_lines
@@ -34,16 +37,6 @@ initial_is w places threads =
     ap (λ rest. codes "{\n" ++ rest)
     (ap (λ front. front ++ codes "}\n") (sym (flat_map-flat_map ended (λ t. items_lines w places t.0 t.1.links) (enumerate_from 0 threads)))
     ∙ sym (flat_map-append ended (flat_map (λ t. items_lines w places t.0 t.1.links) (enumerate_from 0 threads)) (codes "}" ∷ [])))
-
--- an item, piece by piece
-pub item_built : (w : Writing) (places : List (List ℕ)) (thread : ℕ) (link : ℕ × ℕ) (start a b c d e f number register place : List ℕ)
-    → start ≡ [] → a ≡ start ++ number → b ≡ a ++ codes ":" → c ≡ b ++ register → d ≡ c ++ codes "=" → e ≡ d ++ place → f ≡ e ++ codes ";"
-    → number ≡ decimal thread → register ≡ name_in w.registers link.0 → place ≡ name_in places link.1
-    → f ≡ item_text w places thread link
-unfolding item_text
-item_built w places thread link start a b c d e f number register place start_is a_is b_is c_is d_is e_is f_is number_is register_is place_is =
-    f_is ∙ ap (λ t. t ++ codes ";") (e_is ∙ ap (λ t. t ++ place) (d_is ∙ ap (λ t. t ++ codes "=") (c_is ∙ ap (λ t. t ++ register) (b_is ∙ ap (λ t. t ++ codes ":") (a_is ∙ ap (λ t. t ++ number) start_is ∙ number_is)))))
-    ∙ rw (register_is, place_is)
 
 -- a test of emptiness
 pub empty_from : (b : Bool) (n : ℕ) → b ≡ nat_eq n 0 → b ≡ true → n ≡ 0

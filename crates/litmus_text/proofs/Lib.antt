@@ -1,6 +1,7 @@
 mod ReadRows
 mod TextRows
-pub mod WroteLaws
+pub mod JoinLaws
+pub mod SendLaws
 pub mod ElementLaws
 pub mod InitialLaws
 pub mod TableLaws

@@ -1,5 +1,6 @@
 -- The columns and rows of the table.
-use Rattle.std.proofs.Common.{◌≡◌, ◌≤◌, ◌<◌, ◌+◌, ◌-◌, ℕ, zero, suc, List, [], ◌∷◌, ◌++◌, length, map, take, get_or, max, fold, zero-add, Ok, add-one, inl, inr, refl, sym, ap, ◌∙◌, subst, arith, append_assoc}
+use Rattle.std.proofs.Common.{◌≡◌, ◌≤◌, ◌<◌, ◌+◌, ◌-◌, ℕ, zero, suc, List, [], ◌∷◌, ◌++◌, length, map, take, get_or, max, fold}
+use Rattle.std.proofs.Common.{add-one, inl, inr, refl, sym, ap, ◌∙◌, arith, append_assoc}
 use Rattle.std.specs.Prelude.{codes}
 use Rattle.std.specs.List.{flat_map, join_by, enumerate_from, range_with_len}
 use Rattle.std.specs.Fmt.{decimal}
@@ -13,10 +14,8 @@ use Rattle.arch_trait.specs.declared.code.Code.{Code}
 use Rattle.arch_trait.specs.Writing.{Writing, op_text, name_in}
 use Rattle.litmus_text.specs.TestText.{column_of, columns_of, width_of, cell_text, row_line, row_count, table_lines, ended}
 use Rattle.arch_trait.specs.Codes.{thread_of}
-use Rattle.std.proofs.lemmas.List.FromFn.{length-enumerate_from, length-range_with_len, get_or-range_with_len}
+use Rattle.std.proofs.lemmas.List.FromFn.{length-enumerate_from}
 use Rattle.std.proofs.Math.ListN.{replicate}
-use Rattle.diy_io.specs.Wrote.{SinkSeen, WroteAll, WrotePart, Wrote}
-use Rattle.litmus_text.proofs.WroteLaws.{each_step, each_stop}
 use Rattle.litmus_text.proofs.ElementLaws.{numbered_at}
 
 -- the header, piece by piece
@@ -130,43 +129,26 @@ width_at w places threads i code widths d h is e =
     let long : i < length (columns_of w places (map thread_of threads)) = omega (arith, length_columns w places threads) in
     ap (λ widths. get_or widths i d) e ∙ get_or-map width_of (columns_of w places (map thread_of threads)) i [] d long ∙ ap width_of (column_at w places threads i code h is)
 
--- what is written of a cell
+-- what is printed of a cell
 pub cell_is : (w : Writing) (places : List (List ℕ)) (threads : List Code) (row i : ℕ) (code : Code) (cell : List ℕ) (width : ℕ) → i < length threads → code ≡ get_or threads i code
     → cell ≡ get_or (column_of w places (i, thread_of code)) row [] → width ≡ width_of (column_of w places (i, thread_of code))
     → cell ++ replicate (width - length cell) 32 ≡ cell_text row (get_or (columns_of w places (map thread_of threads)) i [])
 unfolding cell_text
 cell_is w places threads row i code cell width h is e f = rw (column_at w places threads i code h is, e, f) refl
 
--- a row, as it is written
+-- a row, as it is printed
 pub row_is : (columns : List (List (List ℕ))) (row : ℕ) → codes " " ++ (join_by (cell_text row) (codes " | ") columns ++ codes " ;\n") ≡ ended (row_line columns row)
 unfolding row_line
 row_is columns row = ap (λ rest. 32 ∷ rest) (sym (append_assoc (join_by (cell_text row) (codes " | ") columns) (codes " ;") (codes "\n")))
 
--- the rows, as they are written
-abbrev pub written_row : List (List (List ℕ)) → ℕ → List ℕ
-written_row columns row = ended (row_line columns row)
+-- the rows, as they are printed
+abbrev pub printed_row : List (List (List ℕ)) → ℕ → List ℕ
+printed_row columns row = ended (row_line columns row)
 
 pub table_is : (w : Writing) (places : List (List ℕ)) (threads : List Code) (rows : ℕ) → rows ≡ fold (λ count code. max count (length code.instrs.items + 1)) 0 threads
-    → flat_map (written_row (columns_of w places (map thread_of threads))) (range_with_len 0 rows) ≡ flat_map ended (table_lines (columns_of w places (map thread_of threads)))
+    → flat_map (printed_row (columns_of w places (map thread_of threads))) (range_with_len 0 rows)
+    ≡ flat_map ended (table_lines (columns_of w places (map thread_of threads)))
 unfolding table_lines
 table_is w places threads rows e =
-    ap (λ n. flat_map (written_row (columns_of w places (map thread_of threads))) (range_with_len 0 n)) (e ∙ rows_are w places threads)
+    ap (λ n. flat_map (printed_row (columns_of w places (map thread_of threads))) (range_with_len 0 n)) (e ∙ rows_are w places threads)
     ∙ sym (flat_map-map ended (row_line (columns_of w places (map thread_of threads))) (range_with_len 0 (row_count (columns_of w places (map thread_of threads)))))
-
-range_at : (n i d : ℕ) → i < n → get_or (range_with_len 0 n) i d ≡ i
-range_at n i d h = get_or-range_with_len 0 n i d h ∙ zero-add i
-
--- one more row
-pub row_step : (f : ℕ → List ℕ) (a b c : SinkSeen) (n i : ℕ) → i < n → WroteAll a b (flat_map f (take i (range_with_len 0 n))) → WroteAll b c (f i) → WroteAll a c (flat_map f (take (i + 1) (range_with_len 0 n)))
-row_step f a b c n i h p q = each_step f a b c (range_with_len 0 n) i 0 (omega (arith, length-range_with_len 0 n)) p (subst (λ k. WroteAll b c (f k)) (sym (range_at n i 0 h)) q)
-
--- a row in part
-pub row_stop : (f : ℕ → List ℕ) (a b c : SinkSeen) (n i : ℕ) → i < n → WroteAll a b (flat_map f (take i (range_with_len 0 n))) → WrotePart b c (f i) → WrotePart a c (flat_map f (range_with_len 0 n))
-row_stop f a b c n i h p q = each_stop f a b c (range_with_len 0 n) i 0 (omega (arith, length-range_with_len 0 n)) p (subst (λ k. WrotePart b c (f k)) (sym (range_at n i 0 h)) q)
-
--- all rows
-pub row_end : (f : ℕ → List ℕ) (a b : SinkSeen) (n i : ℕ) → n ≤ i → WroteAll a b (flat_map f (take i (range_with_len 0 n))) → Wrote a b (flat_map f (range_with_len 0 n)) (Ok tt)
-row_end f a b n i h p = record {
-  ok = subst (λ ys. WroteAll a b (flat_map f ys)) (take_all i (range_with_len 0 n) (omega (arith, length-range_with_len 0 n))) p;
-  failed = tt;
-}

@@ -1,44 +1,77 @@
-ghost use Rattle.std.specs.Prelude.{◌++◌, codes};
+ghost use Rattle.std.specs.Prelude.{◌≡◌, ◌≤◌, ◌*◌, ◌++◌, codes, length};
 ghost use Rattle.std.specs.List.{join_by};
 ghost use Rattle.relax_edges.specs.Words.{word_of};
+ghost use Rattle.diy_io.specs.Page.{page_after, Sends};
 ghost use Rattle.litmus_text.specs.TestText.{header_line, edges_line, ended};
-ghost use Rattle.diy_io.specs.Wrote.{Wrote, sink_seen};
 ghost use Rattle.litmus_text.specs.Separators.{separator_at};
 
-use crate::write::{separator, write, write_three, write_two};
+use crate::separators::separator;
 use arrayvec::ArrayString;
-use diy_io::{Failed, Sink};
-use relax_edges::{ArchName, Edge};
+use diy_io::{Failed, LINE_ROOM, Page, Sink};
+use relax_edges::{ArchName, Edge, MAX_EDGES};
 
-#[tactic(auto, unfolding(crate::specs::TestText::header_line))]
-pub(crate) fn print_header<O: Sink>(arch: ArchName, name: &str, out: &mut O) -> Result<(), Failed>
-    ensures { Wrote (sink_seen (O.told out.old) (O.faults out.old)) (sink_seen (O.told out.new) (O.faults out.new)) (ended (header_line arch name.now)) result }
+/// The most bytes of a word of an edge with a blank before it.
+const WORD_ROOM: usize = 17;
+
+/// Sends the header, which is as long as the name of the test makes it.
+pub(crate) fn send_header<O: Sink>(
+    arch: ArchName,
+    name: &str,
+    page: &mut Page,
+    out: &mut O,
+) -> Result<(), Failed>
+    ensures { Sends (O.seen out.old) page.old (O.seen out.new) page.new (ended (header_line arch name.now)) result }
 {
-    write_three(out, arch.name().as_bytes(), b" ", name.as_bytes())?;
-    write(out, b"\n")
+    send_names(arch.name().as_bytes(), name.as_bytes(), page, out)
 }
 
-pub(crate) fn print_edges<O: Sink>(edges: &[Edge], out: &mut O) -> Result<(), Failed>
-    ensures { Wrote (sink_seen (O.told out.old) (O.faults out.old)) (sink_seen (O.told out.new) (O.faults out.new)) (ended (edges_line edges.now)) result }
+fn send_names<O: Sink>(arch: &[u8], name: &[u8], page: &mut Page, out: &mut O) -> Result<(), Failed>
+    ensures { Sends (O.seen out.old) page.old (O.seen out.new) page.new (ended (arch.now ++ (codes " " ++ name.now))) result }
 {
-    write(out, b"\"")?;
-    print_words(edges, out)?;
-    write(out, b"\"\n")
+    page.send_pieces(&[arch, b" ", name, b"\n"], out)
 }
 
-fn print_words<O: Sink>(edges: &[Edge], out: &mut O) -> Result<(), Failed>
-    ensures { Wrote (sink_seen (O.told out.old) (O.faults out.old)) (sink_seen (O.told out.new) (O.faults out.new)) (join_by word_of (codes " ") edges.now) result }
+/// Sends the line of the edges.
+pub(crate) fn send_edges<O: Sink>(
+    edges: &[Edge],
+    page: &mut Page,
+    out: &mut O,
+) -> Result<(), Failed>
+    requires { length edges.now ≤ MAX_EDGES }
+    ensures { Sends (O.seen out.old) page.old (O.seen out.new) page.new (ended (edges_line edges.now)) result }
 {
-    for (i, edge) in edges.iter().enumerate() {
-        print_word(i, *edge, out)?;
-    }
+    page.spill(out)?;
+    print_edges(edges, page);
     Ok(())
 }
 
-fn print_word<O: Sink>(i: usize, edge: Edge, out: &mut O) -> Result<(), Failed>
-    ensures { Wrote (sink_seen (O.told out.old) (O.faults out.old)) (sink_seen (O.told out.new) (O.faults out.new)) (separator_at (codes " ") i ++ word_of edge) result }
+#[tactic(auto, using(diy_io::specs::PageLaws::page_more, std::proofs::Common::append_assoc), unfolding(crate::specs::TestText::edges_line))]
+fn print_edges(edges: &[Edge], page: &mut Page)
+    requires { length edges.now ≤ MAX_EDGES }
+    ensures text { page.new ≡ page_after page.old (ended (edges_line edges.now)) }
+    ensures short { length (ended (edges_line edges.now)) ≤ LINE_ROOM }
+{
+    page.put(b"\"");
+    print_words(edges, page);
+    page.put(b"\"\n");
+}
+
+fn print_words(edges: &[Edge], page: &mut Page)
+    ensures text { page.new ≡ page_after page.old (join_by word_of (codes " ") edges.now) }
+    ensures short { length (join_by word_of (codes " ") edges.now) ≤ WORD_ROOM * length edges.now }
+{
+    for (i, edge) in edges.iter().enumerate() {
+        print_word(i, *edge, page);
+    }
+}
+
+#[tactic(auto, using(diy_io::specs::PageLaws::page_more))]
+fn print_word(i: usize, edge: Edge, page: &mut Page)
+    ensures text { page.new ≡ page_after page.old (separator_at (codes " ") i ++ word_of edge) }
+    ensures short { length (separator_at (codes " ") i ++ word_of edge) ≤ WORD_ROOM }
 {
     let mut word: ArrayString<16> = ArrayString::new();
     edge.word(&mut word);
-    write_two(out, separator(i, b" "), word.as_str().as_bytes())
+    page.put(separator(i, b" "));
+    page.put(word.as_str().as_bytes());
 }

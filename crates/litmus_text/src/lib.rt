@@ -9,13 +9,13 @@ mod law;
 mod limits;
 mod print;
 mod reading;
+mod separators;
 mod table;
 mod test;
-mod write;
 
 pub use errors::{ReadError, TestKind, TextError};
 pub use law::printed_reads_back;
 pub use limits::{MAX_ACCESSES, MAX_NAME, MAX_ROWS, MAX_TEXT, MAX_THREADS};
-pub use print::print_test;
+pub use print::{print_test, print_test_by};
 pub use reading::{ReadTest, arch_of, read_test};
 pub use test::Test;

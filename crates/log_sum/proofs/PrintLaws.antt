@@ -1,12 +1,15 @@
 -- The printed sum, piece by piece.
 use Rattle.std.proofs.Common.{◌≡◌, ℕ, suc, ◌-◌, List, [], ◌∷◌, ◌++◌, length, take, refl, sym, ap, ◌∙◌, arith, min}
-use Rattle.std.specs.Prelude.{map, replicate, codes, Result, Ok, OnOk, OnErr}
+use Rattle.std.specs.Prelude.{map, replicate, codes, Result, Ok, Err}
 use Rattle.std.specs.Fmt.{decimal}
 use Rattle.std.proofs.Common.{subst, append_assoc, append-nil}
 use Rattle.std.specs.List.{flat_map}
+use Rattle.std.specs.Result.{IsErrAnd}
 use Rattle.std.proofs.lemmas.List.Concat.{flat_map-append}
-use Rattle.diy_io.specs.SinkLaws.{grew_both, prefix_after, within_more}
-use Rattle.diy_io.specs.Sink.{Told, told_kept, Grew, GrewByPrefix}
+use Rattle.diy_io.specs.declared.errors.Failed.{Failed}
+use Rattle.diy_io.specs.Wrote.{SinkSeen, WrotePart}
+use Rattle.diy_io.specs.Page.{SentAll, Sends}
+use Rattle.diy_io.specs.PageLaws.{sent_both, sent_part, sent_part_more, sends_then, sends_stopped, sends_same}
 use Rattle.log_sum.specs.declared.kinds.Kind.TheVariants.{Allowed}
 use Rattle.log_sum.specs.Summed.{Summed, summed, or_else, is_validated}
 use Rattle.log_sum.specs.Standing.{Kept, StandsFor, kept_text}
@@ -25,45 +28,83 @@ pub filled : (blanks text : List ℕ) → blanks ≡ replicate 6 32 → take (6 
 filled blanks text e =
     ap (take (6 - min (length text) 6)) e ∙ take-replicate (6 - min (length text) 6) 6 32 (omega arith) ∙ ap (λ n. replicate n 32) (let k : 6 - min (length text) 6 ≡ 6 - length text = omega arith in k)
 
--- the texts by their pieces
+-- the texts by their pieces, each literal whole
+joined_head : (x feed histogram count states : List ℕ)
+    → x ++ (feed ++ histogram) ++ count ++ (states ++ feed) ≡ x ++ feed ++ histogram ++ count ++ states ++ feed
+joined_head x feed histogram count states =
+    ap (λ t. t ++ count ++ (states ++ feed)) (sym (append_assoc x feed histogram))
+    ∙ sym (append_assoc (x ++ feed ++ histogram ++ count) states feed)
+
 pub head_is : (name kind count : List ℕ) (test : Summed) → kind ≡ kind_word (or_else Allowed test.kind) → count ≡ decimal (length test.states)
-    → codes "Test " ++ name ++ codes " " ++ kind ++ line_end ++ codes "Histogram (" ++ count ++ codes " states)" ++ line_end ≡ head_text name test
+    → codes "Test " ++ name ++ codes " " ++ kind ++ (line_end ++ codes "Histogram (") ++ count ++ (codes " states)" ++ line_end)
+    ≡ head_text name test
 unfolding head_text
-head_is name kind count test e f = rw (e, f) refl
+head_is name kind count test e f =
+    let line = codes "Test " ++ name ++ codes " " ++ kind_word (or_else Allowed test.kind) in
+    rw (e, f) (joined_head line line_end (codes "Histogram (") (decimal (length test.states)) (codes " states)"))
 
-pub verdict_is : (word starred plain : List ℕ) (test : Summed) → word ≡ verdict_word (is_validated test) → starred ≡ decimal test.starred → plain ≡ decimal test.plain
-    → word ++ line_end ++ line_end ++ codes "Witnesses" ++ line_end ++ codes "Positive: " ++ starred ++ codes ", Negative: " ++ plain ++ line_end ≡ verdict_text test
+pub verdict_is : (word starred plain : List ℕ) (test : Summed)
+    → word ≡ verdict_word (is_validated test) → starred ≡ decimal test.starred → plain ≡ decimal test.plain
+    → word ++ (line_end ++ line_end ++ codes "Witnesses" ++ line_end ++ codes "Positive: ") ++ starred ++ codes ", Negative: " ++ plain ++ line_end
+    ≡ verdict_text test
 unfolding verdict_text
-verdict_is word starred plain test e f h = rw (e, f, h) refl
+verdict_is word starred plain test e f h = rw (e, f, h) (simp append_assoc)
 
-pub observation_is : (name often starred plain : List ℕ) (test : Summed) → often ≡ how_often test.starred test.plain → starred ≡ decimal test.starred → plain ≡ decimal test.plain
-    → codes "Observation " ++ name ++ codes " " ++ often ++ codes " " ++ starred ++ codes " " ++ plain ++ line_end ++ line_end ≡ observation_text name test
+pub observation_is : (name often starred plain : List ℕ) (test : Summed)
+    → often ≡ how_often test.starred test.plain → starred ≡ decimal test.starred → plain ≡ decimal test.plain
+    → codes "Observation " ++ name ++ codes " " ++ often ++ codes " " ++ starred ++ codes " " ++ plain ++ (line_end ++ line_end)
+    ≡ observation_text name test
 unfolding observation_text
-observation_is name often starred plain test e f h = rw (e, f, h) refl
+observation_is name often starred plain test e f h =
+    let often = codes "Observation " ++ name ++ codes " " ++ how_often test.starred test.plain in
+    rw (e, f, h) (sym (append_assoc (often ++ codes " " ++ decimal test.starred ++ codes " " ++ decimal test.plain) line_end line_end))
 
--- growth by a text that is another
-pub ok_as : {A E : Type 0} (r : Result A E) (old new : Told) (s t : List ℕ) → s ≡ t → OnOk r (Grew old new s) → OnOk r (Grew old new t)
-ok_as r old new s t e h = subst (λ (x : List ℕ). OnOk r (Grew old new x)) e h
+abbrev Answer : Type 0
+Answer = Result (Unit {0}) Failed
 
-pub err_as : {A E : Type 0} (r : Result A E) (old new : Told) (s t : List ℕ) → s ≡ t → OnErr r (GrewByPrefix old new s) → OnErr r (GrewByPrefix old new t)
-err_as r old new s t e h = subst (λ (x : List ℕ). OnErr r (GrewByPrefix old new x)) e h
+-- a text and two more, one after another: all are sent, or the first is sent in part, or the second
+pub three_sent : (a b c d : SinkSeen) (held one two kept x y z : List ℕ) (u v : Unit {0}) (result : Answer)
+    → Sends a held b one x (Ok u) → Sends b one c two y (Ok v) → Sends c two d kept z result → Sends a held d kept (x ++ y ++ z) result
+three_sent a b c d held one two kept x y z u v result h k m =
+    sends_then a c d held two kept (x ++ y) z v result (sends_then a b c held one two x y u (Ok v) h k) m
 
--- a loop over states
+pub first_stopped : (Q : Failed → Type 0) (a b : SinkSeen) (held mid kept x y z : List ℕ) (e : Failed) (result : Answer)
+    → Sends a held b mid x (Err e) → IsErrAnd result Q → Sends a held b kept (x ++ y ++ z) result
+first_stopped Q a b held mid kept x y z e result h is_err =
+    sends_same a b held kept (x ++ (y ++ z)) (x ++ y ++ z) result (sends_stopped Q a b held mid kept x (y ++ z) e result h is_err) (sym (append_assoc x y z))
+
+pub second_stopped : (Q : Failed → Type 0) (a b c : SinkSeen) (held one mid kept x y z : List ℕ) (u : Unit {0}) (e : Failed) (result : Answer)
+    → Sends a held b one x (Ok u) → Sends b one c mid y (Err e) → IsErrAnd result Q → Sends a held c kept (x ++ y ++ z) result
+second_stopped Q a b c held one mid kept x y z u e result h k is_err =
+    sends_stopped Q a c held mid kept (x ++ y) z e result (sends_then a b c held one mid x y u (Err e) h k) is_err
+
+-- a loop over elements, each of which has a text: one more is sent, or it is sent in part
 lines_more : {T : Type 0} (line : T → List ℕ) (xs : List T) (x : T) → flat_map line (xs ++ x ∷ []) ≡ flat_map line xs ++ line x
 lines_more line xs x = flat_map-append line xs (x ∷ []) ∙ ap (λ t. flat_map line xs ++ t) (append-nil (line x))
 
-pub states_go : {A T : Type 0} (f : A → T) (line : T → List ℕ) (a b c : Told) (ys : List A) (x : A) → Grew a b (flat_map line (map f ys)) → Grew b c (line (f x)) → Grew a c (flat_map line (map f (ys ++ x ∷ [])))
-states_go f line a b c ys x p q =
-    subst (λ (t : List ℕ). Grew a c t) (sym (ap (flat_map line) (map_more f ys x) ∙ lines_more line (map f ys) (f x))) (grew_both a b c (flat_map line (map f ys)) (line (f x)) p q)
+pub lines_go : {A T : Type 0} (f : A → T) (line : T → List ℕ) (a b c : SinkSeen) (held mid kept : List ℕ) (ys : List A) (x : A) (text : List ℕ)
+    → SentAll a held b mid (flat_map line (map f ys)) → SentAll b mid c kept text → text ≡ line (f x)
+    → SentAll a held c kept (flat_map line (map f (ys ++ x ∷ [])))
+lines_go f line a b c held mid kept ys x text p q e =
+    let parts : flat_map line (map f ys) ++ text ≡ flat_map line (map f (ys ++ x ∷ [])) =
+    ap (λ t. flat_map line (map f ys) ++ t) e ∙ sym (ap (flat_map line) (map_more f ys x) ∙ lines_more line (map f ys) (f x)) in
+    subst (SentAll a held c kept) parts (sent_both a b c held mid kept (flat_map line (map f ys)) text p q)
 
-pub states_stop : {A T : Type 0} (f : A → T) (line : T → List ℕ) (a b c : Told) (ys : List A) (x : A) (rest all : List T) → Grew a b (flat_map line (map f ys)) → GrewByPrefix b c (line (f x))
-    → map f ys ++ f x ∷ rest ≡ all → GrewByPrefix a c (flat_map line all)
-states_stop f line a b c ys x rest all p q e =
-    let front = prefix_after a b c (flat_map line (map f ys)) (line (f x)) p q in
-    let more = within_more (told_kept a) (told_kept c) (flat_map line (map f ys) ++ line (f x)) (flat_map line rest) front in
-    let same : (flat_map line (map f ys) ++ line (f x)) ++ flat_map line rest ≡ flat_map line all =
-    ap (λ t. t ++ flat_map line rest) (sym (lines_more line (map f ys) (f x))) ∙ sym (flat_map-append line (map f ys ++ f x ∷ []) rest) ∙ ap (flat_map line) (append_assoc (map f ys) (f x ∷ []) rest ∙ e) in
-    subst (λ (t : List ℕ). GrewByPrefix a c t) same more
+pub lines_stop : {A T : Type 0} (Q : Failed → Type 0) (f : A → T) (line : T → List ℕ) (a b c : SinkSeen) (held mid kept : List ℕ)
+    (ys : List A) (x : A) (rest all : List T) (text : List ℕ) (result : Answer)
+    → SentAll a held b mid (flat_map line (map f ys)) → WrotePart b c (mid ++ text) → text ≡ line (f x) → map f ys ++ f x ∷ rest ≡ all
+    → IsErrAnd result Q → Sends a held c kept (flat_map line all) result
+lines_stop Q f line a b c held mid kept ys x rest all text (Ok _) p q e covers is_err = absurd is_err
+lines_stop Q f line a b c held mid kept ys x rest all text (Err _) p q e covers is_err =
+    let same : (flat_map line (map f ys) ++ text) ++ flat_map line rest ≡ flat_map line all =
+    ap (λ t. (flat_map line (map f ys) ++ t) ++ flat_map line rest) e
+    ∙ ap (λ t. t ++ flat_map line rest) (sym (lines_more line (map f ys) (f x))) ∙ sym (flat_map-append line (map f ys ++ f x ∷ []) rest)
+    ∙ ap (flat_map line) (append_assoc (map f ys) (f x ∷ []) rest ∙ covers) in
+    record {
+      ok = tt;
+      failed = subst (λ t. WrotePart a c (held ++ t)) same
+          (sent_part_more a c held (flat_map line (map f ys) ++ text) (flat_map line rest) (sent_part a b c held mid (flat_map line (map f ys)) text p q));
+    }
 
 pub covers_next : {A B T : Type 0} (f : A → T) (g : B → T) (ys : List A) (it rest : List B) (x : A) (y : B) (all : List T) → f x ≡ g y → it ≡ y ∷ rest → map f ys ++ map g it ≡ all
     → map f (ys ++ x ∷ []) ++ map g rest ≡ all

@@ -9,7 +9,6 @@ ghost use Rattle.log_sum.specs.States.{form_read};
 ghost use Rattle.log_sum.specs.Steps.{known_state};
 ghost use Rattle.log_sum.specs.StateEntries.{AreInOrder, AreWritten, HasState, sum_view, state_at, states_view, written_as};
 
-use crate::errors::Fault;
 use crate::kinds::Mark;
 use diy_io::NoMemory;
 use indexmap::IndexMap;

@@ -1,6 +1,6 @@
-ghost use Rattle.std.specs.Prelude.{◌≡◌, ◌≤◌, ℕ, List, [], ◌++◌, true, Some, None, IfOk, IfErr, OnOk, OnErr};
-ghost use Rattle.diy_io.specs.Count.{Rose};
-ghost use Rattle.diy_io.specs.Sink.{Grew, GrewByPrefix};
+ghost use Rattle.std.specs.Prelude.{◌≡◌, ℕ, List, [], ◌++◌, true, Some, None, IfOk, IfErr, OnOk};
+ghost use Rattle.diy_io.specs.Page.{Sends};
+ghost use Rattle.diy_io.specs.Wrote.{Wrote};
 ghost use Rattle.log_sum.specs.Reading.{Seen, without_return, line_judged, rest_judged};
 ghost use Rattle.log_sum.specs.Standing.{Kept, StandsFor, FedTo, EndedTo, IsKept, GivenAgain, kept_text};
 ghost use Rattle.log_sum.specs.Feeding.{Follows, ReadTo, PieceTo, EndTo, refusal_of};
@@ -9,7 +9,7 @@ use crate::errors::{Fault, LogError, LogKind, SumError};
 use crate::print::print_sum;
 use crate::reading::Reading;
 use crate::texts::cut;
-use diy_io::{Failed, NoMemory, Sink};
+use diy_io::{Failed, NoMemory, Page, Sink};
 use std::alloc::Global;
 use std::marker::Model;
 
@@ -100,20 +100,26 @@ impl Summer {
         }
     }
 
-    /// Appends the sum of what is kept. Where the sink fails, it has taken a front of it.
+    /// Appends the sum of what is kept. Where the sink fails, it has taken a prefix of it.
     ///
-    /// It is asked for between two logs: before the first, or behind an `end_file` that answered Ok, with nothing
+    /// It is asked for between two logs: before the first, or after an `end_file` that answered Ok, with nothing
     /// fed since.
     pub fn write_sum<O: Sink>(&self, out: &mut O) -> Result<(), Failed>
         requires { self.now.in_order ≡ true }
-        ensures ok { OnOk result (Grew (O.told out.old) (O.told out.new) (kept_text self.now)) }
-        ensures failed { OnErr result (GrewByPrefix (O.told out.old) (O.told out.new) (kept_text self.now)) }
-        ensures no_fault { OnOk result (O.faults out.new ≡ O.faults out.old) }
-        ensures fault { OnErr result (Rose (O.faults out.old) (O.faults out.new)) }
-        ensures never_falls { O.faults out.old ≤ O.faults out.new }
+        ensures { Wrote (O.seen out.old) (O.seen out.new) (kept_text self.now) result }
+    {
+        let mut page = Page::new();
+        self.print_sums(&mut page, out)?;
+        page.flush(out)
+    }
+
+    /// Sends the texts of the tests by way of a page.
+    fn print_sums<O: Sink>(&self, page: &mut Page, out: &mut O) -> Result<(), Failed>
+        requires { self.now.in_order ≡ true }
+        ensures { Sends (O.seen out.old) page.old (O.seen out.new) page.new (kept_text self.now) result }
     {
         for (name, test) in &self.reading.table.tests {
-            print_sum(name.as_slice(), test, out)?;
+            print_sum(name.as_slice(), test, page, out)?;
         }
         Ok(())
     }

@@ -1,6 +1,6 @@
 -- Pieces of a log that are fed, and a device that is read.
-use Rattle.std.proofs.Common.{◌≡◌, ◌≤◌, ◌<◌, ◌^◌, ℕ, ◌+◌, ◌-◌, List, [], ◌∷◌, ◌++◌, length, take, drop, min, Some, None, refl, sym, ap, ◌∙◌, subst, arith, length-append, length-drop, append_assoc, append-nil, inl, inr, cond}
-use Rattle.std.specs.Prelude.{Option, Result, Ok, Err, IfSome, ◌==◌}
+use Rattle.std.proofs.Common.{◌≡◌, ◌≤◌, ◌<◌, ◌^◌, ℕ, ◌+◌, List, [], ◌++◌, length, take, drop, Some, None, refl, sym, ap, ◌∙◌, subst, arith, length-append, length-drop, append_assoc, append-nil, inl, cond}
+use Rattle.std.specs.Prelude.{Option, Err, ◌==◌}
 use Rattle.std.proofs.lemmas.List.{take-append-drop, length-take-le}
 use Rattle.std.proofs.lemmas.List.Sums.{sum_by-append}
 use Rattle.std.specs.Io.KnownBytes.{Consumes, IsAtEnd}
@@ -8,18 +8,15 @@ use Rattle.std.proofs.KnownBytes.{Consumes-nil, Consumes-trans, Consumes-whole}
 use Rattle.diy_io.specs.Count.{count_of, Rose}
 use Rattle.diy_io.specs.Sink.{line_feed_count}
 use Rattle.diy_io.specs.Taken.{SourceSeen, Took}
-use Rattle.log_sum.specs.declared.errors.LogError.{LogError}
 use Rattle.log_sum.specs.declared.errors.SumError.{SumError}
 use Rattle.log_sum.specs.declared.errors.SumError.TheVariants as sums
-use Rattle.log_sum.specs.Reading.{Seen, input_judged}
-use Rattle.log_sum.specs.Standing.{Kept, StandsFor, FedTo, EndedTo, logs_text}
-use Rattle.log_sum.proofs.StandingLaws.{standing_text, fault_stays, end_fault_stays}
+use Rattle.log_sum.specs.Standing.{Kept, StandsFor, FedTo, EndedTo}
+use Rattle.log_sum.proofs.StandingLaws.{end_fault_stays}
 use Rattle.summed_logs.specs.declared.feeding.Feeding.{Feeding}
 use Rattle.summed_logs.specs.declared.feeding.LogFault.{LogFault}
-use Rattle.summed_logs.specs.declared.feeding.LogFault.TheVariants.{Wrong, TooMuch, NoMemory}
 use Rattle.summed_logs.specs.Faults.{fault_of}
-use Rattle.summed_logs.specs.Logs.{IsText, IsShort, TookCount, AreRight, IsWrong, IsTooMuch}
-use Rattle.summed_logs.specs.Feeding.{Reads, FrontWrong, FrontFull, IsFault, FedOn, IsEndFault, EndedOn, ReadSoFar, ReadWhole, ReadPart, ReadFailed, ReadTo}
+use Rattle.summed_logs.specs.Logs.{IsText, IsShort, max_piece, ShowsNone, FrontFull, TookCount}
+use Rattle.summed_logs.specs.Feeding.{Reads, IsFault, IsEndFault, ReadSoFar, ReadWhole, ReadPart, LogFailed}
 
 parts_of : (bytes piece : List ℕ) (n : ℕ) → bytes ++ piece ≡ (bytes ++ take n piece) ++ drop n piece
 parts_of bytes piece n = ap (λ p. bytes ++ p) (sym (take-append-drop n piece)) ∙ sym (append_assoc bytes (take n piece) (drop n piece))
@@ -123,35 +120,62 @@ front_of None new bytes h = record { log = bytes; rest = []; text = tt; parts = 
 front_of (Some xs) None bytes h = absurd h
 front_of (Some xs) (Some ys) bytes h = record { log = xs; rest = ys; text = refl; parts = h }
 
+-- bytes that were fed show no fault, and are at most 2^40
+reads_none : (feeding : Feeding) (logs : List (List ℕ)) (bytes : List ℕ) → Reads feeding logs bytes → ShowsNone logs bytes
+reads_none feeding logs bytes reads = record { seen = reads.stands.seen; is = reads.stands.judged }
+
+reads_short : (feeding : Feeding) (logs : List (List ℕ)) (bytes : List ℕ) → Reads feeding logs bytes → feeding.read ≤ 2 ^ 40 → IsShort bytes
+reads_short feeding logs bytes reads short = let read : feeding.read ≡ length bytes = reads.read in omega arith
+
 -- no more is fed
 pub reads_part : (old mid new : SourceSeen) (feeding : Feeding) (logs : List (List ℕ)) (piece : List ℕ) (fault : LogFault) (r : ReadSoFar old mid feeding logs)
+    → feeding.read ≤ 2 ^ 40 → length piece ≤ max_piece
     → Took mid new piece → new.faults ≡ mid.faults → IsFault logs (r.bytes ++ piece) fault → ReadPart old new logs fault
-reads_part old mid new feeding logs piece fault r took same is =
+reads_part old mid new feeding logs piece fault r short one took same is =
     let front = front_of old.left new.left (r.bytes ++ piece) (Consumes-trans old.left mid.left new.left r.bytes piece r.consumed took.consumed) in
     record {
       log = front.log;
-      bytes = r.bytes ++ piece;
-      rest = front.rest;
       text = front.text;
-      parts = front.parts;
+      bytes = r.bytes ++ piece;
       taken = subst (TookCount old new) (sym (length-append r.bytes piece)) (took_both old mid new (length r.bytes) piece r.taken took);
+      up_to = record {
+        rest = front.rest;
+        parts = front.parts;
+        earlier = r.bytes;
+        piece = piece;
+        pieces = refl;
+        short = reads_short feeding logs r.bytes r.reads short;
+        no_fault = reads_none feeding logs r.bytes r.reads;
+        one = one;
+      };
       is = is;
       no_fault = same ∙ r.no_fault;
     }
 
+-- a piece is no longer than the room for it
+pub short_piece : (buf : List ℕ) (n : ℕ) → n ≤ length buf → length buf ≤ max_piece → length (take n buf) ≤ max_piece
+short_piece buf n fits room = omega (arith, length-take-le n buf fits)
+
 -- the device failed
 pub reads_failed : (old mid new : SourceSeen) (feeding : Feeding) (logs : List (List ℕ)) → ReadSoFar old mid feeding logs → feeding.read ≤ 2 ^ 40
-    → new.taken ≡ mid.taken → Rose mid.faults new.faults → mid.faults ≤ new.faults → ReadFailed old new
+    → new.taken ≡ mid.taken → Rose mid.faults new.faults → mid.faults ≤ new.faults → LogFailed old new feeding logs
 reads_failed old mid new feeding logs r short taken fault never_falls =
-    let read : feeding.read ≡ length r.bytes = r.reads.read in
-    let count : TookCount old mid (length r.bytes) = r.taken in
     let same : mid.faults ≡ old.faults = r.no_fault in
+    let front = front_of old.left mid.left r.bytes r.consumed in
     record {
-      count = length r.bytes;
-      short = omega arith;
-      taken = omega arith;
-      fault = omega arith;
-      never_falls = omega arith;
+      failed = record {
+        log = front.log;
+        text = front.text;
+        bytes = r.bytes;
+        rest = front.rest;
+        parts = front.parts;
+        short = reads_short feeding logs r.bytes r.reads short;
+        no_fault = reads_none feeding logs r.bytes r.reads;
+        taken = ap count_of taken ∙ r.taken;
+        fault = omega arith;
+        never_falls = omega arith;
+      };
+      fed = inl r.reads;
     }
 
 take_none : (buf : List ℕ) (n : ℕ) → n ≡ 0 → take n buf ≡ []

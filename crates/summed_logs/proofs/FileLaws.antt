@@ -1,7 +1,6 @@
 -- A file of a shelf that is read.
-use Rattle.std.proofs.Common.{◌≡◌, ◌≤◌, ◌<◌, ℕ, List, [], length, take, sym, ap, ◌∙◌, subst}
-use Rattle.diy_io.specs.Count.{count_of}
-use Rattle.diy_io.specs.Shelf.{ShelfSeen, Mode, IsReading, Gave, name_read, left_to_read}
+use Rattle.std.proofs.Common.{◌≡◌, ◌≤◌, ◌<◌, ℕ, List, [], length, take, sym, ap, subst}
+use Rattle.diy_io.specs.Shelf.{ShelfSeen, IsReading, Gave}
 use Rattle.diy_io.specs.Taken.{SourceSeen, Took}
 use Rattle.summed_logs.specs.declared.feeding.Feeding.{Feeding}
 use Rattle.summed_logs.specs.Files.{log_seen}

@@ -1,24 +1,22 @@
 -- Files of a shelf that are summed, one after another.
-use Rattle.std.proofs.Common.{◌≡◌, ◌≤◌, ◌<◌, ◌^◌, ◌+◌, ℕ, Bool, true, false, List, [], ◌∷◌, ◌++◌, length, refl, sym, ap, ◌∙◌, subst, arith, Some, None, inl, inr, length-append, get_or}
-use Rattle.std.specs.Prelude.{Option, Result, Ok, Err, IfSome, IsSome, MatchOption, All, slice_get, nat_lt, zero, suc}
+use Rattle.std.proofs.Common.{◌≡◌, ◌+◌, ℕ, List, [], ◌∷◌, ◌++◌, length, refl, sym, ap, ◌∙◌, subst, arith, Some, None, inl, inr, length-append, get_or}
+use Rattle.std.specs.Prelude.{Option, Ok, Err, IfSome, IsSome, MatchOption, All, slice_get, zero, suc}
 use Rattle.std.specs.Option.{option_and_then}
 use Rattle.std.proofs.lemmas.List.Elements.{All-append}
-use Rattle.std.proofs.lemmas.Option.{slice_get_within}
 use Rattle.diy_io.specs.Count.{count_of, next_count, Rose}
-use Rattle.diy_io.specs.Shelf.{Files, ShelfSeen, Mode, Idle, left_to_read, Opened, NotThere, Stopped}
+use Rattle.diy_io.specs.Shelf.{Files, ShelfSeen, left_to_read, CountsStay, Opened, NotThere, Stopped}
 use Rattle.diy_io.specs.Wrote.{SinkSeen}
 use Rattle.diy_io.specs.declared.errors.Failed.{Failed}
 use Rattle.summed_logs.specs.declared.feeding.Feeding.{Feeding}
-use Rattle.summed_logs.specs.declared.feeding.LogFault.{LogFault}
 use Rattle.summed_logs.specs.declared.feeding.LogFault.TheVariants.{Wrong, TooMuch, NoMemory}
 use Rattle.summed_logs.specs.declared.feeding.ReadFault.{ReadFault}
 use Rattle.summed_logs.specs.declared.feeding.ReadFault.TheVariants.{Log, Device}
 use Rattle.summed_logs.specs.declared.files.FileFault.{FileFault}
 use Rattle.summed_logs.specs.declared.files.FileFault.TheVariants.{Missing, Read}
-use Rattle.summed_logs.specs.Logs.{IsText, IsShort, TookCount, AreRight}
-use Rattle.summed_logs.specs.Feeding.{Reads, LogSummed, LogFaulty, IsFaulty, ReadFailed, SummedTo, SumWrote}
-use Rattle.summed_logs.specs.SumEnds.{IsLog, AreLogs, IsWithin, IsAtWord, FilesWritten, FilesUnwritten, FilesSummed}
-use Rattle.summed_logs.specs.Files.{log_seen, FileSummed, FileFaulty, FileAbsent, FileFailed, FileTo, FilesSoFar, file_end}
+use Rattle.summed_logs.specs.Logs.{IsText, IsShort, TookCount}
+use Rattle.summed_logs.specs.Feeding.{Reads, LogSummed, ClosedTo, SumWrote}
+use Rattle.summed_logs.specs.SumEnds.{IsLog, AreLogs, TookFiles, last_taken, IsBegun, IsAtWord, FilesWritten, FilesUnwritten, FilesSummed}
+use Rattle.summed_logs.specs.Files.{log_seen, FileSummed, FileTo, FilesSoFar, file_end}
 use Rattle.summed_logs.proofs.LogLaws.{are_right}
 
 one_text : (told : Option (List ℕ)) (log : List ℕ) → IsSome told → IsText told log → told ≡ Some log
@@ -34,47 +32,94 @@ opened_text : (old mid : ShelfSeen) (name log : List ℕ) → Opened old mid nam
 opened_text old mid name log opened text =
     told_text old.files name log opened.there (subst (λ o. IsText o log) (ap left_to_read opened.mode) text)
 
+-- bytes were taken of a file that was opened
+opened_took : (old mid new : ShelfSeen) (name bytes : List ℕ) → Opened old mid name → TookCount (log_seen mid) (log_seen new) (length bytes)
+    → new.opened ≡ mid.opened → TookFiles old new (bytes ∷ [])
+opened_took old mid new name bytes opened taken same =
+    let once : mid.opened ≡ next_count old.opened = opened.opened in
+    let zero_taken : mid.taken ≡ 0 = opened.taken in
+    let count : count_of new.taken ≡ count_of (mid.taken + length bytes) = taken in
+    record { opened = omega arith; last = omega arith }
+
+-- nothing was opened or taken
+pub took_nothing : (old new : ShelfSeen) → CountsStay old new → TookFiles old new []
+took_nothing old new stay =
+    let taken : new.taken ≡ old.taken = stay.taken in
+    let opened : new.opened ≡ old.opened = stay.opened in
+    record { opened = omega arith; last = omega arith }
+
+last_of : (taken : ℕ) (logs : List (List ℕ)) (bytes : List ℕ) → last_taken taken (logs ++ bytes ∷ []) ≡ length bytes
+last_of taken [] bytes = refl
+last_of taken (log ∷ logs) bytes = last_of (length log) logs bytes
+
+-- one file after others
+took_one_more : (old mid new : ShelfSeen) (logs : List (List ℕ)) (bytes : List ℕ) → TookFiles old mid logs → TookFiles mid new (bytes ∷ [])
+    → TookFiles old new (logs ++ bytes ∷ [])
+took_one_more old mid new logs bytes p q =
+    let before : count_of mid.opened ≡ count_of (old.opened + length logs) = p.opened in
+    let then_one : count_of new.opened ≡ count_of (mid.opened + length (bytes ∷ [])) = q.opened in
+    record {
+      opened = omega (arith, length-append logs (bytes ∷ []));
+      last = q.last ∙ ap count_of (sym (last_of old.taken logs bytes));
+    }
+
+took_no_more : (old mid new : ShelfSeen) (logs : List (List ℕ)) → TookFiles old mid logs → TookFiles mid new [] → TookFiles old new logs
+took_no_more old mid new logs p q =
+    let before : count_of mid.opened ≡ count_of (old.opened + length logs) = p.opened in
+    let then_none : count_of new.opened ≡ count_of (mid.opened + 0) = q.opened in
+    record { opened = omega arith; last = q.last ∙ p.last }
+
 -- a file that was opened is summed
 pub opened_summed : (old mid new : ShelfSeen) (feeding : Feeding) (before : List (List ℕ)) (name : List ℕ) → Opened old mid name
     → LogSummed (log_seen mid) (log_seen new) feeding before → new.opened ≡ mid.opened → FileSummed old new feeding before name
-opened_summed old mid new feeding before name opened s same =
-    let once : mid.opened ≡ next_count old.opened = opened.opened in
-    let zero_taken : mid.taken ≡ 0 = opened.taken in
-    let count : count_of new.taken ≡ count_of (mid.taken + length s.log) = s.taken in
-    let short : length s.log ≤ 2 ^ 40 = s.short in
-    record {
-      log = s.log;
-      text = opened_text old mid name s.log opened s.text;
-      short = s.short;
-      reads = s.reads;
-      no_fault = s.no_fault ∙ opened.no_fault;
-      taken = omega arith;
-      opened = omega arith;
-    }
+opened_summed old mid new feeding before name opened s same = record {
+  log = s.log;
+  text = opened_text old mid name s.log opened s.text;
+  short = s.short;
+  reads = s.reads;
+  no_fault = s.no_fault ∙ opened.no_fault;
+  took = opened_took old mid new name s.log opened s.taken same;
+}
 
 -- or isn't
 pub opened_refused : (old mid new : ShelfSeen) (feeding : Feeding) (before : List (List ℕ)) (name : List ℕ) (fault : ReadFault) → Opened old mid name
-    → SummedTo (log_seen mid) (log_seen new) feeding before (Err fault) → new.opened ≡ mid.opened
+    → ClosedTo (log_seen mid) (log_seen new) feeding before (Err fault) → new.opened ≡ mid.opened
     → FileTo old new feeding before name (Err (Read fault))
-opened_refused old mid new feeding before name (Log fault) opened s same =
-    let zero_taken : mid.taken ≡ 0 = opened.taken in
-    let once : mid.opened ≡ next_count old.opened = opened.opened in
-    let count : count_of new.taken ≡ count_of (mid.taken + s.count) = s.taken in
-    record {
-      log = s.log;
-      text = opened_text old mid name s.log opened s.text;
-      count = s.count;
-      taken = omega arith;
-      is = s.is;
-      opened = omega arith;
-    }
+opened_refused old mid new feeding before name (Log fault) opened s same = record {
+  log = s.log;
+  text = opened_text old mid name s.log opened s.text;
+  bytes = s.bytes;
+  is = s.is;
+  took = opened_took old mid new name s.bytes opened s.taken same;
+}
 opened_refused old mid new feeding before name Device opened s same =
-    let zero_taken : mid.taken ≡ 0 = opened.taken in
     let none : mid.faults ≡ old.faults = opened.no_fault in
-    let count : count_of new.taken ≡ count_of (mid.taken + s.count) = s.taken in
-    let short : s.count ≤ 2 ^ 40 = s.short in
-    let rose : Rose mid.faults new.faults = s.fault in
-    record { fault = omega arith; taken = inl (omega arith) }
+    let rose : Rose mid.faults new.faults = s.failed.fault in
+    record {
+      fault = omega arith;
+      took =
+          inr (
+            s.failed.bytes,
+            record {
+              log = s.failed.log;
+              text = opened_text old mid name s.failed.log opened s.failed.text;
+              rest = s.failed.rest;
+              parts = s.failed.parts;
+              short = s.failed.short;
+              no_fault = s.failed.no_fault;
+            },
+            opened_took old mid new name s.failed.bytes opened s.failed.taken same,
+          );
+    }
+
+-- a file that couldn't be opened
+pub open_absent : (old new : ShelfSeen) (feeding : Feeding) (before : List (List ℕ)) (name : List ℕ) → NotThere old new name
+    → FileTo old new feeding before name (Err Missing)
+open_absent old new feeding before name there = record { absent = there.absent; took = took_nothing old new there.counts }
+
+pub open_failed : (old new : ShelfSeen) (feeding : Feeding) (before : List (List ℕ)) (name : List ℕ) → Stopped old new
+    → FileTo old new feeding before name (Err (Read Device))
+open_failed old new feeding before name stopped = record { fault = stopped.faulted.fault; took = inl (took_nothing old new stopped.counts) }
 
 -- before the first file
 pub none_so_far : (old : ShelfSeen) (feeding : Feeding) (words : List (List ℕ)) (first : ℕ) → Reads feeding [] [] → FilesSoFar old old feeding words first first
@@ -84,8 +129,7 @@ none_so_far old feeding words first reads = record {
   are = record { named = λ k name log w l. absurd (let h : Some log ≡ None = sym l in cc); short = λ k d h. absurd (omega arith) };
   reads = reads;
   no_fault = refl;
-  within = λ h. absurd (omega arith);
-  rising = omega arith;
+  took = record { opened = omega arith; last = refl };
 }
 
 last_log : (logs : List (List ℕ)) (log other : List ℕ) (k : ℕ) → slice_get (logs ++ log ∷ []) k ≡ Some other
@@ -117,25 +161,18 @@ pub one_more : (old mid new : ShelfSeen) (feeding after : Feeding) (words : List
     → mid.files ≡ old.files → slice_get words place ≡ Some name → FileSummed mid new after s.logs name → FilesSoFar old new after words first (place + 1)
 one_more old mid new feeding after words first place name s files word f =
     let count : place ≡ first + length s.logs = s.count in
-    let rising : count_of old.opened ≤ count_of mid.opened = s.rising in
-    let rose : Rose mid.opened new.opened = f.opened in
     record {
       logs = s.logs ++ f.log ∷ [];
       count = omega (arith, length-append s.logs (f.log ∷ []));
       are = more_logs old.files words first place s.logs name f.log s.are s.count word (subst (λ o. IsLog o name f.log) files f.text) f.short;
       reads = f.reads;
       no_fault = f.no_fault ∙ s.no_fault;
-      within = λ h. f.taken;
-      rising = omega arith;
+      took = took_one_more old mid new s.logs f.log s.took f.took;
     }
 
 at_word : (old mid : ShelfSeen) (feeding : Feeding) (words : List (List ℕ)) (first place : ℕ) (name : List ℕ) (s : FilesSoFar old mid feeding words first place)
     → slice_get words place ≡ Some name → IsAtWord old.files words first place s.logs name
 at_word old mid feeding words first place name s word = record { count = s.count; are = s.are; word = word }
-
-within_same : (old mid new : ShelfSeen) → IsWithin old mid → new.taken ≡ mid.taken → new.opened ≡ mid.opened → IsWithin old new
-within_same old mid new within taken opened = λ h.
-    let short : mid.taken ≤ 2 ^ 40 = within (omega arith) in omega arith
 
 absent_same : (old mid : Option Files) (m n k : ℕ) (name : List ℕ) → mid ≡ old → m ≡ n → MatchOption mid (Rose m k) (λ there. there name ≡ None)
     → MatchOption old (Rose n k) (λ there. there name ≡ None)
@@ -143,6 +180,9 @@ absent_same old mid m n k name files same h =
     let P : Option Files → Type 0 = λ o. MatchOption o (Rose n k) (λ there. there name ≡ None) in
     let Q : ℕ → Type 0 = λ i. MatchOption mid (Rose i k) (λ there. there name ≡ None) in
     subst P files (subst Q same h)
+
+begun_same : (old mid : Option Files) (before : List (List ℕ)) (name bytes : List ℕ) → mid ≡ old → IsBegun mid before name bytes → IsBegun old before name bytes
+begun_same old mid before name bytes files b = subst (λ o. IsBegun o before name bytes) files b
 
 -- a file isn't summed
 pub files_refused : (old mid new : ShelfSeen) (a : SinkSeen) (feeding after : Feeding) (words : List (List ℕ)) (first place : ℕ) (name : List ℕ) (fault : FileFault)
@@ -155,14 +195,22 @@ files_refused old mid new a feeding after words first place name Missing s files
     place_is = at_word old mid feeding words first place name s word;
     right_before = are_right feeding s.logs s.reads;
     absent = absent_same old.files mid.files mid.faults old.faults new.faults name files s.no_fault f.absent;
-    within = within_same old mid new s.within f.taken f.opened;
+    took = took_no_more old mid new s.logs s.took f.took;
   },
   refl,
 )
 files_refused old mid new a feeding after words first place name (Read Device) s files word f = (
   record {
     fault = subst (λ m. Rose m new.faults) s.no_fault f.fault;
-    within = elim f.taken [ inl short ↦ λ h. short | inr same ↦ within_same old mid new s.within same.0 same.1 ];
+    place = place;
+    before = s.logs;
+    name = name;
+    place_is = at_word old mid feeding words first place name s word;
+    right_before = are_right feeding s.logs s.reads;
+    took = elim f.took [
+      | inl none ↦ inl (took_no_more old mid new s.logs s.took none)
+      | inr some ↦ inr (some.0, begun_same old.files mid.files s.logs name some.0 files some.1, took_one_more old mid new s.logs some.0 s.took some.2)
+    ];
   },
   refl,
 )
@@ -173,27 +221,25 @@ files_refused old mid new a feeding after words first place name (Read (Log (Wro
     place_is = at_word old mid feeding words first place name s word;
     log = f.log;
     text = subst (λ o. IsLog o name f.log) files f.text;
+    bytes = f.bytes;
     is = f.is;
+    took = took_one_more old mid new s.logs f.bytes s.took f.took;
   },
   refl,
 )
-files_refused old mid new a feeding after words first place name (Read (Log (TooMuch line))) s files word f =
-    let rising : count_of old.opened ≤ count_of mid.opened = s.rising in
-    let rose : Rose mid.opened new.opened = f.opened in
-    let count : count_of new.taken ≡ count_of f.count = f.taken in
-    let long : 2 ^ 40 < f.count = f.is.1 in (
-      record {
-        before = s.logs;
-        name = name;
-        place_is = at_word old mid feeding words first place name s word;
-        log = f.log;
-        text = subst (λ o. IsLog o name f.log) files f.text;
-        is = f.is.0;
-        opened = omega arith;
-        long = omega arith;
-      },
-      refl,
-    )
+files_refused old mid new a feeding after words first place name (Read (Log (TooMuch line))) s files word f = (
+  record {
+    before = s.logs;
+    name = name;
+    place_is = at_word old mid feeding words first place name s word;
+    log = f.log;
+    text = subst (λ o. IsLog o name f.log) files f.text;
+    bytes = f.bytes;
+    is = f.is;
+    took = took_one_more old mid new s.logs f.bytes s.took f.took;
+  },
+  refl,
+)
 files_refused old mid new a feeding after words first place name (Read (Log NoMemory)) s files word f = refl
 
 -- the sum of the files was written
@@ -201,15 +247,15 @@ pub files_written : (old new : ShelfSeen) (a b : SinkSeen) (feeding : Feeding) (
     → (s : FilesSoFar old new feeding words first place) → place ≡ length words → SumWrote s.logs a b (Ok u) → FilesWritten old new words first a b
 files_written old new a b feeding words first place u s all w = record {
   sum = w.sum;
-  read = record { logs = s.logs; all = sym s.count ∙ all; are = s.are; no_fault = s.no_fault; within = s.within; is = w.is };
+  read = record { logs = s.logs; all = sym s.count ∙ all; are = s.are; no_fault = s.no_fault; took = s.took; is = w.is };
   wrote = w.wrote.ok;
 }
 
--- or a front of it
+-- or a prefix of it
 pub files_unwritten : (old new : ShelfSeen) (a b : SinkSeen) (feeding : Feeding) (words : List (List ℕ)) (first place : ℕ) (e : Failed)
     → (s : FilesSoFar old new feeding words first place) → place ≡ length words → SumWrote s.logs a b (Err e) → FilesUnwritten old new words first a b
 files_unwritten old new a b feeding words first place e s all w = record {
   sum = w.sum;
-  read = record { logs = s.logs; all = sym s.count ∙ all; are = s.are; no_fault = s.no_fault; within = s.within; is = w.is };
+  read = record { logs = s.logs; all = sym s.count ∙ all; are = s.are; no_fault = s.no_fault; took = s.took; is = w.is };
   wrote = w.wrote.failed;
 }

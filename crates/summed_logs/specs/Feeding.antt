@@ -1,46 +1,24 @@
 -- What feeding a log to a summer in pieces says of it.
 -- Source: own.
-use Rattle.std.specs.Prelude.{◌≡◌, ◌≤◌, ◌<◌, ◌^◌, ◌+◌, ℕ, List, [], ◌∷◌, ◌++◌, length, Result, Ok, Err}
+use Rattle.std.specs.Prelude.{◌≡◌, ◌⊎◌, ℕ, List, [], ◌∷◌, ◌++◌, length, Result, Ok, Err}
 use Rattle.std.specs.Io.KnownBytes.{Consumes, IsAtEnd}
-use Rattle.diy_io.specs.Count.{Rose}
 use Rattle.diy_io.specs.Sink.{line_feed_count}
 use Rattle.diy_io.specs.Taken.{SourceSeen}
 use Rattle.diy_io.specs.Wrote.{SinkSeen, Wrote}
 use Rattle.diy_io.specs.declared.errors.Failed.{Failed}
-use Rattle.log_sum.specs.declared.errors.LogError.{LogError}
-use Rattle.log_sum.specs.Reading.{Seen, input_judged}
 use Rattle.log_sum.specs.Standing.{StandsFor, logs_text}
 use Rattle.summed_logs.specs.declared.feeding.Feeding.{Feeding}
 use Rattle.summed_logs.specs.declared.feeding.LogFault.{LogFault}
 use Rattle.summed_logs.specs.declared.feeding.LogFault.TheVariants.{Wrong, TooMuch, NoMemory}
 use Rattle.summed_logs.specs.declared.feeding.ReadFault.{ReadFault}
 use Rattle.summed_logs.specs.declared.feeding.ReadFault.TheVariants.{Log, Device}
-use Rattle.summed_logs.specs.Logs.{IsText, IsShort, TookCount, IsWrong, IsTooMuch}
+use Rattle.summed_logs.specs.Logs.{IsText, IsShort, TookCount, FrontWrong, FrontFull, UpToFault, IsWrong, IsTooMuch, ReadFailed}
 
 -- whole logs and the bytes that have come of one more were fed, and of this one the bytes and line feeds are counted
 pub record Reads (feeding : Feeding) (logs : List (List ℕ)) (bytes : List ℕ) : Type 0 where
   pub stands : StandsFor feeding.summer logs bytes
   pub read : feeding.read ≡ length bytes
   pub line_feeds : feeding.line_feeds ≡ line_feed_count bytes
-
--- a front of a log's bytes has this fault, behind whole logs
-pub record FrontWrong (logs : List (List ℕ)) (bytes : List ℕ) (error : LogError) : Type 0 where
-  pub front : List ℕ
-  pub rest : List ℕ
-  pub parts : bytes ≡ front ++ rest
-  pub short : IsShort front
-  pub wrong : input_judged logs front ≡ Err error
-
--- the bytes of a log are more than 2^40, of which the first 2^40 have no fault, and this is the line behind them
-pub record FrontFull (logs : List (List ℕ)) (bytes : List ℕ) (line : ℕ) : Type 0 where
-  pub front : List ℕ
-  pub rest : List ℕ
-  pub parts : bytes ≡ front ++ rest
-  pub full : length front ≡ 2 ^ 40
-  pub more : 0 < length rest
-  pub seen : Seen
-  pub no_fault : input_judged logs front ≡ Ok seen
-  pub number : line ≡ line_feed_count front + 1
 
 -- why no more of a log is fed, where these bytes have come of it
 abbrev pub IsFault : List (List ℕ) → List ℕ → LogFault → Type 0
@@ -84,27 +62,23 @@ pub record ReadWhole (old new : SourceSeen) (feeding : Feeding) (logs : List (Li
 -- bytes of a log were read, and no more is fed
 pub record ReadPart (old new : SourceSeen) (logs : List (List ℕ)) (fault : LogFault) : Type 0 where
   pub log : List ℕ
-  pub bytes : List ℕ
-  pub rest : List ℕ
   pub text : IsText old.left log
-  pub parts : log ≡ bytes ++ rest
+  pub bytes : List ℕ
   pub taken : TookCount old new (length bytes)
+  pub up_to : UpToFault logs log bytes
   pub is : IsFault logs bytes fault
   pub no_fault : new.faults ≡ old.faults
 
--- the device failed, where at most 2^40 bytes were taken
-pub record ReadFailed (old new : SourceSeen) : Type 0 where
-  pub count : ℕ
-  pub short : count ≤ 2 ^ 40
-  pub taken : TookCount old new count
-  pub fault : Rose old.faults new.faults
-  pub never_falls : old.faults ≤ new.faults
+-- the device failed when a log was read, or when one was closed that was summed
+pub record LogFailed (old new : SourceSeen) (feeding : Feeding) (before : List (List ℕ)) : Type 0 where
+  pub failed : ReadFailed old new before
+  pub fed : Reads feeding before failed.bytes ⊎ ((failed.bytes ≡ failed.log) × Reads feeding (before ++ failed.log ∷ []) [])
 
 -- an answer to the reading of a log
 abbrev pub ReadTo : SourceSeen → SourceSeen → Feeding → List (List ℕ) → Result (Unit {0}) ReadFault → Type 0
 ReadTo old new feeding logs (Ok x) = ReadWhole old new feeding logs
 ReadTo old new feeding logs (Err (Log fault)) = ReadPart old new logs fault
-ReadTo old new feeding logs (Err Device) = ReadFailed old new
+ReadTo old new feeding logs (Err Device) = LogFailed old new feeding logs
 
 -- a log was read whole and summed, has at most 2^40 bytes, and nothing is left to read
 pub record LogSummed (old new : SourceSeen) (feeding : Feeding) (before : List (List ℕ)) : Type 0 where
@@ -116,27 +90,33 @@ pub record LogSummed (old new : SourceSeen) (feeding : Feeding) (before : List (
   pub reads : Reads feeding (before ++ log ∷ []) []
   pub no_fault : new.faults ≡ old.faults
 
--- what a fault says of a log behind others, of which so many bytes were taken
-abbrev pub IsFaulty : List (List ℕ) → List ℕ → ℕ → LogFault → Type 0
-IsFaulty before log count (Wrong error) = IsWrong before log error
-IsFaulty before log count (TooMuch line) = IsTooMuch before log line × (2 ^ 40 < count)
-IsFaulty before log count NoMemory = Unit {0}
+-- what a fault says of the log after others, of which these bytes were taken
+abbrev pub IsFaulty : List (List ℕ) → List ℕ → List ℕ → LogFault → Type 0
+IsFaulty before log taken (Wrong error) = IsWrong before log taken error
+IsFaulty before log taken (TooMuch line) = IsTooMuch before log taken line
+IsFaulty before log taken NoMemory = Unit {0}
 
 -- a log has a fault
 pub record LogFaulty (old new : SourceSeen) (before : List (List ℕ)) (fault : LogFault) : Type 0 where
   pub log : List ℕ
   pub text : IsText old.left log
-  pub count : ℕ
-  pub taken : TookCount old new count
-  pub is : IsFaulty before log count fault
+  pub bytes : List ℕ
+  pub taken : TookCount old new (length bytes)
+  pub is : IsFaulty before log bytes fault
 
--- an answer to a log
+-- an answer to a log that stays open
 abbrev pub SummedTo : SourceSeen → SourceSeen → Feeding → List (List ℕ) → Result (Unit {0}) ReadFault → Type 0
 SummedTo old new feeding before (Ok x) = LogSummed old new feeding before
-SummedTo old new feeding before (Err (Log fault)) = LogFaulty old new before fault
-SummedTo old new feeding before (Err Device) = ReadFailed old new
+SummedTo old new feeding before (Err (Log fault)) = LogFaulty old new before fault × (new.faults ≡ old.faults)
+SummedTo old new feeding before (Err Device) = LogFailed old new feeding before
 
--- the sum of whole logs was written, or a front of it
+-- an answer to a log that is closed: it is known before, but where the log has no fault and the closing fails
+abbrev pub ClosedTo : SourceSeen → SourceSeen → Feeding → List (List ℕ) → Result (Unit {0}) ReadFault → Type 0
+ClosedTo old new feeding before (Ok x) = LogSummed old new feeding before
+ClosedTo old new feeding before (Err (Log fault)) = LogFaulty old new before fault
+ClosedTo old new feeding before (Err Device) = LogFailed old new feeding before
+
+-- the sum of whole logs was written, or a prefix of it
 pub record SumWrote (logs : List (List ℕ)) (out_old out_new : SinkSeen) (result : Result (Unit {0}) Failed) : Type 0 where
   pub sum : List ℕ
   pub is : logs_text logs ≡ Ok sum

@@ -1,7 +1,7 @@
 -- Logs in the files of a shelf.
 -- Source: own.
-use Rattle.std.specs.Prelude.{◌≡◌, ◌≤◌, ◌<◌, ◌^◌, ◌+◌, ◌⊎◌, ℕ, List, [], ◌∷◌, ◌++◌, length, MatchOption, None, Some, Result, Ok, Err}
-use Rattle.diy_io.specs.Count.{count_of, Rose}
+use Rattle.std.specs.Prelude.{◌≡◌, ◌+◌, ◌⊎◌, ℕ, List, [], ◌∷◌, ◌++◌, length, MatchOption, None, Some, Result, Ok, Err}
+use Rattle.diy_io.specs.Count.{Rose}
 use Rattle.diy_io.specs.Shelf.{Mode, Idle, IsReading, ShelfSeen, left_to_read}
 use Rattle.diy_io.specs.Taken.{SourceSeen, source_seen}
 use Rattle.summed_logs.specs.declared.feeding.Feeding.{Feeding}
@@ -13,7 +13,7 @@ use Rattle.summed_logs.specs.declared.sum_end.SumEnd.TheVariants as ends
 use Rattle.summed_logs.specs.Faults.{end_at}
 use Rattle.summed_logs.specs.Logs.{IsShort}
 use Rattle.summed_logs.specs.Feeding.{Reads, IsFaulty}
-use Rattle.summed_logs.specs.SumEnds.{IsLog, AreLogs, IsWithin}
+use Rattle.summed_logs.specs.SumEnds.{IsLog, AreLogs, TookFiles, IsBegun}
 use Rattle.summed_logs.specs.declared.feeding.ReadFault.{ReadFault}
 use Rattle.summed_logs.specs.declared.feeding.ReadFault.TheVariants.{Log, Device}
 
@@ -34,35 +34,32 @@ pub record FileSummed (old new : ShelfSeen) (feeding : Feeding) (before : List (
   pub short : IsShort log
   pub reads : Reads feeding (before ++ log ∷ []) []
   pub no_fault : new.faults ≡ old.faults
-  pub taken : new.taken ≤ 2 ^ 40
-  pub opened : Rose old.opened new.opened
+  pub took : TookFiles old new (log ∷ [])
 
 -- a file has a fault
 pub record FileFaulty (old new : ShelfSeen) (before : List (List ℕ)) (name : List ℕ) (fault : LogFault) : Type 0 where
   pub log : List ℕ
   pub text : IsLog old.files name log
-  pub count : ℕ
-  pub taken : count_of new.taken ≡ count_of count
-  pub is : IsFaulty before log count fault
-  pub opened : Rose old.opened new.opened
+  pub bytes : List ℕ
+  pub is : IsFaulty before log bytes fault
+  pub took : TookFiles old new (bytes ∷ [])
 
 -- a file isn't there
 pub record FileAbsent (old new : ShelfSeen) (name : List ℕ) : Type 0 where
   pub absent : MatchOption old.files (Rose old.faults new.faults) (λ there. there name ≡ None)
-  pub taken : new.taken ≡ old.taken
-  pub opened : new.opened ≡ old.opened
+  pub took : TookFiles old new []
 
--- the shelf failed before a file was opened, or behind at most 2^40 bytes of it
-pub record FileFailed (old new : ShelfSeen) : Type 0 where
+-- the shelf failed before a file was opened, or after bytes of it that show no fault
+pub record FileFailed (old new : ShelfSeen) (before : List (List ℕ)) (name : List ℕ) : Type 0 where
   pub fault : Rose old.faults new.faults
-  pub taken : (new.taken ≤ 2 ^ 40) ⊎ ((new.taken ≡ old.taken) × (new.opened ≡ old.opened))
+  pub took : TookFiles old new [] ⊎ ((bytes : List ℕ) × IsBegun old.files before name bytes × TookFiles old new (bytes ∷ []))
 
 -- an answer to a file
 abbrev pub FileTo : ShelfSeen → ShelfSeen → Feeding → List (List ℕ) → List ℕ → Result (Unit {0}) FileFault → Type 0
 FileTo old new feeding before name (Ok x) = FileSummed old new feeding before name
 FileTo old new feeding before name (Err Missing) = FileAbsent old new name
 FileTo old new feeding before name (Err (Read (Log fault))) = FileFaulty old new before name fault
-FileTo old new feeding before name (Err (Read Device)) = FileFailed old new
+FileTo old new feeding before name (Err (Read Device)) = FileFailed old new before name
 
 -- the files that the words up to a place name were summed
 pub record FilesSoFar (old new : ShelfSeen) (feeding : Feeding) (words : List (List ℕ)) (first place : ℕ) : Type 0 where
@@ -71,8 +68,7 @@ pub record FilesSoFar (old new : ShelfSeen) (feeding : Feeding) (words : List (L
   pub are : AreLogs old.files words first logs
   pub reads : Reads feeding logs []
   pub no_fault : new.faults ≡ old.faults
-  pub within : IsWithin old new
-  pub rising : count_of old.opened ≤ count_of new.opened
+  pub took : TookFiles old new logs
 
 -- the end where a file isn't summed
 abbrev pub file_end : ℕ → FileFault → SumEnd

@@ -1,8 +1,8 @@
 -- How a call that sums logs ended, and what it did to its devices.
 -- Source: own.
-use Rattle.std.specs.Prelude.{◌≡◌, ◌≤◌, ◌<◌, ◌^◌, ◌+◌, ℕ, List, [], ◌∷◌, ◌++◌, length, slice_get, Option, None, Some, IfSome, MatchOption, All, Ok}
+use Rattle.std.specs.Prelude.{◌≡◌, ◌⊎◌, ◌+◌, ℕ, List, [], ◌∷◌, ◌++◌, length, slice_get, Option, None, Some, IfSome, MatchOption, All, Ok}
 use Rattle.std.specs.Io.KnownBytes.{IsAtEnd}
-use Rattle.diy_io.specs.Count.{Rose}
+use Rattle.diy_io.specs.Count.{count_of, Rose}
 use Rattle.diy_io.specs.Shelf.{Files, ShelfSeen}
 use Rattle.diy_io.specs.Taken.{SourceSeen}
 use Rattle.diy_io.specs.Wrote.{SinkSeen, WroteAll, WrotePart}
@@ -11,8 +11,7 @@ use Rattle.log_sum.specs.declared.errors.LogKind.{LogKind}
 use Rattle.log_sum.specs.Standing.{logs_text}
 use Rattle.summed_logs.specs.declared.sum_end.SumEnd.{SumEnd}
 use Rattle.summed_logs.specs.declared.sum_end.SumEnd.TheVariants as ends
-use Rattle.summed_logs.specs.Logs.{IsText, IsShort, TookCount, AreRight, IsWrong, IsTooMuch}
-use Rattle.summed_logs.specs.Feeding.{ReadFailed}
+use Rattle.summed_logs.specs.Logs.{IsText, IsShort, TookCount, AreRight, ShowsNone, IsWrong, IsTooMuch, ReadFailed}
 
 -- the input is a whole log of at most 2^40 bytes, which was read to its end, and this is its sum
 pub record InputRead (old new : SourceSeen) (sum : List ℕ) : Type 0 where
@@ -30,26 +29,29 @@ pub record InputWritten (old new : SourceSeen) (out_old out_new : SinkSeen) : Ty
   pub read : InputRead old new sum
   pub wrote : WroteAll out_old out_new sum
 
--- a front of its sum was written
+-- a prefix of its sum was written
 pub record InputUnwritten (old new : SourceSeen) (out_old out_new : SinkSeen) : Type 0 where
   pub sum : List ℕ
   pub read : InputRead old new sum
   pub wrote : WrotePart out_old out_new sum
 
--- the input is a log with this first fault
-pub record InputWrong (old : SourceSeen) (error : LogError) : Type 0 where
+-- the input is a log with this first fault, and no more was taken
+pub record InputWrong (old new : SourceSeen) (error : LogError) : Type 0 where
   pub log : List ℕ
   pub text : IsText old.left log
-  pub is : IsWrong [] log error
+  pub bytes : List ℕ
+  pub taken : TookCount old new (length bytes)
+  pub is : IsWrong [] log bytes error
+  pub no_fault : new.faults ≡ old.faults
 
--- the input is a log of more than 2^40 bytes, which were taken
+-- the input is a log of more than 2^40 bytes, and no more was taken
 pub record InputTooMuch (old new : SourceSeen) (line : ℕ) : Type 0 where
   pub log : List ℕ
   pub text : IsText old.left log
-  pub is : IsTooMuch [] log line
-  pub count : ℕ
-  pub taken : TookCount old new count
-  pub long : 2 ^ 40 < count
+  pub bytes : List ℕ
+  pub taken : TookCount old new (length bytes)
+  pub is : IsTooMuch [] log bytes line
+  pub no_fault : new.faults ≡ old.faults
 
 abbrev pub error_at : ℕ → LogKind → LogError
 error_at line kind = record { line = line; kind = kind }
@@ -58,9 +60,9 @@ error_at line kind = record { line = line; kind = kind }
 abbrev pub InputSummed : SourceSeen → SourceSeen → SinkSeen → SinkSeen → SumEnd → Type 0
 InputSummed old new out_old out_new ends.Done = InputWritten old new out_old out_new
 InputSummed old new out_old out_new ends.OutFault = InputUnwritten old new out_old out_new
-InputSummed old new out_old out_new (ends.Wrong None line kind) = InputWrong old (error_at line kind) × (out_new ≡ out_old)
+InputSummed old new out_old out_new (ends.Wrong None line kind) = InputWrong old new (error_at line kind) × (out_new ≡ out_old)
 InputSummed old new out_old out_new (ends.TooMuch None line) = InputTooMuch old new line × (out_new ≡ out_old)
-InputSummed old new out_old out_new ends.InputFault = ReadFailed old new × (out_new ≡ out_old)
+InputSummed old new out_old out_new ends.InputFault = ReadFailed old new [] × (out_new ≡ out_old)
 InputSummed old new out_old out_new ends.NoMemory = out_new ≡ out_old
 InputSummed old new out_old out_new (ends.Wrong (Some file) line kind) = ⊥
 InputSummed old new out_old out_new (ends.TooMuch (Some file) line) = ⊥
@@ -76,17 +78,23 @@ pub record AreLogs (files : Option Files) (words : List (List ℕ)) (first : ℕ
   pub named : (k : ℕ) (name log : List ℕ) → slice_get words (first + k) ≡ Some name → slice_get logs k ≡ Some log → IsLog files name log
   pub short : All IsShort logs
 
--- at most 2^40 bytes were taken of the last file that was opened since
-abbrev pub IsWithin : ShelfSeen → ShelfSeen → Type 0
-IsWithin old new = old.opened < new.opened → new.taken ≤ 2 ^ 40
+-- how many bytes were taken of the file that was opened last, after these were taken of one file each, one after another
+abbrev pub last_taken : ℕ → List (List ℕ) → ℕ
+last_taken taken [] = taken
+last_taken taken (bytes ∷ more) = last_taken (length bytes) more
 
--- the words name files that are whole logs, and this is their sum
+-- these bytes were taken of one file each, one after another, and no other file was opened, as far as that is counted
+pub record TookFiles (old new : ShelfSeen) (taken : List (List ℕ)) : Type 0 where
+  pub opened : count_of new.opened ≡ count_of (old.opened + length taken)
+  pub last : count_of new.taken ≡ count_of (last_taken old.taken taken)
+
+-- the words name files that are whole logs, each read to its end once, and this is their sum
 pub record FilesRead (old new : ShelfSeen) (words : List (List ℕ)) (first : ℕ) (sum : List ℕ) : Type 0 where
   pub logs : List (List ℕ)
   pub all : first + length logs ≡ length words
   pub are : AreLogs old.files words first logs
   pub no_fault : new.faults ≡ old.faults
-  pub within : IsWithin old new
+  pub took : TookFiles old new logs
   pub is : logs_text logs ≡ Ok sum
 
 -- their sum was written
@@ -95,7 +103,7 @@ pub record FilesWritten (old new : ShelfSeen) (words : List (List ℕ)) (first :
   pub read : FilesRead old new words first sum
   pub wrote : WroteAll out_old out_new sum
 
--- a front of their sum was written
+-- a prefix of their sum was written
 pub record FilesUnwritten (old new : ShelfSeen) (words : List (List ℕ)) (first : ℕ) (out_old out_new : SinkSeen) : Type 0 where
   pub sum : List ℕ
   pub read : FilesRead old new words first sum
@@ -107,49 +115,65 @@ pub record IsAtWord (files : Option Files) (words : List (List ℕ)) (first plac
   pub are : AreLogs files words first before
   pub word : slice_get words place ≡ Some name
 
--- the log that the word at a place names has the first fault of the logs
-pub record FileWrong (old : ShelfSeen) (words : List (List ℕ)) (first place : ℕ) (error : LogError) : Type 0 where
+-- the log that the word at a place names has the first fault of the logs, and no more was opened or taken
+pub record FileWrong (old new : ShelfSeen) (words : List (List ℕ)) (first place : ℕ) (error : LogError) : Type 0 where
   pub before : List (List ℕ)
   pub name : List ℕ
   pub place_is : IsAtWord old.files words first place before name
   pub log : List ℕ
   pub text : IsLog old.files name log
-  pub is : IsWrong before log error
+  pub bytes : List ℕ
+  pub is : IsWrong before log bytes error
+  pub took : TookFiles old new (before ++ bytes ∷ [])
 
--- the log that the word at a place names has more than 2^40 bytes, which were taken, and those before it have no fault
+-- the log that the word at a place names has more than 2^40 bytes, those before it have no fault, and no more was opened or taken
 pub record FileTooMuch (old new : ShelfSeen) (words : List (List ℕ)) (first place line : ℕ) : Type 0 where
   pub before : List (List ℕ)
   pub name : List ℕ
   pub place_is : IsAtWord old.files words first place before name
   pub log : List ℕ
   pub text : IsLog old.files name log
-  pub is : IsTooMuch before log line
-  pub opened : Rose old.opened new.opened
-  pub long : 2 ^ 40 < new.taken
+  pub bytes : List ℕ
+  pub is : IsTooMuch before log bytes line
+  pub took : TookFiles old new (before ++ bytes ∷ [])
 
--- the word at a place names no file, where the files are told; the logs before it have no fault
+-- the word at a place names no file, where the files are told; the logs before it have no fault, and no more was opened
 pub record FileMissing (old new : ShelfSeen) (words : List (List ℕ)) (first place : ℕ) : Type 0 where
   pub before : List (List ℕ)
   pub name : List ℕ
   pub place_is : IsAtWord old.files words first place before name
   pub right_before : AreRight before
   pub absent : MatchOption old.files (Rose old.faults new.faults) (λ there. there name ≡ None)
-  pub within : IsWithin old new
+  pub took : TookFiles old new before
 
--- the shelf failed
-pub record ShelfFailed (old new : ShelfSeen) : Type 0 where
+-- these are the first bytes of the log of a name, at most 2^40, and show no fault after other logs
+pub record IsBegun (files : Option Files) (before : List (List ℕ)) (name bytes : List ℕ) : Type 0 where
+  pub log : List ℕ
+  pub text : IsLog files name log
+  pub rest : List ℕ
+  pub parts : log ≡ bytes ++ rest
+  pub short : IsShort bytes
+  pub no_fault : ShowsNone before bytes
+
+-- the shelf failed at the file that a word names, after logs with no fault: it wasn't opened, or what was taken of it shows no fault
+pub record ShelfFailed (old new : ShelfSeen) (words : List (List ℕ)) (first : ℕ) : Type 0 where
   pub fault : Rose old.faults new.faults
-  pub within : IsWithin old new
+  pub place : ℕ
+  pub before : List (List ℕ)
+  pub name : List ℕ
+  pub place_is : IsAtWord old.files words first place before name
+  pub right_before : AreRight before
+  pub took : TookFiles old new before ⊎ ((bytes : List ℕ) × IsBegun old.files before name bytes × TookFiles old new (before ++ bytes ∷ []))
 
 -- how the summing of files ended
 abbrev pub FilesSummed : ShelfSeen → ShelfSeen → List (List ℕ) → ℕ → SinkSeen → SinkSeen → SumEnd → Type 0
 FilesSummed old new words first out_old out_new ends.Done = FilesWritten old new words first out_old out_new
 FilesSummed old new words first out_old out_new ends.OutFault = FilesUnwritten old new words first out_old out_new
 FilesSummed old new words first out_old out_new (ends.Wrong (Some file) line kind) =
-    FileWrong old words first file (error_at line kind) × (out_new ≡ out_old)
+    FileWrong old new words first file (error_at line kind) × (out_new ≡ out_old)
 FilesSummed old new words first out_old out_new (ends.TooMuch (Some file) line) = FileTooMuch old new words first file line × (out_new ≡ out_old)
 FilesSummed old new words first out_old out_new (ends.NoFile word) = FileMissing old new words first word × (out_new ≡ out_old)
-FilesSummed old new words first out_old out_new ends.ShelfFault = ShelfFailed old new × (out_new ≡ out_old)
+FilesSummed old new words first out_old out_new ends.ShelfFault = ShelfFailed old new words first × (out_new ≡ out_old)
 FilesSummed old new words first out_old out_new ends.NoMemory = out_new ≡ out_old
 FilesSummed old new words first out_old out_new (ends.Wrong None line kind) = ⊥
 FilesSummed old new words first out_old out_new (ends.TooMuch None line) = ⊥

@@ -8,7 +8,7 @@ use log_sum::{LogError, SumError, Summer};
 use std::alloc::Global;
 
 /// How many bytes are read at once.
-pub(crate) const PIECE: usize = 65_536;
+pub(crate) const PIECE: usize = 4_096;
 
 /// Why no more of a log is fed.
 #[derive(Clone, Copy)]

@@ -1,6 +1,7 @@
 ghost use Rattle.std.specs.Prelude.{◌≡◌, ◌<◌, ◌≤◌, length, ℕ, List, [], Result, MatchResult};
 ghost use Rattle.diy_io.specs.Shelf.{Idle, IsReading};
-ghost use Rattle.summed_logs.specs.Feeding.{Reads, ReadTo, SummedTo};
+ghost use Rattle.summed_logs.specs.Logs.{max_piece};
+ghost use Rattle.summed_logs.specs.Feeding.{Reads, ReadTo, SummedTo, ClosedTo};
 ghost use Rattle.summed_logs.specs.Files.{log_seen, ModeAfter, FileTo, file_end};
 ghost use Rattle.summed_logs.specs.SumEnds.{FilesSummed};
 ghost use Rattle.diy_io.specs.Wrote.{sink_seen};
@@ -38,6 +39,7 @@ fn read_file<H: Shelf>(
 ) -> Result<(), ReadFault>
     requires reading { IsReading (H.seen shelf.old).mode }
     requires some { 0 < length buf.old }
+    requires piece { length buf.old ≤ max_piece }
     ensures read { (logs : List (List ℕ)) → Reads feeding.old logs [] → ReadTo (log_seen (H.seen shelf.old)) (log_seen (H.seen shelf.new)) feeding.new logs result }
     ensures mode { ModeAfter (H.seen shelf.new).mode result }
     ensures files { (H.seen shelf.new).files ≡ (H.seen shelf.old).files }
@@ -56,44 +58,47 @@ fn read_file<H: Shelf>(
     }
 }
 
-// Closes the file that is open, where the answer is decided already.
-fn close<H: Shelf>(shelf: &mut H)
-    requires { IsReading (H.seen shelf.old).mode }
-    ensures mode { (H.seen shelf.new).mode ≡ Idle }
-    ensures files { (H.seen shelf.new).files ≡ (H.seen shelf.old).files }
-    ensures taken { (H.seen shelf.new).taken ≡ (H.seen shelf.old).taken }
-    ensures opened { (H.seen shelf.new).opened ≡ (H.seen shelf.old).opened }
-    ensures never_falls { (H.seen shelf.old).faults ≤ (H.seen shelf.new).faults }
-{
-    let _ = shelf.finish();
-}
-
-// Sums the file that is open, and closes it.
-fn sum_open<H: Shelf>(feeding: &mut Feeding, shelf: &mut H, buf: &mut [u8]) -> Result<(), ReadFault>
+// Sums the file that is open, which stays open, but where the shelf fails.
+fn sum_log<H: Shelf>(feeding: &mut Feeding, shelf: &mut H, buf: &mut [u8]) -> Result<(), ReadFault>
     requires reading { IsReading (H.seen shelf.old).mode }
     requires some { 0 < length buf.old }
-    ensures mode { (H.seen shelf.new).mode ≡ Idle }
+    requires piece { length buf.old ≤ max_piece }
+    ensures mode { ModeAfter (H.seen shelf.new).mode result }
     ensures files { (H.seen shelf.new).files ≡ (H.seen shelf.old).files }
     ensures opened { (H.seen shelf.new).opened ≡ (H.seen shelf.old).opened }
     ensures summed { (logs : List (List ℕ)) → Reads feeding.old logs [] → SummedTo (log_seen (H.seen shelf.old)) (log_seen (H.seen shelf.new)) feeding.new logs result }
 {
     match read_file(feeding, shelf, buf) {
         Ok(()) => {}
-        Err(ReadFault::Log(fault)) => {
-            close(shelf);
-            return Err(ReadFault::Log(fault));
-        }
+        Err(ReadFault::Log(fault)) => return Err(ReadFault::Log(fault)),
         Err(ReadFault::Device) => return Err(ReadFault::Device),
     }
     match feeding.end_log() {
+        Ok(()) => Ok(()),
+        Err(fault) => Err(ReadFault::Log(fault)),
+    }
+}
+
+// Sums the file that is open, and closes it. A log's fault is the answer also where the closing fails.
+fn sum_open<H: Shelf>(feeding: &mut Feeding, shelf: &mut H, buf: &mut [u8]) -> Result<(), ReadFault>
+    requires reading { IsReading (H.seen shelf.old).mode }
+    requires some { 0 < length buf.old }
+    requires piece { length buf.old ≤ max_piece }
+    ensures mode { (H.seen shelf.new).mode ≡ Idle }
+    ensures files { (H.seen shelf.new).files ≡ (H.seen shelf.old).files }
+    ensures opened { (H.seen shelf.new).opened ≡ (H.seen shelf.old).opened }
+    ensures summed { (logs : List (List ℕ)) → Reads feeding.old logs [] → ClosedTo (log_seen (H.seen shelf.old)) (log_seen (H.seen shelf.new)) feeding.new logs result }
+{
+    match sum_log(feeding, shelf, buf) {
         Ok(()) => match shelf.finish() {
             Ok(()) => Ok(()),
             Err(Failed) => Err(ReadFault::Device),
         },
-        Err(fault) => {
-            close(shelf);
+        Err(ReadFault::Log(fault)) => {
+            let _ = shelf.finish();
             Err(ReadFault::Log(fault))
         }
+        Err(ReadFault::Device) => Err(ReadFault::Device),
     }
 }
 
@@ -106,6 +111,7 @@ fn sum_file<H: Shelf>(
 ) -> Result<(), FileFault>
     requires idle { (H.seen shelf.old).mode ≡ Idle }
     requires some { 0 < length buf.old }
+    requires piece { length buf.old ≤ max_piece }
     ensures mode { (H.seen shelf.new).mode ≡ Idle }
     ensures files { (H.seen shelf.new).files ≡ (H.seen shelf.old).files }
     ensures summed { (logs : List (List ℕ)) → Reads feeding.old logs [] → FileTo (H.seen shelf.old) (H.seen shelf.new) feeding.new logs name.now result }

@@ -1,5 +1,6 @@
-ghost use Rattle.std.specs.Prelude.{◌≡◌, ◌<◌, length, ℕ, List, [], Result};
+ghost use Rattle.std.specs.Prelude.{◌≡◌, ◌<◌, ◌≤◌, length, ℕ, List, [], Result};
 ghost use Rattle.diy_io.specs.Taken.{source_seen};
+ghost use Rattle.summed_logs.specs.Logs.{max_piece};
 ghost use Rattle.summed_logs.specs.Feeding.{Reads, ReadTo, SummedTo};
 ghost use Rattle.diy_io.specs.Wrote.{sink_seen};
 ghost use Rattle.summed_logs.specs.SumEnds.{InputSummed};
@@ -9,12 +10,14 @@ use crate::sum_end::SumEnd;
 use diy_io::{Failed, Sink, Source};
 use std::alloc::Global;
 
+/// Reads the input to its end.
 fn read_input<I: Source>(
     feeding: &mut Feeding,
     input: &mut I,
     buf: &mut [u8],
 ) -> Result<(), ReadFault>
-    requires { 0 < length buf.old }
+    requires some { 0 < length buf.old }
+    requires piece { length buf.old ≤ max_piece }
     ensures { (logs : List (List ℕ)) → Reads feeding.old logs [] → ReadTo (source_seen (I.left input.old) (I.taken input.old) (I.faults input.old)) (source_seen (I.left input.new) (I.taken input.new) (I.faults input.new)) feeding.new logs result }
 {
     loop {
@@ -30,13 +33,14 @@ fn read_input<I: Source>(
     }
 }
 
-// Sums the log that an input is.
+/// Sums the log that an input is.
 fn sum_source<I: Source>(
     feeding: &mut Feeding,
     input: &mut I,
     buf: &mut [u8],
 ) -> Result<(), ReadFault>
-    requires { 0 < length buf.old }
+    requires some { 0 < length buf.old }
+    requires piece { length buf.old ≤ max_piece }
     ensures { (logs : List (List ℕ)) → Reads feeding.old logs [] → SummedTo (source_seen (I.left input.old) (I.taken input.old) (I.faults input.old)) (source_seen (I.left input.new) (I.taken input.new) (I.faults input.new)) feeding.new logs result }
 {
     match read_input(feeding, input, buf) {

@@ -73,6 +73,36 @@ fn files_that_are_wrong_or_missing_are_named(rt: HostRuntime) -> Result<(), Fail
     Ok(())
 }
 
+// The end of summing a log in a file, where the fourth call of the shelf fails: the file is opened, read, found to
+// have no more, and closed.
+fn sum_unclosed(alloc: Global, log: &[u8]) -> Result<SumEnd, Fail> {
+    let mut fail = Vec::new(alloc);
+    fail.push(3)?;
+    let mut shelf = MemShelf::new(alloc, 0, 0, fail)?;
+    shelf.put("cut.log", log)?;
+    let mut words = Words::new(alloc);
+    words.push("cut.log")?;
+    let mut out = MemSink::new(alloc, 0)?;
+    if words.is_empty() {
+        return Ok(SumEnd::NoMemory);
+    }
+    Ok(sum_files(alloc, &words, 0, &mut shelf, &mut out))
+}
+
+#[test]
+fn a_fault_stays_where_the_closing_fails(rt: HostRuntime) -> Result<(), Fail> {
+    assert!(rt;
+        sum_unclosed(rt.alloc(), &A_LOG[..CUT])?
+            == SumEnd::Wrong {
+                file: Some(0),
+                line: 5,
+                kind: LogKind::Truncated
+            }
+    );
+    assert!(rt; sum_unclosed(rt.alloc(), A_LOG)? == SumEnd::ShelfFault);
+    Ok(())
+}
+
 #[test]
 fn an_input_is_one_log(rt: HostRuntime) -> Result<(), Fail> {
     let mut input = SureSource::new(Vec::from_slice(rt.alloc(), &A_LOG[..CUT])?, 7);

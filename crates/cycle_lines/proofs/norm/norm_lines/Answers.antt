@@ -1,27 +1,60 @@
-use Rattle.cycle_lines.proofs.ReadLaws.{found_next, found_last}
-use Rattle.cycle_lines.proofs.NormLaws.{normed_more, normed_part, normed_last, nothing_normed}
+use Rattle.std.proofs.Common.{sym, subst}
+use Rattle.cycle_lines.specs.Steps.{HasRead}
+use Rattle.cycle_lines.proofs.NormLaws.{nothing_normed, line_normed, line_stopped, blank_normed, fault_normed, hand_on_stopped, more_normed, all_written, normed_last, normed_up_to}
 use Rattle.cycle_lines.proofs.norm.norm_lines.Goals as goal
 
 pub loop-cycle-init : goal.loop-cycle-init
-loop-cycle-init g c = nothing_normed c.args.arch _ _ c.new-reader.result c.new-reader.ensures
+loop-cycle-init g c = nothing_normed c.args.arch _ _ c.new-reader.result c.new-page.result c.new-reader.ensures c.new-page.ensures
+
+pub loop-cycle-preserved-in-Ok : goal.loop-cycle-preserved-in-Ok
+loop-cycle-preserved-in-Ok g c = line_normed c.args.arch _ _ _ _ _ c.loop-cycle.reader _ _ _ c.in-Cycle.cycle c.loop-cycle.invariant c.in-Cycle.ensures c.in-Ok.ensures.ok
+
+pub returns-in-Err : goal.returns-in-Err
+returns-in-Err g c = line_stopped c.args.arch _ _ _ _ _ c.loop-cycle.reader c.next_line.new.self _ c.in-Cycle.cycle c.loop-cycle.invariant c.in-Cycle.ensures c.in-Err.ensures.failed
+
+pub loop-cycle-preserved-in-Blank : goal.loop-cycle-preserved-in-Blank
+loop-cycle-preserved-in-Blank g c = blank_normed c.args.arch _ _ _ _ c.loop-cycle.reader _ _ c.loop-cycle.invariant c.in-Blank.ensures
+
+pub returns-in-Ok-hand_on : goal.returns-in-Ok-hand_on
+returns-in-Ok-hand_on g c =
+    fault_normed c.args.arch _ _ _ _ _ c.loop-cycle.reader c.next_line.new.self c.loop-cycle.page c.line-number.result c.in-Wrong.kind c.loop-cycle.invariant c.in-Wrong.ensures c.line-number.ensures
+    c.in-Ok-hand_on.ensures.wrote.ok
+
+pub returns-in-Err-hand_on : goal.returns-in-Err-hand_on
+returns-in-Err-hand_on g c = hand_on_stopped c.args.arch _ _ _ _ _ c.loop-cycle.reader c.loop-cycle.page c.loop-cycle.invariant c.in-Err-hand_on.ensures.held c.in-Err-hand_on.ensures.wrote.failed
+
+pub returns-in-Err-hand_on-2 : goal.returns-in-Err-hand_on-2
+returns-in-Err-hand_on-2 g c =
+    hand_on_stopped c.args.arch _ _ _ _ _ c.loop-cycle.reader c.loop-cycle.page c.loop-cycle.invariant c.in-Err-hand_on-2.ensures.held c.in-Err-hand_on-2.ensures.wrote.failed
 
 pub loop-cycle-preserved : goal.loop-cycle-preserved
 loop-cycle-preserved g c =
     let given = c.loop-cycle.invariant in
-    normed_more c.args.arch _ _ _ _ _ _ given.cycles c.in-Ok-Next.cycle
-    (found_next c.args.arch _ _ _ given.cycles c.in-Ok-Next.field-0 c.in-Ok-Next.cycle c.in-Ok-Next.field-0-is (c.in-Ok-Next.ensures.reads _ given.cycles given.read))
-    given.wrote c.in-Ok.ensures.ok
+    let unmoved = subst (λ r. HasRead c.args.arch (g.I.Source.seen c.args.input.now) (g.I.Source.seen c.loop-cycle.input) r given.cycles) (sym c.in-Unended.ensures.1) given.read in
+    more_normed c.args.arch _ _ _ _ c.read_more.new.self _ given.cycles (c.in-Ok-read_more.ensures.refills c.args.arch _ given.cycles unmoved).0
+    (all_written _ _ _ _ _ given.sent c.in-Ok-hand_on-2.ensures.wrote.ok) c.in-Ok-hand_on-2.ensures.empty
 
-pub returns-in-Err-write_line : goal.returns-in-Err-write_line
-returns-in-Err-write_line g c =
+pub returns-in-Err-read_more : goal.returns-in-Err-read_more
+returns-in-Err-read_more g c =
     let given = c.loop-cycle.invariant in
-    normed_part c.args.arch _ _ _ _ _ _ given.cycles c.in-Ok-Next.cycle
-    (found_next c.args.arch _ _ _ given.cycles c.in-Ok-Next.field-0 c.in-Ok-Next.cycle c.in-Ok-Next.field-0-is (c.in-Ok-Next.ensures.reads _ given.cycles given.read))
-    given.wrote c.in-Err-write_line.ensures.failed
+    let unmoved = subst (λ r. HasRead c.args.arch (g.I.Source.seen c.args.input.now) (g.I.Source.seen c.loop-cycle.input) r given.cycles) (sym c.in-Unended.ensures.1) given.read in
+    normed_up_to c.args.arch _ _ _ _ given.cycles c.in-Err-read_more.error (c.in-Err-read_more.ensures.refills c.args.arch _ given.cycles unmoved)
+    (all_written _ _ _ _ _ given.sent c.in-Ok-hand_on-2.ensures.wrote.ok)
 
-pub returns-in-Ok-Last : goal.returns-in-Ok-Last
-returns-in-Ok-Last g c =
+pub returns-in-Ok-last_cycle : goal.returns-in-Ok-last_cycle
+returns-in-Ok-last_cycle g c =
     let given = c.loop-cycle.invariant in
-    normed_last c.args.arch _ _ _ _ _ given.cycles c.in-Ok-Last.cycle c.write_last.result
-    (found_last c.args.arch _ _ _ given.cycles c.in-Ok-Last.field-0 c.in-Ok-Last.cycle c.in-Ok-Last.field-0-is (c.in-Ok-Last.ensures.reads _ given.cycles given.read))
-    given.wrote c.write_last.ensures
+    let unmoved = subst (λ r. HasRead c.args.arch (g.I.Source.seen c.args.input.now) (g.I.Source.seen c.loop-cycle.input) r given.cycles) (sym c.in-Unended.ensures.1) given.read in
+    let refilled = c.in-Ok-eq0.ensures.refills c.args.arch _ given.cycles unmoved in
+    normed_last c.args.arch _ _ _ _ _ given.cycles c.in-Ok-last_cycle.cycle c.write_last.result
+    (c.in-Ok-last_cycle.ensures _ _ given.cycles refilled.0 (refilled.1 c.in-Ok-eq0.field-0-test))
+    (all_written _ _ _ _ _ given.sent c.in-Ok-hand_on-2.ensures.wrote.ok) c.write_last.ensures
+
+pub returns-in-Err-last_cycle : goal.returns-in-Err-last_cycle
+returns-in-Err-last_cycle g c =
+    let given = c.loop-cycle.invariant in
+    let unmoved = subst (λ r. HasRead c.args.arch (g.I.Source.seen c.args.input.now) (g.I.Source.seen c.loop-cycle.input) r given.cycles) (sym c.in-Unended.ensures.1) given.read in
+    let refilled = c.in-Ok-eq0.ensures.refills c.args.arch _ given.cycles unmoved in
+    normed_up_to c.args.arch _ _ _ _ given.cycles c.in-Err-last_cycle.error
+    (c.in-Err-last_cycle.ensures _ _ given.cycles refilled.0 (refilled.1 c.in-Ok-eq0.field-0-test))
+    (all_written _ _ _ _ _ given.sent c.in-Ok-hand_on-2.ensures.wrote.ok)

@@ -1,16 +1,10 @@
-use Rattle.diy_io.specs.WroteLaws.{nothing_wrote, wrote_err}
-use Rattle.cycle_lines.proofs.TableLaws.{each_entry, part_entry}
+use Rattle.diy_io.specs.PageLaws.{sent_wrote, unsent_wrote}
+use Rattle.cycle_lines.proofs.TableLaws.{sent_of, sends_of}
 use Rattle.cycle_lines.proofs.table.write_families.Goals as goal
 
-pub loop-entry-init : goal.loop-entry-init
-loop-entry-init g c = nothing_wrote _
+pub returns-in_err-send_families : goal.returns-in_err-send_families
+returns-in_err-send_families g c =
+    unsent_wrote _ _ _ _ _ _ c.from_residual.result (sends_of _ _ _ _ _ _ c.new-page.ensures c.in_err-send_families.ensures) c.from_residual.ensures.1
 
-pub returns-in_err-write_family : goal.returns-in_err-write_family
-returns-in_err-write_family g c =
-    wrote_err _ _ _ _ c.from_residual.result
-    (part_entry _ _ _ c.args.table.now c.loop-entry.entry-index c.entry-item.result c.loop-entry-test.true c.entry-item.is c.loop-entry.invariant c.in_err-write_family.ensures.failed)
-    c.from_residual.ensures.1
-
-pub loop-entry-preserved : goal.loop-entry-preserved
-loop-entry-preserved g c =
-    each_entry _ _ _ c.args.table.now c.loop-entry.entry-index c.entry-item.result c.loop-entry-test.true c.entry-item.is c.loop-entry.invariant c.in_ok-write_family.ensures.ok
+pub returns : goal.returns
+returns g c = sent_wrote _ _ _ _ _ c.flush.result (sent_of _ _ _ _ _ c.new-page.ensures c.in_ok-send_families.ensures.ok) c.flush.ensures.wrote

@@ -1,9 +1,9 @@
-use Rattle.std.proofs.Common.{take, codes}
-use Rattle.std.specs.List.{join_by}
+use Rattle.std.proofs.Common.{codes}
 use Rattle.relax_edges.specs.Words.{word_of}
-use Rattle.diy_io.specs.Wrote.{WroteAll, sink_seen}
+use Rattle.litmus_text.specs.declared.head.TheConstants.{WORD_ROOM}
+use Rattle.litmus_text.proofs.JoinLaws.{Put}
 use Rattle.litmus_text.proofs.head.print_words.Given as goal
 
--- the words so far are written
+-- the words so far are put
 abbrev pub invariant-loop-i : goal.invariant-loop-i
-invariant-loop-i g l = WroteAll (sink_seen (g.O.Sink.told l.fn.out) (g.O.Sink.faults l.fn.out)) (sink_seen (g.O.Sink.told l.out) (g.O.Sink.faults l.out)) (join_by word_of (codes " ") (take l.i l.edges))
+invariant-loop-i l = Put word_of (codes " ") WORD_ROOM l.fn.page l.page l.edges l.i

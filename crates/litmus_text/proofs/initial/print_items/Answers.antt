@@ -1,20 +1,20 @@
-use Rattle.std.proofs.Common.{arith, codes}
-use Rattle.litmus_text.specs.TestText.{item_text}
+use Rattle.std.proofs.Common.{arith}
 use Rattle.litmus_text.proofs.ElementLaws.{below_at}
-use Rattle.diy_io.specs.WroteLaws.{wrote_err, nothing_wrote}
-use Rattle.litmus_text.proofs.WroteLaws.{join_step, join_stop}
+use Rattle.litmus_text.proofs.JoinLaws.{none_put, one_put, all_put, all_short}
 use Rattle.litmus_text.proofs.initial.print_items.Goals as goal
 
 pub loop-i-init : goal.loop-i-init
-loop-i-init g c = nothing_wrote _
+loop-i-init g c = none_put _ _ _ _ _
 
 pub loop-i-preserved : goal.loop-i-preserved
 loop-i-preserved g c =
-    join_step (item_text g.A.Arch.writing c.args.places.now c.args.thread) (codes " ") _ _ _ c.args.links.now c.loop-i.i _ (omega arith) c.loop-i.invariant c.in_ok-print_item.ensures.ok
+    one_put _ _ _ _ _ _ c.args.links.now c.loop-i.i _ (omega arith) c.loop-i.invariant c.print_item.ensures.text c.print_item.ensures.short
 
-pub returns-in_err-print_item : goal.returns-in_err-print_item
-returns-in_err-print_item g c =
-    wrote_err _ _ _ _ c.from_residual.result (join_stop (item_text g.A.Arch.writing c.args.places.now c.args.thread) (codes " ") _ _ _ c.args.links.now c.loop-i.i _ (omega arith) c.loop-i.invariant c.in_err-print_item.ensures.failed) c.from_residual.ensures.1
+pub returns-clause-text : goal.returns-clause-text
+returns-clause-text g c = all_put _ _ _ _ _ c.args.links.now c.loop-i.i (omega arith) c.loop-i.invariant
+
+pub returns-clause-short : goal.returns-clause-short
+returns-clause-short g c = all_short _ _ _ _ _ c.args.links.now c.loop-i.i _ (omega arith) (omega arith) c.loop-i.invariant
 
 pub print_item-requires-clause-register : goal.print_item-requires-clause-register
 print_item-requires-clause-register g c = below_at (λ link. link.0) _ c.args.links.now c.loop-i.i _ c.requires.registers (omega arith)

@@ -1,10 +1,9 @@
-use Rattle.std.proofs.Common.{take, codes}
-use Rattle.std.specs.List.{join_by}
+use Rattle.std.proofs.Common.{codes}
+use Rattle.litmus_text.specs.declared.initial.TheConstants.{ITEM_ROOM}
 use Rattle.litmus_text.specs.TestText.{item_text}
-use Rattle.diy_io.specs.Wrote.{WroteAll, sink_seen}
+use Rattle.litmus_text.proofs.JoinLaws.{Put}
 use Rattle.litmus_text.proofs.initial.print_items.Given as goal
 
--- the items so far are written
+-- the items so far are put
 abbrev pub invariant-loop-i : goal.invariant-loop-i
-invariant-loop-i g l =
-    WroteAll (sink_seen (g.O.Sink.told l.fn.out) (g.O.Sink.faults l.fn.out)) (sink_seen (g.O.Sink.told l.out) (g.O.Sink.faults l.out)) (join_by (item_text g.A.Arch.writing l.places l.thread) (codes " ") (take l.i l.links))
+invariant-loop-i g l = Put (item_text g.A.Arch.writing l.places l.thread) (codes " ") ITEM_ROOM l.fn.page l.page l.links l.i

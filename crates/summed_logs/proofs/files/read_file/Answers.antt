@@ -1,7 +1,6 @@
-use Rattle.std.proofs.Common.{◌≡◌, ◌≤◌, ◌<◌, ◌^◌, length, take, refl, arith, ◌∙◌}
-use Rattle.diy_io.specs.Taken.{SourceSeen}
+use Rattle.std.proofs.Common.{take, refl, arith, ◌∙◌}
 use Rattle.summed_logs.specs.Files.{log_seen}
-use Rattle.summed_logs.proofs.FeedingLaws.{reads_nothing, took_of, reads_more, read_end, reads_part, reads_failed}
+use Rattle.summed_logs.proofs.FeedingLaws.{reads_nothing, reads_more, reads_part, reads_failed, short_piece}
 use Rattle.summed_logs.proofs.FileLaws.{gave_took, gave_whole, gave_mode}
 use Rattle.summed_logs.proofs.files.read_file.Goals as goal
 
@@ -41,6 +40,7 @@ pub returns-in-Err-feed-clause-read : goal.returns-in-Err-feed-clause-read
 returns-in-Err-feed-clause-read g c = λ logs reads.
     let so_far = c.loop-count.invariant.read logs reads in
     reads_part _ (log_seen (g.H.Shelf.seen c.loop-count.shelf)) (log_seen (g.H.Shelf.seen c.read.new.self)) c.loop-count.feeding logs
-    (take c.in-Ok.count c.read.new.buf) c.in-Err-feed.fault so_far
+    (take c.in-Ok.count c.read.new.buf) c.in-Err-feed.fault so_far c.loop-count.feeding.in_range
+    (short_piece c.read.new.buf c.in-Ok.count c.in-Ok.ensures.bound (omega arith))
     (gave_took _ _ _ _ c.in-Ok.ensures.ok) c.in-Ok.ensures.ok.no_fault
     (c.in-Err-feed.ensures.fed logs so_far.bytes so_far.reads)

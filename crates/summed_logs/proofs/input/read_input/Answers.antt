@@ -1,6 +1,6 @@
-use Rattle.std.proofs.Common.{◌≡◌, ◌≤◌, ◌<◌, ◌^◌, length, take, refl, arith}
+use Rattle.std.proofs.Common.{take, arith}
 use Rattle.diy_io.specs.Taken.{SourceSeen, source_seen}
-use Rattle.summed_logs.proofs.FeedingLaws.{reads_nothing, took_of, reads_more, read_end, reads_part, reads_failed}
+use Rattle.summed_logs.proofs.FeedingLaws.{reads_nothing, took_of, reads_more, read_end, reads_part, reads_failed, short_piece}
 use Rattle.summed_logs.proofs.input.read_input.Goals as goal
 
 pub loop-count-init : goal.loop-count-init
@@ -34,7 +34,8 @@ returns-in-Err-feed g c = λ logs reads.
     let mid : SourceSeen = source_seen (g.I.Source.left c.loop-count.input) (g.I.Source.taken c.loop-count.input) (g.I.Source.faults c.loop-count.input) in
     let new : SourceSeen = source_seen (g.I.Source.left c.read.new.self) (g.I.Source.taken c.read.new.self) (g.I.Source.faults c.read.new.self) in
     let so_far = c.loop-count.invariant logs reads in
-    reads_part _ mid new c.loop-count.feeding logs (take c.in-Ok.count c.read.new.buf) c.in-Err-feed.fault so_far
+    reads_part _ mid new c.loop-count.feeding logs (take c.in-Ok.count c.read.new.buf) c.in-Err-feed.fault so_far c.loop-count.feeding.in_range
+    (short_piece c.read.new.buf c.in-Ok.count c.in-Ok.ensures.bound (omega arith))
     (took_of mid new c.read.new.buf c.in-Ok.count c.in-Ok.ensures.bound c.in-Ok.ensures.bytes.0 c.in-Ok.ensures.counted)
     c.in-Ok.ensures.no_fault
     (c.in-Err-feed.ensures.fed logs so_far.bytes so_far.reads)

@@ -1,5 +1,5 @@
 use Rattle.std.proofs.Common.{◌-◌, ◌^◌, ℕ, List, []}
-use Rattle.diy_io.specs.Taken.{SourceSeen, source_seen}
+use Rattle.diy_io.specs.Taken.{source_seen}
 use Rattle.summed_logs.specs.Feeding.{Reads, ReadSoFar}
 use Rattle.summed_logs.proofs.input.read_input.Given as goal
 

@@ -1,5 +1,10 @@
-use Rattle.std.proofs.Common.{[]}
-use Rattle.summed_logs.proofs.EndLaws.{input_written, input_unwritten}
+use Rattle.std.proofs.Common.{[], Err, sym, ap, subst, ◌∙◌}
+use Rattle.diy_io.specs.Taken.{SourceSeen, source_seen}
+use Rattle.diy_io.specs.Wrote.{SinkSeen, sink_seen}
+use Rattle.summed_logs.specs.declared.sum_end.SumEnd.{SumEnd}
+use Rattle.summed_logs.specs.SumEnds.{InputSummed}
+use Rattle.summed_logs.proofs.LogLaws.{summed_refused}
+use Rattle.summed_logs.proofs.EndLaws.{input_written, input_unwritten, input_faulty}
 use Rattle.summed_logs.proofs.input.sum_input.Goals as goal
 
 pub returns-in-Ok-write_sum : goal.returns-in-Ok-write_sum
@@ -11,3 +16,13 @@ pub returns-in-Ok-sum_source : goal.returns-in-Ok-sum_source
 returns-in-Ok-sum_source g c =
     let summed = c.in-Ok-sum_source.ensures [] c.in-Ok.ensures in
     input_unwritten _ _ _ _ c.sum_source.new.feeding c.in-Err.field-0 summed (c.in-Err.ensures _ summed.reads)
+
+pub returns-in-Err-Log : goal.returns-in-Err-Log
+returns-in-Err-Log g c =
+    let old : SourceSeen = source_seen (g.I.Source.left c.args.input.now) (g.I.Source.taken c.args.input.now) (g.I.Source.faults c.args.input.now) in
+    let new : SourceSeen = source_seen (g.I.Source.left c.sum_source.new.input) (g.I.Source.taken c.sum_source.new.input) (g.I.Source.faults c.sum_source.new.input) in
+    let out : SinkSeen = sink_seen (g.O.Sink.told c.args.out.now) (g.O.Sink.faults c.args.out.now) in
+    let P : SumEnd → Type 0 = λ end. InputSummed old new out out end in
+    subst P (sym c.end_at.ensures)
+    (input_faulty old new out c.in-Err-Log.fault
+    (summed_refused old new c.sum_source.new.feeding [] _ c.in-Err-Log.fault (c.sum_source.ensures [] c.in-Ok.ensures) (c.in-Err-Log.is ∙ ap Err c.in-Err-Log.field-0-is)))

@@ -1,25 +1,21 @@
-use Rattle.std.proofs.Common.{refl, ap, ◌∙◌, Err}
-use Rattle.diy_io.specs.Taken.{SourceSeen, source_seen}
+use Rattle.std.proofs.Common.{ap, ◌∙◌, Err}
 use Rattle.summed_logs.proofs.LogLaws.{part_faulty, end_faulty, whole_summed, at_part, at_failed}
 use Rattle.summed_logs.proofs.input.sum_source.Goals as goal
 
 pub returns-in-Err-Log : goal.returns-in-Err-Log
 returns-in-Err-Log g c = λ logs reads.
-    let new : SourceSeen = source_seen (g.I.Source.left c.read_input.new.input) (g.I.Source.taken c.read_input.new.input) (g.I.Source.faults c.read_input.new.input) in
-    part_faulty _ new new c.args.feeding.now logs c.in-Err-Log.fault reads
-    (at_part _ _ _ _ _ _ (c.read_input.ensures logs reads) (c.in-Err-Log.is ∙ ap Err c.in-Err-Log.field-0-is)) refl
+    part_faulty _ _ c.args.feeding.now logs c.in-Err-Log.fault reads
+    (at_part _ _ _ _ _ _ (c.read_input.ensures logs reads) (c.in-Err-Log.is ∙ ap Err c.in-Err-Log.field-0-is))
 
 pub returns-in-Err-Device : goal.returns-in-Err-Device
 returns-in-Err-Device g c = λ logs reads. at_failed _ _ _ _ _ (c.read_input.ensures logs reads) (c.in-Err-Device.is ∙ ap Err c.in-Err-Device.field-0-is)
 
 pub returns-in-Ok-end_log : goal.returns-in-Ok-end_log
 returns-in-Ok-end_log g c = λ logs reads.
-    let new : SourceSeen = source_seen (g.I.Source.left c.read_input.new.input) (g.I.Source.taken c.read_input.new.input) (g.I.Source.faults c.read_input.new.input) in
     let whole = c.in-Ok.ensures logs reads in
-    whole_summed _ new new c.read_input.new.feeding c.end_log.new.self logs whole (c.in-Ok-end_log.ensures logs whole.log whole.reads) whole.at_end refl refl
+    whole_summed _ _ c.read_input.new.feeding c.end_log.new.self logs whole (c.in-Ok-end_log.ensures logs whole.log whole.reads)
 
 pub returns-in-Err : goal.returns-in-Err
 returns-in-Err g c = λ logs reads.
-    let new : SourceSeen = source_seen (g.I.Source.left c.read_input.new.input) (g.I.Source.taken c.read_input.new.input) (g.I.Source.faults c.read_input.new.input) in
     let whole = c.in-Ok.ensures logs reads in
-    end_faulty _ new new c.args.feeding.now c.read_input.new.feeding logs c.in-Err.fault reads whole (c.in-Err.ensures logs whole.log whole.reads) refl
+    end_faulty _ _ c.args.feeding.now c.read_input.new.feeding logs c.in-Err.fault reads whole (c.in-Err.ensures logs whole.log whole.reads)

@@ -1,12 +1,11 @@
 use Rattle.std.proofs.Common.{ap, sym, subst}
-use Rattle.diy_io.specs.Taken.{source_seen}
 use Rattle.cycle_lines.specs.Reading.{ReadToLimit}
 use Rattle.cycle_lines.proofs.ReadLaws.{past_limit, some_read, stopped_there}
 use Rattle.cycle_lines.proofs.reader.LineReader.end_at_limit.Goals as goal
 
 pub returns-in-Ok-clause-refills : goal.returns-in-Ok-clause-refills
 returns-in-Ok-clause-refills g c = λ arch first cycles h.
-    subst (λ n. ReadToLimit arch first (source_seen (g.I.Source.left c.read_part.new.input) (g.I.Source.taken c.read_part.new.input) (g.I.Source.faults c.read_part.new.input)) cycles n) (ap (λ r. r.line) (sym c.self.view_is))
+    subst (λ n. ReadToLimit arch first (g.I.Source.seen c.read_part.new.input) cycles n) (ap (λ r. r.line) (sym c.self.view_is))
     (past_limit arch first _ _ c.args.self.now cycles _ h c.requires.one_line c.requires.short c.requires.full c.in-Ok.ensures.filled.took (some_read c.read_part.new.buffer c.in-Ok.field-0 c.in-Ok.field-0-test.1 c.read_part.auto.buffer) c.in-Ok.ensures.filled.no_fault)
 
 pub returns-in-Err-clause-refills : goal.returns-in-Err-clause-refills

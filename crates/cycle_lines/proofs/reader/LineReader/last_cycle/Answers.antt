@@ -4,13 +4,13 @@ use Rattle.cycle_lines.specs.Reading.{ReadToFault}
 use Rattle.cycle_lines.proofs.ReadLaws.{said_last, fault_last, some_if}
 use Rattle.cycle_lines.proofs.reader.LineReader.last_cycle.Goals as goal
 
-pub returns-in-Ok-clause-reads : goal.returns-in-Ok-clause-reads
-returns-in-Ok-clause-reads c = λ first last cycles h e.
+pub returns-in-Ok : goal.returns-in-Ok
+returns-in-Ok c = λ first last cycles h e.
     said_last c.args.arch first last c.args.self.now cycles c.in-Ok.cycle h (some_if c.pending.result.now c.args.self.now.pending c.pending.ensures.pending c.if-is_empty.ensures) e c.requires
     (c.in-Ok.ensures ∙ ap (line_said c.args.arch) c.pending-2.ensures.pending)
 
-pub returns-in-Err-clause-reads : goal.returns-in-Err-clause-reads
-returns-in-Err-clause-reads c = λ first last cycles h e.
+pub returns-in-Err : goal.returns-in-Err
+returns-in-Err c = λ first last cycles h e.
     subst (λ n. ReadToFault c.args.arch first last cycles n c.in-Err.kind) (ap (λ r. r.line) (sym c.self.view_is))
     (fault_last c.args.arch first last c.args.self.now cycles c.in-Err.kind h (some_if c.pending.result.now c.args.self.now.pending c.pending.ensures.pending c.if-is_empty.ensures) e c.requires
     (c.in-Err.ensures ∙ ap (line_said c.args.arch) c.pending-2.ensures.pending))

@@ -1,5 +1,4 @@
 use Rattle.std.proofs.Common.{ap, sym, subst, arith}
-use Rattle.diy_io.specs.Taken.{source_seen}
 use Rattle.cycle_lines.specs.Steps.{HasRead}
 use Rattle.cycle_lines.proofs.ReadLaws.{line_given, no_cycle_given, fault_given, line_less, ends_less}
 use Rattle.cycle_lines.proofs.reader.LineReader.next_cycle.Goals as goal
@@ -20,10 +19,10 @@ returns-in-Wrong-clause-reads g c = λ first cycles h.
 
 pub returns-in-Ok-eq0-clause-reads : goal.returns-in-Ok-eq0-clause-reads
 returns-in-Ok-eq0-clause-reads g c = λ first cycles h.
-    let input = source_seen (g.I.Source.left c.loop-cycle.input) (g.I.Source.taken c.loop-cycle.input) (g.I.Source.faults c.loop-cycle.input) in
+    let input = g.I.Source.seen c.loop-cycle.input in
     let before = subst (λ r. HasRead c.args.arch first input r cycles) (sym c.in-Unended.ensures.1) (c.loop-cycle.invariant.reads first cycles h) in
     let refilled = c.in-Ok-eq0.ensures.refills c.args.arch first cycles before in
-    c.last_cycle.ensures.reads first _ cycles refilled.0 (refilled.1 c.in-Ok-eq0.field-0-test)
+    c.last_found.ensures.reads first _ cycles refilled.0 (refilled.1 c.in-Ok-eq0.field-0-test)
 
 pub returns-in-Ok-eq0-clause-less : goal.returns-in-Ok-eq0-clause-less
-returns-in-Ok-eq0-clause-less g c = ends_less _ _ c.last_cycle.result c.last_cycle.ensures.ends
+returns-in-Ok-eq0-clause-less g c = ends_less _ _ c.last_found.result c.last_found.ensures.ends

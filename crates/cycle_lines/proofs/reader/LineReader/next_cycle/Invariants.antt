@@ -1,5 +1,5 @@
 use Rattle.std.proofs.Common.{◌≤◌, List}
-use Rattle.diy_io.specs.Taken.{SourceSeen, source_seen}
+use Rattle.diy_io.specs.Taken.{SourceSeen}
 use Rattle.relax_edges.specs.declared.edge.Edge.{Edge}
 use Rattle.cycle_lines.specs.Steps.{HasRead, work}
 use Rattle.cycle_lines.proofs.reader.LineReader.next_cycle.Given as goal
@@ -7,8 +7,8 @@ use Rattle.cycle_lines.proofs.reader.LineReader.next_cycle.Given as goal
 abbrev pub invariant-loop-cycle : goal.invariant-loop-cycle
 invariant-loop-cycle g l = record {
   reads : (first : SourceSeen) (cycles : List (List Edge)) →
-      HasRead l.arch first (source_seen (g.I.Source.left l.fn.input) (g.I.Source.taken l.fn.input) (g.I.Source.faults l.fn.input)) l.fn.self cycles →
-      HasRead l.arch first (source_seen (g.I.Source.left l.input) (g.I.Source.taken l.input) (g.I.Source.faults l.input)) l.self cycles;
+      HasRead l.arch first (g.I.Source.seen l.fn.input) l.fn.self cycles →
+      HasRead l.arch first (g.I.Source.seen l.input) l.self cycles;
   less : work l.self ≤ work l.fn.self;
 }
 

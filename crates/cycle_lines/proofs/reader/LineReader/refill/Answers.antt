@@ -1,7 +1,6 @@
 use Rattle.std.proofs.Common.{ap, sym, subst, ◌∙◌}
 use Rattle.cycle_lines.specs.declared.errors.LineKind.TheVariants.{LineTooLong}
 use Rattle.cycle_lines.specs.Lines.{without_return}
-use Rattle.diy_io.specs.Taken.{source_seen}
 use Rattle.cycle_lines.specs.Reading.{ReadToFault}
 use Rattle.cycle_lines.proofs.LineLaws.{is_long, is_short}
 use Rattle.cycle_lines.proofs.ReadLaws.{long_given, stopped_there}
@@ -9,7 +8,7 @@ use Rattle.cycle_lines.proofs.reader.LineReader.refill.Goals as goal
 
 pub returns-then-without_return-gt-MAX_LINE-clause-refills : goal.returns-then-without_return-gt-MAX_LINE-clause-refills
 returns-then-without_return-gt-MAX_LINE-clause-refills g c = λ arch first cycles h.
-    subst (λ n. ReadToFault arch first (source_seen (g.I.Source.left c.args.input.now) (g.I.Source.taken c.args.input.now) (g.I.Source.faults c.args.input.now)) cycles n LineTooLong) (ap (λ r. r.line) (sym c.self.view_is))
+    subst (λ n. ReadToFault arch first (g.I.Source.seen c.args.input.now) cycles n LineTooLong) (ap (λ r. r.line) (sym c.self.view_is))
     (long_given arch first _ c.args.self.now cycles h c.requires
     (is_long (without_return c.args.self.now.pending) c.without_return.result.now (c.without_return.ensures ∙ ap without_return c.pending.ensures.pending) c.if-without_return-gt-MAX_LINE.true))
 

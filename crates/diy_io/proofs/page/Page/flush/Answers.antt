@@ -1,4 +1,4 @@
-use Rattle.std.proofs.Common.{take, subst, sym, ap, ◌∙◌}
+use Rattle.std.proofs.Common.{take, sym, ap, ◌∙◌}
 use Rattle.diy_io.specs.WroteLaws.{wrote_nothing}
 use Rattle.diy_io.proofs.page.Page.flush.Goals as goal
 

@@ -1,6 +1,5 @@
-use Rattle.std.proofs.Common.{◌≡◌, ◌≤◌, ◌+◌, ◌-◌, ◌++◌, ◌∙◌, ap, length, take, drop, arith, length-drop}
+use Rattle.std.proofs.Common.{◌≡◌, ◌-◌, ◌++◌, ◌∙◌, ap, length, take, drop, arith, length-drop}
 use Rattle.std.proofs.lemmas.List.{length-take-le, take-append-drop, take_all}
-use Rattle.diy_io.specs.declared.page.TheConstants.{PAGE_ROOM}
 use Rattle.diy_io.proofs.PageLemmas.{put_whole, filled_unsent, filled_then}
 use Rattle.diy_io.proofs.page.Page.send.Goals as goal
 

@@ -1,4 +1,4 @@
-use Rattle.std.proofs.Common.{arith, get_or}
+use Rattle.std.proofs.Common.{arith}
 use Rattle.diy_io.specs.PageLaws.{sent_nothing}
 use Rattle.diy_io.proofs.PageLemmas.{piece_sent, piece_unsent}
 use Rattle.diy_io.proofs.page.Page.send_pieces.Goals as goal

@@ -1,5 +1,5 @@
-use Rattle.std.proofs.Common.{arith, ap, length, ◌∙◌}
-use Rattle.diy_io.proofs.PageLemmas.{put_whole, past_page}
+use Rattle.std.proofs.Common.{arith, ap, length}
+use Rattle.diy_io.proofs.PageLemmas.{put_whole}
 use Rattle.diy_io.proofs.page.Page.send_rest.Goals as goal
 
 pub returns : goal.returns

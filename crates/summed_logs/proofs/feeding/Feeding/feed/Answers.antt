@@ -1,5 +1,4 @@
-use Rattle.std.proofs.Common.{◌≡◌, ◌≤◌, ◌<◌, ◌+◌, ◌^◌, ◌++◌, ℕ, length, take, sym, ap, subst, arith}
-use Rattle.diy_io.specs.Sink.{line_feed_count}
+use Rattle.std.proofs.Common.{◌+◌, ◌++◌, take, sym, ap, subst, arith}
 use Rattle.summed_logs.specs.Feeding.{IsFault}
 use Rattle.summed_logs.proofs.FeedingLaws.{piece_refused, piece_full, line_feeds_on}
 use Rattle.summed_logs.proofs.feeding.Feeding.feed.Goals as goal

@@ -1,0 +1,11 @@
+use Rattle.std.proofs.Common.{arith, ap, length, codes, length-append}
+use Rattle.relax_edges.specs.Words.{word_of}
+use Rattle.litmus_text.specs.Separators.{separator_at}
+use Rattle.litmus_text.proofs.JoinLaws.{separator_short}
+use Rattle.litmus_text.proofs.head.print_word.Goals as goal
+
+pub returns-clause-short : goal.returns-clause-short
+returns-clause-short c =
+    let parts = length-append (separator_at (codes " ") c.args.i) (word_of c.args.edge) in
+    let word = ap length c.word.ensures.word in
+    omega (arith, separator_short (codes " ") c.args.i)
