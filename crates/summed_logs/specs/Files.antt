@@ -3,7 +3,7 @@
 use Rattle.std.specs.Prelude.{◌≡◌, ◌+◌, ◌⊎◌, ℕ, List, [], ◌∷◌, ◌++◌, length, MatchOption, None, Some, Result, Ok, Err}
 use Rattle.diy_io.specs.Count.{Rose}
 use Rattle.diy_io.specs.Shelf.{Mode, Idle, IsReading, ShelfSeen, left_to_read}
-use Rattle.diy_io.specs.Taken.{SourceSeen, source_seen}
+use Rattle.diy_io.specs.Taken.{SourceSeen}
 use Rattle.summed_logs.specs.declared.feeding.Feeding.{Feeding}
 use Rattle.summed_logs.specs.declared.feeding.LogFault.{LogFault}
 use Rattle.summed_logs.specs.declared.files.FileFault.{FileFault}
@@ -19,7 +19,7 @@ use Rattle.summed_logs.specs.declared.feeding.ReadFault.TheVariants.{Log, Device
 
 -- the file that is read, as a source
 abbrev pub log_seen : ShelfSeen → SourceSeen
-log_seen shelf = source_seen (left_to_read shelf.mode) shelf.taken shelf.faults
+log_seen shelf = record { left = left_to_read shelf.mode; taken = shelf.taken; faults = shelf.faults }
 
 -- the file is open still, but where the shelf failed
 abbrev pub ModeAfter : Mode → Result (Unit {0}) ReadFault → Type 0

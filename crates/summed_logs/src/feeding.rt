@@ -78,7 +78,6 @@ impl LogFault {
 
 impl Feeding {
     ghost use Rattle.summed_logs.specs.Feeding.{Reads, FedOn, EndedOn, SumWrote};
-    ghost use Rattle.diy_io.specs.Wrote.{sink_seen};
 
     pub(crate) fn new(alloc: Global) -> Result<Feeding, NoMemory>
         ensures { IfOk result (λ feeding. Reads feeding [] []) }
@@ -123,7 +122,7 @@ impl Feeding {
     /// Writes the sum of the logs that were ended.
     pub(crate) fn write_sum<O: Sink>(&self, out: &mut O) -> Result<(), Failed>
         requires { self.now.summer.in_order ≡ true }
-        ensures { (logs : List (List ℕ)) → Reads self.now logs [] → SumWrote logs (sink_seen (O.told out.old) (O.faults out.old)) (sink_seen (O.told out.new) (O.faults out.new)) result }
+        ensures { (logs : List (List ℕ)) → Reads self.now logs [] → SumWrote logs (O.seen out.old) (O.seen out.new) result }
     {
         self.summer.write_sum(out)
     }

@@ -4,7 +4,6 @@ ghost use Rattle.summed_logs.specs.Logs.{max_piece};
 ghost use Rattle.summed_logs.specs.Feeding.{Reads, ReadTo, SummedTo, ClosedTo};
 ghost use Rattle.summed_logs.specs.Files.{log_seen, ModeAfter, FileTo, file_end};
 ghost use Rattle.summed_logs.specs.SumEnds.{FilesSummed};
-ghost use Rattle.diy_io.specs.Wrote.{sink_seen};
 
 use crate::feeding::{Feeding, PIECE, ReadFault};
 use crate::sum_end::SumEnd;
@@ -136,7 +135,7 @@ pub fn sum_files<H: Shelf, O: Sink>(
 ) -> SumEnd
     requires idle { (H.seen shelf.old).mode ≡ Idle }
     requires some { first < length words.now }
-    ensures summed { FilesSummed (H.seen shelf.old) (H.seen shelf.new) words.now first (sink_seen (O.told out.old) (O.faults out.old)) (sink_seen (O.told out.new) (O.faults out.new)) result }
+    ensures summed { FilesSummed (H.seen shelf.old) (H.seen shelf.new) words.now first (O.seen out.old) (O.seen out.new) result }
     ensures mode { (H.seen shelf.new).mode ≡ Idle }
     ensures files { (H.seen shelf.new).files ≡ (H.seen shelf.old).files }
 {

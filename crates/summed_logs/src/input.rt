@@ -1,8 +1,6 @@
 ghost use Rattle.std.specs.Prelude.{◌≡◌, ◌<◌, ◌≤◌, length, ℕ, List, [], Result};
-ghost use Rattle.diy_io.specs.Taken.{source_seen};
 ghost use Rattle.summed_logs.specs.Logs.{max_piece};
 ghost use Rattle.summed_logs.specs.Feeding.{Reads, ReadTo, SummedTo};
-ghost use Rattle.diy_io.specs.Wrote.{sink_seen};
 ghost use Rattle.summed_logs.specs.SumEnds.{InputSummed};
 
 use crate::feeding::{Feeding, PIECE, ReadFault};
@@ -18,7 +16,7 @@ fn read_input<I: Source>(
 ) -> Result<(), ReadFault>
     requires some { 0 < length buf.old }
     requires piece { length buf.old ≤ max_piece }
-    ensures { (logs : List (List ℕ)) → Reads feeding.old logs [] → ReadTo (source_seen (I.left input.old) (I.taken input.old) (I.faults input.old)) (source_seen (I.left input.new) (I.taken input.new) (I.faults input.new)) feeding.new logs result }
+    ensures { (logs : List (List ℕ)) → Reads feeding.old logs [] → ReadTo (I.seen input.old) (I.seen input.new) feeding.new logs result }
 {
     loop {
         let count = match input.read(buf) {
@@ -41,7 +39,7 @@ fn sum_source<I: Source>(
 ) -> Result<(), ReadFault>
     requires some { 0 < length buf.old }
     requires piece { length buf.old ≤ max_piece }
-    ensures { (logs : List (List ℕ)) → Reads feeding.old logs [] → SummedTo (source_seen (I.left input.old) (I.taken input.old) (I.faults input.old)) (source_seen (I.left input.new) (I.taken input.new) (I.faults input.new)) feeding.new logs result }
+    ensures { (logs : List (List ℕ)) → Reads feeding.old logs [] → SummedTo (I.seen input.old) (I.seen input.new) feeding.new logs result }
 {
     match read_input(feeding, input, buf) {
         Ok(()) => {}
@@ -56,7 +54,7 @@ fn sum_source<I: Source>(
 
 /// Sums the input, which is one log.
 pub fn sum_input<I: Source, O: Sink>(alloc: Global, input: &mut I, out: &mut O) -> SumEnd
-    ensures { InputSummed (source_seen (I.left input.old) (I.taken input.old) (I.faults input.old)) (source_seen (I.left input.new) (I.taken input.new) (I.faults input.new)) (sink_seen (O.told out.old) (O.faults out.old)) (sink_seen (O.told out.new) (O.faults out.new)) result }
+    ensures { InputSummed (I.seen input.old) (I.seen input.new) (O.seen out.old) (O.seen out.new) result }
 {
     let mut buf = [0; PIECE];
     let Ok(mut feeding) = Feeding::new(alloc) else {

@@ -1,5 +1,5 @@
 use Rattle.std.proofs.Common.{◌∙◌, sym, subst, arith}
-use Rattle.diy_io.specs.Wrote.{SinkSeen, sink_seen}
+use Rattle.diy_io.specs.Wrote.{SinkSeen}
 use Rattle.summed_logs.specs.declared.sum_end.SumEnd.{SumEnd}
 use Rattle.summed_logs.specs.SumEnds.{FilesSummed}
 use Rattle.summed_logs.proofs.FilesLaws.{one_more, files_refused, files_written, files_unwritten}
@@ -7,7 +7,7 @@ use Rattle.summed_logs.proofs.files.sum_files.Goals as goal
 
 pub returns-in-Err-clause-summed : goal.returns-in-Err-clause-summed
 returns-in-Err-clause-summed g c =
-    let out : SinkSeen = sink_seen (g.O.Sink.told c.args.out.now) (g.O.Sink.faults c.args.out.now) in
+    let out : SinkSeen = g.O.Sink.seen c.args.out.now in
     let P : SumEnd → Type 0 = λ end.
     FilesSummed (g.H.Shelf.seen c.args.shelf.now) (g.H.Shelf.seen c.sum_file.new.shelf) c.args.words.now c.args.first out out end in
     subst P (sym c.end_at.ensures)

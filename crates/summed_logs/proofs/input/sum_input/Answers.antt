@@ -1,6 +1,6 @@
 use Rattle.std.proofs.Common.{[], Err, sym, ap, subst, ◌∙◌}
-use Rattle.diy_io.specs.Taken.{SourceSeen, source_seen}
-use Rattle.diy_io.specs.Wrote.{SinkSeen, sink_seen}
+use Rattle.diy_io.specs.Taken.{SourceSeen}
+use Rattle.diy_io.specs.Wrote.{SinkSeen}
 use Rattle.summed_logs.specs.declared.sum_end.SumEnd.{SumEnd}
 use Rattle.summed_logs.specs.SumEnds.{InputSummed}
 use Rattle.summed_logs.proofs.LogLaws.{summed_refused}
@@ -19,9 +19,9 @@ returns-in-Ok-sum_source g c =
 
 pub returns-in-Err-Log : goal.returns-in-Err-Log
 returns-in-Err-Log g c =
-    let old : SourceSeen = source_seen (g.I.Source.left c.args.input.now) (g.I.Source.taken c.args.input.now) (g.I.Source.faults c.args.input.now) in
-    let new : SourceSeen = source_seen (g.I.Source.left c.sum_source.new.input) (g.I.Source.taken c.sum_source.new.input) (g.I.Source.faults c.sum_source.new.input) in
-    let out : SinkSeen = sink_seen (g.O.Sink.told c.args.out.now) (g.O.Sink.faults c.args.out.now) in
+    let old : SourceSeen = g.I.Source.seen c.args.input.now in
+    let new : SourceSeen = g.I.Source.seen c.sum_source.new.input in
+    let out : SinkSeen = g.O.Sink.seen c.args.out.now in
     let P : SumEnd → Type 0 = λ end. InputSummed old new out out end in
     subst P (sym c.end_at.ensures)
     (input_faulty old new out c.in-Err-Log.fault
