@@ -10,8 +10,7 @@ use Rattle.diy_io.specs.declared.errors.Failed.{Failed}
 use Rattle.diy_io.specs.Count.{Rose}
 use Rattle.diy_io.specs.Sink.{Told, Grew, GrewByPrefix}
 use Rattle.diy_io.specs.Wrote.{sink_seen}
-use Rattle.diy_tools.specs.Answers.{TakesLine}
-use Rattle.diy_tools.specs.Report.{status_line, usage_line, usage_text, shown_word}
+use Rattle.diy_tools.specs.Report.{TakesLine, status_line, usage_line, usage_text, shown_word}
 
 pub letter_at : (k : ℕ) → get_or (letters (k + 1)) k [] ≡ location_name k
 letter_at k = get_or-map-range_with_len location_name 0 (k + 1) k k [] (omega arith) (omega arith)

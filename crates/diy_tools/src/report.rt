@@ -1,5 +1,6 @@
 ghost use Rattle.std.specs.Prelude.{◌≡◌, ◌≤◌, ◌<◌, ◌++◌, codes, slice_get, OnOk, OnErr};
 ghost use Rattle.std.specs.Fmt.{decimal};
+ghost use Rattle.relax_edges.specs.declared.TheConstants.{MAX_EDGES};
 ghost use Rattle.arch_trait.specs.Names.{location_name};
 ghost use Rattle.diy_io.specs.Count.{Rose};
 ghost use Rattle.diy_io.specs.Sink.{Grew, GrewByPrefix};
@@ -218,7 +219,7 @@ fn refuse_at<E: Sink>(name: &[u8], number: u8, err: &mut E) -> Result<(), Failed
 /// Writes the line of a write that needs an observer.
 #[tactic(auto, using(crate::proofs::Reported::letter_at, crate::proofs::Reported::letters_long))]
 fn refuse_unobserved<E: Sink>(location: u8, event: u8, err: &mut E) -> Result<(), Failed>
-    requires { location < 48 }
+    requires { location < MAX_EDGES }
     ensures ok { OnOk result (Grew (E.told err.old) (E.told err.new) (refusal_line (codes "NeedsObserver " ++ location_name location ++ codes " " ++ decimal event))) }
     ensures failed { OnErr result (GrewByPrefix (E.told err.old) (E.told err.new) (refusal_line (codes "NeedsObserver " ++ location_name location ++ codes " " ++ decimal event))) }
     ensures no_fault { OnOk result (E.faults err.new ≡ E.faults err.old) }
