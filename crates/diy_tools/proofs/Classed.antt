@@ -8,7 +8,7 @@ use Rattle.cycle_lines.specs.declared.errors.ClassifyError.TheVariants.{Lines, O
 use Rattle.diy_io.specs.Taken.{SourceSeen}
 use Rattle.diy_io.specs.Wrote.{SinkSeen}
 use Rattle.diy_tools.specs.declared.status.Status.{Status}
-use Rattle.diy_tools.specs.Answers.{AnswersFamilies}
+use Rattle.diy_tools.specs.FamilyAnswers.{AnswersFamilies}
 use Rattle.diy_tools.specs.Statuses.{classify_status}
 
 classifies_seen : {Sink : Type 0} (seen : Sink → SinkSeen) (arch : ArchName) (old new : SourceSeen) (before after : Sink) (result : Result (Unit {0}) ClassifyError)

@@ -6,6 +6,7 @@ use Rattle.std.specs.Prelude.{IfSome, Result, ◌==◌, ◌&&◌, ◌||◌, if�
 use Rattle.std.specs.List.{list_all, position_from}
 use Rattle.std.proofs.lemmas.Bool.{and_parts, ltb-false}
 use Rattle.std.proofs.lemmas.Bool.Decides.{nat_tests}
+use Rattle.relax_edges.specs.declared.TheConstants.{MAX_EDGES}
 use Rattle.relax_edges.specs.declared.kinds.ArchName.{ArchName}
 use Rattle.relax_edges.specs.declared.kinds.ArchName.TheVariants as archs
 use Rattle.relax_edges.specs.declared.kinds.ObsMode.{ObsMode}
@@ -52,7 +53,10 @@ use Rattle.diy_tools.specs.declared.status.Refusal.TheVariants as refusals
 use Rattle.diy_tools.specs.declared.status.Status.{Status}
 use Rattle.diy_tools.specs.Machines.{Machine, machine_of}
 use Rattle.diy_tools.specs.Refused.{refused_list, refused_of, refused_of_arch, refused_composing, refused_making}
-use Rattle.diy_tools.specs.Answers.{AnswersEdges, AnswersList, Answers, AnswersAsked, asked_text, test_name}
+use Rattle.diy_tools.specs.Printing.{AnswersEdges}
+use Rattle.diy_tools.specs.TestAnswers.{asked_text, test_name}
+use Rattle.diy_tools.specs.ListAnswers.{AnswersList}
+use Rattle.diy_tools.specs.Answers.{Answers, AnswersAsked}
 use Rattle.diy_tools.specs.Devices.{Devices}
 use Rattle.diy_tools.specs.Headline.{Headline, HeadlineAsked}
 use Rattle.listed_tests.specs.Plans.{is_wanted}
@@ -104,13 +108,13 @@ either_none (Some x) b h = cc h
 
 makes_cycle : (arch : ArchName) (es : List Edge) → refused_list arch es ≡ None → IsCycle es
 makes_cycle arch [] h = cc h
-makes_cycle arch (e ∷ es) h = of_size (nat_lt 24 (length (e ∷ es))) refl (position_from (λ u. not (is_of_arch u arch)) 0 (e ∷ es)) h
+makes_cycle arch (e ∷ es) h = of_size (nat_lt MAX_EDGES (length (e ∷ es))) refl (position_from (λ u. not (is_of_arch u arch)) 0 (e ∷ es)) h
   where
-    of_break : (b : Option ℕ) → first_break ((e ∷ es) ++ e ∷ []) ≡ b → nat_lt 24 (length (e ∷ es)) ≡ false → refused_composing (unbroken (e ∷ es) b) ≡ None → IsCycle (e ∷ es)
+    of_break : (b : Option ℕ) → first_break ((e ∷ es) ++ e ∷ []) ≡ b → nat_lt MAX_EDGES (length (e ∷ es)) ≡ false → refused_composing (unbroken (e ∷ es) b) ≡ None → IsCycle (e ∷ es)
     of_break (Some at) s f h = cc h
-    of_break None s f h = unbroken_cycle (e ∷ es) e refl (ltb-false 24 (length (e ∷ es)) f) s
+    of_break None s f h = unbroken_cycle (e ∷ es) e refl (ltb-false MAX_EDGES (length (e ∷ es)) f) s
 
-    of_size : (b : Bool) → nat_lt 24 (length (e ∷ es)) ≡ b → (foreign : Option ℕ) → (if b then Some refusals.TooLong else refused_of_arch (e ∷ es) foreign) ≡ None → IsCycle (e ∷ es)
+    of_size : (b : Bool) → nat_lt MAX_EDGES (length (e ∷ es)) ≡ b → (foreign : Option ℕ) → (if b then Some refusals.TooLong else refused_of_arch (e ∷ es) foreign) ≡ None → IsCycle (e ∷ es)
     of_size true f foreign h = cc h
     of_size false f (Some at) h = cc h
     of_size false f None h =

@@ -4,3 +4,6 @@ pub mod Forced
 pub mod Listed
 pub mod Classed
 pub mod Summed
+pub mod Caused
+pub mod Completed
+pub mod Limits

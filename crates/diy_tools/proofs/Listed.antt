@@ -12,7 +12,8 @@ use Rattle.listed_tests.specs.Ends.{EndsBehind, EndsListing}
 use Rattle.listed_tests.specs.Plans.{Plan, plan_of}
 use Rattle.std.specs.Prelude.{List}
 use Rattle.diy_tools.specs.declared.status.Status.{Status}
-use Rattle.diy_tools.specs.Answers.{AnswersList, EndsOn, plan_asked}
+use Rattle.diy_tools.specs.ListAnswers.{AnswersList, plan_asked}
+use Rattle.diy_tools.specs.Kept.{EndsOn}
 use Rattle.diy_tools.specs.Machines.{machine_of}
 use Rattle.diy_tools.specs.Statuses.{listing_status}
 

@@ -8,8 +8,7 @@ use Rattle.diy_words.specs.declared.usage.UsageKind.{UsageKind}
 use Rattle.diy_tools.specs.declared.status.Status.TheVariants.{Usage}
 use Rattle.diy_io.specs.declared.errors.Failed.{Failed}
 use Rattle.diy_io.specs.Wrote.{SinkSeen, Wrote}
-use Rattle.diy_tools.specs.Answers.{TakesLine}
-use Rattle.diy_tools.specs.Report.{status_line, usage_line, usage_text, shown_word}
+use Rattle.diy_tools.specs.Report.{TakesLine, status_line, usage_line, usage_text, shown_word}
 
 pub letter_at : (k : ℕ) → get_or (letters (k + 1)) k [] ≡ location_name k
 letter_at k = get_or-map-range_with_len location_name 0 (k + 1) k k [] (omega arith) (omega arith)

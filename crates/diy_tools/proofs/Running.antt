@@ -4,6 +4,7 @@ use Rattle.std.specs.Prelude.{Result, OnOk, OnErr, cond, if◌then◌else◌}
 use Rattle.std.specs.List.{position_from}
 use Rattle.std.specs.Option.{option_or}
 use Rattle.std.proofs.lemmas.Bool.Decides.{nat_tests}
+use Rattle.relax_edges.specs.declared.TheConstants.{MAX_EDGES}
 use Rattle.relax_edges.specs.declared.edge.Edge.{Edge}
 use Rattle.relax_edges.specs.declared.kinds.ObsMode.{ObsMode}
 use Rattle.relax_edges.specs.EdgeTable.{is_of_arch}
@@ -23,7 +24,7 @@ use Rattle.diy_io.specs.Taken.{SourceSeen}
 use Rattle.diy_io.specs.Shelf.{ShelfSeen}
 use Rattle.diy_words.specs.declared.request.Diy.{Diy}
 use Rattle.diy_tools.specs.Devices.{Devices, devices}
-use Rattle.diy_tools.specs.Sums.{AnswersSum}
+use Rattle.diy_tools.specs.SumAnswers.{AnswersSum}
 use Rattle.test_maker.specs.CycleText.{cycle_text}
 use Rattle.diy_words.specs.declared.request.Sought.{Sought}
 use Rattle.diy_words.specs.declared.request.Sought.TheVariants as sought
@@ -45,7 +46,13 @@ use Rattle.test_maker.specs.Made as made
 use Rattle.diy_tools.specs.Machines.{Machine, machine_of}
 use Rattle.diy_tools.specs.Refused.{refused_list, refused_of, refused_of_arch, refused_composing, refused_making, making_refusal, composing_refusal}
 use Rattle.diy_tools.specs.Report.{RefusesLocation}
-use Rattle.diy_tools.specs.Answers.{Answers, AnswersAsked, AnswersEdges, AnswersName, AnswersKept, AnswersSought, AnswersList, AnswersFamilies, refused_kept, refused_edges, edges_kept, name_kept, test_name, MakesCycle}
+use Rattle.diy_tools.specs.Printing.{AnswersEdges}
+use Rattle.diy_tools.specs.TestAnswers.{test_name}
+use Rattle.diy_tools.specs.NameAnswers.{AnswersName, AnswersSought}
+use Rattle.diy_tools.specs.FamilyAnswers.{AnswersFamilies}
+use Rattle.diy_tools.specs.ListAnswers.{AnswersList}
+use Rattle.diy_tools.specs.Answers.{Answers, AnswersAsked}
+use Rattle.diy_tools.specs.Kept.{AnswersKept, refused_kept, refused_edges, edges_kept, name_kept, MakesCycle}
 
 by_test : {G : Type 0} (b : Bool) → (b ≡ true → G) → (b ≡ false → G) → G
 by_test true t f = t refl
@@ -62,20 +69,20 @@ record IsKeptSo (list : EdgeList) (es : List Edge) : Type 0 where
 kept_so : (es : List Edge) → IsKeptSo (kept es) es
 kept_so [] = record { refused = λ arch. refl; same = λ h. refl }
 kept_so (e ∷ es) =
-    by_test (nat_le (length (e ∷ es)) 24)
+    by_test (nat_le (length (e ∷ es)) MAX_EDGES)
     (λ t. subst (λ k. IsKeptSo k (e ∷ es)) (sym (kept_whole (e ∷ es) t)) (record { refused = λ arch. refl; same = λ h. refl }))
     (λ f. subst (λ k. IsKeptSo k (e ∷ es)) (sym (kept_long (e ∷ es) f)) (record { refused = λ arch. sym (refused_long arch f); same = λ h. absurd (h refl) }))
   where
-    kept_whole : (us : List Edge) → nat_le (length us) 24 ≡ true → kept us ≡ Whole (record { items = us })
+    kept_whole : (us : List Edge) → nat_le (length us) MAX_EDGES ≡ true → kept us ≡ Whole (record { items = us })
     kept_whole us t = ap (λ b. if b then Whole (record { items = us }) else TooLong) t
 
-    kept_long : (us : List Edge) → nat_le (length us) 24 ≡ false → kept us ≡ TooLong
+    kept_long : (us : List Edge) → nat_le (length us) MAX_EDGES ≡ false → kept us ≡ TooLong
     kept_long us t = ap (λ b. if b then Whole (record { items = us }) else TooLong) t
 
-    long : (n : ℕ) → nat_le n 24 ≡ false → nat_lt 24 n ≡ true
+    long : (n : ℕ) → nat_le n MAX_EDGES ≡ false → nat_lt MAX_EDGES n ≡ true
     long n f = grind (arith, nat_tests)
 
-    refused_long : (arch : ArchName) → nat_le (length (e ∷ es)) 24 ≡ false → refused_list arch (e ∷ es) ≡ Some refusals.TooLong
+    refused_long : (arch : ArchName) → nat_le (length (e ∷ es)) MAX_EDGES ≡ false → refused_list arch (e ∷ es) ≡ Some refusals.TooLong
     refused_long arch f =
         ap (λ b. if b then Some refusals.TooLong else refused_of_arch (e ∷ es) (position_from (λ e. not (is_of_arch e arch)) 0 (e ∷ es)))
         (long (length (e ∷ es)) f)
@@ -131,7 +138,7 @@ named_refused a b list result same h = subst (λ n. MakesCycle (refused_edges n 
 -- a cycle that edges make is those edges
 pub composed_is : (es u : List Edge) → composed es ≡ Ok u → u ≡ es
 composed_is [] u e = cc e
-composed_is (x ∷ es) u e = whole (nat_lt 24 (length (x ∷ es))) (first_break ((x ∷ es) ++ x ∷ [])) (x ∷ es) u e
+composed_is (x ∷ es) u e = whole (nat_lt MAX_EDGES (length (x ∷ es))) (first_break ((x ∷ es) ++ x ∷ [])) (x ∷ es) u e
   where
     whole : (b : Bool) (o : Option ℕ) (us v : List Edge) → cond b (Err composing.TooLong) (unbroken us o) ≡ Ok v → v ≡ us
     whole true o us v h = cc h
@@ -143,7 +150,7 @@ pub making_located : (refusal : MakeRefusal) → made.NamesLocation refusal → 
 making_located (making.NotOfArch at) h = tt
 making_located making.TooFewThreads h = tt
 making_located making.CoherenceOnly h = tt
-making_located (making.NeedsObserver location event) h = omega (arith, h)
+making_located (making.NeedsObserver location event) h = h
 making_located (making.TooManyRegisters thread) h = tt
 
 -- a refusal to compose names none

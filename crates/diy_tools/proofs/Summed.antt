@@ -5,16 +5,23 @@ use Rattle.diy_io.specs.Taken.{SourceSeen}
 use Rattle.diy_io.specs.Wrote.{SinkSeen}
 use Rattle.diy_tools.specs.declared.status.Status.{Status}
 use Rattle.diy_tools.specs.Devices.{devices}
-use Rattle.diy_tools.specs.Sums.{AnswersSum, SumsFiles, SumsInput}
+use Rattle.diy_tools.specs.SumAnswers.{AnswersSum}
+use Rattle.diy_tools.specs.Kept.{SumsFiles, SumsInput}
 
 pub files_answered : (words : List (List ℕ)) (status : Status) (input : SourceSeen) (old new : ShelfSeen) (before after : SinkSeen) → 1 < length words
     → SumsFiles words status old new before after → AnswersSum words status (devices input before old) (devices input after new)
 files_answered [] status input old new before after more h = absurd (omega arith)
 files_answered (tool ∷ []) status input old new before after more h = absurd (omega arith)
-files_answered (tool ∷ log ∷ logs) status input old new before after more h = record { input = refl; both = h }
+files_answered (tool ∷ log ∷ logs) status input old new before after more h = record {
+  end = h.end;
+  ends = record { input = refl; both = record { summed = h.summed; files = h.files } };
+  status_is = h.status_is;
+}
 
 pub input_answered : (words : List (List ℕ)) (status : Status) (shelf : ShelfSeen) (old new : SourceSeen) (before after : SinkSeen) → length words ≤ 1
     → SumsInput status old new before after → AnswersSum words status (devices old before shelf) (devices new after shelf)
-input_answered [] status shelf old new before after few h = record { shelf = refl; both = h }
-input_answered (tool ∷ []) status shelf old new before after few h = record { shelf = refl; both = h }
+input_answered [] status shelf old new before after few h =
+    record { end = h.end; ends = record { shelf = refl; both = h.summed }; status_is = h.status_is }
+input_answered (tool ∷ []) status shelf old new before after few h =
+    record { end = h.end; ends = record { shelf = refl; both = h.summed }; status_is = h.status_is }
 input_answered (tool ∷ log ∷ logs) status shelf old new before after few h = absurd (omega arith)

@@ -15,7 +15,9 @@ use Rattle.diy_tools.specs.declared.status.Status.{Status}
 use Rattle.diy_tools.specs.Devices.{Devices}
 use Rattle.diy_tools.specs.Machines.{Machine, machine_of}
 use Rattle.diy_tools.specs.Refused.{refused_of}
-use Rattle.diy_tools.specs.Answers.{AnswersList, Prints, asked_text, plan_asked}
+use Rattle.diy_tools.specs.Printing.{Prints}
+use Rattle.diy_tools.specs.TestAnswers.{asked_text}
+use Rattle.diy_tools.specs.ListAnswers.{AnswersList, plan_asked}
 
 -- a text is printed, and its bytes force a cycle
 pub record PrintsForcing (m : Machine) (text : List ℕ) (cycle : List Edge) (mode : ObsMode) (status : Status) (old new : SinkSeen) : Type 0 where

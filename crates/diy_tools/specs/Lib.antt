@@ -3,6 +3,16 @@ pub mod Machines
 pub mod Refused
 pub mod Report
 pub mod Statuses
-pub mod Sums
+pub mod Printing
+pub mod TestAnswers
+pub mod NameAnswers
+pub mod FamilyAnswers
+pub mod ListAnswers
+pub mod SumAnswers
 pub mod Answers
+pub mod Kept
+pub mod Memory
+pub mod Complete
+pub mod Causes
+pub mod Limit
 pub mod Headline

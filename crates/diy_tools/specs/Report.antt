@@ -1,8 +1,10 @@
 -- The line on standard error that tells a status.
 -- Source: own.
-use Rattle.std.specs.Prelude.{ℕ, ⊤, ◌<◌, List, [], ◌++◌, codes, slice_get, unwrap_or, Option, Some, None}
+use Rattle.std.specs.Prelude.{ℕ, ⊤, ◌<◌, ◌⊎◌, List, [], ◌++◌, codes, slice_get, unwrap_or, Option, Some, None}
 use Rattle.std.specs.Fmt.{decimal}
+use Rattle.relax_edges.specs.declared.TheConstants.{MAX_EDGES}
 use Rattle.arch_trait.specs.Names.{location_name}
+use Rattle.diy_io.specs.Wrote.{SinkSeen, WroteAll, WrotePart}
 use Rattle.cycle_lines.specs.declared.errors.LineKind.{LineKind}
 use Rattle.cycle_lines.specs.declared.errors.LineKind.TheVariants as lines
 use Rattle.log_sum.specs.declared.errors.LogKind.{LogKind}
@@ -131,9 +133,13 @@ status_line words (statuses.ReadFault device) = codes "diy: read fault: " ++ dev
 status_line words (statuses.WriteFault device) = codes "diy: write fault: " ++ device_text device ++ codes "\n"
 status_line words statuses.NoMemory = codes "diy: no memory\n"
 
+-- a line is written, with no fault; or the device takes a prefix of it, and its count of faults rises
+abbrev pub TakesLine : List ℕ → SinkSeen → SinkSeen → Type 0
+TakesLine line old new = (WroteAll old new line) ⊎ (WrotePart old new line)
+
 -- a refusal names no location, or one that a test can have
 abbrev pub RefusesLocation : Refusal → Type 0
-RefusesLocation (refusals.NeedsObserver location _) = location < 48
+RefusesLocation (refusals.NeedsObserver location _) = location < MAX_EDGES
 RefusesLocation _ = ⊤
 
 -- so does a status

@@ -2,7 +2,7 @@ ghost use Rattle.std.specs.Prelude.{◌≡◌, ◌≤◌, not, length, IfErr};
 ghost use Rattle.std.specs.List.{position_from};
 ghost use Rattle.relax_edges.specs.EdgeTable.{is_of_arch};
 ghost use Rattle.edge_algebra.specs.Compose.{composed};
-ghost use Rattle.diy_tools.specs.Answers.{MakesCycle, edges_kept, refused_edges};
+ghost use Rattle.diy_tools.specs.Kept.{MakesCycle, edges_kept, refused_edges};
 ghost use Rattle.diy_tools.specs.Refused.{refused_list, refused_composing};
 ghost use Rattle.diy_tools.specs.Report.{RefusesLocation};
 

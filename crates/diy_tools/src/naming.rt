@@ -1,6 +1,9 @@
 ghost use Rattle.std.specs.Prelude.{◌≡◌};
 ghost use Rattle.cycle_lines.specs.Normed.{Norms, name_line};
-ghost use Rattle.diy_tools.specs.Answers.{AnswersEdges, AnswersFamilies, AnswersKept, AnswersLines, AnswersName, Prints, edges_kept, refused_edges};
+ghost use Rattle.diy_tools.specs.Printing.{AnswersEdges, Prints};
+ghost use Rattle.diy_tools.specs.NameAnswers.{AnswersLines, AnswersName};
+ghost use Rattle.diy_tools.specs.FamilyAnswers.{AnswersFamilies};
+ghost use Rattle.diy_tools.specs.Kept.{AnswersKept, edges_kept, refused_edges};
 ghost use Rattle.diy_tools.specs.Report.{NamesLocation};
 ghost use Rattle.diy_tools.specs.Statuses.{classify_status, lines_status, norm_status};
 

@@ -1,5 +1,6 @@
 ghost use Rattle.std.specs.Prelude.{◌≡◌, ◌<◌, ◌++◌, codes, slice_get};
 ghost use Rattle.std.specs.Fmt.{decimal};
+ghost use Rattle.relax_edges.specs.declared.TheConstants.{MAX_EDGES};
 ghost use Rattle.arch_trait.specs.Names.{location_name};
 ghost use Rattle.diy_io.specs.Page.{Sends};
 ghost use Rattle.diy_io.specs.Wrote.{Wrote};
@@ -222,7 +223,7 @@ fn refuse_at<E: Sink>(name: &[u8], number: u8, page: &mut Page, err: &mut E) -> 
 /// Sends the line of a write that needs an observer.
 #[tactic(auto, using(crate::proofs::Reported::letter_at, crate::proofs::Reported::letters_long))]
 fn refuse_unobserved<E: Sink>(location: u8, event: u8, page: &mut Page, err: &mut E) -> Result<(), Failed>
-    requires { location < 48 }
+    requires { location < MAX_EDGES }
     ensures { Sends (E.seen err.old) page.old (E.seen err.new) page.new (refusal_line (codes "NeedsObserver " ++ location_name location ++ codes " " ++ decimal event)) result }
 {
     let places = Places::letters(location + 1);

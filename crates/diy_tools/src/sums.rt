@@ -2,7 +2,8 @@ ghost use Rattle.std.specs.Prelude.{◌≡◌, ◌<◌, length};
 ghost use Rattle.diy_io.specs.Shelf.{Idle};
 ghost use Rattle.diy_tools.specs.Devices.{devices};
 ghost use Rattle.diy_tools.specs.Report.{NamesLocation};
-ghost use Rattle.diy_tools.specs.Sums.{AnswersSum, SumsFiles, SumsInput, sum_status};
+ghost use Rattle.diy_tools.specs.SumAnswers.{AnswersSum, sum_status};
+ghost use Rattle.diy_tools.specs.Kept.{SumsFiles, SumsInput};
 
 use crate::status::{Device, Status, TextKind};
 use diy_io::{Shelf, Sink, Source, Words};

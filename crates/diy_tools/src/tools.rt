@@ -1,9 +1,13 @@
 ghost use Rattle.std.specs.Prelude.{◌≡◌};
 ghost use Rattle.diy_io.specs.Shelf.{Idle};
-ghost use Rattle.diy_tools.specs.Answers.{Answers, TakesLine};
+ghost use Rattle.diy_tools.specs.Answers.{Answers};
+ghost use Rattle.diy_tools.specs.Causes.{Causes};
+ghost use Rattle.diy_tools.specs.Complete.{Complete};
 ghost use Rattle.diy_tools.specs.Devices.{devices};
 ghost use Rattle.diy_tools.specs.Headline.{Headline};
-ghost use Rattle.diy_tools.specs.Report.{status_line, NamesLocation};
+ghost use Rattle.diy_tools.specs.Limit.{Limited};
+ghost use Rattle.diy_tools.specs.Memory.{NeverWantsMemory};
+ghost use Rattle.diy_tools.specs.Report.{TakesLine, status_line, NamesLocation};
 
 use crate::listing::list;
 use crate::naming::{families, norm};
@@ -20,8 +24,10 @@ use std::alloc::Global;
 ///
 /// Where the words make no request, or the edges are refused, no device changes but `err`. What each
 /// tool reads of `input` and of the shelf, what it writes to `out` and to the shelf, and what stands
-/// after each status, is as `Answers` says. The shelf is to be at nothing, and is so again. The line
-/// that tells the status is written to `err`, which doesn't change the status where it fails.
+/// after each status, is as `Answers` says. Where what is asked for can be done and no device fails, it
+/// is done (`Complete`); only the tools that may want memory answer that there is none; and each status
+/// has the one cause that `Causes` gives. The shelf is to be at nothing, and is so again. The line that
+/// tells the status is written to `err`, which doesn't change the status where it fails.
 #[tactic(auto, using(crate::proofs::Reported::takes_line, crate::proofs::Forced::answers_force))]
 pub fn run<I: Source, O: Sink, E: Sink, H: Shelf>(
     alloc: Global,
@@ -34,6 +40,10 @@ pub fn run<I: Source, O: Sink, E: Sink, H: Shelf>(
     requires { (H.seen shelf.old).mode ≡ Idle }
     ensures answers { Answers words.now result (devices (I.seen input.old) (O.seen out.old) (H.seen shelf.old)) (devices (I.seen input.new) (O.seen out.new) (H.seen shelf.new)) }
     ensures idle { (H.seen shelf.new).mode ≡ Idle }
+    ensures complete { Complete words.now result (devices (I.seen input.old) (O.seen out.old) (H.seen shelf.old)) (devices (I.seen input.new) (O.seen out.new) (H.seen shelf.new)) }
+    ensures memory { NeverWantsMemory words.now result }
+    ensures causes { Causes words.now result (devices (I.seen input.old) (O.seen out.old) (H.seen shelf.old)) (devices (I.seen input.new) (O.seen out.new) (H.seen shelf.new)) }
+    ensures limited { Limited words.now result (devices (I.seen input.old) (O.seen out.old) (H.seen shelf.old)) (devices (I.seen input.new) (O.seen out.new) (H.seen shelf.new)) }
     ensures headline { Headline words.now result (devices (I.seen input.old) (O.seen out.old) (H.seen shelf.old)) (devices (I.seen input.new) (O.seen out.new) (H.seen shelf.new)) }
     ensures line { TakesLine (status_line words.now result) (E.seen err.old) (E.seen err.new) }
 {

@@ -1,6 +1,6 @@
 use Rattle.relax_edges.specs.declared.kinds.ArchName.TheVariants as archs
 use Rattle.diy_io.specs.Wrote.{sink_seen}
-use Rattle.diy_tools.specs.Answers.{name_kept}
+use Rattle.diy_tools.specs.Kept.{name_kept}
 use Rattle.diy_tools.proofs.Running.{answered_on}
 use Rattle.diy_tools.proofs.testing.diyone.Goals as goal
 

@@ -24,20 +24,22 @@ sum_status sums.ShelfFault = ReadFault Shelf
 sum_status sums.OutFault = WriteFault Out
 sum_status sums.NoMemory = NoMemory
 
--- the input is summed as one log, or there is a reason why it can't be
-pub record SumsInput (status : Status) (old new : SourceSeen) (before after : SinkSeen) : Type 0 where
-  pub end : SumEnd
-  pub summed : InputSummed old new before after end
-  pub status_is : status ≡ sum_status end
-
--- the logs that the words behind the first name are summed, or there is a reason why they can't be; no file changes
-pub record SumsFiles (words : List (List ℕ)) (status : Status) (old new : ShelfSeen) (before after : SinkSeen) : Type 0 where
-  pub end : SumEnd
+-- the summing of the logs that the words after the first name ends so, and no file changes
+pub record EndsFiles (words : List (List ℕ)) (end : SumEnd) (old new : ShelfSeen) (before after : SinkSeen) : Type 0 where
   pub summed : FilesSummed old new words 1 before after end
   pub files : new.files ≡ old.files
-  pub status_is : status ≡ sum_status end
 
--- the logs are summed that the words behind the first name, or the input where there is no such word
-abbrev pub AnswersSum : List (List ℕ) → Status → Devices → Devices → Type 0
-AnswersSum (tool ∷ log ∷ logs) status old new = ShelfAndOut (SumsFiles (tool ∷ log ∷ logs) status) old new
-AnswersSum _ status old new = InputAndOut (SumsInput status) old new
+-- the summing of the input ends so
+abbrev pub EndsInput : SumEnd → Devices → Devices → Type 0
+EndsInput end old new = InputAndOut (λ input input' out out'. InputSummed input input' out out' end) old new
+
+-- the summing ends so: of the logs that the words after the first name, or of the input where there is no such word
+abbrev pub EndsSum : List (List ℕ) → SumEnd → Devices → Devices → Type 0
+EndsSum (tool ∷ log ∷ logs) end old new = ShelfAndOut (EndsFiles (tool ∷ log ∷ logs) end) old new
+EndsSum _ end old new = EndsInput end old new
+
+-- the summing ends, and the status says how
+pub record AnswersSum (words : List (List ℕ)) (status : Status) (old new : Devices) : Type 0 where
+  pub end : SumEnd
+  pub ends : EndsSum words end old new
+  pub status_is : status ≡ sum_status end

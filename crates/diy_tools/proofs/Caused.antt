@@ -1,0 +1,235 @@
+-- The cause of a status, and which tools may want memory, from what is answered.
+use Rattle.std.proofs.Common.{◌≡◌, ◌≤◌, ◌<◌, ◌+◌, ◌^◌, ℕ, List, [], ◌∷◌, length, Option, Some, None, Ok, Err, refl, sym, ap, subst, arith, inl, inr, ◌∙◌}
+use Rattle.std.specs.Prelude.{Result, ◌⊎◌}
+use Rattle.relax_edges.specs.declared.edge.Edge.{Edge}
+use Rattle.relax_edges.specs.declared.kinds.ArchName.{ArchName}
+use Rattle.cycle_lines.specs.declared.errors.LinesError.{LinesError}
+use Rattle.cycle_lines.specs.declared.errors.LinesError.TheVariants as lines
+use Rattle.cycle_lines.specs.declared.errors.NormError.{NormError}
+use Rattle.cycle_lines.specs.declared.errors.NormError.TheVariants as norms
+use Rattle.cycle_lines.specs.declared.errors.ClassifyError.{ClassifyError}
+use Rattle.cycle_lines.specs.declared.errors.ClassifyError.TheVariants as classifies
+use Rattle.cycle_lines.specs.Classified.{Classifies}
+use Rattle.cycle_lines.specs.Normed.{Norms, name_line}
+use Rattle.diy_io.specs.Count.{Rose, count_of}
+use Rattle.diy_io.specs.Shelf.{ShelfSeen}
+use Rattle.diy_io.specs.Taken.{SourceSeen}
+use Rattle.diy_io.specs.Wrote.{SinkSeen, WroteAll, WrotePart}
+use Rattle.diy_words.specs.declared.usage.Usage.{Usage}
+use Rattle.diy_words.specs.declared.usage.UsageKind.TheVariants.{UnknownName}
+use Rattle.diy_words.specs.Requests.{Asked, TestAsked, ListAsked, Sought, asked_of}
+use Rattle.diy_words.specs.Requests.{AsksTest, AsksName, AsksList, AsksFamilies, AsksSum, OfEdges, OfName, OfLines}
+use Rattle.listed_tests.specs.declared.ending.ListingEnd.{ListingEnd}
+use Rattle.listed_tests.specs.declared.ending.ListingEnd.TheVariants as listings
+use Rattle.listed_tests.specs.Ends.{StopsAtTest, StopsAtAll}
+use Rattle.listed_tests.specs.Plans.{IsPlanned, planned_text}
+use Rattle.summed_logs.specs.declared.sum_end.SumEnd.{SumEnd}
+use Rattle.summed_logs.specs.declared.sum_end.SumEnd.TheVariants as sums
+use Rattle.diy_tools.specs.declared.status.Status.{Status}
+use Rattle.diy_tools.specs.declared.status.Status.TheVariants as statuses
+use Rattle.diy_tools.specs.declared.status.Refusal.{Refusal}
+use Rattle.diy_tools.specs.declared.status.TextKind.TheVariants as texts
+use Rattle.diy_tools.specs.declared.status.Device.TheVariants.{Input, Out, Shelf}
+use Rattle.diy_tools.specs.Devices.{Devices, devices, OutAlone, InputAndOut, ShelfAndOut}
+use Rattle.diy_tools.specs.Refused.{refused_list}
+use Rattle.diy_tools.specs.Statuses.{norm_status, classify_status, listing_status}
+use Rattle.diy_tools.specs.Printing.{AnswersEdges, Prints}
+use Rattle.diy_tools.specs.TestAnswers.{AnswersTest, asked_text, test_refused}
+use Rattle.diy_tools.specs.NameAnswers.{AnswersName, AnswersSought, PrintsNamed}
+use Rattle.diy_tools.specs.ListAnswers.{EndsAsked, plan_asked}
+use Rattle.diy_tools.specs.SumAnswers.{EndsInput, EndsSum, sum_status}
+use Rattle.diy_tools.specs.Answers.{Answers, AnswersAsked}
+use Rattle.diy_tools.specs.Memory.{MayWantMemory, NeverWantsMemory}
+use Rattle.diy_tools.specs.Causes.{Causes, CausesAsked, NothingWritten, RoseFar}
+
+-- devices that are the same one by one are the same
+same_devices : (old new : Devices) → new.input ≡ old.input → new.out ≡ old.out → new.shelf ≡ old.shelf → new ≡ old
+same_devices old new input out shelf =
+    ap (λ (i : SourceSeen). devices i new.out new.shelf) input
+    ∙ (ap (λ (o : SinkSeen). devices old.input o new.shelf) out ∙ ap (λ (s : ShelfSeen). devices old.input old.out s) shelf)
+
+-- a count of bytes that rose by more than 2^40
+rose_far : (old new taken : ℕ) → new ≡ count_of (old + taken) → 2 ^ 40 < taken → RoseFar old new
+rose_far old new taken e far = omega arith
+
+counted_far : (old new taken : ℕ) → count_of new ≡ count_of (old + taken) → 2 ^ 40 < taken → RoseFar old new
+counted_far old new taken e far = omega arith
+
+-- a text is printed, whole or in part
+pub by_print : (G : Status → Type 0) (text : List ℕ) (status : Status) (before after : SinkSeen) → Prints text status before after
+    → (WroteAll before after text → G statuses.Done) → (WrotePart before after text → G (statuses.WriteFault Out)) → G status
+by_print G text statuses.Done before after h all part = all h
+by_print G text (statuses.WriteFault Out) before after h all part = part h
+by_print G text (statuses.WriteFault Input) before after h all part = absurd h
+by_print G text (statuses.WriteFault Shelf) before after h all part = absurd h
+by_print G text (statuses.ReadFault device) before after h all part = absurd h
+by_print G text (statuses.Refused refusal) before after h all part = absurd h
+by_print G text (statuses.Usage word kind) before after h all part = absurd h
+by_print G text (statuses.BadText file line kind) before after h all part = absurd h
+by_print G text (statuses.NoFile word) before after h all part = absurd h
+by_print G text statuses.NoMemory before after h all part = absurd h
+
+-- the shelf failed in a listing
+either_failed : (listed : List Edge → Type 0) (folder : Option (List ℕ)) (text : List Edge → List ℕ) (given : Option (List Edge)) (old new : ShelfSeen)
+    → (StopsAtTest listed folder text given old new ⊎ StopsAtAll listed folder text given old new) → Rose old.faults new.faults
+either_failed listed folder text given old new (inl stop) = stop.part.faulted.fault
+either_failed listed folder text given old new (inr stop) = stop.part.faulted.fault
+
+pub listing_failed : (asked : ListAsked) (old new : ShelfSeen) (out after : SinkSeen)
+    → EndsAsked asked listings.ShelfFault old new out after → Rose old.faults new.faults
+listing_failed asked old new out after h =
+    either_failed (IsPlanned (plan_asked asked)) (plan_asked asked).folder (planned_text (plan_asked asked)) h.given old new h.ends.1
+
+-- what norm7 is asked for
+abbrev named : ArchName → Sought → Result Asked Usage
+named arch cycle = Ok (AsksName (record { arch = arch; cycle = cycle }))
+
+module _ (old new : Devices) where
+
+  -- what is said of a status is said of one that is equal to it
+  of_status : (words : List (List ℕ)) (asked : Result Asked Usage) (status other : Status) → status ≡ other
+      → CausesAsked words asked other old new → CausesAsked words asked status old new
+  of_status words asked status other e h = subst (λ (s : Status). CausesAsked words asked s old new) (sym e) h
+
+  test_caused : (words : List (List ℕ)) (asked : TestAsked) (refused : Option Refusal) (status : Status) → test_refused asked ≡ refused
+      → new.input ≡ old.input → new.shelf ≡ old.shelf
+      → AnswersEdges refused (asked_text asked) status old.out new.out → CausesAsked words (Ok (AsksTest asked)) status old new
+  test_caused words asked (Some refusal) status e input shelf h =
+      of_status words (Ok (AsksTest asked)) status (statuses.Refused refusal) h.0 (e, same_devices old new input h.1 shelf)
+  test_caused words asked None status e input shelf h =
+      by_print (λ s. CausesAsked words (Ok (AsksTest asked)) s old new) (asked_text asked) status old.out new.out h
+      (λ wrote. (e, record { input = input; shelf = shelf; out = wrote }))
+      (λ wrote. (wrote.fault, (e, record { input = input; shelf = shelf; out = wrote })))
+
+  edges_caused : (words : List (List ℕ)) (arch : ArchName) (edges : List Edge) (refused : Option Refusal) (status : Status) → refused_list arch edges ≡ refused
+      → new.input ≡ old.input → new.shelf ≡ old.shelf
+      → AnswersEdges refused (name_line edges) status old.out new.out → CausesAsked words (named arch (OfEdges edges)) status old new
+  edges_caused words arch edges (Some refusal) status e input shelf h =
+      of_status words (named arch (OfEdges edges)) status (statuses.Refused refusal) h.0 (e, same_devices old new input h.1 shelf)
+  edges_caused words arch edges None status e input shelf h =
+      by_print (λ s. CausesAsked words (named arch (OfEdges edges)) s old new) (name_line edges) status old.out new.out h
+      (λ wrote. record { shelf = shelf; both = (input, e, wrote) })
+      (λ wrote. (wrote.fault, record { shelf = shelf; both = (input, e, wrote) }))
+
+  name_caused : (words : List (List ℕ)) (arch : ArchName) (at : ℕ) (name : List ℕ) (status : Status) → new.input ≡ old.input → new.shelf ≡ old.shelf
+      → AnswersName arch at name status old.out new.out → CausesAsked words (named arch (OfName at name)) status old new
+  name_caused words arch at name status input shelf (inl none) =
+      of_status words (named arch (OfName at name)) status (statuses.Usage at UnknownName) none.1
+      ((refl, refl, none.0), same_devices old new input none.2 shelf)
+  name_caused words arch at name status input shelf (inr found) =
+      by_print (λ s. CausesAsked words (named arch (OfName at name)) s old new) (name_line found.cycle) status old.out new.out found.prints
+      (λ wrote. record { shelf = shelf; both = (input, record { cycle = found.cycle; named = found.named; prints = wrote }) })
+      (λ wrote. (wrote.fault, record { shelf = shelf; both = (input, record { cycle = found.cycle; named = found.named; prints = wrote }) }))
+
+  lines_caused : (words : List (List ℕ)) (arch : ArchName) (result : Result (Unit {0}) NormError) (status : Status) → new.shelf ≡ old.shelf
+      → status ≡ norm_status result → Norms arch old.input new.input old.out new.out result → CausesAsked words (named arch OfLines) status old new
+  lines_caused words arch (Ok x) status shelf e h = of_status words (named arch OfLines) status statuses.Done e (record { shelf = shelf; both = h })
+  lines_caused words arch (Err norms.OutFault) status shelf e h =
+      of_status words (named arch OfLines) status (statuses.WriteFault Out) e (h.wrote.fault, record { shelf = shelf; both = h })
+  lines_caused words arch (Err (norms.Lines (lines.Wrong line kind))) status shelf e h =
+      of_status words (named arch OfLines) status (statuses.BadText None line (texts.Line kind)) e (refl, (refl, record { shelf = shelf; both = h }))
+  lines_caused words arch (Err (norms.Lines (lines.TooMuch line))) status shelf e h =
+      of_status words (named arch OfLines) status (statuses.BadText None line texts.TooMuch) e
+      (rose_far old.input.taken new.input.taken (length h.read.text) h.read.took.counted h.read.many, inl (refl, record { shelf = shelf; both = h }))
+  lines_caused words arch (Err (norms.Lines lines.InputFault)) status shelf e h =
+      of_status words (named arch OfLines) status (statuses.ReadFault Input) e (h.read.fault, inl (refl, record { shelf = shelf; both = h }))
+
+  sought_caused : (words : List (List ℕ)) (arch : ArchName) (cycle : Sought) (status : Status) → new.shelf ≡ old.shelf
+      → AnswersSought arch cycle status old.input new.input old.out new.out → CausesAsked words (named arch cycle) status old new
+  sought_caused words arch (OfEdges edges) status shelf h = edges_caused words arch edges (refused_list arch edges) status refl h.0 shelf h.1
+  sought_caused words arch (OfName at name) status shelf h = name_caused words arch at name status h.0 shelf h.1
+  sought_caused words arch OfLines status shelf h = lines_caused words arch h.result status shelf h.status_is h.norms
+
+  list_caused : (words : List (List ℕ)) (asked : ListAsked) (end : ListingEnd) (status : Status) → new.input ≡ old.input → status ≡ listing_status end
+      → EndsAsked asked end old.shelf new.shelf old.out new.out → CausesAsked words (Ok (AsksList asked)) status old new
+  list_caused words asked listings.Done status input e h = of_status words (Ok (AsksList asked)) status statuses.Done e (record { input = input; both = h })
+  list_caused words asked listings.OutFault status input e h =
+      of_status words (Ok (AsksList asked)) status (statuses.WriteFault Out) e (h.ends.line.fault, record { input = input; both = h })
+  list_caused words asked listings.ShelfFault status input e h =
+      of_status words (Ok (AsksList asked)) status (statuses.WriteFault Shelf) e
+      (listing_failed asked old.shelf new.shelf old.out new.out h, record { input = input; both = h })
+
+  families_caused : (words : List (List ℕ)) (arch : ArchName) (result : Result (Unit {0}) ClassifyError) (status : Status) → new.shelf ≡ old.shelf
+      → status ≡ classify_status result → Classifies (λ (sink : SinkSeen). sink) arch old.input new.input old.out new.out result
+      → CausesAsked words (Ok (AsksFamilies arch)) status old new
+  families_caused words arch (Ok x) status shelf e h = of_status words (Ok (AsksFamilies arch)) status statuses.Done e (record { shelf = shelf; both = h })
+  families_caused words arch (Err classifies.OutFault) status shelf e h =
+      of_status words (Ok (AsksFamilies arch)) status (statuses.WriteFault Out) e (h.wrote.fault, record { shelf = shelf; both = h })
+  families_caused words arch (Err (classifies.Lines (lines.Wrong line kind))) status shelf e h =
+      of_status words (Ok (AsksFamilies arch)) status (statuses.BadText None line (texts.Line kind)) e (refl, record { shelf = shelf; both = h })
+  families_caused words arch (Err (classifies.Lines (lines.TooMuch line))) status shelf e h =
+      of_status words (Ok (AsksFamilies arch)) status (statuses.BadText None line texts.TooMuch) e
+      (rose_far old.input.taken new.input.taken (length h.0.read.text) h.0.read.took.counted h.0.read.many, inl (record { shelf = shelf; both = h }))
+  families_caused words arch (Err (classifies.Lines lines.InputFault)) status shelf e h =
+      of_status words (Ok (AsksFamilies arch)) status (statuses.ReadFault Input) e (h.0.read.fault, inl (record { shelf = shelf; both = h }))
+  families_caused words arch (Err classifies.NoMemory) status shelf e h =
+      of_status words (Ok (AsksFamilies arch)) status statuses.NoMemory e (tt, record { out = h.1; files = ap (λ (s : ShelfSeen). s.files) shelf })
+
+  files_caused : (tool log : List ℕ) (logs : List (List ℕ)) (end : SumEnd) (status : Status) → status ≡ sum_status end
+      → EndsSum (tool ∷ log ∷ logs) end old new → CausesAsked (tool ∷ log ∷ logs) (Ok AsksSum) status old new
+  files_caused tool log logs sums.Done status e h = of_status (tool ∷ log ∷ logs) (Ok AsksSum) status statuses.Done e h
+  files_caused tool log logs sums.OutFault status e h =
+      of_status (tool ∷ log ∷ logs) (Ok AsksSum) status (statuses.WriteFault Out) e (h.both.summed.wrote.fault, h)
+  files_caused tool log logs (sums.Wrong None line kind) status e h = absurd h.both.summed
+  files_caused tool log logs (sums.Wrong (Some file) line kind) status e h =
+      of_status (tool ∷ log ∷ logs) (Ok AsksSum) status (statuses.BadText (Some file) line (texts.Log kind)) e
+      (h, record { out = h.both.summed.1; files = h.both.files })
+  files_caused tool log logs (sums.TooMuch None line) status e h = absurd h.both.summed
+  files_caused tool log logs (sums.TooMuch (Some file) line) status e h =
+      of_status (tool ∷ log ∷ logs) (Ok AsksSum) status (statuses.BadText (Some file) line texts.TooMuch) e
+      (h.both.summed.0.opened, h.both.summed.0.long, (h, record { out = h.both.summed.1; files = h.both.files }))
+  files_caused tool log logs (sums.NoFile word) status e h =
+      of_status (tool ∷ log ∷ logs) (Ok AsksSum) status (statuses.NoFile word) e
+      (h.both.summed.0, (h, record { out = h.both.summed.1; files = h.both.files }))
+  files_caused tool log logs sums.InputFault status e h = absurd h.both.summed
+  files_caused tool log logs sums.ShelfFault status e h =
+      of_status (tool ∷ log ∷ logs) (Ok AsksSum) status (statuses.ReadFault Shelf) e
+      (h.both.summed.0.fault, (h, record { out = h.both.summed.1; files = h.both.files }))
+  files_caused tool log logs sums.NoMemory status e h =
+      of_status (tool ∷ log ∷ logs) (Ok AsksSum) status statuses.NoMemory e (tt, record { out = h.both.summed; files = h.both.files })
+
+  input_caused : (words : List (List ℕ)) (end : SumEnd) (status : Status) → status ≡ sum_status end
+      → (EndsInput end old new → EndsSum words end old new) → EndsInput end old new → CausesAsked words (Ok AsksSum) status old new
+  input_caused words sums.Done status e ends h = of_status words (Ok AsksSum) status statuses.Done e (ends h)
+  input_caused words sums.OutFault status e ends h = of_status words (Ok AsksSum) status (statuses.WriteFault Out) e (h.both.wrote.fault, ends h)
+  input_caused words (sums.Wrong None line kind) status e ends h =
+      of_status words (Ok AsksSum) status (statuses.BadText None line (texts.Log kind)) e
+      (ends h, record { out = h.both.1; files = ap (λ (s : ShelfSeen). s.files) h.shelf })
+  input_caused words (sums.Wrong (Some file) line kind) status e ends h = absurd h.both
+  input_caused words (sums.TooMuch None line) status e ends h =
+      of_status words (Ok AsksSum) status (statuses.BadText None line texts.TooMuch) e
+      (counted_far old.input.taken new.input.taken h.both.0.count h.both.0.taken h.both.0.long,
+      inr (ends h, record { out = h.both.1; files = ap (λ (s : ShelfSeen). s.files) h.shelf }))
+  input_caused words (sums.TooMuch (Some file) line) status e ends h = absurd h.both
+  input_caused words (sums.NoFile word) status e ends h = absurd h.both
+  input_caused words sums.InputFault status e ends h =
+      of_status words (Ok AsksSum) status (statuses.ReadFault Input) e
+      (h.both.0.fault, inr (ends h, record { out = h.both.1; files = ap (λ (s : ShelfSeen). s.files) h.shelf }))
+  input_caused words sums.ShelfFault status e ends h = absurd h.both
+  input_caused words sums.NoMemory status e ends h =
+      of_status words (Ok AsksSum) status statuses.NoMemory e (tt, record { out = h.both; files = ap (λ (s : ShelfSeen). s.files) h.shelf })
+
+  sum_caused : (words : List (List ℕ)) (end : SumEnd) (status : Status) → status ≡ sum_status end → EndsSum words end old new
+      → CausesAsked words (Ok AsksSum) status old new
+  sum_caused [] end status e h = input_caused [] end status e (λ ends. ends) h
+  sum_caused (tool ∷ []) end status e h = input_caused (tool ∷ []) end status e (λ ends. ends) h
+  sum_caused (tool ∷ log ∷ logs) end status e h = files_caused tool log logs end status e h
+
+  asked_caused : (words : List (List ℕ)) (asked : Result Asked Usage) (status : Status)
+      → AnswersAsked words asked status old new → CausesAsked words asked status old new
+  asked_caused words (Err usage) status h = of_status words (Err usage) status (statuses.Usage usage.word usage.kind) h.0 ((refl, refl), h.1)
+  asked_caused words (Ok (AsksTest asked)) status h = test_caused words asked (test_refused asked) status refl h.input h.shelf h.out
+  asked_caused words (Ok (AsksName asked)) status h = sought_caused words asked.arch asked.cycle status h.shelf h.both
+  asked_caused words (Ok (AsksList asked)) status h = list_caused words asked h.both.end status h.input h.both.status_is h.both.ends
+  asked_caused words (Ok (AsksFamilies arch)) status h = families_caused words arch h.both.result status h.shelf h.both.status_is h.both.classifies
+  asked_caused words (Ok AsksSum) status h = sum_caused words h.end status h.status_is h.ends
+
+-- what is answered has its cause
+pub answers_caused : (words : List (List ℕ)) (status : Status) (old new : Devices) → Answers words status old new → Causes words status old new
+answers_caused words status old new h = asked_caused old new words (asked_of words) status h
+
+-- only a tool that may want memory says that there is none
+pub answers_memory : (words : List (List ℕ)) (status : Status) (old new : Devices) → Answers words status old new → NeverWantsMemory words status
+answers_memory words status old new h = λ e.
+    let cause : CausesAsked words (asked_of words) statuses.NoMemory old new =
+        subst (λ (s : Status). CausesAsked words (asked_of words) s old new) e (answers_caused words status old new h) in cause.0

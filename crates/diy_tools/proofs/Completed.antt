@@ -1,0 +1,289 @@
+-- That what can be done is done, from what is answered.
+use Rattle.std.proofs.Common.{◌≡◌, ◌≤◌, ◌<◌, ◌+◌, ◌^◌, ◌++◌, ℕ, zero, suc, Bool, true, false, List, [], ◌∷◌, length, get_or, Option}
+use Rattle.std.proofs.Common.{Some, None, Ok, Err, refl, sym, ap, subst, arith, inl, inr, ◌∙◌, length-append}
+use Rattle.std.specs.Prelude.{Result, ◌⊎◌, MatchOption, slice_get, slice_index_or, unwrap_or, is_ok, All, ◌&&◌}
+use Rattle.std.specs.List.{list_all}
+use Rattle.std.specs.Result.{result_err}
+use Rattle.std.specs.Io.KnownBytes.{Consumes}
+use Rattle.std.proofs.lemmas.Bool.{and_parts}
+use Rattle.std.proofs.lemmas.Option.{slice_get-get_or, slice_get_within, get_or_from_slice_get}
+use Rattle.relax_edges.specs.declared.edge.Edge.{Edge}
+use Rattle.relax_edges.specs.declared.kinds.ArchName.{ArchName}
+use Rattle.cycle_lines.specs.declared.errors.LineKind.{LineKind}
+use Rattle.cycle_lines.specs.declared.errors.LinesError.{LinesError}
+use Rattle.cycle_lines.specs.declared.errors.LinesError.TheVariants as lines
+use Rattle.cycle_lines.specs.declared.errors.NormError.{NormError}
+use Rattle.cycle_lines.specs.declared.errors.NormError.TheVariants as norms
+use Rattle.cycle_lines.specs.declared.errors.ClassifyError.{ClassifyError}
+use Rattle.cycle_lines.specs.declared.errors.ClassifyError.TheVariants as classifies
+use Rattle.cycle_lines.specs.Classified.{Classifies}
+use Rattle.cycle_lines.specs.Cycles.{is_sound, line_said}
+use Rattle.cycle_lines.specs.Lines.{lines_of}
+use Rattle.cycle_lines.specs.Normed.{Norms, name_line}
+use Rattle.cycle_lines.specs.Reading.{ReadUpTo, ReadToFault, ReadToLimit, whole_of}
+use Rattle.diy_io.specs.declared.source.TheConstants.{MAX_INPUT}
+use Rattle.diy_io.specs.Count.{Rose}
+use Rattle.diy_io.specs.Shelf.{Files, ShelfSeen}
+use Rattle.diy_io.specs.Taken.{SourceSeen, Took}
+use Rattle.diy_io.specs.Wrote.{SinkSeen}
+use Rattle.diy_words.specs.declared.usage.Usage.{Usage}
+use Rattle.diy_words.specs.Requests.{Asked, ListAsked, Sought, asked_of}
+use Rattle.diy_words.specs.Requests.{AsksTest, AsksName, AsksList, AsksFamilies, AsksSum, OfEdges, OfName, OfLines}
+use Rattle.listed_tests.specs.declared.ending.ListingEnd.{ListingEnd}
+use Rattle.listed_tests.specs.declared.ending.ListingEnd.TheVariants as listings
+use Rattle.log_sum.specs.declared.errors.LogError.{LogError}
+use Rattle.log_sum.specs.Standing.{logs_text}
+use Rattle.summed_logs.specs.declared.sum_end.SumEnd.{SumEnd}
+use Rattle.summed_logs.specs.declared.sum_end.SumEnd.TheVariants as sums
+use Rattle.summed_logs.specs.Logs.{IsText, IsShort, IsWrong, IsTooMuch, AreRight}
+use Rattle.summed_logs.specs.SumEnds.{IsLog, AreLogs, IsAtWord, InputSummed, FilesSummed, InputWrong, FileWrong, FileTooMuch, FileMissing}
+use Rattle.diy_tools.specs.declared.status.Status.{Status}
+use Rattle.diy_tools.specs.declared.status.Status.TheVariants as statuses
+use Rattle.diy_tools.specs.declared.status.Refusal.{Refusal}
+use Rattle.diy_tools.specs.declared.status.Device.TheVariants.{Input, Out, Shelf}
+use Rattle.diy_tools.specs.Devices.{Devices}
+use Rattle.diy_tools.specs.Refused.{refused_list}
+use Rattle.diy_tools.specs.Statuses.{norm_status, classify_status, listing_status}
+use Rattle.diy_tools.specs.Printing.{AnswersEdges, Prints}
+use Rattle.diy_tools.specs.TestAnswers.{asked_text, test_refused}
+use Rattle.diy_tools.specs.NameAnswers.{AnswersName, AnswersSought}
+use Rattle.diy_tools.specs.ListAnswers.{EndsAsked}
+use Rattle.diy_tools.specs.SumAnswers.{EndsInput, EndsSum, sum_status}
+use Rattle.diy_tools.specs.Answers.{Answers, AnswersAsked}
+use Rattle.diy_tools.specs.Complete.{Complete, CanBeDone, CanName, CanSum, IsSoundText, IsRightLog, AreRightLogs, OfItsText, OfItsFiles, NoFaults, IsDone}
+use Rattle.diy_tools.proofs.Caused.{by_print, listing_failed}
+
+-- what was taken of a source and what is left of it are a text that it can have
+whole_can : (old new : Option (List ℕ)) (text : List ℕ) → Consumes old new text → IsText old (text ++ unwrap_or new [])
+whole_can None new text h = tt
+whole_can (Some all) None text h = absurd h
+whole_can (Some all) (Some left) text h = h
+
+-- what holds of all holds of one among them
+all_at : {X : Type 0} (test : X → Bool) (before : List X) (x : X) (behind : List X) → list_all test (before ++ x ∷ behind) ≡ true → test x ≡ true
+all_at test [] x behind h = (and_parts (test x) (list_all test behind) h).0
+all_at test (b ∷ before) x behind h = all_at test before x behind (and_parts (test b) (list_all test (before ++ x ∷ behind)) h).1
+
+-- a line without a fault has none
+no_fault : {X : Type 0} (said : Result X LineKind) (kind : LineKind) → is_ok said ≡ true → result_err said ≡ Some kind → ⊥
+no_fault (Ok x) kind h e = cc e
+no_fault (Err error) kind h e = cc h
+
+-- a sound text is read to its end, where no fault comes
+sound_fault : (arch : ArchName) (old new : SourceSeen) (cycles : List (List Edge)) (line : ℕ) (kind : LineKind)
+    → OfItsText old.left (IsSoundText arch) → ReadToFault arch old new cycles line kind → ⊥
+sound_fault arch old new cycles line kind sound h =
+    let whole = sound (whole_of h.text new) (whole_can old.left new.left h.text h.took.consumed) in
+    let all : list_all (is_sound arch) (h.before ++ h.first.line ∷ h.first.behind) ≡ true =
+        subst (λ (ls : List (List ℕ)). list_all (is_sound arch) ls ≡ true) h.first.parts whole.sound in
+    no_fault (line_said arch h.first.line) kind (all_at (is_sound arch) h.before h.first.line h.first.behind all) h.first.fault
+
+sound_limit : (arch : ArchName) (old new : SourceSeen) (cycles : List (List Edge)) (line : ℕ)
+    → OfItsText old.left (IsSoundText arch) → ReadToLimit arch old new cycles line → ⊥
+sound_limit arch old new cycles line sound h =
+    let few : length (h.text ++ unwrap_or new.left []) ≤ MAX_INPUT = (sound (whole_of h.text new) (whole_can old.left new.left h.text h.took.consumed)).short in
+    let many : MAX_INPUT < length h.text = h.many in
+    omega (arith, length-append h.text (unwrap_or new.left []))
+
+sound_stop : (arch : ArchName) (old new : SourceSeen) (cycles : List (List Edge)) (error : LinesError)
+    → OfItsText old.left (IsSoundText arch) → (Rose old.faults new.faults → ⊥) → ReadUpTo arch old new cycles error → ⊥
+sound_stop arch old new cycles (lines.Wrong line kind) sound none h = sound_fault arch old new cycles line kind sound h
+sound_stop arch old new cycles (lines.TooMuch line) sound none h = sound_limit arch old new cycles line sound h
+sound_stop arch old new cycles lines.InputFault sound none h = none h.fault
+
+-- a text is printed whole where standard output doesn't fail
+prints_done : (asked : Result Asked Usage) (text : List ℕ) (status : Status) (before after : SinkSeen) → (Rose before.faults after.faults → ⊥)
+    → Prints text status before after → IsDone asked status
+prints_done asked text status before after none h =
+    by_print (IsDone asked) text status before after h (λ wrote. inl refl) (λ wrote. absurd (none wrote.fault))
+
+edges_done : (asked : Result Asked Usage) (refused : Option Refusal) (text : List ℕ) (status : Status) (before after : SinkSeen)
+    → (Rose before.faults after.faults → ⊥) → refused ≡ None → AnswersEdges refused text status before after → IsDone asked status
+edges_done asked None text status before after none e h = prints_done asked text status before after none h
+edges_done asked (Some refusal) text status before after none e h = cc e
+
+lines_done : (asked : Result Asked Usage) (arch : ArchName) (status : Status) (old new : Devices) (result : Result (Unit {0}) NormError) → NoFaults old new
+    → OfItsText old.input.left (IsSoundText arch) → status ≡ norm_status result → Norms arch old.input new.input old.out new.out result → IsDone asked status
+lines_done asked arch status old new (Ok x) none sound e h = inl e
+lines_done asked arch status old new (Err norms.OutFault) none sound e h = absurd (none.out h.wrote.fault)
+lines_done asked arch status old new (Err (norms.Lines error)) none sound e h =
+    absurd (sound_stop arch old.input new.input h.cycles error sound none.input h.read)
+
+sought_done : (asked : Result Asked Usage) (arch : ArchName) (cycle : Sought) (status : Status) (old new : Devices) → NoFaults old new
+    → CanName arch cycle old → AnswersSought arch cycle status old.input new.input old.out new.out → IsDone asked status
+sought_done asked arch (OfEdges edges) status old new none can h =
+    edges_done asked (refused_list arch edges) (name_line edges) status old.out new.out none.out can h.1
+sought_done asked arch (OfName at name) status old new none can h = of_name h.1
+  where
+    of_name : AnswersName arch at name status old.out new.out → IsDone asked status
+    of_name (inl nobody) = absurd (can nobody.0)
+    of_name (inr found) = prints_done asked (name_line found.cycle) status old.out new.out none.out found.prints
+sought_done asked arch OfLines status old new none can h = lines_done asked arch status old new h.result none can h.status_is h.norms
+
+list_done : (asked : ListAsked) (end : ListingEnd) (status : Status) (old new : Devices) → NoFaults old new → status ≡ listing_status end
+    → EndsAsked asked end old.shelf new.shelf old.out new.out → IsDone (Ok (AsksList asked)) status
+list_done asked listings.Done status old new none e h = inl e
+list_done asked listings.OutFault status old new none e h = absurd (none.out h.ends.line.fault)
+list_done asked listings.ShelfFault status old new none e h = absurd (none.shelf (listing_failed asked old.shelf new.shelf old.out new.out h))
+
+families_done : (arch : ArchName) (result : Result (Unit {0}) ClassifyError) (status : Status) (old new : Devices) → NoFaults old new
+    → OfItsText old.input.left (IsSoundText arch) → status ≡ classify_status result
+    → Classifies (λ (sink : SinkSeen). sink) arch old.input new.input old.out new.out result → IsDone (Ok (AsksFamilies arch)) status
+families_done arch (Ok x) status old new none sound e h = inl e
+families_done arch (Err classifies.OutFault) status old new none sound e h = absurd (none.out h.wrote.fault)
+families_done arch (Err (classifies.Lines error)) status old new none sound e h =
+    absurd (sound_stop arch old.input new.input h.0.cycles error sound none.input h.0.read)
+families_done arch (Err classifies.NoMemory) status old new none sound e h = inr (e, tt)
+
+-- logs that have a sum have no fault
+right_wrong : (logs others : List (List ℕ)) (error : LogError) → AreRight logs → logs ≡ others → logs_text others ≡ Err error → ⊥
+right_wrong logs others error right e h =
+    let all : Ok right.text ≡ Err error = sym right.is ∙ (ap logs_text e ∙ h) in cc
+
+-- the log of an input that has at most 2^40 bytes and no fault
+log_wrong : (old : SourceSeen) (error : LogError) → OfItsText old.left IsRightLog → InputWrong old error → ⊥
+log_wrong old error right h = right_wrong (h.log ∷ []) (h.log ∷ []) error (right h.log h.text).right refl (h.is.wrong [])
+
+-- a log of at most 2^40 bytes isn't too long
+short_log : (before : List (List ℕ)) (log : List ℕ) (line : ℕ) → IsShort log → IsTooMuch before log line → ⊥
+short_log before log line short h =
+    let len : length log ≤ 2 ^ 40 = short in
+    let more : 0 < length h.rest = h.more in
+    let full : length h.front ≡ 2 ^ 40 = h.full in
+    omega (arith, ap length h.parts, length-append h.front h.rest)
+
+input_done : (status : Status) (old new : Devices) (end : SumEnd) → NoFaults old new → OfItsText old.input.left IsRightLog → status ≡ sum_status end
+    → EndsInput end old new → IsDone (Ok AsksSum) status
+input_done status old new sums.Done none right e h = inl e
+input_done status old new sums.OutFault none right e h = absurd (none.out h.both.wrote.fault)
+input_done status old new (sums.Wrong None line kind) none right e h = absurd (log_wrong old.input _ right h.both.0)
+input_done status old new (sums.Wrong (Some file) line kind) none right e h = absurd h.both
+input_done status old new (sums.TooMuch None line) none right e h =
+    absurd (short_log [] h.both.0.log line (right h.both.0.log h.both.0.text).short h.both.0.is)
+input_done status old new (sums.TooMuch (Some file) line) none right e h = absurd h.both
+input_done status old new (sums.NoFile word) none right e h = absurd h.both
+input_done status old new sums.InputFault none right e h = absurd (none.input h.both.0.fault)
+input_done status old new sums.ShelfFault none right e h = absurd h.both
+input_done status old new sums.NoMemory none right e h = inr (e, tt)
+
+none_some : {X : Type 0} (x : X) → None ≡ Some x → ⊥
+none_some x e = cc e
+
+some_same : {X : Type 0} (a b : X) → Some a ≡ Some b → a ≡ b
+some_same a b e = cc
+
+-- a list that begins as another one does, and then has an element
+splits : {X : Type 0} (before all : List X) (x : X) → ((k : ℕ) (y : X) → slice_get before k ≡ Some y → slice_get all k ≡ Some y)
+    → slice_get all (length before) ≡ Some x → (more : List X) × (all ≡ before ++ x ∷ more)
+splits [] [] x same here = absurd (none_some x here)
+splits [] (y ∷ all) x same here = (all, ap (λ z. z ∷ all) (some_same y x here))
+splits (b ∷ before) [] x same here = absurd (none_some b (same 0 b refl))
+splits (b ∷ before) (y ∷ all) x same here =
+    let rest = splits before all x (λ k z h. same (suc k) z h) here in
+    let first = some_same y b (same 0 b refl) in
+    (rest.0, ap (λ z. z ∷ all) first ∙ ap (λ zs. b ∷ zs) rest.1)
+
+-- the log of a word is the one that the file of its name has
+told_log : (told : Option Files) (files : Files) (name log : List ℕ) → told ≡ Some files → IsLog told name log → files name ≡ Some log
+told_log told files name log e h = let here : IsLog (Some files) name log = subst (λ (t : Option Files). IsLog t name log) e h in here
+
+module _ (words : List (List ℕ)) (files : Files) (right : AreRightLogs files words) where
+
+  -- at each place behind the first word there is a log
+  at_word : (k : ℕ) → k < length right.logs → files (get_or words (1 + k) []) ≡ Some (get_or right.logs k [])
+  at_word k h =
+      right.are.named k (get_or words (1 + k) []) (get_or right.logs k [])
+      (slice_get-get_or words (1 + k) [] (omega (arith, right.all))) (slice_get-get_or right.logs k [] h)
+
+  -- the logs that a call found are those
+  same_logs : (told : Option Files) (before : List (List ℕ)) → told ≡ Some files → AreLogs told words 1 before → length before ≤ length right.logs
+      → (k : ℕ) (log : List ℕ) → slice_get before k ≡ Some log → slice_get right.logs k ≡ Some log
+  same_logs told before e are few k log h =
+      let inside : k < length before = slice_get_within before k log h in
+      let found : files (get_or words (1 + k) []) ≡ Some log =
+          told_log told files (get_or words (1 + k) []) log e
+          (are.named k (get_or words (1 + k) []) log (slice_get-get_or words (1 + k) [] (omega (arith, right.all))) h) in
+      let here : files (get_or words (1 + k) []) ≡ Some (get_or right.logs k []) = at_word k (omega arith) in
+      slice_get-get_or right.logs k [] (omega arith) ∙ (sym here ∙ found)
+
+  -- a place of a word, and the log that its file has
+  word_log : (told : Option Files) (place : ℕ) (before : List (List ℕ)) (name : List ℕ) → IsAtWord told words 1 place before name
+      → (length before < length right.logs) × (files name ≡ slice_get right.logs (length before))
+  word_log told place before name h =
+      let within : place < length words = slice_get_within words place name h.word in
+      let inside : length before < length right.logs = omega (arith, h.count, right.all) in
+      let name_is : get_or words (1 + length before) [] ≡ name =
+          get_or_from_slice_get words (1 + length before) name [] (subst (λ (p : ℕ). slice_get words p ≡ Some name) h.count h.word) in
+      (inside, subst (λ (n : List ℕ). files n ≡ slice_get right.logs (length before)) name_is
+      (at_word (length before) inside ∙ sym (slice_get-get_or right.logs (length before) [] inside)))
+
+  files_wrong : (old : ShelfSeen) (place : ℕ) (error : LogError) → old.files ≡ Some files → FileWrong old words 1 place error → ⊥
+  files_wrong old place error e h =
+      let spot = word_log old.files place h.before h.name h.place_is in
+      let parts = splits h.before right.logs h.log
+          (same_logs old.files h.before e h.place_is.are (omega (arith, spot.0)))
+          (sym spot.1 ∙ told_log old.files files h.name h.log e h.text) in
+      right_wrong right.logs (h.before ++ h.log ∷ parts.0) error right.right parts.1 (h.is.wrong parts.0)
+
+  files_long : (old new : ShelfSeen) (place line : ℕ) → old.files ≡ Some files → FileTooMuch old new words 1 place line → ⊥
+  files_long old new place line e h =
+      let spot = word_log old.files place h.before h.name h.place_is in
+      let log_at : slice_get right.logs (length h.before) ≡ Some h.log = sym spot.1 ∙ told_log old.files files h.name h.log e h.text in
+      let log_is : get_or right.logs (length h.before) [] ≡ h.log = get_or_from_slice_get right.logs (length h.before) h.log [] log_at in
+      let short : IsShort (slice_index_or right.logs (length h.before) []) = right.are.short (length h.before) [] spot.0 in
+      short_log h.before h.log line (subst (λ (l : List ℕ). IsShort l) log_is short) h.is
+
+  file_there : (old new : ShelfSeen) (place : ℕ) → old.files ≡ Some files → FileMissing old new words 1 place → ⊥
+  file_there old new place e h =
+      let spot = word_log old.files place h.before h.name h.place_is in
+      let found : files h.name ≡ Some (get_or right.logs (length h.before) []) = spot.1 ∙ slice_get-get_or right.logs (length h.before) [] spot.0 in
+      let gone : files h.name ≡ None = absent old.files e h.absent in
+      let both : None ≡ Some (get_or right.logs (length h.before) []) = sym gone ∙ found in cc
+    where
+      absent : (told : Option Files) → told ≡ Some files → MatchOption told (Rose old.faults new.faults) (λ there. there h.name ≡ None) → files h.name ≡ None
+      absent told e a =
+          let here : MatchOption (Some files) (Rose old.faults new.faults) (λ there. there h.name ≡ None) =
+              subst (λ (t : Option Files). MatchOption t (Rose old.faults new.faults) (λ there. there h.name ≡ None)) e a in here
+
+  files_done : (status : Status) (old new : ShelfSeen) (before after : SinkSeen) (end : SumEnd) → old.files ≡ Some files
+      → (Rose old.faults new.faults → ⊥) → (Rose before.faults after.faults → ⊥)
+      → status ≡ sum_status end → FilesSummed old new words 1 before after end → IsDone (Ok AsksSum) status
+  files_done status old new before after sums.Done told none none_out e h = inl e
+  files_done status old new before after sums.OutFault told none none_out e h = absurd (none_out h.wrote.fault)
+  files_done status old new before after (sums.Wrong None line kind) told none none_out e h = absurd h
+  files_done status old new before after (sums.Wrong (Some file) line kind) told none none_out e h = absurd (files_wrong old file _ told h.0)
+  files_done status old new before after (sums.TooMuch None line) told none none_out e h = absurd h
+  files_done status old new before after (sums.TooMuch (Some file) line) told none none_out e h = absurd (files_long old new file line told h.0)
+  files_done status old new before after (sums.NoFile word) told none none_out e h = absurd (file_there old new word told h.0)
+  files_done status old new before after sums.InputFault told none none_out e h = absurd h
+  files_done status old new before after sums.ShelfFault told none none_out e h = absurd (none h.0.fault)
+  files_done status old new before after sums.NoMemory told none none_out e h = inr (e, tt)
+
+told_done : (words : List (List ℕ)) (status : Status) (old new : ShelfSeen) (before after : SinkSeen) (end : SumEnd) (told : Option Files) → old.files ≡ told
+    → OfItsFiles told (λ files. AreRightLogs files words) → (Rose old.faults new.faults → ⊥) → (Rose before.faults after.faults → ⊥)
+    → status ≡ sum_status end → FilesSummed old new words 1 before after end → IsDone (Ok AsksSum) status
+told_done words status old new before after end None told right none none_out e h = absurd right
+told_done words status old new before after end (Some files) told right none none_out e h =
+    files_done words files right status old new before after end told none none_out e h
+
+asked_done : (words : List (List ℕ)) (asked : Result Asked Usage) (status : Status) (old new : Devices)
+    → AnswersAsked words asked status old new → CanBeDone words asked old → NoFaults old new → IsDone asked status
+asked_done words (Err usage) status old new h can none = absurd can
+asked_done words (Ok (AsksTest asked)) status old new h can none =
+    edges_done (Ok (AsksTest asked)) (test_refused asked) (asked_text asked) status old.out new.out none.out can h.out
+asked_done words (Ok (AsksName asked)) status old new h can none =
+    sought_done (Ok (AsksName asked)) asked.arch asked.cycle status old new none can h.both
+asked_done words (Ok (AsksList asked)) status old new h can none = list_done asked h.both.end status old new none h.both.status_is h.both.ends
+asked_done words (Ok (AsksFamilies arch)) status old new h can none =
+    families_done arch h.both.result status old new none can h.both.status_is h.both.classifies
+asked_done words (Ok AsksSum) status old new h can none = of_words words can h.ends
+  where
+    of_words : (words : List (List ℕ)) → CanSum words old → EndsSum words h.end old new → IsDone (Ok AsksSum) status
+    of_words [] can ends = input_done status old new h.end none can h.status_is ends
+    of_words (tool ∷ []) can ends = input_done status old new h.end none can h.status_is ends
+    of_words (tool ∷ log ∷ logs) can ends =
+        told_done (tool ∷ log ∷ logs) status old.shelf new.shelf old.out new.out h.end old.shelf.files refl can none.shelf none.out h.status_is ends.both.summed
+
+-- where what is asked for can be done and no count of faults rises, it is done
+pub answers_complete : (words : List (List ℕ)) (status : Status) (old new : Devices) → Answers words status old new → Complete words status old new
+answers_complete words status old new h = asked_done words (asked_of words) status old new h

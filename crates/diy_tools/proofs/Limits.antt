@@ -1,0 +1,161 @@
+-- What is answered after more than 2^40 bytes, from what is answered.
+use Rattle.std.proofs.Common.{◌≡◌, ◌≤◌, ◌<◌, ◌+◌, ◌^◌, ℕ, List, [], ◌∷◌, length, Option, Some, None, Ok, Err, refl, sym, ap, subst, arith, inl, inr}
+use Rattle.std.specs.Prelude.{Result, ◌⊎◌}
+use Rattle.relax_edges.specs.declared.edge.Edge.{Edge}
+use Rattle.relax_edges.specs.declared.kinds.ArchName.{ArchName}
+use Rattle.cycle_lines.specs.declared.errors.LinesError.{LinesError}
+use Rattle.cycle_lines.specs.declared.errors.LinesError.TheVariants as lines
+use Rattle.cycle_lines.specs.declared.errors.NormError.{NormError}
+use Rattle.cycle_lines.specs.declared.errors.NormError.TheVariants as norms
+use Rattle.cycle_lines.specs.declared.errors.ClassifyError.{ClassifyError}
+use Rattle.cycle_lines.specs.declared.errors.ClassifyError.TheVariants as classifies
+use Rattle.cycle_lines.specs.Classified.{Classifies}
+use Rattle.cycle_lines.specs.Normed.{Norms}
+use Rattle.cycle_lines.specs.Reading.{TookUpTo}
+use Rattle.diy_io.specs.declared.source.TheConstants.{MAX_INPUT}
+use Rattle.diy_io.specs.Count.{count_of}
+use Rattle.diy_io.specs.Shelf.{ShelfSeen}
+use Rattle.diy_io.specs.Taken.{SourceSeen}
+use Rattle.diy_io.specs.Wrote.{SinkSeen}
+use Rattle.diy_words.specs.declared.usage.Usage.{Usage}
+use Rattle.diy_words.specs.Requests.{Asked, ListAsked, Sought, asked_of}
+use Rattle.diy_words.specs.Requests.{AsksTest, AsksName, AsksList, AsksFamilies, AsksSum, OfEdges, OfName, OfLines}
+use Rattle.listed_tests.specs.declared.ending.ListingEnd.{ListingEnd}
+use Rattle.listed_tests.specs.declared.ending.ListingEnd.TheVariants as listings
+use Rattle.listed_tests.specs.Ends.{StopsAtTest, StopsAtAll}
+use Rattle.listed_tests.specs.Plans.{IsPlanned, planned_text}
+use Rattle.summed_logs.specs.declared.sum_end.SumEnd.{SumEnd}
+use Rattle.summed_logs.specs.declared.sum_end.SumEnd.TheVariants as sums
+use Rattle.summed_logs.specs.SumEnds.{InputSummed, IsWithin}
+use Rattle.diy_tools.specs.declared.status.Status.{Status}
+use Rattle.diy_tools.specs.declared.status.Status.TheVariants as statuses
+use Rattle.diy_tools.specs.declared.status.TextKind.{TextKind}
+use Rattle.diy_tools.specs.declared.status.TextKind.TheVariants as texts
+use Rattle.diy_tools.specs.Devices.{Devices}
+use Rattle.diy_tools.specs.Statuses.{norm_status, classify_status}
+use Rattle.diy_tools.specs.NameAnswers.{AnswersSought}
+use Rattle.diy_tools.specs.ListAnswers.{EndsAsked, plan_asked}
+use Rattle.diy_tools.specs.SumAnswers.{EndsInput, EndsSum, sum_status}
+use Rattle.diy_tools.specs.Answers.{Answers, AnswersAsked}
+use Rattle.diy_tools.specs.Limit.{Limited, StopsReading, TookTooMuch}
+
+-- at most 2^40 bytes were taken of the input, as far as they are counted
+abbrev InputWithin : SourceSeen → SourceSeen → Type 0
+InputWithin old new = count_of new.taken ≤ count_of (old.taken + 2 ^ 40)
+
+same_input : (old new : SourceSeen) → new ≡ old → InputWithin old new
+same_input old new e = let here : new.taken ≡ old.taken = ap (λ (s : SourceSeen). s.taken) e in omega arith
+
+same_shelf : (old new : ShelfSeen) → new.opened ≡ old.opened → old.opened < new.opened → new.taken ≤ 2 ^ 40
+same_shelf old new e more = absurd (omega arith)
+
+counted_within : (a n len : ℕ) → n ≡ count_of (a + len) → len ≤ 2 ^ 40 → count_of n ≤ count_of (a + 2 ^ 40)
+counted_within a n len e few = omega arith
+
+kept_within : (a n len : ℕ) → count_of n ≡ count_of (a + len) → len ≤ 2 ^ 40 → count_of n ≤ count_of (a + 2 ^ 40)
+kept_within a n len e few = omega arith
+
+upto_within : (old new : SourceSeen) (text : List ℕ) → TookUpTo old new text → length text ≤ MAX_INPUT → InputWithin old new
+upto_within old new text (inl took) few = counted_within old.taken new.taken (length text) took.counted few
+upto_within old new text (inr kept) few = let here : new.taken ≡ old.taken = kept.taken_is in omega arith
+
+-- the shelf opened no file in a listing
+either_opens : (listed : List Edge → Type 0) (folder : Option (List ℕ)) (text : List Edge → List ℕ) (given : Option (List Edge)) (old new : ShelfSeen)
+    → (StopsAtTest listed folder text given old new ⊎ StopsAtAll listed folder text given old new) → new.opened ≡ old.opened
+either_opens listed folder text given old new (inl stop) = stop.part.counts.opened
+either_opens listed folder text given old new (inr stop) = stop.part.counts.opened
+
+listing_opens : (asked : ListAsked) (end : ListingEnd) (old new : ShelfSeen) (out after : SinkSeen)
+    → EndsAsked asked end old new out after → new.opened ≡ old.opened
+listing_opens asked listings.Done old new out after h = h.ends.files.counts.opened
+listing_opens asked listings.OutFault old new out after h = h.ends.files.counts.opened
+listing_opens asked listings.ShelfFault old new out after h =
+    either_opens (IsPlanned (plan_asked asked)) (plan_asked asked).folder (planned_text (plan_asked asked)) h.given old new h.ends.1
+
+module _ (old new : Devices) (much : TookTooMuch old new) where
+
+  neither : InputWithin old.input new.input → IsWithin old.shelf new.shelf → ⊥
+  neither input shelf = either much
+    where
+      either : TookTooMuch old new → ⊥
+      either (inl far) = omega arith
+      either (inr far) = let few : new.shelf.taken ≤ 2 ^ 40 = shelf far.0 in let many : 2 ^ 40 < new.shelf.taken = far.1 in omega arith
+
+  wrong : (asked : Result Asked Usage) (status : Status) (file : Option ℕ) (line : ℕ) (kind : TextKind)
+      → status ≡ statuses.BadText file line kind → StopsReading asked status
+  wrong asked status file line kind e = subst (λ (s : Status). StopsReading asked s) (sym e) tt
+
+  sought_limit : (asked : Result Asked Usage) (arch : ArchName) (cycle : Sought) (status : Status) → IsWithin old.shelf new.shelf
+      → AnswersSought arch cycle status old.input new.input old.out new.out → StopsReading asked status
+  sought_limit asked arch (OfEdges edges) status shelf h = absurd (neither (same_input old.input new.input h.0) shelf)
+  sought_limit asked arch (OfName at name) status shelf h = absurd (neither (same_input old.input new.input h.0) shelf)
+  sought_limit asked arch OfLines status shelf h = of_result h.result h.status_is h.norms
+    where
+      of_result : (result : Result (Unit {0}) NormError) → status ≡ norm_status result
+          → Norms arch old.input new.input old.out new.out result → StopsReading asked status
+      of_result (Ok x) e n = absurd (neither (upto_within old.input new.input n.read.text (inl n.read.took) n.read.few) shelf)
+      of_result (Err norms.OutFault) e n = absurd (neither (upto_within old.input new.input n.text (inl n.read.took) n.read.few) shelf)
+      of_result (Err (norms.Lines (lines.Wrong line kind))) e n = wrong asked status None line (texts.Line kind) e
+      of_result (Err (norms.Lines (lines.TooMuch line))) e n = wrong asked status None line texts.TooMuch e
+      of_result (Err (norms.Lines lines.InputFault)) e n = absurd (neither (upto_within old.input new.input n.read.text n.read.took n.read.few) shelf)
+
+  families_limit : (arch : ArchName) (result : Result (Unit {0}) ClassifyError) (status : Status)
+      → IsWithin old.shelf new.shelf → status ≡ classify_status result
+      → Classifies (λ (sink : SinkSeen). sink) arch old.input new.input old.out new.out result → StopsReading (Ok (AsksFamilies arch)) status
+  families_limit arch (Ok x) status shelf e h = absurd (neither (upto_within old.input new.input h.read.text (inl h.read.took) h.read.few) shelf)
+  families_limit arch (Err classifies.OutFault) status shelf e h =
+      absurd (neither (upto_within old.input new.input h.read.text (inl h.read.took) h.read.few) shelf)
+  families_limit arch (Err (classifies.Lines (lines.Wrong line kind))) status shelf e h = wrong (Ok (AsksFamilies arch)) status None line (texts.Line kind) e
+  families_limit arch (Err (classifies.Lines (lines.TooMuch line))) status shelf e h = wrong (Ok (AsksFamilies arch)) status None line texts.TooMuch e
+  families_limit arch (Err (classifies.Lines lines.InputFault)) status shelf e h =
+      absurd (neither (upto_within old.input new.input h.0.read.text h.0.read.took h.0.read.few) shelf)
+  families_limit arch (Err classifies.NoMemory) status shelf e h = subst (λ (s : Status). StopsReading (Ok (AsksFamilies arch)) s) (sym e) tt
+
+  files_limit : (tool log : List ℕ) (logs : List (List ℕ)) (end : SumEnd) (status : Status) → status ≡ sum_status end
+      → EndsSum (tool ∷ log ∷ logs) end old new → StopsReading (Ok AsksSum) status
+  files_limit tool log logs sums.Done status e h = absurd (neither (same_input old.input new.input h.input) h.both.summed.read.within)
+  files_limit tool log logs sums.OutFault status e h = absurd (neither (same_input old.input new.input h.input) h.both.summed.read.within)
+  files_limit tool log logs (sums.Wrong file line kind) status e h = wrong (Ok AsksSum) status file line (texts.Log kind) e
+  files_limit tool log logs (sums.TooMuch file line) status e h = wrong (Ok AsksSum) status file line texts.TooMuch e
+  files_limit tool log logs (sums.NoFile word) status e h = absurd (neither (same_input old.input new.input h.input) h.both.summed.0.within)
+  files_limit tool log logs sums.InputFault status e h = absurd h.both.summed
+  files_limit tool log logs sums.ShelfFault status e h = absurd (neither (same_input old.input new.input h.input) h.both.summed.0.within)
+  files_limit tool log logs sums.NoMemory status e h = subst (λ (s : Status). StopsReading (Ok AsksSum) s) (sym e) tt
+
+  input_limit : (end : SumEnd) (status : Status) → status ≡ sum_status end → EndsInput end old new → StopsReading (Ok AsksSum) status
+  input_limit end status e h = of_end end e h.both (same_shelf old.shelf new.shelf (ap (λ (s : ShelfSeen). s.opened) h.shelf))
+    where
+      of_end : (end : SumEnd) → status ≡ sum_status end
+          → InputSummed old.input new.input old.out new.out end → IsWithin old.shelf new.shelf → StopsReading (Ok AsksSum) status
+      of_end sums.Done e n shelf = absurd (neither (kept_within old.input.taken new.input.taken (length n.read.log) n.read.taken n.read.short) shelf)
+      of_end sums.OutFault e n shelf = absurd (neither (kept_within old.input.taken new.input.taken (length n.read.log) n.read.taken n.read.short) shelf)
+      of_end (sums.Wrong file line kind) e n shelf = wrong (Ok AsksSum) status file line (texts.Log kind) e
+      of_end (sums.TooMuch file line) e n shelf = wrong (Ok AsksSum) status file line texts.TooMuch e
+      of_end (sums.NoFile word) e n shelf = absurd n
+      of_end sums.InputFault e n shelf = absurd (neither (kept_within old.input.taken new.input.taken n.0.count n.0.taken n.0.short) shelf)
+      of_end sums.ShelfFault e n shelf = absurd n
+      of_end sums.NoMemory e n shelf = subst (λ (s : Status). StopsReading (Ok AsksSum) s) (sym e) tt
+
+  sum_limit : (words : List (List ℕ)) (end : SumEnd) (status : Status) → status ≡ sum_status end → EndsSum words end old new → StopsReading (Ok AsksSum) status
+  sum_limit [] end status e h = input_limit end status e h
+  sum_limit (tool ∷ []) end status e h = input_limit end status e h
+  sum_limit (tool ∷ log ∷ logs) end status e h = files_limit tool log logs end status e h
+
+  asked_limit : (words : List (List ℕ)) (asked : Result Asked Usage) (status : Status) → AnswersAsked words asked status old new → StopsReading asked status
+  asked_limit words (Err usage) status h =
+      absurd (neither (same_input old.input new.input (ap (λ (d : Devices). d.input) h.1))
+      (same_shelf old.shelf new.shelf (ap (λ (d : Devices). d.shelf.opened) h.1)))
+  asked_limit words (Ok (AsksTest asked)) status h =
+      absurd (neither (same_input old.input new.input h.input) (same_shelf old.shelf new.shelf (ap (λ (s : ShelfSeen). s.opened) h.shelf)))
+  asked_limit words (Ok (AsksName asked)) status h =
+      sought_limit (Ok (AsksName asked)) asked.arch asked.cycle status (same_shelf old.shelf new.shelf (ap (λ (s : ShelfSeen). s.opened) h.shelf)) h.both
+  asked_limit words (Ok (AsksList asked)) status h =
+      absurd (neither (same_input old.input new.input h.input)
+      (same_shelf old.shelf new.shelf (listing_opens asked h.both.end old.shelf new.shelf old.out new.out h.both.ends)))
+  asked_limit words (Ok (AsksFamilies arch)) status h =
+      families_limit arch h.both.result status (same_shelf old.shelf new.shelf (ap (λ (s : ShelfSeen). s.opened) h.shelf)) h.both.status_is h.both.classifies
+  asked_limit words (Ok AsksSum) status h = sum_limit words h.end status h.status_is h.ends
+
+-- what is answered keeps to the limit of what is read
+pub answers_limited : (words : List (List ℕ)) (status : Status) (old new : Devices) → Answers words status old new → Limited words status old new
+answers_limited words status old new h = λ much. asked_limit old new much words (asked_of words) status h

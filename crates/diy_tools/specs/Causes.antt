@@ -1,0 +1,161 @@
+-- Why a call ends with its status, and what then stands on the devices: one cause for each status.
+-- Source: own.
+use Rattle.std.specs.Prelude.{◌≡◌, ◌≤◌, ◌<◌, ◌+◌, ◌^◌, ◌⊎◌, ℕ, List, ◌∷◌, Option, Some, None, Result, Ok, Err}
+use Rattle.relax_edges.specs.declared.kinds.ArchName.{ArchName}
+use Rattle.cycle_names.specs.Laws.{NamesNone}
+use Rattle.cycle_lines.specs.declared.errors.LinesError.{LinesError}
+use Rattle.cycle_lines.specs.declared.errors.LinesError.TheVariants as lines
+use Rattle.cycle_lines.specs.Classified.{ClassifiedAll, ClassifiedPart, ReadsUpTo}
+use Rattle.cycle_lines.specs.Normed.{NormedAll, NormedPart, NormedUpTo, name_line}
+use Rattle.diy_io.specs.Count.{Rose, count_of}
+use Rattle.diy_io.specs.Taken.{SourceSeen}
+use Rattle.diy_io.specs.Wrote.{SinkSeen, WroteAll, WrotePart}
+use Rattle.diy_words.specs.declared.usage.Usage.{Usage}
+use Rattle.diy_words.specs.declared.usage.UsageKind.{UsageKind}
+use Rattle.diy_words.specs.declared.usage.UsageKind.TheVariants.{UnknownName}
+use Rattle.diy_words.specs.Requests.{Asked, Sought, AsksTest, AsksName, AsksList, AsksFamilies, AsksSum, OfEdges, OfName, OfLines, asked_of}
+use Rattle.listed_tests.specs.declared.ending.ListingEnd.TheVariants as listings
+use Rattle.summed_logs.specs.declared.sum_end.SumEnd.{SumEnd}
+use Rattle.summed_logs.specs.declared.sum_end.SumEnd.TheVariants as sums
+use Rattle.summed_logs.specs.SumEnds.{FileMissing}
+use Rattle.diy_tools.specs.declared.status.Status.{Status}
+use Rattle.diy_tools.specs.declared.status.Status.TheVariants as statuses
+use Rattle.diy_tools.specs.declared.status.Refusal.{Refusal}
+use Rattle.diy_tools.specs.declared.status.TextKind.TheVariants as texts
+use Rattle.diy_tools.specs.declared.status.Device.TheVariants.{Input, Out, Shelf}
+use Rattle.diy_tools.specs.Devices.{Devices, OutAlone, InputAndOut, ShelfAndOut}
+use Rattle.diy_tools.specs.ListAnswers.{EndsAsked}
+use Rattle.diy_tools.specs.Memory.{MayWantMemory}
+use Rattle.diy_tools.specs.NameAnswers.{PrintsNamed}
+use Rattle.diy_tools.specs.Refused.{refused_list}
+use Rattle.diy_tools.specs.SumAnswers.{EndsSum}
+use Rattle.diy_tools.specs.TestAnswers.{asked_text, test_refused}
+
+-- standard output is as it was, and no file changed
+pub record NothingWritten (old new : Devices) : Type 0 where
+  pub out : new.out ≡ old.out
+  pub files : new.shelf.files ≡ old.shelf.files
+
+-- a count rose by more than 2^40, or stands at its last value
+abbrev pub RoseFar : ℕ → ℕ → Type 0
+RoseFar old new = count_of (old + 2 ^ 40 + 1) ≤ new
+
+-- the word at this place is the name that norm7 seeks, and no cycle of the architecture has it
+abbrev pub SeeksNone : ArchName → Sought → ℕ → UsageKind → Type 0
+SeeksNone arch (OfName at name) word kind = (word ≡ at) × (kind ≡ UnknownName) × NamesNone name arch
+SeeksNone arch _ word kind = ⊥
+
+-- the word at this place shows that the words make no request
+abbrev pub IsUsage : Result Asked Usage → ℕ → UsageKind → Type 0
+IsUsage (Err usage) word kind = (word ≡ usage.word) × (kind ≡ usage.kind)
+IsUsage (Ok (AsksName asked)) word kind = SeeksNone asked.arch asked.cycle word kind
+IsUsage _ word kind = ⊥
+
+-- the first reason why the edges of norm7 are refused, or those of diyone7
+abbrev pub sought_refused : ArchName → Sought → Option Refusal
+sought_refused arch (OfEdges edges) = refused_list arch edges
+sought_refused arch _ = None
+
+abbrev pub asked_refused : Result Asked Usage → Option Refusal
+asked_refused (Ok (AsksTest asked)) = test_refused asked
+asked_refused (Ok (AsksName asked)) = sought_refused asked.arch asked.cycle
+asked_refused _ = None
+
+-- norm7 or classify7 reads lines of cycles, up to where they can't be read on; norm7 has written the lines of the cycles
+-- before, classify7 nothing
+abbrev pub LinesStop : Result Asked Usage → LinesError → Devices → Devices → Type 0
+LinesStop (Ok (AsksName asked)) error old new =
+    (asked.cycle ≡ OfLines) × InputAndOut (λ input input' out out'. NormedUpTo asked.arch input input' out out' error) old new
+LinesStop (Ok (AsksFamilies arch)) error old new =
+    InputAndOut (λ input input' out out'. ReadsUpTo arch input input' error × (out' ≡ out)) old new
+LinesStop _ error old new = ⊥
+
+-- msum7 reads logs, up to where they can't be read on, and nothing is written
+abbrev pub SumStops : List (List ℕ) → Result Asked Usage → SumEnd → Devices → Devices → Type 0
+SumStops words (Ok AsksSum) end old new = EndsSum words end old new × NothingWritten old new
+SumStops words _ end old new = ⊥
+
+-- more than 2^40 bytes were taken: of the input of norm7, classify7 or msum7; or of a log of msum7, a file
+abbrev pub PassesLimit : List (List ℕ) → Result Asked Usage → Option ℕ → ℕ → Devices → Devices → Type 0
+PassesLimit words asked None line old new =
+    RoseFar old.input.taken new.input.taken
+    × (LinesStop asked (lines.TooMuch line) old new ⊎ SumStops words asked (sums.TooMuch None line) old new)
+PassesLimit words asked (Some file) line old new =
+    Rose old.shelf.opened new.shelf.opened
+    × (2 ^ 40 < new.shelf.taken)
+    × SumStops words asked (sums.TooMuch (Some file) line) old new
+
+-- diy7 writes files, up to where the shelf fails
+abbrev pub ListStops : Result Asked Usage → Devices → Devices → Type 0
+ListStops (Ok (AsksList asked)) old new = ShelfAndOut (EndsAsked asked listings.ShelfFault) old new
+ListStops _ old new = ⊥
+
+-- norm7 has written all lines
+abbrev pub NamesAll : ArchName → Sought → SourceSeen → SourceSeen → SinkSeen → SinkSeen → Type 0
+NamesAll arch (OfEdges edges) old new before after =
+    (new ≡ old) × (refused_list arch edges ≡ None) × WroteAll before after (name_line edges)
+NamesAll arch (OfName at name) old new before after = (new ≡ old) × PrintsNamed arch name statuses.Done before after
+NamesAll arch OfLines old new before after = NormedAll arch old new before after
+
+-- what was asked for is written, and what the tool reads was read to its end
+abbrev pub Finishes : List (List ℕ) → Result Asked Usage → Devices → Devices → Type 0
+Finishes words (Err usage) old new = ⊥
+Finishes words (Ok (AsksTest asked)) old new =
+    (test_refused asked ≡ None) × OutAlone (λ out out'. WroteAll out out' (asked_text asked)) old new
+Finishes words (Ok (AsksName asked)) old new = InputAndOut (NamesAll asked.arch asked.cycle) old new
+Finishes words (Ok (AsksList asked)) old new = ShelfAndOut (EndsAsked asked listings.Done) old new
+Finishes words (Ok (AsksFamilies arch)) old new = InputAndOut (ClassifiedAll arch) old new
+Finishes words (Ok AsksSum) old new = EndsSum words sums.Done old new
+
+-- norm7 has written a prefix of the lines, over lines of cycles of those before the first fault of what was read
+abbrev pub NamesPart : ArchName → Sought → SourceSeen → SourceSeen → SinkSeen → SinkSeen → Type 0
+NamesPart arch (OfEdges edges) old new before after =
+    (new ≡ old) × (refused_list arch edges ≡ None) × WrotePart before after (name_line edges)
+NamesPart arch (OfName at name) old new before after = (new ≡ old) × PrintsNamed arch name (statuses.WriteFault Out) before after
+NamesPart arch OfLines old new before after = NormedPart arch old new before after
+
+-- a prefix of what goes to standard output is written; of diy7 all files are
+abbrev pub OutStops : List (List ℕ) → Result Asked Usage → Devices → Devices → Type 0
+OutStops words (Err usage) old new = ⊥
+OutStops words (Ok (AsksTest asked)) old new =
+    (test_refused asked ≡ None) × OutAlone (λ out out'. WrotePart out out' (asked_text asked)) old new
+OutStops words (Ok (AsksName asked)) old new = InputAndOut (NamesPart asked.arch asked.cycle) old new
+OutStops words (Ok (AsksList asked)) old new = ShelfAndOut (EndsAsked asked listings.OutFault) old new
+OutStops words (Ok (AsksFamilies arch)) old new = InputAndOut (ClassifiedPart arch) old new
+OutStops words (Ok AsksSum) old new = EndsSum words sums.OutFault old new
+
+-- the cause of a status, and what stands
+abbrev pub CausesAsked : List (List ℕ) → Result Asked Usage → Status → Devices → Devices → Type 0
+-- all is done
+CausesAsked words asked statuses.Done old new = Finishes words asked old new
+-- the edges of diyone7, or those of norm7, are refused for this reason; no device changed
+CausesAsked words asked (statuses.Refused refusal) old new = (asked_refused asked ≡ Some refusal) × (new ≡ old)
+-- the words make no request; no device changed
+CausesAsked words asked (statuses.Usage word kind) old new = IsUsage asked word kind × (new ≡ old)
+-- a line of cycles of norm7 or classify7 has this fault, the first such
+CausesAsked words asked (statuses.BadText file line (texts.Line kind)) old new = (file ≡ None) × LinesStop asked (lines.Wrong line kind) old new
+-- a log of msum7 has this fault, the first such
+CausesAsked words asked (statuses.BadText file line (texts.Log kind)) old new = SumStops words asked (sums.Wrong file line kind) old new
+-- a text of norm7, classify7 or msum7 has more than 2^40 bytes
+CausesAsked words asked (statuses.BadText file line texts.TooMuch) old new = PassesLimit words asked file line old new
+-- msum7 is to sum a file that isn't there; where the shelf tells no files, its count of faults rose
+CausesAsked words asked (statuses.NoFile word) old new =
+    FileMissing old.shelf new.shelf words 1 word × SumStops words asked (sums.NoFile word) old new
+-- the input of norm7, classify7 or msum7 failed
+CausesAsked words asked (statuses.ReadFault Input) old new =
+    Rose old.input.faults new.input.faults
+    × (LinesStop asked lines.InputFault old new ⊎ SumStops words asked sums.InputFault old new)
+-- the shelf failed while msum7 read a log
+CausesAsked words asked (statuses.ReadFault Shelf) old new =
+    Rose old.shelf.faults new.shelf.faults × SumStops words asked sums.ShelfFault old new
+CausesAsked words asked (statuses.ReadFault Out) old new = ⊥
+-- standard output failed
+CausesAsked words asked (statuses.WriteFault Out) old new = Rose old.out.faults new.out.faults × OutStops words asked old new
+-- the shelf failed while diy7 wrote a file
+CausesAsked words asked (statuses.WriteFault Shelf) old new = Rose old.shelf.faults new.shelf.faults × ListStops asked old new
+CausesAsked words asked (statuses.WriteFault Input) old new = ⊥
+-- classify7 or msum7 wants memory
+CausesAsked words asked statuses.NoMemory old new = MayWantMemory asked × NothingWritten old new
+
+abbrev pub Causes : List (List ℕ) → Status → Devices → Devices → Type 0
+Causes words status old new = CausesAsked words (asked_of words) status old new

@@ -1,0 +1,83 @@
+-- Where words ask for what can be done and no device fails, it is done.
+-- Source: own.
+use Rattle.std.specs.Prelude.{◌≡◌, ◌≤◌, ◌+◌, ◌⊎◌, ⊤, ℕ, true, List, ◌∷◌, [], length, Option, Some, None, Result, Ok, Err}
+use Rattle.relax_edges.specs.declared.kinds.ArchName.{ArchName}
+use Rattle.cycle_names.specs.Laws.{NamesNone}
+use Rattle.cycle_lines.specs.Cycles.{are_sound}
+use Rattle.cycle_lines.specs.Lines.{lines_of}
+use Rattle.diy_io.specs.declared.source.TheConstants.{MAX_INPUT}
+use Rattle.diy_io.specs.Count.{Rose}
+use Rattle.diy_io.specs.Shelf.{Files}
+use Rattle.diy_words.specs.declared.usage.Usage.{Usage}
+use Rattle.diy_words.specs.Requests.{Asked, Sought, AsksTest, AsksName, AsksList, AsksFamilies, AsksSum, OfEdges, OfName, OfLines, asked_of}
+use Rattle.summed_logs.specs.Logs.{IsText, IsShort, AreRight}
+use Rattle.summed_logs.specs.SumEnds.{AreLogs}
+use Rattle.diy_tools.specs.declared.status.Status.{Status}
+use Rattle.diy_tools.specs.declared.status.Status.TheVariants.{Done, NoMemory}
+use Rattle.diy_tools.specs.Devices.{Devices}
+use Rattle.diy_tools.specs.Memory.{MayWantMemory}
+use Rattle.diy_tools.specs.Refused.{refused_list}
+use Rattle.diy_tools.specs.TestAnswers.{test_refused}
+
+-- a text has at most 2^40 bytes, and none of its lines of cycles has a fault
+pub record IsSoundText (arch : ArchName) (text : List ℕ) : Type 0 where
+  pub short : length text ≤ MAX_INPUT
+  pub sound : are_sound arch (lines_of text) ≡ true
+
+-- a log has at most 2^40 bytes and no fault
+pub record IsRightLog (log : List ℕ) : Type 0 where
+  pub short : IsShort log
+  pub right : AreRight (log ∷ [])
+
+-- the words after the first name files that are there, each of at most 2^40 bytes, and as logs they have no fault
+pub record AreRightLogs (files : Files) (words : List (List ℕ)) : Type 0 where
+  pub logs : List (List ℕ)
+  pub all : 1 + length logs ≡ length words
+  pub are : AreLogs (Some files) words 1 logs
+  pub right : AreRight logs
+
+-- this holds of every text that a device can have: of the one that it tells, where it tells one
+abbrev pub OfItsText : Option (List ℕ) → (List ℕ → Type 0) → Type 0
+OfItsText told Holds = (text : List ℕ) → IsText told text → Holds text
+
+-- a shelf tells its files, and this holds of them
+abbrev pub OfItsFiles : Option Files → (Files → Type 0) → Type 0
+OfItsFiles None Holds = ⊥
+OfItsFiles (Some files) Holds = Holds files
+
+-- norm7 can name: the cycle that edges make, a cycle of the architecture with the name, or those of the input's lines
+abbrev pub CanName : ArchName → Sought → Devices → Type 0
+CanName arch (OfEdges edges) old = refused_list arch edges ≡ None
+CanName arch (OfName at name) old = NamesNone name arch → ⊥
+CanName arch OfLines old = OfItsText old.input.left (IsSoundText arch)
+
+-- msum7 can sum the logs that the words after the first name, or the input where there is no such word
+abbrev pub CanSum : List (List ℕ) → Devices → Type 0
+CanSum (tool ∷ log ∷ logs) old = OfItsFiles old.shelf.files (λ files. AreRightLogs files (tool ∷ log ∷ logs))
+CanSum _ old = OfItsText old.input.left IsRightLog
+
+-- words make a request that can be done
+abbrev pub CanBeDone : List (List ℕ) → Result Asked Usage → Devices → Type 0
+CanBeDone words (Err usage) old = ⊥
+CanBeDone words (Ok (AsksTest asked)) old = test_refused asked ≡ None
+CanBeDone words (Ok (AsksName asked)) old = CanName asked.arch asked.cycle old
+CanBeDone words (Ok (AsksList asked)) old = ⊤
+CanBeDone words (Ok (AsksFamilies arch)) old = OfItsText old.input.left (IsSoundText arch)
+CanBeDone words (Ok AsksSum) old = CanSum words old
+
+-- no count of faults rises
+pub record NoFaults (old new : Devices) : Type 0 where
+  pub input : Rose old.input.faults new.input.faults → ⊥
+  pub out : Rose old.out.faults new.out.faults → ⊥
+  pub shelf : Rose old.shelf.faults new.shelf.faults → ⊥
+
+-- all is done, or there is no memory, where the tool may want it
+abbrev pub IsDone : Result Asked Usage → Status → Type 0
+IsDone asked status = (status ≡ Done) ⊎ ((status ≡ NoMemory) × MayWantMemory asked)
+
+-- where words make a request that can be done and no count of faults rises, it is done
+abbrev pub CompleteAsked : List (List ℕ) → Result Asked Usage → Status → Devices → Devices → Type 0
+CompleteAsked words asked status old new = CanBeDone words asked old → NoFaults old new → IsDone asked status
+
+abbrev pub Complete : List (List ℕ) → Status → Devices → Devices → Type 0
+Complete words status old new = CompleteAsked words (asked_of words) status old new

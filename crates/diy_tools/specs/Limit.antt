@@ -1,0 +1,26 @@
+-- What a call answers that takes more than 2^40 bytes.
+-- Source: own.
+use Rattle.std.specs.Prelude.{ℕ, ◌+◌, ◌^◌, ◌<◌, ◌⊎◌, ⊤, List, Result}
+use Rattle.diy_io.specs.Count.{count_of}
+use Rattle.diy_words.specs.declared.usage.Usage.{Usage}
+use Rattle.diy_words.specs.Requests.{Asked, asked_of}
+use Rattle.diy_tools.specs.declared.status.Status.{Status}
+use Rattle.diy_tools.specs.declared.status.Status.TheVariants.{BadText, NoMemory}
+use Rattle.diy_tools.specs.Devices.{Devices}
+use Rattle.diy_tools.specs.Memory.{MayWantMemory}
+
+-- more than 2^40 bytes were taken: of the input, as far as they are counted, or of the last file that was opened since
+abbrev pub TookTooMuch : Devices → Devices → Type 0
+TookTooMuch old new =
+    (count_of (old.input.taken + 2 ^ 40) < count_of new.input.taken)
+    ⊎ ((old.shelf.opened < new.shelf.opened) × (2 ^ 40 < new.shelf.taken))
+
+-- a text is wrong; or there is no memory, where the tool may want it
+abbrev pub StopsReading : Result Asked Usage → Status → Type 0
+StopsReading asked (BadText file line kind) = ⊤
+StopsReading asked NoMemory = MayWantMemory asked
+StopsReading asked _ = ⊥
+
+-- after more than 2^40 bytes a call says that there are too many, or tells an earlier fault of theirs, or wants memory
+abbrev pub Limited : List (List ℕ) → Status → Devices → Devices → Type 0
+Limited words status old new = TookTooMuch old new → StopsReading (asked_of words) status

@@ -1,0 +1,44 @@
+-- What norm7 answers.
+-- Source: own.
+use Rattle.std.specs.Prelude.{ℕ, ◌≡◌, ◌⊎◌, List, Result}
+use Rattle.relax_edges.specs.declared.edge.Edge.{Edge}
+use Rattle.relax_edges.specs.declared.kinds.ArchName.{ArchName}
+use Rattle.cycle_names.specs.Laws.{IsNamed, NamesNone}
+use Rattle.cycle_lines.specs.Normed.{Norms, name_line}
+use Rattle.cycle_lines.specs.declared.errors.NormError.{NormError}
+use Rattle.diy_io.specs.Taken.{SourceSeen}
+use Rattle.diy_io.specs.Wrote.{SinkSeen}
+use Rattle.diy_words.specs.declared.usage.UsageKind.TheVariants.{UnknownName}
+use Rattle.diy_words.specs.Requests.{Sought, OfEdges, OfName, OfLines}
+use Rattle.diy_tools.specs.declared.status.Status.{Status}
+use Rattle.diy_tools.specs.declared.status.Status.TheVariants.{Usage}
+use Rattle.diy_tools.specs.Printing.{AnswersEdges, Prints}
+use Rattle.diy_tools.specs.Refused.{refused_list}
+use Rattle.diy_tools.specs.Statuses.{norm_status}
+
+-- a cycle of the architecture has the name, and its line is printed
+pub record PrintsNamed (arch : ArchName) (name : List ℕ) (status : Status) (old new : SinkSeen) : Type 0 where
+  pub cycle : List Edge
+  pub named : IsNamed name arch cycle
+  pub prints : Prints (name_line cycle) status old new
+
+-- a name, the word at a place, names no cycle of the architecture, and nothing is written; or the line of the cycle is
+-- printed that has it
+abbrev pub AnswersName : ArchName → ℕ → List ℕ → Status → SinkSeen → SinkSeen → Type 0
+AnswersName arch at name status old new =
+    (NamesNone name arch × (status ≡ Usage at UnknownName) × (new ≡ old))
+    ⊎ PrintsNamed arch name status old new
+
+-- the lines of cycles of the input are named, or those before the first reason why they can't be
+pub record AnswersLines (arch : ArchName) (status : Status) (old new : SourceSeen) (before after : SinkSeen) : Type 0 where
+  pub result : Result (Unit {0}) NormError
+  pub norms : Norms arch old new before after result
+  pub status_is : status ≡ norm_status result
+
+-- the cycle is refused whose name is sought, or none has the name, and nothing is written; or its line is printed; or the
+-- cycles of the input's lines are named
+abbrev pub AnswersSought : ArchName → Sought → Status → SourceSeen → SourceSeen → SinkSeen → SinkSeen → Type 0
+AnswersSought arch (OfEdges edges) status old new before after =
+    (new ≡ old) × AnswersEdges (refused_list arch edges) (name_line edges) status before after
+AnswersSought arch (OfName at name) status old new before after = (new ≡ old) × AnswersName arch at name status before after
+AnswersSought arch OfLines status old new before after = AnswersLines arch status old new before after
