@@ -85,7 +85,6 @@ abbrev named : ArchName → Sought → Result Asked Usage
 named arch cycle = Ok (AsksName (record { arch = arch; cycle = cycle }))
 
 module _ (old new : Devices) where
-
   -- what is said of a status is said of one that is equal to it
   of_status : (words : List (List ℕ)) (asked : Result Asked Usage) (status other : Status) → status ≡ other
       → CausesAsked words asked other old new → CausesAsked words asked status old new
@@ -197,9 +196,10 @@ module _ (old new : Devices) where
       (ends h, record { out = h.both.1; files = ap (λ (s : ShelfSeen). s.files) h.shelf })
   input_caused words (sums.Wrong (Some file) line kind) status e ends h = absurd h.both
   input_caused words (sums.TooMuch None line) status e ends h =
-      of_status words (Ok AsksSum) status (statuses.BadText None line texts.TooMuch) e
-      (counted_far old.input.taken new.input.taken h.both.0.count h.both.0.taken h.both.0.long,
-      inr (ends h, record { out = h.both.1; files = ap (λ (s : ShelfSeen). s.files) h.shelf }))
+      of_status words (Ok AsksSum) status (statuses.BadText None line texts.TooMuch) e (
+        counted_far old.input.taken new.input.taken h.both.0.count h.both.0.taken h.both.0.long,
+        inr (ends h, record { out = h.both.1; files = ap (λ (s : ShelfSeen). s.files) h.shelf }),
+      )
   input_caused words (sums.TooMuch (Some file) line) status e ends h = absurd h.both
   input_caused words (sums.NoFile word) status e ends h = absurd h.both
   input_caused words sums.InputFault status e ends h =
@@ -232,4 +232,4 @@ answers_caused words status old new h = asked_caused old new words (asked_of wor
 pub answers_memory : (words : List (List ℕ)) (status : Status) (old new : Devices) → Answers words status old new → NeverWantsMemory words status
 answers_memory words status old new h = λ e.
     let cause : CausesAsked words (asked_of words) statuses.NoMemory old new =
-        subst (λ (s : Status). CausesAsked words (asked_of words) s old new) e (answers_caused words status old new h) in cause.0
+    subst (λ (s : Status). CausesAsked words (asked_of words) s old new) e (answers_caused words status old new h) in cause.0

@@ -73,7 +73,6 @@ listing_opens asked listings.ShelfFault old new out after h =
     either_opens (IsPlanned (plan_asked asked)) (plan_asked asked).folder (planned_text (plan_asked asked)) h.given old new h.ends.1
 
 module _ (old new : Devices) (much : TookTooMuch old new) where
-
   neither : InputWithin old.input new.input → IsWithin old.shelf new.shelf → ⊥
   neither input shelf = either much
     where
