@@ -30,7 +30,7 @@ use Rattle.diy_tools.specs.declared.status.Status.TheVariants as statuses
 use Rattle.diy_tools.specs.declared.status.Refusal.{Refusal}
 use Rattle.diy_tools.specs.declared.status.TextKind.TheVariants as texts
 use Rattle.diy_tools.specs.declared.status.Device.TheVariants.{Input, Out, Shelf}
-use Rattle.diy_tools.specs.Devices.{Devices, devices, OutAlone, InputAndOut, ShelfAndOut}
+use Rattle.diy_tools.specs.Devices.{Devices, Seen, devices, OutAlone, InputAndOut, ShelfAndOut}
 use Rattle.diy_tools.specs.Refused.{refused_list}
 use Rattle.diy_tools.specs.Statuses.{norm_status, classify_status, listing_status}
 use Rattle.diy_tools.specs.Printing.{AnswersEdges, Prints}
@@ -45,8 +45,8 @@ use Rattle.diy_tools.specs.Causes.{Causes, CausesAsked, NothingWritten, RoseFar}
 -- devices that are the same one by one are the same
 same_devices : (old new : Devices) → new.input ≡ old.input → new.out ≡ old.out → new.shelf ≡ old.shelf → new ≡ old
 same_devices old new input out shelf =
-    ap (λ (i : SourceSeen). devices i new.out new.shelf) input
-    ∙ (ap (λ (o : SinkSeen). devices old.input o new.shelf) out ∙ ap (λ (s : ShelfSeen). devices old.input old.out s) shelf)
+    ap (λ (i : SourceSeen). devices (i, new.out, new.shelf)) input
+    ∙ (ap (λ (o : SinkSeen). devices (old.input, o, new.shelf)) out ∙ ap (λ (s : ShelfSeen). devices (old.input, old.out, s)) shelf)
 
 -- a count of bytes that rose by more than 2^40
 rose_far : (old new taken : ℕ) → new ≡ count_of (old + taken) → 2 ^ 40 < taken → RoseFar old new
@@ -85,7 +85,6 @@ abbrev named : ArchName → Sought → Result Asked Usage
 named arch cycle = Ok (AsksName (record { arch = arch; cycle = cycle }))
 
 module _ (old new : Devices) where
-
   -- what is said of a status is said of one that is equal to it
   of_status : (words : List (List ℕ)) (asked : Result Asked Usage) (status other : Status) → status ≡ other
       → CausesAsked words asked other old new → CausesAsked words asked status old new
@@ -197,9 +196,10 @@ module _ (old new : Devices) where
       (ends h, record { out = h.both.1; files = ap (λ (s : ShelfSeen). s.files) h.shelf })
   input_caused words (sums.Wrong (Some file) line kind) status e ends h = absurd h.both
   input_caused words (sums.TooMuch None line) status e ends h =
-      of_status words (Ok AsksSum) status (statuses.BadText None line texts.TooMuch) e
-      (counted_far old.input.taken new.input.taken h.both.0.count h.both.0.taken h.both.0.long,
-      inr (ends h, record { out = h.both.1; files = ap (λ (s : ShelfSeen). s.files) h.shelf }))
+      of_status words (Ok AsksSum) status (statuses.BadText None line texts.TooMuch) e (
+        counted_far old.input.taken new.input.taken h.both.0.count h.both.0.taken h.both.0.long,
+        inr (ends h, record { out = h.both.1; files = ap (λ (s : ShelfSeen). s.files) h.shelf }),
+      )
   input_caused words (sums.TooMuch (Some file) line) status e ends h = absurd h.both
   input_caused words (sums.NoFile word) status e ends h = absurd h.both
   input_caused words sums.InputFault status e ends h =
@@ -225,11 +225,11 @@ module _ (old new : Devices) where
   asked_caused words (Ok AsksSum) status h = sum_caused words h.end status h.status_is h.ends
 
 -- what is answered has its cause
-pub answers_caused : (words : List (List ℕ)) (status : Status) (old new : Devices) → Answers words status old new → Causes words status old new
-answers_caused words status old new h = asked_caused old new words (asked_of words) status h
+pub answers_caused : (words : List (List ℕ)) (status : Status) (old new : Seen) → Answers words status old new → Causes words status old new
+answers_caused words status old new h = asked_caused (devices old) (devices new) words (asked_of words) status h
 
 -- only a tool that may want memory says that there is none
-pub answers_memory : (words : List (List ℕ)) (status : Status) (old new : Devices) → Answers words status old new → NeverWantsMemory words status
+pub answers_memory : (words : List (List ℕ)) (status : Status) (old new : Seen) → Answers words status old new → NeverWantsMemory words status
 answers_memory words status old new h = λ e.
     let cause : CausesAsked words (asked_of words) statuses.NoMemory old new =
-        subst (λ (s : Status). CausesAsked words (asked_of words) s old new) e (answers_caused words status old new h) in cause.0
+    subst (λ (s : Status). CausesAsked words (asked_of words) s (devices old) (devices new)) e (answers_caused words status old new h) in cause.0

@@ -41,7 +41,7 @@ use Rattle.diy_tools.specs.declared.status.Status.{Status}
 use Rattle.diy_tools.specs.declared.status.Status.TheVariants as statuses
 use Rattle.diy_tools.specs.declared.status.Refusal.{Refusal}
 use Rattle.diy_tools.specs.declared.status.Device.TheVariants.{Input, Out, Shelf}
-use Rattle.diy_tools.specs.Devices.{Devices}
+use Rattle.diy_tools.specs.Devices.{Devices, Seen, devices}
 use Rattle.diy_tools.specs.Refused.{refused_list}
 use Rattle.diy_tools.specs.Statuses.{norm_status, classify_status, listing_status}
 use Rattle.diy_tools.specs.Printing.{AnswersEdges, Prints}
@@ -75,7 +75,7 @@ sound_fault : (arch : ArchName) (old new : SourceSeen) (cycles : List (List Edge
 sound_fault arch old new cycles line kind sound h =
     let whole = sound (whole_of h.text new) (whole_can old.left new.left h.text h.took.consumed) in
     let all : list_all (is_sound arch) (h.before ++ h.first.line ∷ h.first.behind) ≡ true =
-        subst (λ (ls : List (List ℕ)). list_all (is_sound arch) ls ≡ true) h.first.parts whole.sound in
+    subst (λ (ls : List (List ℕ)). list_all (is_sound arch) ls ≡ true) h.first.parts whole.sound in
     no_fault (line_said arch h.first.line) kind (all_at (is_sound arch) h.before h.first.line h.first.behind all) h.first.fault
 
 sound_limit : (arch : ArchName) (old new : SourceSeen) (cycles : List (List Edge)) (line : ℕ)
@@ -188,7 +188,6 @@ told_log : (told : Option Files) (files : Files) (name log : List ℕ) → told 
 told_log told files name log e h = let here : IsLog (Some files) name log = subst (λ (t : Option Files). IsLog t name log) e h in here
 
 module _ (words : List (List ℕ)) (files : Files) (right : AreRightLogs files words) where
-
   -- at each place behind the first word there is a log
   at_word : (k : ℕ) → k < length right.logs → files (get_or words (1 + k) []) ≡ Some (get_or right.logs k [])
   at_word k h =
@@ -201,8 +200,8 @@ module _ (words : List (List ℕ)) (files : Files) (right : AreRightLogs files w
   same_logs told before e are few k log h =
       let inside : k < length before = slice_get_within before k log h in
       let found : files (get_or words (1 + k) []) ≡ Some log =
-          told_log told files (get_or words (1 + k) []) log e
-          (are.named k (get_or words (1 + k) []) log (slice_get-get_or words (1 + k) [] (omega (arith, right.all))) h) in
+      told_log told files (get_or words (1 + k) []) log e
+      (are.named k (get_or words (1 + k) []) log (slice_get-get_or words (1 + k) [] (omega (arith, right.all))) h) in
       let here : files (get_or words (1 + k) []) ≡ Some (get_or right.logs k []) = at_word k (omega arith) in
       slice_get-get_or right.logs k [] (omega arith) ∙ (sym here ∙ found)
 
@@ -213,16 +212,18 @@ module _ (words : List (List ℕ)) (files : Files) (right : AreRightLogs files w
       let within : place < length words = slice_get_within words place name h.word in
       let inside : length before < length right.logs = omega (arith, h.count, right.all) in
       let name_is : get_or words (1 + length before) [] ≡ name =
-          get_or_from_slice_get words (1 + length before) name [] (subst (λ (p : ℕ). slice_get words p ≡ Some name) h.count h.word) in
-      (inside, subst (λ (n : List ℕ). files n ≡ slice_get right.logs (length before)) name_is
-      (at_word (length before) inside ∙ sym (slice_get-get_or right.logs (length before) [] inside)))
+      get_or_from_slice_get words (1 + length before) name [] (subst (λ (p : ℕ). slice_get words p ≡ Some name) h.count h.word) in (
+        inside,
+        subst (λ (n : List ℕ). files n ≡ slice_get right.logs (length before)) name_is
+            (at_word (length before) inside ∙ sym (slice_get-get_or right.logs (length before) [] inside)),
+      )
 
   files_wrong : (old : ShelfSeen) (place : ℕ) (error : LogError) → old.files ≡ Some files → FileWrong old words 1 place error → ⊥
   files_wrong old place error e h =
       let spot = word_log old.files place h.before h.name h.place_is in
       let parts = splits h.before right.logs h.log
-          (same_logs old.files h.before e h.place_is.are (omega (arith, spot.0)))
-          (sym spot.1 ∙ told_log old.files files h.name h.log e h.text) in
+      (same_logs old.files h.before e h.place_is.are (omega (arith, spot.0)))
+      (sym spot.1 ∙ told_log old.files files h.name h.log e h.text) in
       right_wrong right.logs (h.before ++ h.log ∷ parts.0) error right.right parts.1 (h.is.wrong parts.0)
 
   files_long : (old new : ShelfSeen) (place line : ℕ) → old.files ≡ Some files → FileTooMuch old new words 1 place line → ⊥
@@ -243,7 +244,7 @@ module _ (words : List (List ℕ)) (files : Files) (right : AreRightLogs files w
       absent : (told : Option Files) → told ≡ Some files → MatchOption told (Rose old.faults new.faults) (λ there. there h.name ≡ None) → files h.name ≡ None
       absent told e a =
           let here : MatchOption (Some files) (Rose old.faults new.faults) (λ there. there h.name ≡ None) =
-              subst (λ (t : Option Files). MatchOption t (Rose old.faults new.faults) (λ there. there h.name ≡ None)) e a in here
+          subst (λ (t : Option Files). MatchOption t (Rose old.faults new.faults) (λ there. there h.name ≡ None)) e a in here
 
   files_done : (status : Status) (old new : ShelfSeen) (before after : SinkSeen) (end : SumEnd) → old.files ≡ Some files
       → (Rose old.faults new.faults → ⊥) → (Rose before.faults after.faults → ⊥)
@@ -285,5 +286,5 @@ asked_done words (Ok AsksSum) status old new h can none = of_words words can h.e
         told_done (tool ∷ log ∷ logs) status old.shelf new.shelf old.out new.out h.end old.shelf.files refl can none.shelf none.out h.status_is ends.both.summed
 
 -- where what is asked for can be done and no count of faults rises, it is done
-pub answers_complete : (words : List (List ℕ)) (status : Status) (old new : Devices) → Answers words status old new → Complete words status old new
-answers_complete words status old new h = asked_done words (asked_of words) status old new h
+pub answers_complete : (words : List (List ℕ)) (status : Status) (old new : Seen) → Answers words status old new → Complete words status old new
+answers_complete words status old new h = asked_done words (asked_of words) status (devices old) (devices new) h

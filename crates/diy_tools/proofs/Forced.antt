@@ -57,7 +57,7 @@ use Rattle.diy_tools.specs.Printing.{AnswersEdges}
 use Rattle.diy_tools.specs.TestAnswers.{asked_text, test_name}
 use Rattle.diy_tools.specs.ListAnswers.{AnswersList}
 use Rattle.diy_tools.specs.Answers.{Answers, AnswersAsked}
-use Rattle.diy_tools.specs.Devices.{Devices}
+use Rattle.diy_tools.specs.Devices.{Devices, Seen, devices}
 use Rattle.diy_tools.specs.Headline.{Headline, HeadlineAsked}
 use Rattle.listed_tests.specs.Plans.{is_wanted}
 use Rattle.test_maker.specs.CycleText.{cycle_text}
@@ -178,8 +178,8 @@ wanted_unrefused a mode threads es h = of_none (refusal_of a es mode) (and_parts
     of_none (Some refusal) h = cc h
 
 -- what is answered says that the tests that are printed and listed force their cycles
-pub answers_force : (words : List (List ℕ)) (status : Status) (old new : Devices) → Answers words status old new → Headline words status old new
-answers_force words status old new h = of_asked (asked_of words) refl h
+asked_force : (words : List (List ℕ)) (status : Status) (old new : Devices) → AnswersAsked words (asked_of words) status old new → HeadlineAsked (asked_of words) status old new
+asked_force words status old new h = of_asked (asked_of words) refl h
   where
     of_test : (asked : TestAsked) → asked_of words ≡ Ok (AsksTest asked)
         → AnswersEdges (refused_of (machine_of asked.arch).puts asked.mode asked.edges) (asked_text asked) status old.out new.out
@@ -208,3 +208,6 @@ answers_force words status old new h = of_asked (asked_of words) refl h
     of_asked (Ok (AsksFamilies arch)) e h = tt
     of_asked (Ok AsksSum) e h = tt
     of_asked (Ok (AsksTest asked)) e h = of_test asked e h.out
+
+pub answers_force : (words : List (List ℕ)) (status : Status) (old new : Seen) → Answers words status old new → Headline words status old new
+answers_force words status old new h = asked_force words status (devices old) (devices new) h

@@ -31,7 +31,7 @@ use Rattle.diy_tools.specs.declared.status.Status.{Status}
 use Rattle.diy_tools.specs.declared.status.Status.TheVariants as statuses
 use Rattle.diy_tools.specs.declared.status.TextKind.{TextKind}
 use Rattle.diy_tools.specs.declared.status.TextKind.TheVariants as texts
-use Rattle.diy_tools.specs.Devices.{Devices}
+use Rattle.diy_tools.specs.Devices.{Devices, Seen, devices}
 use Rattle.diy_tools.specs.Statuses.{norm_status, classify_status}
 use Rattle.diy_tools.specs.NameAnswers.{AnswersSought}
 use Rattle.diy_tools.specs.ListAnswers.{EndsAsked, plan_asked}
@@ -73,7 +73,6 @@ listing_opens asked listings.ShelfFault old new out after h =
     either_opens (IsPlanned (plan_asked asked)) (plan_asked asked).folder (planned_text (plan_asked asked)) h.given old new h.ends.1
 
 module _ (old new : Devices) (much : TookTooMuch old new) where
-
   neither : InputWithin old.input new.input → IsWithin old.shelf new.shelf → ⊥
   neither input shelf = either much
     where
@@ -157,5 +156,5 @@ module _ (old new : Devices) (much : TookTooMuch old new) where
   asked_limit words (Ok AsksSum) status h = sum_limit words h.end status h.status_is h.ends
 
 -- what is answered keeps to the limit of what is read
-pub answers_limited : (words : List (List ℕ)) (status : Status) (old new : Devices) → Answers words status old new → Limited words status old new
-answers_limited words status old new h = λ much. asked_limit old new much words (asked_of words) status h
+pub answers_limited : (words : List (List ℕ)) (status : Status) (old new : Seen) → Answers words status old new → Limited words status old new
+answers_limited words status old new h = λ much. asked_limit (devices old) (devices new) much words (asked_of words) status h

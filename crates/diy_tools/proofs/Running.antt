@@ -15,7 +15,7 @@ use Rattle.walk_laws.specs.Composable.{first_break}
 use Rattle.diy_io.specs.declared.errors.Failed.{Failed}
 use Rattle.diy_io.specs.Count.{Rose}
 use Rattle.diy_io.specs.Sink.{Told, Grew, GrewByPrefix}
-use Rattle.diy_io.specs.Wrote.{SinkSeen, sink_seen}
+use Rattle.diy_io.specs.Wrote.{SinkSeen}
 use Rattle.edge_lists.specs.declared.list.EdgeList.{EdgeList}
 use Rattle.edge_lists.specs.declared.list.EdgeList.TheVariants.{Whole, TooLong}
 use Rattle.edge_lists.specs.Kept.{kept}
@@ -23,7 +23,7 @@ use Rattle.cycle_lines.specs.Normed.{name_line}
 use Rattle.diy_io.specs.Taken.{SourceSeen}
 use Rattle.diy_io.specs.Shelf.{ShelfSeen}
 use Rattle.diy_words.specs.declared.request.Diy.{Diy}
-use Rattle.diy_tools.specs.Devices.{Devices, devices}
+use Rattle.diy_tools.specs.Devices.{Devices, Seen, devices}
 use Rattle.diy_tools.specs.SumAnswers.{AnswersSum}
 use Rattle.test_maker.specs.CycleText.{cycle_text}
 use Rattle.diy_words.specs.declared.request.Sought.{Sought}
@@ -186,10 +186,10 @@ test_asked arch a mode m name n list es status old new p q r k h =
 pub test_answered : (words : List (List ℕ)) (request : DiyOne) (status : Status) (input : SourceSeen) (shelf : ShelfSeen) (old new : SinkSeen)
     → Gives (Ok (requests.Test request)) (asked_of words)
     → AnswersEdges (refused_kept (machine_of request.arch) request.mode request.edges) (cycle_text (machine_of request.arch).puts (machine_of request.arch).writing request.mode (test_name (name_kept request.name) (edges_kept request.edges)) (edges_kept request.edges)) status old new
-    → Answers words status (devices input old shelf) (devices input new shelf)
+    → Answers words status (input, old, shelf) (input, new, shelf)
 test_answered words request status input shelf old new given h = of_asked (asked_of words) given
   where
-    of_asked : (asked : Result Asked Usage) → Gives (Ok (requests.Test request)) asked → AnswersAsked words asked status (devices input old shelf) (devices input new shelf)
+    of_asked : (asked : Result Asked Usage) → Gives (Ok (requests.Test request)) asked → AnswersAsked words asked status (devices (input, old, shelf)) (devices (input, new, shelf))
     of_asked (Err usage) g = absurd g
     of_asked (Ok (AsksName asked)) g = absurd g
     of_asked (Ok (AsksList asked)) g = absurd g
@@ -201,10 +201,10 @@ test_answered words request status input shelf old new given h = of_asked (asked
 -- what is answered of a request for names
 pub name_answered : (words : List (List ℕ)) (request : Norm) (status : Status) (shelf : ShelfSeen) (old new : SourceSeen) (before after : SinkSeen)
     → Gives (Ok (requests.Name request)) (asked_of words)
-    → AnswersKept request.arch request.cycle status old new before after → Answers words status (devices old before shelf) (devices new after shelf)
+    → AnswersKept request.arch request.cycle status old new before after → Answers words status (old, before, shelf) (new, after, shelf)
 name_answered words request status shelf old new before after given h = of_asked (asked_of words) given
   where
-    of_asked : (asked : Result Asked Usage) → Gives (Ok (requests.Name request)) asked → AnswersAsked words asked status (devices old before shelf) (devices new after shelf)
+    of_asked : (asked : Result Asked Usage) → Gives (Ok (requests.Name request)) asked → AnswersAsked words asked status (devices (old, before, shelf)) (devices (new, after, shelf))
     of_asked (Err usage) g = absurd g
     of_asked (Ok (AsksTest asked)) g = absurd g
     of_asked (Ok (AsksList asked)) g = absurd g
@@ -220,10 +220,10 @@ name_answered words request status shelf old new before after given h = of_asked
 -- what is answered of a request for a listing
 pub list_answered : (words : List (List ℕ)) (request : Diy) (status : Status) (input : SourceSeen) (old new : ShelfSeen) (before after : SinkSeen)
     → Gives (Ok (requests.List request)) (asked_of words)
-    → AnswersList (list_kept request) status old new before after → Answers words status (devices input before old) (devices input after new)
+    → AnswersList (list_kept request) status old new before after → Answers words status (input, before, old) (input, after, new)
 list_answered words request status input old new before after given h = of_asked (asked_of words) given
   where
-    of_asked : (asked : Result Asked Usage) → Gives (Ok (requests.List request)) asked → AnswersAsked words asked status (devices input before old) (devices input after new)
+    of_asked : (asked : Result Asked Usage) → Gives (Ok (requests.List request)) asked → AnswersAsked words asked status (devices (input, before, old)) (devices (input, after, new))
     of_asked (Err usage) g = absurd g
     of_asked (Ok (AsksTest asked)) g = absurd g
     of_asked (Ok (AsksName asked)) g = absurd g
@@ -234,10 +234,10 @@ list_answered words request status input old new before after given h = of_asked
 -- what is answered of a request for families
 pub families_answered : (words : List (List ℕ)) (arch : ArchName) (status : Status) (shelf : ShelfSeen) (old new : SourceSeen) (before after : SinkSeen)
     → Gives (Ok (requests.Families arch)) (asked_of words)
-    → AnswersFamilies arch status old new before after → Answers words status (devices old before shelf) (devices new after shelf)
+    → AnswersFamilies arch status old new before after → Answers words status (old, before, shelf) (new, after, shelf)
 families_answered words arch status shelf old new before after given h = of_asked (asked_of words) given
   where
-    of_asked : (asked : Result Asked Usage) → Gives (Ok (requests.Families arch)) asked → AnswersAsked words asked status (devices old before shelf) (devices new after shelf)
+    of_asked : (asked : Result Asked Usage) → Gives (Ok (requests.Families arch)) asked → AnswersAsked words asked status (devices (old, before, shelf)) (devices (new, after, shelf))
     of_asked (Err usage) g = absurd g
     of_asked (Ok (AsksTest asked)) g = absurd g
     of_asked (Ok (AsksName asked)) g = absurd g
@@ -246,11 +246,11 @@ families_answered words arch status shelf old new before after given h = of_aske
     of_asked (Ok (AsksFamilies asked)) g = record { shelf = refl; both = subst (λ (a : ArchName). AnswersFamilies a status old new before after) g h }
 
 -- what is answered of a request for a sum
-pub sum_answered : (words : List (List ℕ)) (status : Status) (old new : Devices)
-    → Gives (Ok requests.Sum) (asked_of words) → AnswersSum words status old new → Answers words status old new
+pub sum_answered : (words : List (List ℕ)) (status : Status) (old new : Seen)
+    → Gives (Ok requests.Sum) (asked_of words) → AnswersSum words status (devices old) (devices new) → Answers words status old new
 sum_answered words status old new given h = of_asked (asked_of words) given
   where
-    of_asked : (asked : Result Asked Usage) → Gives (Ok requests.Sum) asked → AnswersAsked words asked status old new
+    of_asked : (asked : Result Asked Usage) → Gives (Ok requests.Sum) asked → AnswersAsked words asked status (devices old) (devices new)
     of_asked (Err usage) g = absurd g
     of_asked (Ok (AsksTest asked)) g = absurd g
     of_asked (Ok (AsksName asked)) g = absurd g

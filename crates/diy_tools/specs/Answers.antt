@@ -5,7 +5,7 @@ use Rattle.diy_words.specs.declared.usage.Usage.{Usage}
 use Rattle.diy_words.specs.Requests.{Asked, AsksTest, AsksName, AsksList, AsksFamilies, AsksSum, asked_of}
 use Rattle.diy_tools.specs.declared.status.Status.{Status}
 use Rattle.diy_tools.specs.declared.status.Status.TheVariants as statuses
-use Rattle.diy_tools.specs.Devices.{Devices, OutAlone, InputAndOut, ShelfAndOut}
+use Rattle.diy_tools.specs.Devices.{Devices, OutAlone, InputAndOut, ShelfAndOut, Seen, devices}
 use Rattle.diy_tools.specs.TestAnswers.{AnswersTest}
 use Rattle.diy_tools.specs.NameAnswers.{AnswersSought}
 use Rattle.diy_tools.specs.FamilyAnswers.{AnswersFamilies}
@@ -23,5 +23,5 @@ AnswersAsked words (Ok (AsksFamilies arch)) status old new = InputAndOut (Answer
 AnswersAsked words (Ok AsksSum) status old new = AnswersSum words status old new
 
 -- a call with these words ends with this status, and takes the devices from old to new
-abbrev pub Answers : List (List ℕ) → Status → Devices → Devices → Type 0
-Answers words status old new = AnswersAsked words (asked_of words) status old new
+abbrev pub Answers : List (List ℕ) → Status → Seen → Seen → Type 0
+Answers words status old new = AnswersAsked words (asked_of words) status (devices old) (devices new)

@@ -23,7 +23,7 @@ use Rattle.diy_tools.specs.declared.status.Status.TheVariants as statuses
 use Rattle.diy_tools.specs.declared.status.Refusal.{Refusal}
 use Rattle.diy_tools.specs.declared.status.TextKind.TheVariants as texts
 use Rattle.diy_tools.specs.declared.status.Device.TheVariants.{Input, Out, Shelf}
-use Rattle.diy_tools.specs.Devices.{Devices, OutAlone, InputAndOut, ShelfAndOut}
+use Rattle.diy_tools.specs.Devices.{Devices, OutAlone, InputAndOut, ShelfAndOut, Seen, devices}
 use Rattle.diy_tools.specs.ListAnswers.{EndsAsked}
 use Rattle.diy_tools.specs.Memory.{MayWantMemory}
 use Rattle.diy_tools.specs.NameAnswers.{PrintsNamed}
@@ -157,5 +157,5 @@ CausesAsked words asked (statuses.WriteFault Input) old new = ⊥
 -- classify7 or msum7 wants memory
 CausesAsked words asked statuses.NoMemory old new = MayWantMemory asked × NothingWritten old new
 
-abbrev pub Causes : List (List ℕ) → Status → Devices → Devices → Type 0
-Causes words status old new = CausesAsked words (asked_of words) status old new
+abbrev pub Causes : List (List ℕ) → Status → Seen → Seen → Type 0
+Causes words status old new = CausesAsked words (asked_of words) status (devices old) (devices new)

@@ -14,7 +14,7 @@ use Rattle.summed_logs.specs.Logs.{IsText, IsShort, AreRight}
 use Rattle.summed_logs.specs.SumEnds.{AreLogs}
 use Rattle.diy_tools.specs.declared.status.Status.{Status}
 use Rattle.diy_tools.specs.declared.status.Status.TheVariants.{Done, NoMemory}
-use Rattle.diy_tools.specs.Devices.{Devices}
+use Rattle.diy_tools.specs.Devices.{Devices, Seen, devices}
 use Rattle.diy_tools.specs.Memory.{MayWantMemory}
 use Rattle.diy_tools.specs.Refused.{refused_list}
 use Rattle.diy_tools.specs.TestAnswers.{test_refused}
@@ -79,5 +79,5 @@ IsDone asked status = (status ≡ Done) ⊎ ((status ≡ NoMemory) × MayWantMem
 abbrev pub CompleteAsked : List (List ℕ) → Result Asked Usage → Status → Devices → Devices → Type 0
 CompleteAsked words asked status old new = CanBeDone words asked old → NoFaults old new → IsDone asked status
 
-abbrev pub Complete : List (List ℕ) → Status → Devices → Devices → Type 0
-Complete words status old new = CompleteAsked words (asked_of words) status old new
+abbrev pub Complete : List (List ℕ) → Status → Seen → Seen → Type 0
+Complete words status old new = CompleteAsked words (asked_of words) status (devices old) (devices new)

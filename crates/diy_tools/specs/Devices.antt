@@ -11,8 +11,12 @@ pub record Devices : Type 0 where
   pub out : SinkSeen
   pub shelf : ShelfSeen
 
-abbrev pub devices : SourceSeen → SinkSeen → ShelfSeen → Devices
-devices input out shelf = record { input = input; out = out; shelf = shelf }
+-- the same, one beside another
+abbrev pub Seen : Type 0
+Seen = SourceSeen × SinkSeen × ShelfSeen
+
+abbrev pub devices : Seen → Devices
+devices seen = record { input = seen.0; out = seen.1; shelf = seen.2 }
 
 -- the input and the shelf stay as they were, and this is said of standard output
 pub record OutAlone (Says : SinkSeen → SinkSeen → Type 0) (old new : Devices) : Type 0 where

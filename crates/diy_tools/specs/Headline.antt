@@ -12,7 +12,7 @@ use Rattle.diy_words.specs.Requests.{Asked, ListAsked, AsksTest, AsksList, asked
 use Rattle.listed_tests.specs.Plans.{IsPlanned, planned_text}
 use Rattle.printed_tests.specs.Headline.{BytesForce}
 use Rattle.diy_tools.specs.declared.status.Status.{Status}
-use Rattle.diy_tools.specs.Devices.{Devices}
+use Rattle.diy_tools.specs.Devices.{Devices, Seen, devices}
 use Rattle.diy_tools.specs.Machines.{Machine, machine_of}
 use Rattle.diy_tools.specs.Refused.{refused_of}
 use Rattle.diy_tools.specs.Printing.{Prints}
@@ -39,5 +39,5 @@ HeadlineAsked (Ok (AsksTest asked)) status old new =
 HeadlineAsked (Ok (AsksList asked)) status old new = ListsForcing asked status old.shelf new.shelf old.out new.out
 HeadlineAsked _ status old new = Unit {0}
 
-abbrev pub Headline : List (List ℕ) → Status → Devices → Devices → Type 0
-Headline words status old new = HeadlineAsked (asked_of words) status old new
+abbrev pub Headline : List (List ℕ) → Status → Seen → Seen → Type 0
+Headline words status old new = HeadlineAsked (asked_of words) status (devices old) (devices new)

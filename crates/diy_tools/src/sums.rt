@@ -20,7 +20,7 @@ pub(crate) fn sum<I: Source, O: Sink, H: Shelf>(
     out: &mut O,
 ) -> Status
     requires { (H.seen shelf.old).mode ≡ Idle }
-    ensures answers { AnswersSum words.now result (devices (I.seen input.old) (O.seen out.old) (H.seen shelf.old)) (devices (I.seen input.new) (O.seen out.new) (H.seen shelf.new)) }
+    ensures answers { AnswersSum words.now result (devices (I.seen input.old, O.seen out.old, H.seen shelf.old)) (devices (I.seen input.new, O.seen out.new, H.seen shelf.new)) }
     ensures idle { (H.seen shelf.new).mode ≡ Idle }
     ensures location { NamesLocation result }
 {

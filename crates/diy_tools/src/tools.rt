@@ -3,7 +3,6 @@ ghost use Rattle.diy_io.specs.Shelf.{Idle};
 ghost use Rattle.diy_tools.specs.Answers.{Answers};
 ghost use Rattle.diy_tools.specs.Causes.{Causes};
 ghost use Rattle.diy_tools.specs.Complete.{Complete};
-ghost use Rattle.diy_tools.specs.Devices.{devices};
 ghost use Rattle.diy_tools.specs.Headline.{Headline};
 ghost use Rattle.diy_tools.specs.Limit.{Limited};
 ghost use Rattle.diy_tools.specs.Memory.{NeverWantsMemory};
@@ -38,13 +37,13 @@ pub fn run<I: Source, O: Sink, E: Sink, H: Shelf>(
     shelf: &mut H,
 ) -> Status
     requires { (H.seen shelf.old).mode ≡ Idle }
-    ensures answers { Answers words.now result (devices (I.seen input.old) (O.seen out.old) (H.seen shelf.old)) (devices (I.seen input.new) (O.seen out.new) (H.seen shelf.new)) }
+    ensures answers { Answers words.now result (I.seen input.old, O.seen out.old, H.seen shelf.old) (I.seen input.new, O.seen out.new, H.seen shelf.new) }
     ensures idle { (H.seen shelf.new).mode ≡ Idle }
-    ensures complete { Complete words.now result (devices (I.seen input.old) (O.seen out.old) (H.seen shelf.old)) (devices (I.seen input.new) (O.seen out.new) (H.seen shelf.new)) }
+    ensures complete { Complete words.now result (I.seen input.old, O.seen out.old, H.seen shelf.old) (I.seen input.new, O.seen out.new, H.seen shelf.new) }
     ensures memory { NeverWantsMemory words.now result }
-    ensures causes { Causes words.now result (devices (I.seen input.old) (O.seen out.old) (H.seen shelf.old)) (devices (I.seen input.new) (O.seen out.new) (H.seen shelf.new)) }
-    ensures limited { Limited words.now result (devices (I.seen input.old) (O.seen out.old) (H.seen shelf.old)) (devices (I.seen input.new) (O.seen out.new) (H.seen shelf.new)) }
-    ensures headline { Headline words.now result (devices (I.seen input.old) (O.seen out.old) (H.seen shelf.old)) (devices (I.seen input.new) (O.seen out.new) (H.seen shelf.new)) }
+    ensures causes { Causes words.now result (I.seen input.old, O.seen out.old, H.seen shelf.old) (I.seen input.new, O.seen out.new, H.seen shelf.new) }
+    ensures limited { Limited words.now result (I.seen input.old, O.seen out.old, H.seen shelf.old) (I.seen input.new, O.seen out.new, H.seen shelf.new) }
+    ensures headline { Headline words.now result (I.seen input.old, O.seen out.old, H.seen shelf.old) (I.seen input.new, O.seen out.new, H.seen shelf.new) }
     ensures line { TakesLine (status_line words.now result) (E.seen err.old) (E.seen err.new) }
 {
     let status = answer(alloc, words, input, out, shelf);
@@ -61,7 +60,7 @@ fn answer<I: Source, O: Sink, H: Shelf>(
     shelf: &mut H,
 ) -> Status
     requires { (H.seen shelf.old).mode ≡ Idle }
-    ensures answers { Answers words.now result (devices (I.seen input.old) (O.seen out.old) (H.seen shelf.old)) (devices (I.seen input.new) (O.seen out.new) (H.seen shelf.new)) }
+    ensures answers { Answers words.now result (I.seen input.old, O.seen out.old, H.seen shelf.old) (I.seen input.new, O.seen out.new, H.seen shelf.new) }
     ensures idle { (H.seen shelf.new).mode ≡ Idle }
     ensures location { NamesLocation result }
 {
