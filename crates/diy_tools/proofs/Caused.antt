@@ -30,6 +30,7 @@ use Rattle.diy_tools.specs.declared.status.Status.TheVariants as statuses
 use Rattle.diy_tools.specs.declared.status.Refusal.{Refusal}
 use Rattle.diy_tools.specs.declared.status.TextKind.TheVariants as texts
 use Rattle.diy_tools.specs.declared.status.Device.TheVariants.{Input, Out, Shelf}
+use Rattle.diy_tools.proofs.Opened.{file_opened, file_far, input_far}
 use Rattle.diy_tools.specs.Devices.{Devices, Seen, devices, OutAlone, InputAndOut, ShelfAndOut}
 use Rattle.diy_tools.specs.Refused.{refused_list}
 use Rattle.diy_tools.specs.Statuses.{norm_status, classify_status, listing_status}
@@ -176,7 +177,7 @@ module _ (old new : Devices) where
   files_caused tool log logs (sums.TooMuch None line) status e h = absurd h.both.summed
   files_caused tool log logs (sums.TooMuch (Some file) line) status e h =
       of_status (tool ∷ log ∷ logs) (Ok AsksSum) status (statuses.BadText (Some file) line texts.TooMuch) e
-      (h.both.summed.0.opened, h.both.summed.0.long, (h, record { out = h.both.summed.1; files = h.both.files }))
+      (file_opened old.shelf new.shelf (tool ∷ log ∷ logs) 1 file line h.both.summed.0, file_far old.shelf new.shelf (tool ∷ log ∷ logs) 1 file line h.both.summed.0, (h, record { out = h.both.summed.1; files = h.both.files }))
   files_caused tool log logs (sums.NoFile word) status e h =
       of_status (tool ∷ log ∷ logs) (Ok AsksSum) status (statuses.NoFile word) e
       (h.both.summed.0, (h, record { out = h.both.summed.1; files = h.both.files }))
@@ -197,7 +198,7 @@ module _ (old new : Devices) where
   input_caused words (sums.Wrong (Some file) line kind) status e ends h = absurd h.both
   input_caused words (sums.TooMuch None line) status e ends h =
       of_status words (Ok AsksSum) status (statuses.BadText None line texts.TooMuch) e (
-        counted_far old.input.taken new.input.taken h.both.0.count h.both.0.taken h.both.0.long,
+        input_far old.input new.input [] h.both.0.log h.both.0.bytes line h.both.0.taken h.both.0.is,
         inr (ends h, record { out = h.both.1; files = ap (λ (s : ShelfSeen). s.files) h.shelf }),
       )
   input_caused words (sums.TooMuch (Some file) line) status e ends h = absurd h.both

@@ -41,6 +41,7 @@ use Rattle.diy_tools.specs.declared.status.Status.{Status}
 use Rattle.diy_tools.specs.declared.status.Status.TheVariants as statuses
 use Rattle.diy_tools.specs.declared.status.Refusal.{Refusal}
 use Rattle.diy_tools.specs.declared.status.Device.TheVariants.{Input, Out, Shelf}
+use Rattle.diy_tools.proofs.Opened.{long_taken}
 use Rattle.diy_tools.specs.Devices.{Devices, Seen, devices}
 use Rattle.diy_tools.specs.Refused.{refused_list}
 use Rattle.diy_tools.specs.Statuses.{norm_status, classify_status, listing_status}
@@ -141,25 +142,24 @@ right_wrong logs others error right e h =
     let all : Ok right.text ≡ Err error = sym right.is ∙ (ap logs_text e ∙ h) in cc
 
 -- the log of an input that has at most 2^40 bytes and no fault
-log_wrong : (old : SourceSeen) (error : LogError) → OfItsText old.left IsRightLog → InputWrong old error → ⊥
-log_wrong old error right h = right_wrong (h.log ∷ []) (h.log ∷ []) error (right h.log h.text).right refl (h.is.wrong [])
+log_wrong : (old new : SourceSeen) (error : LogError) → OfItsText old.left IsRightLog → InputWrong old new error → ⊥
+log_wrong old new error right h = right_wrong (h.log ∷ []) (h.log ∷ []) error (right h.log h.text).right refl (h.is.wrong [])
 
 -- a log of at most 2^40 bytes isn't too long
-short_log : (before : List (List ℕ)) (log : List ℕ) (line : ℕ) → IsShort log → IsTooMuch before log line → ⊥
-short_log before log line short h =
+short_log : (before : List (List ℕ)) (log bytes : List ℕ) (line : ℕ) → IsShort log → IsTooMuch before log bytes line → ⊥
+short_log before log bytes line short h =
     let len : length log ≤ 2 ^ 40 = short in
-    let more : 0 < length h.rest = h.more in
-    let full : length h.front ≡ 2 ^ 40 = h.full in
-    omega (arith, ap length h.parts, length-append h.front h.rest)
+    let more : 2 ^ 40 < length bytes = long_taken before log bytes line h in
+    omega (arith, ap length h.up_to.parts, length-append bytes h.up_to.rest)
 
 input_done : (status : Status) (old new : Devices) (end : SumEnd) → NoFaults old new → OfItsText old.input.left IsRightLog → status ≡ sum_status end
     → EndsInput end old new → IsDone (Ok AsksSum) status
 input_done status old new sums.Done none right e h = inl e
 input_done status old new sums.OutFault none right e h = absurd (none.out h.both.wrote.fault)
-input_done status old new (sums.Wrong None line kind) none right e h = absurd (log_wrong old.input _ right h.both.0)
+input_done status old new (sums.Wrong None line kind) none right e h = absurd (log_wrong old.input new.input _ right h.both.0)
 input_done status old new (sums.Wrong (Some file) line kind) none right e h = absurd h.both
 input_done status old new (sums.TooMuch None line) none right e h =
-    absurd (short_log [] h.both.0.log line (right h.both.0.log h.both.0.text).short h.both.0.is)
+    absurd (short_log [] h.both.0.log h.both.0.bytes line (right h.both.0.log h.both.0.text).short h.both.0.is)
 input_done status old new (sums.TooMuch (Some file) line) none right e h = absurd h.both
 input_done status old new (sums.NoFile word) none right e h = absurd h.both
 input_done status old new sums.InputFault none right e h = absurd (none.input h.both.0.fault)
@@ -218,8 +218,8 @@ module _ (words : List (List ℕ)) (files : Files) (right : AreRightLogs files w
             (at_word (length before) inside ∙ sym (slice_get-get_or right.logs (length before) [] inside)),
       )
 
-  files_wrong : (old : ShelfSeen) (place : ℕ) (error : LogError) → old.files ≡ Some files → FileWrong old words 1 place error → ⊥
-  files_wrong old place error e h =
+  files_wrong : (old new : ShelfSeen) (place : ℕ) (error : LogError) → old.files ≡ Some files → FileWrong old new words 1 place error → ⊥
+  files_wrong old new place error e h =
       let spot = word_log old.files place h.before h.name h.place_is in
       let parts = splits h.before right.logs h.log
       (same_logs old.files h.before e h.place_is.are (omega (arith, spot.0)))
@@ -232,7 +232,7 @@ module _ (words : List (List ℕ)) (files : Files) (right : AreRightLogs files w
       let log_at : slice_get right.logs (length h.before) ≡ Some h.log = sym spot.1 ∙ told_log old.files files h.name h.log e h.text in
       let log_is : get_or right.logs (length h.before) [] ≡ h.log = get_or_from_slice_get right.logs (length h.before) h.log [] log_at in
       let short : IsShort (slice_index_or right.logs (length h.before) []) = right.are.short (length h.before) [] spot.0 in
-      short_log h.before h.log line (subst (λ (l : List ℕ). IsShort l) log_is short) h.is
+      short_log h.before h.log h.bytes line (subst (λ (l : List ℕ). IsShort l) log_is short) h.is
 
   file_there : (old new : ShelfSeen) (place : ℕ) → old.files ≡ Some files → FileMissing old new words 1 place → ⊥
   file_there old new place e h =
@@ -252,7 +252,7 @@ module _ (words : List (List ℕ)) (files : Files) (right : AreRightLogs files w
   files_done status old new before after sums.Done told none none_out e h = inl e
   files_done status old new before after sums.OutFault told none none_out e h = absurd (none_out h.wrote.fault)
   files_done status old new before after (sums.Wrong None line kind) told none none_out e h = absurd h
-  files_done status old new before after (sums.Wrong (Some file) line kind) told none none_out e h = absurd (files_wrong old file _ told h.0)
+  files_done status old new before after (sums.Wrong (Some file) line kind) told none none_out e h = absurd (files_wrong old new file _ told h.0)
   files_done status old new before after (sums.TooMuch None line) told none none_out e h = absurd h
   files_done status old new before after (sums.TooMuch (Some file) line) told none none_out e h = absurd (files_long old new file line told h.0)
   files_done status old new before after (sums.NoFile word) told none none_out e h = absurd (file_there old new word told h.0)

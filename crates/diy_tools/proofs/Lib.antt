@@ -7,3 +7,4 @@ pub mod Summed
 pub mod Caused
 pub mod Completed
 pub mod Limits
+pub mod Opened

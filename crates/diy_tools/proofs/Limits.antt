@@ -26,7 +26,7 @@ use Rattle.listed_tests.specs.Ends.{StopsAtTest, StopsAtAll}
 use Rattle.listed_tests.specs.Plans.{IsPlanned, planned_text}
 use Rattle.summed_logs.specs.declared.sum_end.SumEnd.{SumEnd}
 use Rattle.summed_logs.specs.declared.sum_end.SumEnd.TheVariants as sums
-use Rattle.summed_logs.specs.SumEnds.{InputSummed, IsWithin}
+use Rattle.summed_logs.specs.SumEnds.{InputSummed, }
 use Rattle.diy_tools.specs.declared.status.Status.{Status}
 use Rattle.diy_tools.specs.declared.status.Status.TheVariants as statuses
 use Rattle.diy_tools.specs.declared.status.TextKind.{TextKind}
@@ -37,6 +37,7 @@ use Rattle.diy_tools.specs.NameAnswers.{AnswersSought}
 use Rattle.diy_tools.specs.ListAnswers.{EndsAsked, plan_asked}
 use Rattle.diy_tools.specs.SumAnswers.{EndsInput, EndsSum, sum_status}
 use Rattle.diy_tools.specs.Answers.{Answers, AnswersAsked}
+use Rattle.diy_tools.proofs.Opened.{IsWithin, files_within, failed_within}
 use Rattle.diy_tools.specs.Limit.{Limited, StopsReading, TookTooMuch}
 
 -- at most 2^40 bytes were taken of the input, as far as they are counted
@@ -46,8 +47,8 @@ InputWithin old new = count_of new.taken ≤ count_of (old.taken + 2 ^ 40)
 same_input : (old new : SourceSeen) → new ≡ old → InputWithin old new
 same_input old new e = let here : new.taken ≡ old.taken = ap (λ (s : SourceSeen). s.taken) e in omega arith
 
-same_shelf : (old new : ShelfSeen) → new.opened ≡ old.opened → old.opened < new.opened → new.taken ≤ 2 ^ 40
-same_shelf old new e more = absurd (omega arith)
+same_shelf : (old new : ShelfSeen) → new.opened ≡ old.opened → IsWithin old new
+same_shelf old new e = λ more. absurd (omega arith)
 
 counted_within : (a n len : ℕ) → n ≡ count_of (a + len) → len ≤ 2 ^ 40 → count_of n ≤ count_of (a + 2 ^ 40)
 counted_within a n len e few = omega arith
@@ -112,13 +113,16 @@ module _ (old new : Devices) (much : TookTooMuch old new) where
 
   files_limit : (tool log : List ℕ) (logs : List (List ℕ)) (end : SumEnd) (status : Status) → status ≡ sum_status end
       → EndsSum (tool ∷ log ∷ logs) end old new → StopsReading (Ok AsksSum) status
-  files_limit tool log logs sums.Done status e h = absurd (neither (same_input old.input new.input h.input) h.both.summed.read.within)
-  files_limit tool log logs sums.OutFault status e h = absurd (neither (same_input old.input new.input h.input) h.both.summed.read.within)
+  files_limit tool log logs sums.Done status e h = absurd (neither (same_input old.input new.input h.input) (files_within old.shelf new.shelf h.both.summed.read.logs h.both.summed.read.took h.both.summed.read.are.short))
+  files_limit tool log logs sums.OutFault status e h = absurd (neither (same_input old.input new.input h.input) (files_within old.shelf new.shelf h.both.summed.read.logs h.both.summed.read.took h.both.summed.read.are.short))
   files_limit tool log logs (sums.Wrong file line kind) status e h = wrong (Ok AsksSum) status file line (texts.Log kind) e
   files_limit tool log logs (sums.TooMuch file line) status e h = wrong (Ok AsksSum) status file line texts.TooMuch e
-  files_limit tool log logs (sums.NoFile word) status e h = absurd (neither (same_input old.input new.input h.input) h.both.summed.0.within)
+  files_limit tool log logs (sums.NoFile word) status e h =
+      absurd (neither (same_input old.input new.input h.input)
+      (files_within old.shelf new.shelf h.both.summed.0.before h.both.summed.0.took h.both.summed.0.place_is.are.short))
   files_limit tool log logs sums.InputFault status e h = absurd h.both.summed
-  files_limit tool log logs sums.ShelfFault status e h = absurd (neither (same_input old.input new.input h.input) h.both.summed.0.within)
+  files_limit tool log logs sums.ShelfFault status e h =
+      absurd (neither (same_input old.input new.input h.input) (failed_within old.shelf new.shelf (tool ∷ log ∷ logs) 1 h.both.summed.0))
   files_limit tool log logs sums.NoMemory status e h = subst (λ (s : Status). StopsReading (Ok AsksSum) s) (sym e) tt
 
   input_limit : (end : SumEnd) (status : Status) → status ≡ sum_status end → EndsInput end old new → StopsReading (Ok AsksSum) status
@@ -131,7 +135,7 @@ module _ (old new : Devices) (much : TookTooMuch old new) where
       of_end (sums.Wrong file line kind) e n shelf = wrong (Ok AsksSum) status file line (texts.Log kind) e
       of_end (sums.TooMuch file line) e n shelf = wrong (Ok AsksSum) status file line texts.TooMuch e
       of_end (sums.NoFile word) e n shelf = absurd n
-      of_end sums.InputFault e n shelf = absurd (neither (kept_within old.input.taken new.input.taken n.0.count n.0.taken n.0.short) shelf)
+      of_end sums.InputFault e n shelf = absurd (neither (kept_within old.input.taken new.input.taken (length n.0.bytes) n.0.taken n.0.short) shelf)
       of_end sums.ShelfFault e n shelf = absurd n
       of_end sums.NoMemory e n shelf = subst (λ (s : Status). StopsReading (Ok AsksSum) s) (sym e) tt
 

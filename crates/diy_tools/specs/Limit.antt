@@ -13,7 +13,7 @@ use Rattle.diy_tools.specs.Memory.{MayWantMemory}
 abbrev pub TookTooMuch : Devices → Devices → Type 0
 TookTooMuch old new =
     (count_of (old.input.taken + 2 ^ 40) < count_of new.input.taken)
-    ⊎ ((old.shelf.opened < new.shelf.opened) × (2 ^ 40 < new.shelf.taken))
+    ⊎ ((count_of old.shelf.opened < count_of new.shelf.opened) × (2 ^ 40 < new.shelf.taken))
 
 -- a text is wrong; or there is no memory, where the tool may want it
 abbrev pub StopsReading : Result Asked Usage → Status → Type 0
