@@ -53,9 +53,6 @@ same_devices old new input out shelf =
 rose_far : (old new taken : ℕ) → new ≡ count_of (old + taken) → 2 ^ 40 < taken → RoseFar old new
 rose_far old new taken e far = omega arith
 
-counted_far : (old new taken : ℕ) → count_of new ≡ count_of (old + taken) → 2 ^ 40 < taken → RoseFar old new
-counted_far old new taken e far = omega arith
-
 -- a text is printed, whole or in part
 pub by_print : (G : Status → Type 0) (text : List ℕ) (status : Status) (before after : SinkSeen) → Prints text status before after
     → (WroteAll before after text → G statuses.Done) → (WrotePart before after text → G (statuses.WriteFault Out)) → G status
@@ -150,7 +147,7 @@ module _ (old new : Devices) where
       (listing_failed asked old.shelf new.shelf old.out new.out h, record { input = input; both = h })
 
   families_caused : (words : List (List ℕ)) (arch : ArchName) (result : Result (Unit {0}) ClassifyError) (status : Status) → new.shelf ≡ old.shelf
-      → status ≡ classify_status result → Classifies (λ (sink : SinkSeen). sink) arch old.input new.input old.out new.out result
+      → status ≡ classify_status result → Classifies arch old.input new.input old.out new.out result
       → CausesAsked words (Ok (AsksFamilies arch)) status old new
   families_caused words arch (Ok x) status shelf e h = of_status words (Ok (AsksFamilies arch)) status statuses.Done e (record { shelf = shelf; both = h })
   families_caused words arch (Err classifies.OutFault) status shelf e h =

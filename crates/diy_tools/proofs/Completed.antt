@@ -129,7 +129,7 @@ list_done asked listings.ShelfFault status old new none e h = absurd (none.shelf
 
 families_done : (arch : ArchName) (result : Result (Unit {0}) ClassifyError) (status : Status) (old new : Devices) → NoFaults old new
     → OfItsText old.input.left (IsSoundText arch) → status ≡ classify_status result
-    → Classifies (λ (sink : SinkSeen). sink) arch old.input new.input old.out new.out result → IsDone (Ok (AsksFamilies arch)) status
+    → Classifies arch old.input new.input old.out new.out result → IsDone (Ok (AsksFamilies arch)) status
 families_done arch (Ok x) status old new none sound e h = inl e
 families_done arch (Err classifies.OutFault) status old new none sound e h = absurd (none.out h.wrote.fault)
 families_done arch (Err (classifies.Lines error)) status old new none sound e h =

@@ -2,7 +2,6 @@ pub mod Reported
 pub mod Running
 pub mod Forced
 pub mod Listed
-pub mod Classed
 pub mod Summed
 pub mod Caused
 pub mod Completed

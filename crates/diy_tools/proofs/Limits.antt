@@ -101,7 +101,7 @@ module _ (old new : Devices) (much : TookTooMuch old new) where
 
   families_limit : (arch : ArchName) (result : Result (Unit {0}) ClassifyError) (status : Status)
       → IsWithin old.shelf new.shelf → status ≡ classify_status result
-      → Classifies (λ (sink : SinkSeen). sink) arch old.input new.input old.out new.out result → StopsReading (Ok (AsksFamilies arch)) status
+      → Classifies arch old.input new.input old.out new.out result → StopsReading (Ok (AsksFamilies arch)) status
   families_limit arch (Ok x) status shelf e h = absurd (neither (upto_within old.input new.input h.read.text (inl h.read.took) h.read.few) shelf)
   families_limit arch (Err classifies.OutFault) status shelf e h =
       absurd (neither (upto_within old.input new.input h.read.text (inl h.read.took) h.read.few) shelf)

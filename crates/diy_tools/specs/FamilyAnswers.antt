@@ -12,5 +12,5 @@ use Rattle.diy_tools.specs.Statuses.{classify_status}
 -- the names of the cycles of the input's lines are written by their families, or there is a reason why they can't be
 pub record AnswersFamilies (arch : ArchName) (status : Status) (old new : SourceSeen) (before after : SinkSeen) : Type 0 where
   pub result : Result (Unit {0}) ClassifyError
-  pub classifies : Classifies (λ (sink : SinkSeen). sink) arch old new before after result
+  pub classifies : Classifies arch old new before after result
   pub status_is : status ≡ classify_status result
