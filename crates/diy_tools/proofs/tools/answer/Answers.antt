@@ -4,7 +4,7 @@ use Rattle.diy_words.specs.Given.{Gives}
 use Rattle.diy_words.specs.Requests.{asked_of}
 use Rattle.diy_io.specs.Taken.{source_seen}
 use Rattle.diy_io.specs.Wrote.{sink_seen}
-use Rattle.diy_tools.proofs.Running.{name_answered, families_answered}
+use Rattle.diy_tools.proofs.Running.{name_answered}
 use Rattle.diy_tools.proofs.tools.answer.Goals as goal
 
 pub returns-in-Ok-Name-clause-answers : goal.returns-in-Ok-Name-clause-answers
