@@ -1,9 +1,8 @@
 -- The cause of a status, and which tools may want memory, from what is answered.
-use Rattle.std.proofs.Common.{◌≡◌, ◌≤◌, ◌<◌, ◌+◌, ◌^◌, ℕ, List, [], ◌∷◌, length, Option, Some, None, Ok, Err, refl, sym, ap, subst, arith, inl, inr, ◌∙◌}
+use Rattle.std.proofs.Common.{◌≡◌, ◌<◌, ◌+◌, ◌^◌, ℕ, List, [], ◌∷◌, length, Option, Some, None, Ok, Err, refl, sym, ap, subst, arith, inl, inr, ◌∙◌}
 use Rattle.std.specs.Prelude.{Result, ◌⊎◌}
 use Rattle.relax_edges.specs.declared.edge.Edge.{Edge}
 use Rattle.relax_edges.specs.declared.kinds.ArchName.{ArchName}
-use Rattle.cycle_lines.specs.declared.errors.LinesError.{LinesError}
 use Rattle.cycle_lines.specs.declared.errors.LinesError.TheVariants as lines
 use Rattle.cycle_lines.specs.declared.errors.NormError.{NormError}
 use Rattle.cycle_lines.specs.declared.errors.NormError.TheVariants as norms
@@ -31,17 +30,17 @@ use Rattle.diy_tools.specs.declared.status.Refusal.{Refusal}
 use Rattle.diy_tools.specs.declared.status.TextKind.TheVariants as texts
 use Rattle.diy_tools.specs.declared.status.Device.TheVariants.{Input, Out, Shelf}
 use Rattle.diy_tools.proofs.Opened.{file_opened, file_far, input_far}
-use Rattle.diy_tools.specs.Devices.{Devices, Seen, devices, OutAlone, InputAndOut, ShelfAndOut}
+use Rattle.diy_tools.specs.Devices.{Devices, Seen, devices}
 use Rattle.diy_tools.specs.Refused.{refused_list}
 use Rattle.diy_tools.specs.Statuses.{norm_status, classify_status, listing_status}
 use Rattle.diy_tools.specs.Printing.{AnswersEdges, Prints}
-use Rattle.diy_tools.specs.TestAnswers.{AnswersTest, asked_text, test_refused}
-use Rattle.diy_tools.specs.NameAnswers.{AnswersName, AnswersSought, PrintsNamed}
+use Rattle.diy_tools.specs.TestAnswers.{asked_text, test_refused}
+use Rattle.diy_tools.specs.NameAnswers.{AnswersName, AnswersSought}
 use Rattle.diy_tools.specs.ListAnswers.{EndsAsked, plan_asked}
 use Rattle.diy_tools.specs.SumAnswers.{EndsInput, EndsSum, sum_status}
 use Rattle.diy_tools.specs.Answers.{Answers, AnswersAsked}
-use Rattle.diy_tools.specs.Memory.{MayWantMemory, NeverWantsMemory}
-use Rattle.diy_tools.specs.Causes.{Causes, CausesAsked, NothingWritten, RoseFar}
+use Rattle.diy_tools.specs.Memory.{NeverWantsMemory}
+use Rattle.diy_tools.specs.Causes.{Causes, CausesAsked, RoseFar}
 
 -- devices that are the same one by one are the same
 same_devices : (old new : Devices) → new.input ≡ old.input → new.out ≡ old.out → new.shelf ≡ old.shelf → new ≡ old

@@ -1,7 +1,7 @@
 -- That what can be done is done, from what is answered.
-use Rattle.std.proofs.Common.{◌≡◌, ◌≤◌, ◌<◌, ◌+◌, ◌^◌, ◌++◌, ℕ, zero, suc, Bool, true, false, List, [], ◌∷◌, length, get_or, Option}
+use Rattle.std.proofs.Common.{◌≡◌, ◌≤◌, ◌<◌, ◌+◌, ◌^◌, ◌++◌, ℕ, suc, Bool, true, List, [], ◌∷◌, length, get_or, Option}
 use Rattle.std.proofs.Common.{Some, None, Ok, Err, refl, sym, ap, subst, arith, inl, inr, ◌∙◌, length-append}
-use Rattle.std.specs.Prelude.{Result, ◌⊎◌, MatchOption, slice_get, slice_index_or, unwrap_or, is_ok, All, ◌&&◌}
+use Rattle.std.specs.Prelude.{Result, MatchOption, slice_get, slice_index_or, unwrap_or, is_ok}
 use Rattle.std.specs.List.{list_all}
 use Rattle.std.specs.Result.{result_err}
 use Rattle.std.specs.Io.KnownBytes.{Consumes}
@@ -18,13 +18,12 @@ use Rattle.cycle_lines.specs.declared.errors.ClassifyError.{ClassifyError}
 use Rattle.cycle_lines.specs.declared.errors.ClassifyError.TheVariants as classifies
 use Rattle.cycle_lines.specs.Classified.{Classifies}
 use Rattle.cycle_lines.specs.Cycles.{is_sound, line_said}
-use Rattle.cycle_lines.specs.Lines.{lines_of}
 use Rattle.cycle_lines.specs.Normed.{Norms, name_line}
 use Rattle.cycle_lines.specs.Reading.{ReadUpTo, ReadToFault, ReadToLimit, whole_of}
 use Rattle.diy_io.specs.declared.source.TheConstants.{MAX_INPUT}
 use Rattle.diy_io.specs.Count.{Rose}
 use Rattle.diy_io.specs.Shelf.{Files, ShelfSeen}
-use Rattle.diy_io.specs.Taken.{SourceSeen, Took}
+use Rattle.diy_io.specs.Taken.{SourceSeen}
 use Rattle.diy_io.specs.Wrote.{SinkSeen}
 use Rattle.diy_words.specs.declared.usage.Usage.{Usage}
 use Rattle.diy_words.specs.Requests.{Asked, ListAsked, Sought, asked_of}
@@ -35,12 +34,10 @@ use Rattle.log_sum.specs.declared.errors.LogError.{LogError}
 use Rattle.log_sum.specs.Standing.{logs_text}
 use Rattle.summed_logs.specs.declared.sum_end.SumEnd.{SumEnd}
 use Rattle.summed_logs.specs.declared.sum_end.SumEnd.TheVariants as sums
-use Rattle.summed_logs.specs.Logs.{IsText, IsShort, IsWrong, IsTooMuch, AreRight}
-use Rattle.summed_logs.specs.SumEnds.{IsLog, AreLogs, IsAtWord, InputSummed, FilesSummed, InputWrong, FileWrong, FileTooMuch, FileMissing}
+use Rattle.summed_logs.specs.Logs.{IsText, IsShort, IsTooMuch, AreRight}
+use Rattle.summed_logs.specs.SumEnds.{IsLog, AreLogs, IsAtWord, FilesSummed, InputWrong, FileWrong, FileTooMuch, FileMissing}
 use Rattle.diy_tools.specs.declared.status.Status.{Status}
-use Rattle.diy_tools.specs.declared.status.Status.TheVariants as statuses
 use Rattle.diy_tools.specs.declared.status.Refusal.{Refusal}
-use Rattle.diy_tools.specs.declared.status.Device.TheVariants.{Input, Out, Shelf}
 use Rattle.diy_tools.proofs.Opened.{long_taken}
 use Rattle.diy_tools.specs.Devices.{Devices, Seen, devices}
 use Rattle.diy_tools.specs.Refused.{refused_list}

@@ -1,9 +1,8 @@
 -- What is answered after more than 2^40 bytes, from what is answered.
-use Rattle.std.proofs.Common.{◌≡◌, ◌≤◌, ◌<◌, ◌+◌, ◌^◌, ℕ, List, [], ◌∷◌, length, Option, Some, None, Ok, Err, refl, sym, ap, subst, arith, inl, inr}
+use Rattle.std.proofs.Common.{◌≡◌, ◌≤◌, ◌<◌, ◌+◌, ◌^◌, ℕ, List, [], ◌∷◌, length, Option, None, Ok, Err, sym, ap, subst, arith, inl, inr}
 use Rattle.std.specs.Prelude.{Result, ◌⊎◌}
 use Rattle.relax_edges.specs.declared.edge.Edge.{Edge}
 use Rattle.relax_edges.specs.declared.kinds.ArchName.{ArchName}
-use Rattle.cycle_lines.specs.declared.errors.LinesError.{LinesError}
 use Rattle.cycle_lines.specs.declared.errors.LinesError.TheVariants as lines
 use Rattle.cycle_lines.specs.declared.errors.NormError.{NormError}
 use Rattle.cycle_lines.specs.declared.errors.NormError.TheVariants as norms

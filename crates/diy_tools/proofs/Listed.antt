@@ -1,5 +1,5 @@
 -- What a listing leaves, as the answers see it.
-use Rattle.std.proofs.Common.{◌≡◌, Option, refl, sym, ap, subst}
+use Rattle.std.proofs.Common.{◌≡◌, Option, sym, ap, subst}
 use Rattle.relax_edges.specs.declared.edge.Edge.{Edge}
 use Rattle.relax_edges.specs.declared.kinds.ArchName.{ArchName}
 use Rattle.diy_io.specs.Shelf.{ShelfSeen}

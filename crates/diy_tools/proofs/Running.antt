@@ -1,6 +1,6 @@
 -- What `run` answers, from what its parts answer.
-use Rattle.std.proofs.Common.{◌≡◌, ◌≤◌, ℕ, Bool, true, false, not, nat_lt, nat_le, List, [], ◌∷◌, ◌++◌, length, Option, Some, None, refl, sym, ap, subst, arith, Ok, Err, inl, inr}
-use Rattle.std.specs.Prelude.{Result, OnOk, OnErr, cond, if◌then◌else◌}
+use Rattle.std.proofs.Common.{◌≡◌, ℕ, Bool, true, false, not, nat_lt, nat_le, List, [], ◌∷◌, ◌++◌, length, Option, Some, None, refl, sym, ap, subst, arith, Ok, Err}
+use Rattle.std.specs.Prelude.{Result, cond, if◌then◌else◌}
 use Rattle.std.specs.List.{position_from}
 use Rattle.std.specs.Option.{option_or}
 use Rattle.std.proofs.lemmas.Bool.Decides.{nat_tests}
@@ -13,8 +13,6 @@ use Rattle.edge_algebra.specs.declared.errors.CycleError.TheVariants as composin
 use Rattle.edge_algebra.specs.Compose.{composed, unbroken}
 use Rattle.walk_laws.specs.Composable.{first_break}
 use Rattle.diy_io.specs.declared.errors.Failed.{Failed}
-use Rattle.diy_io.specs.Count.{Rose}
-use Rattle.diy_io.specs.Sink.{Told, Grew, GrewByPrefix}
 use Rattle.diy_io.specs.Wrote.{SinkSeen}
 use Rattle.edge_lists.specs.declared.list.EdgeList.{EdgeList}
 use Rattle.edge_lists.specs.declared.list.EdgeList.TheVariants.{Whole, TooLong}

@@ -1,5 +1,5 @@
 -- What is answered of a sum, by where its logs are.
-use Rattle.std.proofs.Common.{◌≡◌, ◌<◌, ◌≤◌, ℕ, List, [], ◌∷◌, length, refl, arith}
+use Rattle.std.proofs.Common.{◌<◌, ◌≤◌, ℕ, List, [], ◌∷◌, length, refl, arith}
 use Rattle.diy_io.specs.Shelf.{ShelfSeen}
 use Rattle.diy_io.specs.Taken.{SourceSeen}
 use Rattle.diy_io.specs.Wrote.{SinkSeen}

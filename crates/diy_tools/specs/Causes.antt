@@ -1,6 +1,6 @@
 -- Why a call ends with its status, and what then stands on the devices: one cause for each status.
 -- Source: own.
-use Rattle.std.specs.Prelude.{◌≡◌, ◌≤◌, ◌<◌, ◌+◌, ◌^◌, ◌⊎◌, ℕ, List, ◌∷◌, Option, Some, None, Result, Ok, Err}
+use Rattle.std.specs.Prelude.{◌≡◌, ◌≤◌, ◌<◌, ◌+◌, ◌^◌, ◌⊎◌, ℕ, List, Option, Some, None, Result, Ok, Err}
 use Rattle.relax_edges.specs.declared.kinds.ArchName.{ArchName}
 use Rattle.cycle_names.specs.Laws.{NamesNone}
 use Rattle.cycle_lines.specs.declared.errors.LinesError.{LinesError}

@@ -1,6 +1,6 @@
 -- The statuses that the ends of the tools' work give.
 -- Source: own.
-use Rattle.std.specs.Prelude.{Option, Some, None, Result, Ok, Err}
+use Rattle.std.specs.Prelude.{None, Result, Ok, Err}
 use Rattle.cycle_lines.specs.declared.errors.LinesError.{LinesError}
 use Rattle.cycle_lines.specs.declared.errors.LinesError.TheVariants as lines
 use Rattle.cycle_lines.specs.declared.errors.NormError.{NormError}
