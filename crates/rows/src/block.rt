@@ -5,7 +5,9 @@ pub enum Keyword {
     Text,
     /// Begins a row, with its name.
     Row,
-    /// A word of the call. Bytes below are of the word too.
+    /// Words of the call, with one blank between.
+    Words,
+    /// A word of the call, which may have blanks or be empty. Bytes below are of the word too.
     Word,
     /// The input is read as a test, of this architecture or of the one that its header names.
     Read,
@@ -52,6 +54,7 @@ impl Keyword {
         match word {
             "text" => Some(Keyword::Text),
             "row" => Some(Keyword::Row),
+            "words" => Some(Keyword::Words),
             "word" => Some(Keyword::Word),
             "read" => Some(Keyword::Read),
             "input" => Some(Keyword::Input),

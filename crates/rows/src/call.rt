@@ -37,11 +37,21 @@ pub fn call_parts(
 fn words_of(alloc: Global, row: &[Block]) -> Result<Words, TableError> {
     let mut words = Words::new(alloc);
     for block in row {
-        if block.keyword == Keyword::Word {
-            add_word(alloc, block, &mut words)?;
+        match block.keyword {
+            Keyword::Words => add_words(block, &mut words)?,
+            Keyword::Word => add_word(alloc, block, &mut words)?,
+            _ => {}
         }
     }
     Ok(words)
+}
+
+/// Adds words that blanks part.
+fn add_words(block: &Block, words: &mut Words) -> Result<(), TableError> {
+    for word in block.argument.as_str().split(' ') {
+        words.push(word)?;
+    }
+    Ok(())
 }
 
 /// Adds a word, which is an argument and the bytes below it.
