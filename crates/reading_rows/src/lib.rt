@@ -1,15 +1,9 @@
-//! Rows of reading: texts of tests and what they are read as, worked out by hand. Tests alone.
+//! A slow reading of tests, and that the reader finds the same faults. Tests alone.
 #![tactic(auto)]
 
 #[cfg(test)]
 mod fault;
 #[cfg(test)]
-mod fronts;
-#[cfg(test)]
-mod labels;
-#[cfg(test)]
-mod limits;
-#[cfg(test)]
-mod readings;
+mod prefixes;
 #[cfg(test)]
 mod slow;

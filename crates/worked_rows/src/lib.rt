@@ -1,15 +1,5 @@
-//! The worked rows: what the tools write for words that were worked out by hand. Tests alone.
+//! Worked rows that need a call below the tools'; the others stand in the table of `rows`. Tests alone.
 #![tactic(auto)]
 
 #[cfg(test)]
-mod diyone;
-#[cfg(test)]
-mod lines;
-#[cfg(test)]
-mod listings;
-#[cfg(test)]
-mod logs;
-#[cfg(test)]
-mod ran;
-#[cfg(test)]
-mod reading;
+mod machine;

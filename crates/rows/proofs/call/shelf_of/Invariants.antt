@@ -1,0 +1,6 @@
+use Rattle.std.proofs.Common.{◌≡◌}
+use Rattle.diy_io.specs.Shelf.{Idle}
+use Rattle.rows.proofs.call.shelf_of.Given as goal
+
+abbrev pub invariant-loop-block : goal.invariant-loop-block
+invariant-loop-block l = l.shelf.mode ≡ Idle

@@ -1,0 +1,131 @@
+/// The word that a line of a table begins with, where it begins with none of the marks of bytes.
+#[derive(Clone, Copy, Debug, PartialEq, Eq)]
+pub enum Keyword {
+    /// Names a text, for lines `=NAME` below.
+    Text,
+    /// Begins a row, with its name.
+    Row,
+    /// Words of the call, with one blank between.
+    Words,
+    /// A word of the call, which may have blanks or be empty. Bytes below are of the word too.
+    Word,
+    /// The input is read as a test, of this architecture or of the one that its header names.
+    Read,
+    /// The bytes of the input.
+    Input,
+    /// The most bytes that the input gives in a call.
+    Piece,
+    /// The numbers of the input's calls that fail.
+    FailInput,
+    /// The numbers of the shelf's calls that fail.
+    FailShelf,
+    /// How many bytes the output takes.
+    RoomOut,
+    /// How many bytes standard error takes.
+    RoomErr,
+    /// How many bytes the shelf takes.
+    RoomShelf,
+    /// How many new names the shelf takes; if it isn't said, as many as files are wanted.
+    Names,
+    /// A file on the shelf before the call. It is wanted as it was, unless the row says otherwise.
+    File,
+    /// The row stands for a call for each length from the first number to the last: the output has so
+    /// much room and takes the prefix of so many bytes, or the prefix of the input is read.
+    Prefixes,
+    /// The wanted exit status, and the status with its fields.
+    Status,
+    /// The wanted output.
+    Out,
+    /// The wanted bytes on standard error.
+    Err,
+    /// What the input is to hold after the call.
+    Left,
+    /// A file that is wanted on the shelf after the call.
+    Wanted,
+    /// A file that isn't to be on the shelf after the call.
+    Absent,
+    /// How many bytes and line feeds a sink that counts is to have counted.
+    Tally,
+}
+
+impl Keyword {
+    /// The keyword that a word is.
+    pub fn of(word: &str) -> Option<Keyword> {
+        match word {
+            "text" => Some(Keyword::Text),
+            "row" => Some(Keyword::Row),
+            "words" => Some(Keyword::Words),
+            "word" => Some(Keyword::Word),
+            "read" => Some(Keyword::Read),
+            "input" => Some(Keyword::Input),
+            "piece" => Some(Keyword::Piece),
+            "fail-input" => Some(Keyword::FailInput),
+            "fail-shelf" => Some(Keyword::FailShelf),
+            "room-out" => Some(Keyword::RoomOut),
+            "room-err" => Some(Keyword::RoomErr),
+            "room-shelf" => Some(Keyword::RoomShelf),
+            "names" => Some(Keyword::Names),
+            "file" => Some(Keyword::File),
+            "prefixes" => Some(Keyword::Prefixes),
+            "status" => Some(Keyword::Status),
+            "out" => Some(Keyword::Out),
+            "err" => Some(Keyword::Err),
+            "left" => Some(Keyword::Left),
+            "wanted" => Some(Keyword::Wanted),
+            "absent" => Some(Keyword::Absent),
+            "tally" => Some(Keyword::Tally),
+            _ => None,
+        }
+    }
+
+    /// Whether lines of bytes may stand below it.
+    pub fn takes_bytes(self) -> bool {
+        matches!(
+            self,
+            Keyword::Text
+                | Keyword::Word
+                | Keyword::Input
+                | Keyword::File
+                | Keyword::Out
+                | Keyword::Err
+                | Keyword::Left
+                | Keyword::Wanted
+        )
+    }
+}
+
+/// A line of a table with a keyword, and the bytes that stand in the lines below it.
+#[derive(Debug, Drop)]
+pub struct Block {
+    pub keyword: Keyword,
+    pub argument: String,
+    pub bytes: Vec<u8>,
+}
+
+/// The first block with a keyword.
+pub fn first(blocks: &[Block], keyword: Keyword) -> Option<&Block> {
+    for block in blocks {
+        if block.keyword == keyword {
+            return Some(block);
+        }
+    }
+    None
+}
+
+/// The first block with a keyword and an argument.
+pub fn named<'a>(blocks: &'a [Block], keyword: Keyword, name: &str) -> Option<&'a Block> {
+    for block in blocks {
+        if block.keyword == keyword && block.argument.as_str() == name {
+            return Some(block);
+        }
+    }
+    None
+}
+
+/// The bytes of the first block with a keyword, none where there is no such block.
+pub fn bytes_of(blocks: &[Block], keyword: Keyword) -> &[u8] {
+    match first(blocks, keyword) {
+        Some(block) => block.bytes.as_slice(),
+        None => b"",
+    }
+}

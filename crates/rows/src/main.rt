@@ -1,0 +1,122 @@
+//! Reads a table of rows from standard input, runs each row over the devices in memory, and prints a
+//! line for each and their sum. What a table holds is said at `Keyword` and at `read_table`.
+//!
+//! The exit status is 1 where a row differs from what it wants, and 2 where the table is faulty.
+#![tactic(auto)]
+
+ghost use Rattle.std.specs.Prelude.{◌<◌, ◌≤◌, length};
+
+mod arguments;
+mod block;
+mod call;
+mod errors;
+mod part;
+mod read_all;
+mod reading;
+mod report;
+mod table;
+
+use crate::block::{Block, Keyword};
+use crate::errors::TableError;
+use crate::read_all::read_all;
+use crate::report::{name_of, try_row};
+use crate::table::read_table;
+use diy_io::{Sink, StdSink, StdSource};
+use std::alloc::Global;
+use std::process::ExitCode;
+use std::str;
+
+/// How many rows there are, and how many of them differ.
+#[derive(Clone, Copy, Debug)]
+struct Counts {
+    rows: u64,
+    differing: u64,
+}
+
+/// Where the row ends that begins at a place: at the next row or named text, or at the end.
+fn row_end(blocks: &[Block], start: usize) -> usize
+    requires { start < length blocks.now }
+    ensures after { start ≤ result }
+    ensures within { result ≤ length blocks.now }
+{
+    for end in start + 1..blocks.len() {
+        if matches!(blocks[end].keyword, Keyword::Row | Keyword::Text) {
+            return end;
+        }
+    }
+    blocks.len()
+}
+
+/// Tries each row of a table.
+fn try_rows(alloc: Global, blocks: &[Block], page: &mut Vec<u8>) -> Result<Counts, TableError> {
+    let mut counts = Counts {
+        rows: 0,
+        differing: 0,
+    };
+    for start in 0..blocks.len() {
+        if blocks[start].keyword == Keyword::Row {
+            let row = &blocks[start..row_end(blocks, start)];
+            let is_met = try_named(alloc, row, page)?;
+            counts.rows = counts.rows.saturating_add(1);
+            if !is_met {
+                counts.differing = counts.differing.saturating_add(1);
+            }
+        }
+    }
+    Ok(counts)
+}
+
+/// Tries a row. The page names one that is faulty.
+fn try_named(alloc: Global, row: &[Block], page: &mut Vec<u8>) -> Result<bool, TableError> {
+    match try_row(alloc, row, page) {
+        Err(TableError::BadRow) => {
+            page.extend_from_slice(b"faulty ")?;
+            page.extend_from_slice(name_of(row).as_bytes())?;
+            page.push(b'\n')?;
+            Err(TableError::BadRow)
+        }
+        answer => answer,
+    }
+}
+
+/// Tries the table of a text, and adds the sum to the page.
+fn try_table(alloc: Global, text: &[u8], page: &mut Vec<u8>) -> Result<Counts, TableError> {
+    let text = str::from_utf8(text).ok().ok_or(TableError::BadLine(0))?;
+    let blocks = read_table(alloc, text)?;
+    let counts = try_rows(alloc, blocks.as_slice(), page)?;
+    let rows = counts.rows;
+    let differing = counts.differing;
+    let sum = format!(in alloc; "{rows} rows, {differing} differ\n")?;
+    page.extend_from_slice(sum.as_str().as_bytes())?;
+    Ok(counts)
+}
+
+/// Reads and tries the table, and prints the page, also where the table is faulty.
+fn tried(rt: &HostRuntime) -> Result<Counts, TableError> {
+    let text = read_all(rt.alloc(), &mut StdSource::new(rt.stdin()))?;
+    let mut page = Vec::new(rt.alloc());
+    let answer = try_table(rt.alloc(), text.as_slice(), &mut page);
+    match StdSink::new(rt.stdout()).write_all(page.as_slice()) {
+        Ok(()) => answer,
+        Err(_) => Err(TableError::BadRow),
+    }
+}
+
+fn main(rt: HostRuntime) -> ExitCode {
+    match tried(&rt) {
+        Ok(counts) if counts.differing == 0 => ExitCode::from(0),
+        Ok(_) => ExitCode::from(1),
+        Err(TableError::BadLine(number)) => {
+            let _ = eprintln!(rt; "rows: line {number} is faulty");
+            ExitCode::from(2)
+        }
+        Err(TableError::BadRow) => {
+            let _ = rt.eprintln("rows: a row is faulty");
+            ExitCode::from(2)
+        }
+        Err(TableError::NoMemory) => {
+            let _ = rt.eprintln("rows: no memory");
+            ExitCode::from(2)
+        }
+    }
+}
