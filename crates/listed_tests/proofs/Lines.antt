@@ -3,9 +3,10 @@ use Rattle.std.proofs.Common.{◌≡◌, ◌<◌, ◌^◌, ℕ, suc, ◌+◌, Li
 use Rattle.std.proofs.lemmas.List.{map-append}
 use Rattle.std.proofs.lemmas.List.Concat.{flat_map-append}
 use Rattle.std.specs.Prelude.{codes}
+use Rattle.std.specs.Fmt.{decimal}
 use Rattle.std.specs.List.{enumerate_from, flat_map}
 use Rattle.relax_edges.specs.declared.edge.Edge.{Edge}
-use Rattle.listed_tests.specs.Files.{number_of, file_named, file_of, path_of, file_lines, test_files}
+use Rattle.listed_tests.specs.Files.{number_of, file_named, file_of, path_of, file_lines, test_files, count_line}
 
 enumerate_from-append : {X : Type 0} (n : ℕ) (xs ys : List X) → enumerate_from n (xs ++ ys) ≡ enumerate_from n xs ++ enumerate_from (n + length xs) ys
 enumerate_from-append n [] ys = ap (λ k. enumerate_from k ys) (sym (add-zero n))
@@ -67,3 +68,13 @@ lines_counted m n (u ∷ us) h =
 
 pub counted_itself : (n : ℕ) → n < 2 ^ 128 → number_of n ≡ n
 counted_itself n h = omega arith
+
+-- the line on how many tests there are, built of its parts
+pub count_built : (n : ℕ) (a b c d digits : List ℕ) → n < 2 ^ 128 → a ≡ [] → b ≡ a ++ codes "Generator produced " → digits ≡ decimal n → c ≡ b ++ digits
+    → d ≡ c ++ codes " tests\n" → d ≡ count_line n
+count_built n a b c d digits small none first text second third =
+    third
+    ∙ ap (λ t. t ++ codes " tests\n")
+    (second
+    ∙ (ap (λ t. t ++ digits) (first ∙ ap (λ t. t ++ codes "Generator produced ") none)
+    ∙ ap (λ t. codes "Generator produced " ++ t) (text ∙ ap decimal (sym (counted_itself n small)))))

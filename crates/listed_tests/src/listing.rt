@@ -28,8 +28,8 @@ use edge_algebra::Cycle;
 use itoa::Buffer;
 use relax_edges::{Edge, ObsMode, Relaxes};
 
-/// The most bytes of the line on how many tests there are, whose number has at most 39 digits.
-const MAX_COUNT_LINE: usize = 65;
+/// Room for the line on how many tests there are, whose number has at most 39 digits.
+const MAX_COUNT_LINE: usize = 80;
 
 /// A listing: which cycles have a test in it, and where the files of the tests lie.
 #[derive(Drop)]

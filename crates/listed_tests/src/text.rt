@@ -1,6 +1,5 @@
 ghost use Rattle.std.specs.Prelude.{◌≡◌, ◌<◌, []};
 ghost use Rattle.arrayvec.specs.ArrayVec.{array_vec_len};
-ghost use Rattle.listed_tests.specs.Texts.{text_seen};
 ghost use Rattle.listed_tests.specs.declared.text.TheConstants.{TEXT_ROOM};
 
 use arrayvec::ArrayVec;
@@ -45,6 +44,8 @@ impl TestText {
 
 #[tactic(auto, using(diy_io::specs::SinkLaws::written_grew, diy_io::specs::SinkLaws::written_stopped))]
 impl Sink for TestText {
+    ghost use Rattle.listed_tests.specs.Texts.{text_seen};
+
     ghost seen = { text_seen };
 
     fn write_all(&mut self, bytes: &[u8]) -> Result<(), Failed> {
