@@ -1,5 +1,5 @@
 -- What was opened and taken of logs, as far as it is counted.
-use Rattle.std.proofs.Common.{◌≡◌, ◌≤◌, ◌<◌, ◌+◌, ◌^◌, ℕ, List, [], ◌∷◌, ◌++◌, length, All, suc, refl, sym, ap, ◌∙◌, subst, arith, absurd, inl, inr, length-append}
+use Rattle.std.proofs.Common.{◌≡◌, ◌≤◌, ◌<◌, ◌+◌, ◌^◌, ℕ, List, [], ◌∷◌, ◌++◌, length, All, suc, refl, sym, ap, ◌∙◌, arith, inl, inr, length-append}
 use Rattle.std.specs.Prelude.{◌⊎◌}
 use Rattle.diy_io.specs.Count.{count_of, Rose}
 use Rattle.diy_io.specs.Shelf.{ShelfSeen}
@@ -22,8 +22,9 @@ last_within taken (x ∷ xs) few short = last_within (length x) xs (short 0 [] (
 
 -- logs of at most 2^40 bytes
 pub files_within : (old new : ShelfSeen) (logs : List (List ℕ)) → TookFiles old new logs → All IsShort logs → IsWithin old new
-files_within old new [] took short more = let same : count_of new.opened ≡ count_of (old.opened + 0) = took.opened in absurd (omega arith)
-files_within old new (x ∷ xs) took short more =
+files_within old new [] took short = λ more.
+    let same : count_of new.opened ≡ count_of (old.opened + 0) = took.opened in absurd (omega arith)
+files_within old new (x ∷ xs) took short = λ more.
     let few : last_taken (length x) xs ≤ 2 ^ 40 = last_within (length x) xs (short 0 [] (omega arith)) (λ k d less. short (suc k) d (omega arith)) in
     let last : count_of new.taken ≡ count_of (last_taken (length x) xs) = took.last in
     omega arith
