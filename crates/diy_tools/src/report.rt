@@ -180,7 +180,13 @@ fn file_name(file: Option<usize>, words: &Words) -> &[u8]
 }
 
 /// Sends the line of a text that is wrong.
-fn send_text<E: Sink>(file: &[u8], line: u64, kind: &[u8], page: &mut Page, err: &mut E) -> Result<(), Failed>
+fn send_text<E: Sink>(
+    file: &[u8],
+    line: u64,
+    kind: &[u8],
+    page: &mut Page,
+    err: &mut E,
+) -> Result<(), Failed>
     ensures { Sends (E.seen err.old) page.old (E.seen err.new) page.new (codes "diy: " ++ file.now ++ codes ":" ++ decimal line ++ codes ": " ++ kind.now ++ codes "\n") result }
 {
     let mut digits = Buffer::new();
@@ -222,7 +228,12 @@ fn refuse_at<E: Sink>(name: &[u8], number: u8, page: &mut Page, err: &mut E) -> 
 
 /// Sends the line of a write that needs an observer.
 #[tactic(auto, using(crate::proofs::Reported::letter_at, crate::proofs::Reported::letters_long))]
-fn refuse_unobserved<E: Sink>(location: u8, event: u8, page: &mut Page, err: &mut E) -> Result<(), Failed>
+fn refuse_unobserved<E: Sink>(
+    location: u8,
+    event: u8,
+    page: &mut Page,
+    err: &mut E,
+) -> Result<(), Failed>
     requires { location < MAX_EDGES }
     ensures { Sends (E.seen err.old) page.old (E.seen err.new) page.new (refusal_line (codes "NeedsObserver " ++ location_name location ++ codes " " ++ decimal event)) result }
 {
