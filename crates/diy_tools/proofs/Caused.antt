@@ -228,5 +228,5 @@ answers_caused words status old new h = asked_caused (devices old) (devices new)
 -- only a tool that may want memory says that there is none
 pub answers_memory : (words : List (List ℕ)) (status : Status) (old new : Seen) → Answers words status old new → NeverWantsMemory words status
 answers_memory words status old new h = λ e.
-    let cause : CausesAsked words (asked_of words) statuses.NoMemory old new =
+    let cause : CausesAsked words (asked_of words) statuses.NoMemory (devices old) (devices new) =
     subst (λ (s : Status). CausesAsked words (asked_of words) s (devices old) (devices new)) e (answers_caused words status old new h) in cause.0

@@ -1,12 +1,15 @@
 -- The names of locations, as a report finds them, and the line of words where none shows the fault.
-use Rattle.std.proofs.Common.{◌≡◌, ℕ, ◌+◌, ◌<◌, ◌≤◌, List, [], ◌++◌, ◌∙◌, ap, arith, length, get_or, append-nil, inl, inr}
+use Rattle.std.proofs.Common.{◌≡◌, ℕ, ◌+◌, ◌<◌, ◌≤◌, List, [], ◌++◌, ◌∙◌, ap, arith, length, get_or, append-nil, inl, inr, subst}
 use Rattle.std.specs.Prelude.{codes, slice_get, None, Result, Ok, Err}
+use Rattle.std.specs.Result.{IsErrAnd}
 use Rattle.std.proofs.lemmas.Option.{slice_get_past}
 use Rattle.std.proofs.lemmas.List.FromFn.{get_or-map-range_with_len, length-map-range_with_len}
 use Rattle.arch_trait.specs.Names.{letters, location_name}
 use Rattle.diy_words.specs.declared.usage.UsageKind.{UsageKind}
 use Rattle.diy_tools.specs.declared.status.Status.TheVariants.{Usage}
 use Rattle.diy_io.specs.declared.errors.Failed.{Failed}
+use Rattle.diy_io.specs.Page.{SentAll, Sends}
+use Rattle.diy_io.specs.PageLaws.{sent_wrote, unsent_wrote}
 use Rattle.diy_io.specs.Wrote.{SinkSeen, Wrote}
 use Rattle.diy_tools.specs.Report.{TakesLine, status_line, usage_line, usage_text, shown_word}
 
@@ -32,3 +35,12 @@ Answer = Result (Unit {0}) Failed
 pub takes_line : (a b : SinkSeen) (line : List ℕ) (result : Answer) → Wrote a b line result → TakesLine line a b
 takes_line a b line (Ok _) h = inl h.ok
 takes_line a b line (Err _) h = inr h.failed
+
+-- a text that was sent by way of an empty page, which is handed on at the end; and where it was sent in part
+pub own_wrote : (a b c : SinkSeen) (held kept text : List ℕ) (result : Answer) → held ≡ [] → SentAll a held b kept text → Wrote b c kept result → Wrote a c text result
+own_wrote a b c held kept text result e h k = sent_wrote a b c kept text result (subst (λ t. SentAll a t b kept text) e h) k
+
+pub own_unsent : (Q : Failed → Type 0) (a b : SinkSeen) (held kept text : List ℕ) (error : Failed) (result : Answer)
+    → held ≡ [] → Sends a held b kept text (Err error) → IsErrAnd result Q → Wrote a b text result
+own_unsent Q a b held kept text error result e h is_err =
+    unsent_wrote Q a b kept text error result (subst (λ t. Sends a t b kept text (Err error)) e h) is_err

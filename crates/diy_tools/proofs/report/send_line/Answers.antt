@@ -6,7 +6,7 @@ pub returns-in-Done : goal.returns-in-Done
 returns-in-Done g c = rw c.in-Done.is (not_spilled _ _ _)
 
 pub returns-in-NoFile : goal.returns-in-NoFile
-returns-in-NoFile g c = rw (c.in-NoFile.is, sym c.word_at.ensures) c.send_pieces-in-NoFile.ensures
+returns-in-NoFile g c = rw (c.in-NoFile.is, sym c.word_at.ensures) c.send_pieces.ensures
 
 pub returns-in-ReadFault : goal.returns-in-ReadFault
 returns-in-ReadFault g c = rw (c.in-ReadFault.is, sym c.device_name.ensures) c.send_pieces-in-ReadFault.ensures

@@ -2,27 +2,24 @@ use Rattle.std.proofs.Common.{subst, sym}
 use Rattle.relax_edges.specs.declared.kinds.ArchName.{ArchName}
 use Rattle.litmus_text.specs.Tests.{test_seen}
 use Rattle.litmus_text.specs.TestText.{test_text}
-use Rattle.diy_io.specs.Sink.{Grew, GrewByPrefix}
+use Rattle.diy_io.specs.Wrote.{WroteAll, WrotePart}
 use Rattle.diy_tools.proofs.testing.print.Goals as goal
 
 pub print_test-requires : goal.print_test-requires
 print_test-requires g c = c.requires
 
 pub returns-in-Ok-clause-prints : goal.returns-in-Ok-clause-prints
-returns-in-Ok-clause-prints g c = record {
-  grew = subst (λ (name : ArchName). Grew (g.O.Sink.told c.args.out.now) (g.O.Sink.told c.print_test.new.out) (test_text name g.A.Arch.writing c.args.name.now (test_seen c.args.test.now))) (sym g.met.A.Arch.same_name) c.in-Ok.ensures.ok;
-  no_fault = c.in-Ok.ensures.no_fault;
-}
+returns-in-Ok-clause-prints g c =
+    subst (λ (name : ArchName). WroteAll (g.O.Sink.seen c.args.out.now) (g.O.Sink.seen c.print_test.new.out)
+    (test_text name g.A.Arch.writing c.args.name.now (test_seen c.args.test.now))) (sym g.met.A.Arch.same_name) c.in-Ok.ensures.ok
 
 pub returns-in-Ok-clause-location : goal.returns-in-Ok-clause-location
 returns-in-Ok-clause-location g c = tt
 
 pub returns-in-Err-clause-prints : goal.returns-in-Err-clause-prints
-returns-in-Err-clause-prints g c = record {
-  grew = subst (λ (name : ArchName). GrewByPrefix (g.O.Sink.told c.args.out.now) (g.O.Sink.told c.print_test.new.out) (test_text name g.A.Arch.writing c.args.name.now (test_seen c.args.test.now))) (sym g.met.A.Arch.same_name) c.in-Err.ensures.failed;
-  fault = c.in-Err.ensures.fault;
-  never_falls = c.print_test.ensures.never_falls;
-}
+returns-in-Err-clause-prints g c =
+    subst (λ (name : ArchName). WrotePart (g.O.Sink.seen c.args.out.now) (g.O.Sink.seen c.print_test.new.out)
+    (test_text name g.A.Arch.writing c.args.name.now (test_seen c.args.test.now))) (sym g.met.A.Arch.same_name) c.in-Err.ensures.failed
 
 pub returns-in-Err-clause-location : goal.returns-in-Err-clause-location
 returns-in-Err-clause-location g c = tt
