@@ -30,12 +30,7 @@ impl Part {
 pub fn are_met(parts: &[Part]) -> bool
     ensures { IsTrue result ↔ All (λ part. option_map (λ bytes. bytes.items) part.wanted ≡ option_map (λ bytes. bytes.items) part.got) parts.now }
 {
-    for part in parts {
-        if !part.is_met() {
-            return false;
-        }
-    }
-    true
+    parts.iter().all(|part| part.is_met())
 }
 
 /// A copy of bytes, where they are there.
