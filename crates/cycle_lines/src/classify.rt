@@ -5,6 +5,8 @@ ghost use Rattle.cycle_lines.specs.Tables.{Gathers, PutsLast};
 use crate::errors::ClassifyError;
 use crate::reader::{Found, LineReader};
 use crate::table::{FamilyNames, no_names, put_cycle, write_families};
+use arrayvec::ArrayString;
+use cycle_names::MAX_NAME;
 use diy_io::{Failed, NoMemory, Sink, Source};
 use edge_algebra::Cycle;
 use relax_edges::ArchName;
@@ -46,9 +48,10 @@ fn gather<I: Source>(
         Err(NoMemory) => return Err(ClassifyError::NoMemory),
     };
     let mut reader = LineReader::new();
+    let mut text: ArrayString<MAX_NAME> = ArrayString::new();
     loop {
         match reader.next_cycle(arch, input) {
-            Ok(Found::Next(cycle)) => match put_cycle(alloc, &mut table, &cycle) {
+            Ok(Found::Next(cycle)) => match put_cycle(alloc, &mut table, &cycle, &mut text) {
                 Ok(()) => {}
                 Err(NoMemory) => return Err(ClassifyError::NoMemory),
             },
@@ -68,8 +71,9 @@ fn put_last(
     ensures { PutsLast table.items cycle.now result }
 {
     let mut table = table;
+    let mut text: ArrayString<MAX_NAME> = ArrayString::new();
     match cycle {
-        Some(cycle) => match put_cycle(alloc, &mut table, cycle) {
+        Some(cycle) => match put_cycle(alloc, &mut table, cycle, &mut text) {
             Ok(()) => Ok(table),
             Err(NoMemory) => Err(ClassifyError::NoMemory),
         },

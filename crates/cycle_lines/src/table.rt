@@ -78,19 +78,19 @@ pub(crate) fn no_names(alloc: Global) -> Result<Vec<FamilyNames>, NoMemory>
     Ok(table)
 }
 
-/// Keeps the name of a cycle.
+/// Keeps the name of a cycle, which is made in `text`. What that held doesn't count.
 pub(crate) fn put_cycle(
     alloc: Global,
     table: &mut Vec<FamilyNames>,
     cycle: &Cycle,
+    text: &mut ArrayString<MAX_NAME>,
 ) -> Result<(), NoMemory>
     requires { length table.old.items ≡ 15 }
     ensures adds { OnOk result (Adds table.old.items table.new.items cycle.now) }
     ensures whole { OnOk result (length table.new.items ≡ 15) }
 {
-    let mut name: ArrayString<MAX_NAME> = ArrayString::new();
-    name_of(cycle, &mut name);
-    let name = Vec::from_slice(alloc, name.as_str().as_bytes())?;
+    name_of(cycle, text);
+    let name = Vec::from_slice(alloc, text.as_str().as_bytes())?;
     put_name(table, place_of(family_of(cycle)), name)
 }
 

@@ -65,10 +65,10 @@ AnswersKept arch (sought.Named source) status old new before after =
 AnswersKept arch sought.Lines status old new before after = AnswersLines arch status old new before after
 
 -- a call gives the test of a cycle, or the first reason why it has none
-abbrev pub MakesTestOf : Machine → ObsMode → List Edge → Result Test Refusal → Type 0
-MakesTestOf m mode cycle (Ok test) =
+abbrev pub MakesTestOf : Machine → ObsMode → List Edge → Test → Result (Unit {0}) Refusal → Type 0
+MakesTestOf m mode cycle test (Ok _) =
     (refused_making (refusal_of m.puts cycle mode) ≡ None) × (test_seen test ≡ shown (cycle_test m.puts m.writing mode cycle))
-MakesTestOf m mode cycle (Err refusal) = refused_making (refusal_of m.puts cycle mode) ≡ Some refusal
+MakesTestOf m mode cycle test (Err refusal) = refused_making (refusal_of m.puts cycle mode) ≡ Some refusal
 
 -- what a listing that is lent leaves, on an architecture
 abbrev pub EndsOn : Machine → Listing → ListingEnd → ShelfSeen → ShelfSeen → SinkSeen → SinkSeen → Type 0

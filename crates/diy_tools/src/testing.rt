@@ -1,4 +1,4 @@
-ghost use Rattle.std.specs.Prelude.{◌≡◌, IfOk, IfErr};
+ghost use Rattle.std.specs.Prelude.{◌≡◌, OnOk, IfErr};
 ghost use Rattle.litmus_text.specs.Tests.{test_seen};
 ghost use Rattle.litmus_text.specs.TestText.{test_text};
 ghost use Rattle.test_maker.specs.CycleText.{cycle_text};
@@ -25,7 +25,7 @@ use edge_algebra::Cycle;
 use edge_lists::EdgeList;
 use litmus_text::{Test, print_test};
 use relax_edges::{ArchName, ObsMode};
-use test_maker::make;
+use test_maker::make_into;
 
 /// Prints the test that is asked for.
 pub(crate) fn diyone<O: Sink>(request: &DiyOne, out: &mut O) -> Status
@@ -71,19 +71,21 @@ fn answer_cycle<A: Arch, O: Sink>(
     ensures answers { AnswersEdges (refused_making (refusal_of A.puts cycle.now mode)) (cycle_text A.puts A.writing mode (test_name (name_kept name.now) cycle.now) cycle.now) result (O.seen out.old) (O.seen out.new) }
     ensures location { NamesLocation result }
 {
-    match test_of::<A>(cycle, mode) {
+    let mut test = Test::new();
+    match make_test::<A>(cycle, mode, &mut test) {
         Err(refusal) => Status::Refused(refusal),
-        Ok(test) => print_named::<A, O>(&test, cycle, name, out),
+        Ok(()) => print_named::<A, O>(&test, cycle, name, out),
     }
 }
 
-fn test_of<A: Arch>(cycle: &Cycle, mode: ObsMode) -> Result<Test, Refusal>
-    ensures made { MakesTestOf (machine A.puts A.writing) mode cycle.now result }
-    ensures printable { IfOk result (CanPrint A.puts A.REGISTERS) }
+/// Makes `test` the test of a cycle, or says why it has none.
+fn make_test<A: Arch>(cycle: &Cycle, mode: ObsMode, test: &mut Test) -> Result<(), Refusal>
+    ensures made { MakesTestOf (machine A.puts A.writing) mode cycle.now test.new result }
+    ensures printable { OnOk result (CanPrint A.puts A.REGISTERS test.new) }
     ensures location { IfErr result RefusesLocation }
 {
-    match make::<A>(cycle, mode) {
-        Ok(test) => Ok(test),
+    match make_into::<A>(cycle, mode, test) {
+        Ok(()) => Ok(()),
         Err(refusal) => Err(Refusal::from(refusal)),
     }
 }
