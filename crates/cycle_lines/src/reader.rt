@@ -11,8 +11,8 @@ use edge_algebra::Cycle;
 use relax_edges::ArchName;
 use std::marker::Model;
 
-/// The most bytes that are read at once: 49,152. What `norm7` writes for so many mostly fits a page.
-const PIECE: usize = 49_152;
+/// The most bytes that are read at once: 36,864. What `norm7` writes for so many mostly fits a page.
+const PIECE: usize = 36_864;
 
 /// Room for a piece, after a line of `MAX_LINE` bytes and its carriage return.
 const BUFFER: usize = PIECE + MAX_LINE + 1;
@@ -41,7 +41,7 @@ pub(crate) enum Line {
 
 /// Reads the lines of a source.
 ///
-/// It is read in pieces of up to 49,152 bytes, and read on only where no whole line is pending. Of a
+/// It is read in pieces of up to 36,864 bytes, and read on only where no whole line is pending. Of a
 /// line that isn't whole at most `MAX_LINE` bytes and a carriage return are held then, and the next
 /// piece stands after them: a line of more bytes is too long, and nothing is read after it.
 ///

@@ -124,10 +124,10 @@ fn nothing_is_read_behind_a_line_that_is_too_long(rt: HostRuntime) -> Result<(),
     Ok(())
 }
 
-/// The twenty-first read would fail.
+/// The twenty-seventh read would fail.
 #[test]
 fn lines_of_900_kilobytes_are_read_in_few_calls(rt: HostRuntime) -> Result<(), Fail> {
-    let fail = Vec::from_slice(rt.alloc(), &[20])?;
+    let fail = Vec::from_slice(rt.alloc(), &[26])?;
     let lines = vec![in rt.alloc(); b'\n'; 900_000]?;
     let mut input = MemSource::new(lines, 1_000_000, fail);
     let mut out = MemSink::new(rt.alloc(), 1000)?;

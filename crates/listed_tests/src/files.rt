@@ -45,6 +45,17 @@ pub(crate) fn path_of(folder: Option<&str>, file: &str) -> Path
     ensures { result.bytes ≡ path_of (option_map (λ folder. folder.now) folder.entry) file.now }
 {
     let mut path = Path::new();
+    set_path(folder, file, &mut path);
+    path
+}
+
+/// Makes `path` a file by its name in a folder, where there is one.
+pub(crate) fn set_path(folder: Option<&str>, file: &str, path: &mut Path)
+    requires folder { ForSome folder (λ folder. length folder.now ≤ MAX_FOLDER) }
+    requires file { length file.now ≤ MAX_FILE }
+    ensures { path.new.bytes ≡ path_of (option_map (λ folder. folder.now) folder.entry) file.now }
+{
+    path.clear();
     match folder {
         Some(folder) => {
             path.push_str(folder);
@@ -53,5 +64,4 @@ pub(crate) fn path_of(folder: Option<&str>, file: &str) -> Path
         None => {}
     }
     path.push_str(file);
-    path
 }

@@ -14,7 +14,7 @@ ghost use Rattle.listed_tests.specs.Plans.{folder_of, is_wanted, named_text, pla
 ghost use Rattle.listed_tests.specs.Putting.{Put, PutPart};
 
 use crate::ending::ListingEnd;
-use crate::files::{FileName, MAX_FOLDER, file_named, path_of};
+use crate::files::{FileName, MAX_FOLDER, Path, file_named, set_path};
 use crate::making::Desk;
 use crate::names::{Names, put_names};
 use crate::putting::put_file;
@@ -158,21 +158,28 @@ fn put_tests<A: Arch, H: Shelf, K: Fn(&[Edge]) -> bool, P: Fn(&Cycle) -> bool>(
     ensures walk { walk.new ≡ record walk.old { last = walk.new.last } }
 {
     let mut desk = Desk::new();
+    let mut name: ArrayString<MAX_NAME> = ArrayString::new();
+    let mut path = Path::new();
     let mut count: u128 = 0;
     while let Some(cycle) = walk.next() {
-        let file = put_test::<A, H>(wanted, &cycle, count, &mut desk, shelf)?;
+        let file = put_test::<A, H>(
+            wanted, &cycle, count, &mut desk, &mut name, &mut path, shelf,
+        )?;
         count = count.saturating_add(1);
         names.keep(&cycle, &file, count);
     }
     Ok(count)
 }
 
-/// Puts the file of a cycle's test on the shelf, and gives its name.
+/// Puts the file of a cycle's test on the shelf, and gives its name. The names of the test and of
+/// the path are made in `name` and `path`, and what these held doesn't count.
 fn put_test<A: Arch, H: Shelf>(
     wanted: &Wanted,
     cycle: &Cycle,
     number: u128,
     desk: &mut Desk,
+    name: &mut ArrayString<MAX_NAME>,
+    path: &mut Path,
     shelf: &mut H,
 ) -> Result<FileName, Failed>
     requires has_test { refusal_of A.puts cycle.now wanted.now.mode ≡ None }
@@ -182,11 +189,10 @@ fn put_test<A: Arch, H: Shelf>(
     ensures ok { OnOk result (Put (H.seen shelf.old) (H.seen shelf.new) ((path_of (folder_of wanted.now) (file_of number cycle.now), named_text A.puts A.writing wanted.now.mode cycle.now) ∷ [])) }
     ensures failed { OnErr result (PutPart (H.seen shelf.old) (H.seen shelf.new) [] (path_of (folder_of wanted.now) (file_of number cycle.now)) (named_text A.puts A.writing wanted.now.mode cycle.now)) }
 {
-    let mut name: ArrayString<MAX_NAME> = ArrayString::new();
-    name_of(cycle, &mut name);
+    name_of(cycle, name);
     desk.make::<A>(cycle, wanted.mode, name.as_str());
     let file = file_named(number, name.as_str());
-    let path = path_of(wanted.folder, file.as_str());
+    set_path(wanted.folder, file.as_str(), path);
     put_file(path.as_str(), desk.text.as_slice(), shelf)?;
     Ok(file)
 }

@@ -19,7 +19,7 @@ use relax_edges::Edge;
 pub(crate) const MAX_LINE: usize = 208;
 
 /// The most bytes of lines that are kept.
-pub(crate) const MAX_LINES: usize = 262_144;
+pub(crate) const MAX_LINES: usize = 98_304;
 
 type Lines = ArrayVec<u8, MAX_LINES>;
 

@@ -1,5 +1,5 @@
 -- The printed sum, piece by piece.
-use Rattle.std.proofs.Common.{◌≡◌, ℕ, suc, ◌-◌, List, [], ◌∷◌, ◌++◌, length, take, refl, sym, ap, ◌∙◌, arith, min}
+use Rattle.std.proofs.Common.{◌≡◌, ◌≤◌, ℕ, zero, suc, ◌-◌, List, [], ◌∷◌, ◌++◌, length, take, drop, refl, sym, ap, ◌∙◌, arith, min}
 use Rattle.std.specs.Prelude.{map, replicate, codes, Result, Ok, Err}
 use Rattle.std.specs.Fmt.{decimal}
 use Rattle.std.proofs.Common.{subst, append_assoc, append-nil}
@@ -11,22 +11,44 @@ use Rattle.diy_io.specs.Wrote.{SinkSeen, WrotePart}
 use Rattle.diy_io.specs.Page.{SentAll, Sends}
 use Rattle.diy_io.specs.PageLaws.{sent_both, sent_part, sent_part_more, sends_then, sends_stopped, sends_same}
 use Rattle.log_sum.specs.declared.kinds.Kind.TheVariants.{Allowed}
+use Rattle.log_sum.specs.declared.kinds.Mark.{Mark}
 use Rattle.log_sum.specs.Summed.{Summed, summed, or_else, is_validated}
 use Rattle.log_sum.specs.Standing.{Kept, StandsFor, kept_text}
 use Rattle.log_sum.specs.Reading.{Seen}
 use Rattle.log_sum.specs.Facts.{facts_of, tests_of}
-use Rattle.log_sum.specs.SumText.{test_text, sum_text, line_end, kind_word, verdict_word, how_often, head_text, verdict_text, observation_text}
-use Rattle.std.proofs.lemmas.List.{take-replicate}
+use Rattle.log_sum.specs.SumText.{test_text, sum_text, line_end, filling, mark_sign, state_line, kind_word, verdict_word, how_often, head_text, verdict_text, observation_text}
 use Rattle.log_sum.proofs.RunLaws.{map_more}
 
 pub length_map : {A B : Type 0} (f : A → B) (xs : List A) → length (map f xs) ≡ length xs
 length_map f [] = refl
 length_map f (x ∷ xs) = ap (λ n. suc n) (length_map f xs)
 
--- blanks that fill a text up
-pub filled : (blanks text : List ℕ) → blanks ≡ replicate 6 32 → take (6 - min (length text) 6) blanks ≡ replicate (6 - length text) 32
-filled blanks text e =
-    ap (take (6 - min (length text) 6)) e ∙ take-replicate (6 - min (length text) 6) 6 32 (omega arith) ∙ ap (λ n. replicate n 32) (let k : 6 - min (length text) 6 ≡ 6 - length text = omega arith in k)
+-- what stands after so many of six blanks and a sign
+pub blanks_and_sign : (k a b : ℕ) → k ≤ 6 → take (8 - k) (drop k (32 ∷ 32 ∷ 32 ∷ 32 ∷ 32 ∷ 32 ∷ a ∷ b ∷ [])) ≡ replicate (6 - k) 32 ++ a ∷ b ∷ []
+blanks_and_sign zero a b h = refl
+blanks_and_sign (suc zero) a b h = refl
+blanks_and_sign (suc (suc zero)) a b h = refl
+blanks_and_sign (suc (suc (suc zero))) a b h = refl
+blanks_and_sign (suc (suc (suc (suc zero)))) a b h = refl
+blanks_and_sign (suc (suc (suc (suc (suc zero))))) a b h = refl
+blanks_and_sign (suc (suc (suc (suc (suc (suc zero)))))) a b h = refl
+blanks_and_sign (suc (suc (suc (suc (suc (suc (suc k))))))) a b h = absurd (omega arith)
+
+-- blanks that fill a text up, and then a sign
+pub filled_so : (text : List ℕ) (k a b : ℕ) → k ≡ min (length text) 6
+    → take (8 - k) (drop k (32 ∷ 32 ∷ 32 ∷ 32 ∷ 32 ∷ 32 ∷ a ∷ b ∷ [])) ≡ replicate (6 - length text) 32 ++ a ∷ b ∷ []
+filled_so text k a b e =
+    let n : 6 - k ≡ 6 - length text = omega arith in
+    blanks_and_sign k a b (omega arith) ∙ ap (λ m. replicate m 32 ++ a ∷ b ∷ []) n
+
+-- the line of a state by its pieces
+pub state_is : (form count sign : List ℕ) (mark : Mark) (n : ℕ) → count ≡ decimal n → sign ≡ filling count ++ mark_sign mark
+    → count ++ sign ++ form ++ codes "\n" ≡ state_line (form, (mark, n))
+unfolding state_line
+state_is form count sign mark n e f =
+    ap (λ s. count ++ s ++ form ++ codes "\n") f
+    ∙ ap (λ t. t ++ form ++ codes "\n") (sym (append_assoc count (filling count) (mark_sign mark)))
+    ∙ ap (λ c. c ++ filling c ++ mark_sign mark ++ form ++ codes "\n") e
 
 -- the texts by their pieces, each literal whole
 joined_head : (x feed histogram count states : List ℕ)

@@ -12,8 +12,10 @@ use crate::test_sum::TestSum;
 use diy_io::{Failed, Page, Sink};
 use itoa::Buffer;
 
-/// Blanks, as many as the count of a state is filled up to.
-const BLANKS: [u8; 6] = [b' '; 6];
+/// Blanks, as many as the count of a state is filled up to, and then the sign of a mark.
+const STARRED_SIGN: [u8; 8] = *b"      *>";
+
+const PLAIN_SIGN: [u8; 8] = *b"      :>";
 
 fn kind_word<'a>(kind: Kind) -> &'a [u8]
     ensures { result.now ≡ kind_word kind }
@@ -22,15 +24,6 @@ fn kind_word<'a>(kind: Kind) -> &'a [u8]
         Kind::Allowed => b"Allowed",
         Kind::Forbidden => b"Forbidden",
         Kind::Required => b"Required",
-    }
-}
-
-fn mark_sign<'a>(mark: Mark) -> &'a [u8]
-    ensures { result.now ≡ mark_sign mark }
-{
-    match mark {
-        Mark::Starred => b"*>",
-        Mark::Plain => b":>",
     }
 }
 
@@ -62,12 +55,15 @@ fn how_often<'a>(starred: u64, plain: u64) -> &'a [u8]
     }
 }
 
-/// Blanks that fill a text up to six places.
-#[tactic(auto, using(crate::proofs::PrintLaws::filled))]
-fn filling<'a>(text: &[u8]) -> &'a [u8]
-    ensures { result.now ≡ filling text.now }
+/// Blanks that fill a count up to six places, and then the sign of a mark.
+fn filled_sign<'a>(count: &[u8], mark: Mark) -> &'a [u8]
+    ensures { result.now ≡ filling count.now ++ mark_sign mark }
 {
-    &BLANKS[..6 - text.len().min(6)]
+    let from = count.len().min(6);
+    match mark {
+        Mark::Starred => &STARRED_SIGN[from..],
+        Mark::Plain => &PLAIN_SIGN[from..],
+    }
 }
 
 /// Whether the condition of a test is validated.
@@ -116,7 +112,6 @@ fn print_head<O: Sink>(
     )
 }
 
-#[tactic(auto, unfolding(crate::specs::SumText::state_line))]
 fn print_state<O: Sink>(
     form: &[u8],
     state: &StateSum,
@@ -127,9 +122,8 @@ fn print_state<O: Sink>(
 {
     let mut count = Buffer::new();
     let count = count.format(state.count).as_bytes();
-    let blanks = filling(count);
-    let mark = mark_sign(state.mark);
-    page.send_pieces(&[count, blanks, mark, form, b"\n"], out)
+    let sign = filled_sign(count, state.mark);
+    page.send_pieces(&[count, sign, form, b"\n"], out)
 }
 
 fn print_states<O: Sink>(test: &TestSum, page: &mut Page, out: &mut O) -> Result<(), Failed>

@@ -1,10 +1,13 @@
-use Rattle.std.proofs.Common.{◌≡◌, ◌≤◌, take}
+use Rattle.std.proofs.Common.{◌≡◌, ◌≤◌, ◌+◌, length}
 use Rattle.diy_io.specs.Sink.{line_feed_count}
 use Rattle.summed_logs.proofs.feeding.line_feeds.Given as goal
 
--- those before the place are counted
-abbrev pub invariant-loop-byte : goal.invariant-loop-byte
-invariant-loop-byte l = record {
-  counted : l.count ≡ line_feed_count (take l.byte-index l.text);
-  few : l.count ≤ l.byte-index;
+-- those before the rest are counted
+abbrev pub invariant-loop-at : goal.invariant-loop-at
+invariant-loop-at l = record {
+  counted : l.count + line_feed_count l.rest ≡ line_feed_count l.text;
+  few : l.count + length l.rest ≤ length l.text;
 }
+
+abbrev pub decreases-loop-at : goal.decreases-loop-at
+decreases-loop-at l = length l.rest
