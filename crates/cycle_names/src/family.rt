@@ -50,8 +50,8 @@ const W3: [u8; 6] = [POD_WW, WSE, POD_WW, WSE, POD_WW, WSE];
 /// The most edges of a family's cycle.
 pub(crate) const LONGEST: usize = 6;
 
-/// The families of the table.
-pub(crate) const FAMILIES: [Family; 14] = [
+/// The families of the table, in its order.
+pub const FAMILIES: [Family; 14] = [
     Family::SB,
     Family::MP,
     Family::LB,

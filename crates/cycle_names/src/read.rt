@@ -67,7 +67,7 @@ fn read_edges(text: &[u8], edges: &mut Edges) -> Result<(), NotAName>
 {
     match named_family(FAMILIES.as_slice(), text) {
         Some(family) => {
-            let slots = slots_of(family);
+            let slots = edges_of(family);
             let (_, links) = text.split_at(family.word().len());
             fill(slots.as_slice(), links, edges)
         }
@@ -107,8 +107,8 @@ fn begins_with(word: &[u8], text: &[u8]) -> bool
     }
 }
 
-/// The edges of a family's cycle.
-fn slots_of(family: Family) -> Edges
+/// The edges of a family's cycle; none for `Other`.
+pub fn edges_of(family: Family) -> Edges
     ensures { result.items ≡ family_edges family }
 {
     let mut slots = Edges::new();

@@ -8,7 +8,7 @@ split_at-requires c = word_fits c.as_slice.result.now c.args.text.now c.word.res
 pub returns-in-Some : goal.returns-in-Some
 returns-in-Some c =
     read_family c.as_slice.result.now c.args.text.now c.word.result.now c.split_at.result.1.now c.in-Some.family c.as_slice-in-Some.result.now c.args.edges.now.items c.fill.new.edges.items c.fill.result
-    c.as_slice.ensures c.in-Some.ensures c.word.ensures (c.as_slice-in-Some.ensures.value ∙ c.slots_of-slots.ensures) c.split_at.ensures.back c.fill.ensures
+    c.as_slice.ensures c.in-Some.ensures c.word.ensures (c.as_slice-in-Some.ensures.value ∙ c.edges_of-slots.ensures) c.split_at.ensures.back c.fill.ensures
 
 pub returns-in-None : goal.returns-in-None
 returns-in-None c =

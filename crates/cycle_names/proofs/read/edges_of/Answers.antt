@@ -2,7 +2,7 @@ use Rattle.std.proofs.Common.{map}
 use Rattle.relax_edges.specs.Order.{rank_of}
 use Rattle.cycle_names.specs.Families.{family_edges}
 use Rattle.cycle_names.proofs.Steps.{rank_small, ranks_told, pushed_all}
-use Rattle.cycle_names.proofs.read.slots_of.Goals as goal
+use Rattle.cycle_names.proofs.read.edges_of.Goals as goal
 
 pub at_rank-requires : goal.at_rank-requires
 at_rank-requires c =

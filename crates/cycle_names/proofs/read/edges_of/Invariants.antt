@@ -1,7 +1,7 @@
 use Rattle.std.proofs.Common.{◌≡◌, ◌++◌, length, map, drop}
 use Rattle.relax_edges.specs.Order.{rank_of}
 use Rattle.cycle_names.specs.Families.{family_edges}
-use Rattle.cycle_names.proofs.read.slots_of.Given as goal
+use Rattle.cycle_names.proofs.read.edges_of.Given as goal
 
 abbrev pub invariant-loop-rank : goal.invariant-loop-rank
 invariant-loop-rank l = record {
