@@ -17,7 +17,7 @@ use Rattle.diy_io.specs.Wrote.{SinkSeen, WroteAll, WrotePart}
 use Rattle.diy_words.specs.declared.usage.Usage.{Usage}
 use Rattle.diy_words.specs.declared.usage.UsageKind.TheVariants.{UnknownName}
 use Rattle.diy_words.specs.Requests.{Asked, TestAsked, ListAsked, Sought, asked_of}
-use Rattle.diy_words.specs.Requests.{AsksTest, AsksName, AsksList, AsksFamilies, AsksSum, OfEdges, OfName, OfLines}
+use Rattle.diy_words.specs.Requests.{AsksTest, AsksName, AsksList, AsksFamilies, AsksSum, AsksCross, AsksDemo, OfEdges, OfName, OfLines, CrossAsked, DemoAsked}
 use Rattle.listed_tests.specs.declared.ending.ListingEnd.{ListingEnd}
 use Rattle.listed_tests.specs.declared.ending.ListingEnd.TheVariants as listings
 use Rattle.listed_tests.specs.Ends.{StopsAtTest, StopsAtAll}
@@ -37,6 +37,8 @@ use Rattle.diy_tools.specs.Printing.{AnswersEdges, Prints}
 use Rattle.diy_tools.specs.TestAnswers.{asked_text, test_refused}
 use Rattle.diy_tools.specs.NameAnswers.{AnswersName, AnswersSought}
 use Rattle.diy_tools.specs.ListAnswers.{EndsAsked, plan_asked}
+use Rattle.diy_tools.specs.CrossAnswers.{AnswersCross, EndsCrossed}
+use Rattle.diy_tools.specs.DemoAnswers.{demo_asked}
 use Rattle.diy_tools.specs.SumAnswers.{EndsInput, EndsSum, sum_status}
 use Rattle.diy_tools.specs.Answers.{Answers, AnswersAsked}
 use Rattle.diy_tools.specs.Memory.{NeverWantsMemory}
@@ -76,6 +78,11 @@ pub listing_failed : (asked : ListAsked) (old new : ShelfSeen) (out after : Sink
     → EndsAsked asked listings.ShelfFault old new out after → Rose old.faults new.faults
 listing_failed asked old new out after h =
     either_failed (IsPlanned (plan_asked asked)) (plan_asked asked).folder (planned_text (plan_asked asked)) h.given old new h.ends.1
+
+-- the shelf failed where the tests of choices were written
+pub crossing_failed : (asked : CrossAsked) (old new : ShelfSeen) (out after : SinkSeen)
+    → EndsCrossed asked listings.ShelfFault old new out after → Rose old.faults new.faults
+crossing_failed asked old new out after h = h.1.part.faulted.fault
 
 -- what norm7 is asked for
 abbrev named : ArchName → Sought → Result Asked Usage
@@ -144,6 +151,29 @@ module _ (old new : Devices) where
   list_caused words asked listings.ShelfFault status input e h =
       of_status words (Ok (AsksList asked)) status (statuses.WriteFault Shelf) e
       (listing_failed asked old.shelf new.shelf old.out new.out h, record { input = input; both = h })
+
+  crossed_caused : (words : List (List ℕ)) (asked : CrossAsked) (end : ListingEnd) (status : Status) → new.input ≡ old.input → status ≡ listing_status end
+      → EndsCrossed asked end old.shelf new.shelf old.out new.out → CausesAsked words (Ok (AsksCross asked)) status old new
+  crossed_caused words asked listings.Done status input e h =
+      of_status words (Ok (AsksCross asked)) status statuses.Done e (record { input = input; both = h })
+  crossed_caused words asked listings.OutFault status input e h =
+      of_status words (Ok (AsksCross asked)) status (statuses.WriteFault Out) e (h.1.fault, record { input = input; both = h })
+  crossed_caused words asked listings.ShelfFault status input e h =
+      of_status words (Ok (AsksCross asked)) status (statuses.WriteFault Shelf) e
+      (crossing_failed asked old.shelf new.shelf old.out new.out h, record { input = input; both = h })
+
+  cross_caused : (words : List (List ℕ)) (asked : CrossAsked) (status : Status) → new.input ≡ old.input
+      → AnswersCross asked status old.shelf new.shelf old.out new.out → CausesAsked words (Ok (AsksCross asked)) status old new
+  cross_caused words asked status input (inl none) =
+      of_status words (Ok (AsksCross asked)) status statuses.NoMemory none.0 (tt, record { out = none.2; files = ap (λ (s : ShelfSeen). s.files) none.1 })
+  cross_caused words asked status input (inr made) = crossed_caused words asked made.end status input made.status_is made.ends
+
+  demo_caused : (words : List (List ℕ)) (asked : DemoAsked) (status : Status) → new.input ≡ old.input → new.shelf ≡ old.shelf
+      → Prints (demo_asked asked) status old.out new.out → CausesAsked words (Ok (AsksDemo asked)) status old new
+  demo_caused words asked status input shelf h =
+      by_print (λ s. CausesAsked words (Ok (AsksDemo asked)) s old new) (demo_asked asked) status old.out new.out h
+      (λ wrote. record { input = input; shelf = shelf; out = wrote })
+      (λ wrote. (wrote.fault, record { input = input; shelf = shelf; out = wrote }))
 
   families_caused : (words : List (List ℕ)) (arch : ArchName) (result : Result (Unit {0}) ClassifyError) (status : Status) → new.shelf ≡ old.shelf
       → status ≡ classify_status result → Classifies arch old.input new.input old.out new.out result
@@ -218,6 +248,8 @@ module _ (old new : Devices) where
   asked_caused words (Ok (AsksTest asked)) status h = test_caused words asked (test_refused asked) status refl h.input h.shelf h.out
   asked_caused words (Ok (AsksName asked)) status h = sought_caused words asked.arch asked.cycle status h.shelf h.both
   asked_caused words (Ok (AsksList asked)) status h = list_caused words asked h.both.end status h.input h.both.status_is h.both.ends
+  asked_caused words (Ok (AsksCross asked)) status h = cross_caused words asked status h.input h.both
+  asked_caused words (Ok (AsksDemo asked)) status h = demo_caused words asked status h.input h.shelf h.out
   asked_caused words (Ok (AsksFamilies arch)) status h = families_caused words arch h.both.result status h.shelf h.both.status_is h.both.classifies
   asked_caused words (Ok AsksSum) status h = sum_caused words h.end status h.status_is h.ends
 

@@ -27,7 +27,7 @@ use Rattle.diy_io.specs.Taken.{SourceSeen}
 use Rattle.diy_io.specs.Wrote.{SinkSeen}
 use Rattle.diy_words.specs.declared.usage.Usage.{Usage}
 use Rattle.diy_words.specs.Requests.{Asked, ListAsked, Sought, asked_of}
-use Rattle.diy_words.specs.Requests.{AsksTest, AsksName, AsksList, AsksFamilies, AsksSum, OfEdges, OfName, OfLines}
+use Rattle.diy_words.specs.Requests.{AsksTest, AsksName, AsksList, AsksFamilies, AsksSum, AsksCross, AsksDemo, OfEdges, OfName, OfLines, CrossAsked, DemoAsked}
 use Rattle.listed_tests.specs.declared.ending.ListingEnd.{ListingEnd}
 use Rattle.listed_tests.specs.declared.ending.ListingEnd.TheVariants as listings
 use Rattle.log_sum.specs.declared.errors.LogError.{LogError}
@@ -46,10 +46,12 @@ use Rattle.diy_tools.specs.Printing.{AnswersEdges, Prints}
 use Rattle.diy_tools.specs.TestAnswers.{asked_text, test_refused}
 use Rattle.diy_tools.specs.NameAnswers.{AnswersName, AnswersSought}
 use Rattle.diy_tools.specs.ListAnswers.{EndsAsked}
+use Rattle.diy_tools.specs.CrossAnswers.{AnswersCross, EndsCrossed}
+use Rattle.diy_tools.specs.DemoAnswers.{demo_asked}
 use Rattle.diy_tools.specs.SumAnswers.{EndsInput, EndsSum, sum_status}
 use Rattle.diy_tools.specs.Answers.{Answers, AnswersAsked}
 use Rattle.diy_tools.specs.Complete.{Complete, CanBeDone, CanName, CanSum, IsSoundText, IsRightLog, AreRightLogs, OfItsText, OfItsFiles, NoFaults, IsDone}
-use Rattle.diy_tools.proofs.Caused.{by_print, listing_failed}
+use Rattle.diy_tools.proofs.Caused.{by_print, listing_failed, crossing_failed}
 
 -- what was taken of a source and what is left of it are a text that it can have
 whole_can : (old new : Option (List ℕ)) (text : List ℕ) → Consumes old new text → IsText old (text ++ unwrap_or new [])
@@ -123,6 +125,22 @@ list_done : (asked : ListAsked) (end : ListingEnd) (status : Status) (old new : 
 list_done asked listings.Done status old new none e h = inl e
 list_done asked listings.OutFault status old new none e h = absurd (none.out h.ends.line.fault)
 list_done asked listings.ShelfFault status old new none e h = absurd (none.shelf (listing_failed asked old.shelf new.shelf old.out new.out h))
+
+crossed_done : (asked : CrossAsked) (end : ListingEnd) (status : Status) (old new : Devices) → NoFaults old new → status ≡ listing_status end
+    → EndsCrossed asked end old.shelf new.shelf old.out new.out → IsDone (Ok (AsksCross asked)) status
+crossed_done asked listings.Done status old new none e h = inl e
+crossed_done asked listings.OutFault status old new none e h = absurd (none.out h.1.fault)
+crossed_done asked listings.ShelfFault status old new none e h = absurd (none.shelf (crossing_failed asked old.shelf new.shelf old.out new.out h))
+
+cross_done : (asked : CrossAsked) (status : Status) (old new : Devices) → NoFaults old new
+    → AnswersCross asked status old.shelf new.shelf old.out new.out → IsDone (Ok (AsksCross asked)) status
+cross_done asked status old new none (inl wants) = inr (wants.0, tt)
+cross_done asked status old new none (inr made) = crossed_done asked made.end status old new none made.status_is made.ends
+
+demo_done : (asked : DemoAsked) (status : Status) (before after : SinkSeen) → (Rose before.faults after.faults → ⊥)
+    → Prints (demo_asked asked) status before after → IsDone (Ok (AsksDemo asked)) status
+demo_done asked status before after none h =
+    by_print (λ s. IsDone (Ok (AsksDemo asked)) s) (demo_asked asked) status before after h (λ wrote. inl refl) (λ wrote. absurd (none wrote.fault))
 
 families_done : (arch : ArchName) (result : Result (Unit {0}) ClassifyError) (status : Status) (old new : Devices) → NoFaults old new
     → OfItsText old.input.left (IsSoundText arch) → status ≡ classify_status result
@@ -272,6 +290,8 @@ asked_done words (Ok (AsksTest asked)) status old new h can none =
 asked_done words (Ok (AsksName asked)) status old new h can none =
     sought_done (Ok (AsksName asked)) asked.arch asked.cycle status old new none can h.both
 asked_done words (Ok (AsksList asked)) status old new h can none = list_done asked h.both.end status old new none h.both.status_is h.both.ends
+asked_done words (Ok (AsksCross asked)) status old new h can none = cross_done asked status old new none h.both
+asked_done words (Ok (AsksDemo asked)) status old new h can none = demo_done asked status old.out new.out none.out h.out
 asked_done words (Ok (AsksFamilies arch)) status old new h can none =
     families_done arch h.both.result status old new none can h.both.status_is h.both.classifies
 asked_done words (Ok AsksSum) status old new h can none = of_words words can h.ends

@@ -38,7 +38,7 @@ use Rattle.litmus_text.specs.Printable.{IsTestName}
 use Rattle.litmus_text.proofs.CutBack.{weaker}
 use Rattle.diy_words.specs.declared.usage.Usage.{Usage}
 use Rattle.diy_words.specs.Names.{is_name, is_name_byte}
-use Rattle.diy_words.specs.Requests.{Asked, TestAsked, ListAsked, AsksTest, AsksName, AsksList, AsksFamilies, AsksSum, asked_of}
+use Rattle.diy_words.specs.Requests.{Asked, TestAsked, ListAsked, AsksTest, AsksName, AsksList, AsksFamilies, AsksSum, AsksCross, AsksDemo, CrossAsked, asked_of}
 use Rattle.cycle_names.specs.Names as cycles
 use Rattle.cycle_names.specs.Names.{name_of}
 use Rattle.cycle_names.proofs.NameLaws.{names_of_cycles}
@@ -55,6 +55,7 @@ use Rattle.diy_tools.specs.Machines.{Machine, machine_of}
 use Rattle.diy_tools.specs.Refused.{refused_list, refused_of, refused_of_arch, refused_composing, refused_making}
 use Rattle.diy_tools.specs.Printing.{AnswersEdges}
 use Rattle.diy_tools.specs.TestAnswers.{asked_text, test_name}
+use Rattle.diy_tools.specs.CrossAnswers.{AnswersCross}
 use Rattle.diy_tools.specs.ListAnswers.{AnswersList}
 use Rattle.diy_tools.specs.Answers.{Answers, AnswersAsked}
 use Rattle.diy_tools.specs.Devices.{Devices, Seen, devices}
@@ -201,10 +202,20 @@ asked_force words status old new h = of_asked (asked_of words) refl h
           (wanted_unrefused (machine_of asked.arch).puts asked.mode asked.threads cycle planned.taken);
     }
 
+    of_cross : (asked : CrossAsked) → AnswersCross asked status old.shelf new.shelf old.out new.out → HeadlineAsked (Ok (AsksCross asked)) status old new
+    of_cross asked h = record {
+      crosses = h;
+      forces = λ cycle kept.
+          let has = each_has_test (machine_of asked.arch).puts asked.mode asked.places cycle kept in
+          text_forces asked.arch asked.mode (name_of cycle) cycle (cycle_named_so cycle has.0) has.0 has.1;
+    }
+
     of_asked : (asked : Result Asked Usage) → asked_of words ≡ asked → AnswersAsked words asked status old new → HeadlineAsked asked status old new
     of_asked (Err usage) e h = tt
     of_asked (Ok (AsksName asked)) e h = tt
     of_asked (Ok (AsksList asked)) e h = of_list asked h.both
+    of_asked (Ok (AsksCross asked)) e h = of_cross asked h.both
+    of_asked (Ok (AsksDemo asked)) e h = tt
     of_asked (Ok (AsksFamilies arch)) e h = tt
     of_asked (Ok AsksSum) e h = tt
     of_asked (Ok (AsksTest asked)) e h = of_test asked e h.out

@@ -18,7 +18,7 @@ use Rattle.diy_io.specs.Taken.{SourceSeen}
 use Rattle.diy_io.specs.Wrote.{SinkSeen}
 use Rattle.diy_words.specs.declared.usage.Usage.{Usage}
 use Rattle.diy_words.specs.Requests.{Asked, ListAsked, Sought, asked_of}
-use Rattle.diy_words.specs.Requests.{AsksTest, AsksName, AsksList, AsksFamilies, AsksSum, OfEdges, OfName, OfLines}
+use Rattle.diy_words.specs.Requests.{AsksTest, AsksName, AsksList, AsksFamilies, AsksSum, AsksCross, AsksDemo, CrossAsked, OfEdges, OfName, OfLines}
 use Rattle.listed_tests.specs.declared.ending.ListingEnd.{ListingEnd}
 use Rattle.listed_tests.specs.declared.ending.ListingEnd.TheVariants as listings
 use Rattle.listed_tests.specs.Ends.{StopsAtTest, StopsAtAll}
@@ -34,6 +34,7 @@ use Rattle.diy_tools.specs.Devices.{Devices, Seen, devices}
 use Rattle.diy_tools.specs.Statuses.{norm_status, classify_status}
 use Rattle.diy_tools.specs.NameAnswers.{AnswersSought}
 use Rattle.diy_tools.specs.ListAnswers.{EndsAsked, plan_asked}
+use Rattle.diy_tools.specs.CrossAnswers.{AnswersCross, EndsCrossed}
 use Rattle.diy_tools.specs.SumAnswers.{EndsInput, EndsSum, sum_status}
 use Rattle.diy_tools.specs.Answers.{Answers, AnswersAsked}
 use Rattle.diy_tools.proofs.Opened.{IsWithin, files_within, failed_within}
@@ -71,6 +72,18 @@ listing_opens asked listings.Done old new out after h = h.ends.files.counts.open
 listing_opens asked listings.OutFault old new out after h = h.ends.files.counts.opened
 listing_opens asked listings.ShelfFault old new out after h =
     either_opens (IsPlanned (plan_asked asked)) (plan_asked asked).folder (planned_text (plan_asked asked)) h.given old new h.ends.1
+
+-- nor where the tests of choices were written
+crossing_opens : (asked : CrossAsked) (end : ListingEnd) (old new : ShelfSeen) (out after : SinkSeen)
+    → EndsCrossed asked end old new out after → new.opened ≡ old.opened
+crossing_opens asked listings.Done old new out after h = h.0.counts.opened
+crossing_opens asked listings.OutFault old new out after h = h.0.counts.opened
+crossing_opens asked listings.ShelfFault old new out after h = h.1.part.counts.opened
+
+cross_opens : (asked : CrossAsked) (status : Status) (old new : ShelfSeen) (out after : SinkSeen)
+    → AnswersCross asked status old new out after → new.opened ≡ old.opened
+cross_opens asked status old new out after (inl none) = ap (λ (s : ShelfSeen). s.opened) none.1
+cross_opens asked status old new out after (inr made) = crossing_opens asked made.end old new out after made.ends
 
 module _ (old new : Devices) (much : TookTooMuch old new) where
   neither : InputWithin old.input new.input → IsWithin old.shelf new.shelf → ⊥
@@ -154,6 +167,11 @@ module _ (old new : Devices) (much : TookTooMuch old new) where
   asked_limit words (Ok (AsksList asked)) status h =
       absurd (neither (same_input old.input new.input h.input)
       (same_shelf old.shelf new.shelf (listing_opens asked h.both.end old.shelf new.shelf old.out new.out h.both.ends)))
+  asked_limit words (Ok (AsksCross asked)) status h =
+      absurd (neither (same_input old.input new.input h.input)
+      (same_shelf old.shelf new.shelf (cross_opens asked status old.shelf new.shelf old.out new.out h.both)))
+  asked_limit words (Ok (AsksDemo asked)) status h =
+      absurd (neither (same_input old.input new.input h.input) (same_shelf old.shelf new.shelf (ap (λ (s : ShelfSeen). s.opened) h.shelf)))
   asked_limit words (Ok (AsksFamilies arch)) status h =
       families_limit arch h.both.result status (same_shelf old.shelf new.shelf (ap (λ (s : ShelfSeen). s.opened) h.shelf)) h.both.status_is h.both.classifies
   asked_limit words (Ok AsksSum) status h = sum_limit words h.end status h.status_is h.ends

@@ -26,10 +26,13 @@ use Rattle.diy_tools.specs.SumAnswers.{AnswersSum}
 use Rattle.test_maker.specs.CycleText.{cycle_text}
 use Rattle.diy_words.specs.declared.request.Sought.{Sought}
 use Rattle.diy_words.specs.declared.request.Sought.TheVariants as sought
-use Rattle.diy_words.specs.Requests.{Asked, ListAsked, AsksTest, AsksName, AsksList, AsksFamilies, AsksSum, OfEdges, OfName, OfLines, asked_of}
+use Rattle.diy_words.specs.Requests.{Asked, ListAsked, AsksTest, AsksName, AsksList, AsksFamilies, AsksSum, AsksCross, AsksDemo, OfEdges, OfName, OfLines, asked_of}
 use Rattle.diy_words.specs.Requests as words
 use Rattle.diy_words.specs.Given.{IsSought, Gives, list_kept}
 use Rattle.diy_words.specs.declared.usage.Usage.{Usage}
+use Rattle.demo_tests.specs.DemoText.{demo_text}
+use Rattle.diy_tools.specs.Kept.{AnswersCrossing}
+use Rattle.diy_words.specs.declared.request.Demo.{Demo}
 use Rattle.diy_words.specs.declared.request.DiyOne.{DiyOne}
 use Rattle.diy_words.specs.declared.request.Norm.{Norm}
 use Rattle.diy_words.specs.declared.request.Request.TheVariants as requests
@@ -189,6 +192,8 @@ test_answered words request status input shelf old new given h = of_asked (asked
   where
     of_asked : (asked : Result Asked Usage) → Gives (Ok (requests.Test request)) asked → AnswersAsked words asked status (devices (input, old, shelf)) (devices (input, new, shelf))
     of_asked (Err usage) g = absurd g
+    of_asked (Ok (AsksCross asked)) g = absurd g
+    of_asked (Ok (AsksDemo asked)) g = absurd g
     of_asked (Ok (AsksName asked)) g = absurd g
     of_asked (Ok (AsksList asked)) g = absurd g
     of_asked (Ok (AsksFamilies arch)) g = absurd g
@@ -204,6 +209,8 @@ name_answered words request status shelf old new before after given h = of_asked
   where
     of_asked : (asked : Result Asked Usage) → Gives (Ok (requests.Name request)) asked → AnswersAsked words asked status (devices (old, before, shelf)) (devices (new, after, shelf))
     of_asked (Err usage) g = absurd g
+    of_asked (Ok (AsksCross asked)) g = absurd g
+    of_asked (Ok (AsksDemo asked)) g = absurd g
     of_asked (Ok (AsksTest asked)) g = absurd g
     of_asked (Ok (AsksList asked)) g = absurd g
     of_asked (Ok (AsksFamilies arch)) g = absurd g
@@ -223,6 +230,8 @@ list_answered words request status input old new before after given h = of_asked
   where
     of_asked : (asked : Result Asked Usage) → Gives (Ok (requests.List request)) asked → AnswersAsked words asked status (devices (input, before, old)) (devices (input, after, new))
     of_asked (Err usage) g = absurd g
+    of_asked (Ok (AsksCross asked)) g = absurd g
+    of_asked (Ok (AsksDemo asked)) g = absurd g
     of_asked (Ok (AsksTest asked)) g = absurd g
     of_asked (Ok (AsksName asked)) g = absurd g
     of_asked (Ok (AsksFamilies arch)) g = absurd g
@@ -237,6 +246,8 @@ families_answered words arch status shelf old new before after given h = of_aske
   where
     of_asked : (asked : Result Asked Usage) → Gives (Ok (requests.Families arch)) asked → AnswersAsked words asked status (devices (old, before, shelf)) (devices (new, after, shelf))
     of_asked (Err usage) g = absurd g
+    of_asked (Ok (AsksCross asked)) g = absurd g
+    of_asked (Ok (AsksDemo asked)) g = absurd g
     of_asked (Ok (AsksTest asked)) g = absurd g
     of_asked (Ok (AsksName asked)) g = absurd g
     of_asked (Ok (AsksList asked)) g = absurd g
@@ -250,8 +261,47 @@ sum_answered words status old new given h = of_asked (asked_of words) given
   where
     of_asked : (asked : Result Asked Usage) → Gives (Ok requests.Sum) asked → AnswersAsked words asked status (devices old) (devices new)
     of_asked (Err usage) g = absurd g
+    of_asked (Ok (AsksCross asked)) g = absurd g
+    of_asked (Ok (AsksDemo asked)) g = absurd g
     of_asked (Ok (AsksTest asked)) g = absurd g
     of_asked (Ok (AsksName asked)) g = absurd g
     of_asked (Ok (AsksList asked)) g = absurd g
     of_asked (Ok (AsksFamilies asked)) g = absurd g
     of_asked (Ok AsksSum) g = h
+
+-- what is answered of a request for the tests of choices
+pub cross_answered : (words : List (List ℕ)) (status : Status) (input : SourceSeen) (old new : ShelfSeen) (before after : SinkSeen)
+    → AnswersCrossing (asked_of words) status old new before after → Answers words status (input, before, old) (input, after, new)
+cross_answered words status input old new before after h = of_asked (asked_of words) h
+  where
+    of_asked : (asked : Result Asked Usage) → AnswersCrossing asked status old new before after → AnswersAsked words asked status (devices (input, before, old)) (devices (input, after, new))
+    of_asked (Err usage) g = absurd g
+    of_asked (Ok (AsksTest asked)) g = absurd g
+    of_asked (Ok (AsksName asked)) g = absurd g
+    of_asked (Ok (AsksList asked)) g = absurd g
+    of_asked (Ok (AsksFamilies arch)) g = absurd g
+    of_asked (Ok AsksSum) g = absurd g
+    of_asked (Ok (AsksDemo asked)) g = absurd g
+    of_asked (Ok (AsksCross asked)) g = record { input = refl; both = g }
+
+-- what is answered of a request for a number of tests
+pub demo_answered : (words : List (List ℕ)) (request : Demo) (status : Status) (input : SourceSeen) (shelf : ShelfSeen) (old new : SinkSeen)
+    → Gives (Ok (requests.Demo request)) (asked_of words)
+    → Prints (demo_text (machine_of request.arch).puts (machine_of request.arch).writing request.count) status old new
+    → Answers words status (input, old, shelf) (input, new, shelf)
+demo_answered words request status input shelf old new given h = of_asked (asked_of words) given
+  where
+    of_asked : (asked : Result Asked Usage) → Gives (Ok (requests.Demo request)) asked → AnswersAsked words asked status (devices (input, old, shelf)) (devices (input, new, shelf))
+    of_asked (Err usage) g = absurd g
+    of_asked (Ok (AsksTest asked)) g = absurd g
+    of_asked (Ok (AsksName asked)) g = absurd g
+    of_asked (Ok (AsksList asked)) g = absurd g
+    of_asked (Ok (AsksFamilies arch)) g = absurd g
+    of_asked (Ok AsksSum) g = absurd g
+    of_asked (Ok (AsksCross asked)) g = absurd g
+    of_asked (Ok (AsksDemo asked)) g = record {
+      input = refl;
+      shelf = refl;
+      out = subst (λ (n : ℕ). Prints (demo_text (machine_of asked.arch).puts (machine_of asked.arch).writing n) status old new) g.1
+          (subst (λ (a : ArchName). Prints (demo_text (machine_of a).puts (machine_of a).writing request.count) status old new) g.0 h);
+    }

@@ -2,7 +2,7 @@
 -- Source: own.
 use Rattle.std.specs.Prelude.{ℕ, ◌≡◌, List, Result, Ok, Err}
 use Rattle.diy_words.specs.declared.usage.Usage.{Usage}
-use Rattle.diy_words.specs.Requests.{Asked, AsksTest, AsksName, AsksList, AsksFamilies, AsksSum, asked_of}
+use Rattle.diy_words.specs.Requests.{Asked, AsksTest, AsksName, AsksList, AsksFamilies, AsksSum, AsksCross, AsksDemo, asked_of}
 use Rattle.diy_tools.specs.declared.status.Status.{Status}
 use Rattle.diy_tools.specs.declared.status.Status.TheVariants as statuses
 use Rattle.diy_tools.specs.Devices.{Devices, OutAlone, InputAndOut, ShelfAndOut, Seen, devices}
@@ -10,6 +10,9 @@ use Rattle.diy_tools.specs.TestAnswers.{AnswersTest}
 use Rattle.diy_tools.specs.NameAnswers.{AnswersSought}
 use Rattle.diy_tools.specs.FamilyAnswers.{AnswersFamilies}
 use Rattle.diy_tools.specs.ListAnswers.{AnswersList}
+use Rattle.diy_tools.specs.CrossAnswers.{AnswersCross}
+use Rattle.diy_tools.specs.DemoAnswers.{demo_asked}
+use Rattle.diy_tools.specs.Printing.{Prints}
 use Rattle.diy_tools.specs.SumAnswers.{AnswersSum}
 
 -- words make no request, and no device changes; or each tool answers what it is asked for, and the devices that it doesn't
@@ -19,8 +22,10 @@ AnswersAsked words (Err usage) status old new = (status ≡ statuses.Usage usage
 AnswersAsked words (Ok (AsksTest asked)) status old new = OutAlone (AnswersTest asked status) old new
 AnswersAsked words (Ok (AsksName asked)) status old new = InputAndOut (AnswersSought asked.arch asked.cycle status) old new
 AnswersAsked words (Ok (AsksList asked)) status old new = ShelfAndOut (AnswersList asked status) old new
+AnswersAsked words (Ok (AsksCross asked)) status old new = ShelfAndOut (AnswersCross asked status) old new
 AnswersAsked words (Ok (AsksFamilies arch)) status old new = InputAndOut (AnswersFamilies arch status) old new
 AnswersAsked words (Ok AsksSum) status old new = AnswersSum words status old new
+AnswersAsked words (Ok (AsksDemo asked)) status old new = OutAlone (Prints (demo_asked asked) status) old new
 
 -- a call with these words ends with this status, and takes the devices from old to new
 abbrev pub Answers : List (List ℕ) → Status → Seen → Seen → Type 0

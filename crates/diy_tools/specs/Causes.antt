@@ -13,7 +13,7 @@ use Rattle.diy_io.specs.Wrote.{SinkSeen, WroteAll, WrotePart}
 use Rattle.diy_words.specs.declared.usage.Usage.{Usage}
 use Rattle.diy_words.specs.declared.usage.UsageKind.{UsageKind}
 use Rattle.diy_words.specs.declared.usage.UsageKind.TheVariants.{UnknownName}
-use Rattle.diy_words.specs.Requests.{Asked, Sought, AsksTest, AsksName, AsksList, AsksFamilies, AsksSum, OfEdges, OfName, OfLines, asked_of}
+use Rattle.diy_words.specs.Requests.{Asked, Sought, AsksTest, AsksName, AsksList, AsksFamilies, AsksSum, AsksCross, AsksDemo, OfEdges, OfName, OfLines, asked_of}
 use Rattle.listed_tests.specs.declared.ending.ListingEnd.TheVariants as listings
 use Rattle.summed_logs.specs.declared.sum_end.SumEnd.{SumEnd}
 use Rattle.summed_logs.specs.declared.sum_end.SumEnd.TheVariants as sums
@@ -24,6 +24,8 @@ use Rattle.diy_tools.specs.declared.status.Refusal.{Refusal}
 use Rattle.diy_tools.specs.declared.status.TextKind.TheVariants as texts
 use Rattle.diy_tools.specs.declared.status.Device.TheVariants.{Input, Out, Shelf}
 use Rattle.diy_tools.specs.Devices.{Devices, OutAlone, InputAndOut, ShelfAndOut, Seen, devices}
+use Rattle.diy_tools.specs.CrossAnswers.{EndsCrossed}
+use Rattle.diy_tools.specs.DemoAnswers.{demo_asked}
 use Rattle.diy_tools.specs.ListAnswers.{EndsAsked}
 use Rattle.diy_tools.specs.Memory.{MayWantMemory}
 use Rattle.diy_tools.specs.NameAnswers.{PrintsNamed}
@@ -85,9 +87,10 @@ PassesLimit words asked (Some file) line old new =
     × (2 ^ 40 < new.shelf.taken)
     × SumStops words asked (sums.TooMuch (Some file) line) old new
 
--- diy7 writes files, up to where the shelf fails
+-- diy7 or diycross7 writes files, up to where the shelf fails
 abbrev pub ListStops : Result Asked Usage → Devices → Devices → Type 0
 ListStops (Ok (AsksList asked)) old new = ShelfAndOut (EndsAsked asked listings.ShelfFault) old new
+ListStops (Ok (AsksCross asked)) old new = ShelfAndOut (EndsCrossed asked listings.ShelfFault) old new
 ListStops _ old new = ⊥
 
 -- norm7 has written all lines
@@ -104,6 +107,8 @@ Finishes words (Ok (AsksTest asked)) old new =
     (test_refused asked ≡ None) × OutAlone (λ out out'. WroteAll out out' (asked_text asked)) old new
 Finishes words (Ok (AsksName asked)) old new = InputAndOut (NamesAll asked.arch asked.cycle) old new
 Finishes words (Ok (AsksList asked)) old new = ShelfAndOut (EndsAsked asked listings.Done) old new
+Finishes words (Ok (AsksCross asked)) old new = ShelfAndOut (EndsCrossed asked listings.Done) old new
+Finishes words (Ok (AsksDemo asked)) old new = OutAlone (λ out out'. WroteAll out out' (demo_asked asked)) old new
 Finishes words (Ok (AsksFamilies arch)) old new = InputAndOut (ClassifiedAll arch) old new
 Finishes words (Ok AsksSum) old new = EndsSum words sums.Done old new
 
@@ -114,13 +119,15 @@ NamesPart arch (OfEdges edges) old new before after =
 NamesPart arch (OfName at name) old new before after = (new ≡ old) × PrintsNamed arch name (statuses.WriteFault Out) before after
 NamesPart arch OfLines old new before after = NormedPart arch old new before after
 
--- a prefix of what goes to standard output is written; of diy7 all files are
+-- a prefix of what goes to standard output is written; of diy7 and diycross7 all files are
 abbrev pub OutStops : List (List ℕ) → Result Asked Usage → Devices → Devices → Type 0
 OutStops words (Err usage) old new = ⊥
 OutStops words (Ok (AsksTest asked)) old new =
     (test_refused asked ≡ None) × OutAlone (λ out out'. WrotePart out out' (asked_text asked)) old new
 OutStops words (Ok (AsksName asked)) old new = InputAndOut (NamesPart asked.arch asked.cycle) old new
 OutStops words (Ok (AsksList asked)) old new = ShelfAndOut (EndsAsked asked listings.OutFault) old new
+OutStops words (Ok (AsksCross asked)) old new = ShelfAndOut (EndsCrossed asked listings.OutFault) old new
+OutStops words (Ok (AsksDemo asked)) old new = OutAlone (λ out out'. WrotePart out out' (demo_asked asked)) old new
 OutStops words (Ok (AsksFamilies arch)) old new = InputAndOut (ClassifiedPart arch) old new
 OutStops words (Ok AsksSum) old new = EndsSum words sums.OutFault old new
 
@@ -151,10 +158,10 @@ CausesAsked words asked (statuses.ReadFault Shelf) old new =
 CausesAsked words asked (statuses.ReadFault Out) old new = ⊥
 -- standard output failed
 CausesAsked words asked (statuses.WriteFault Out) old new = Rose old.out.faults new.out.faults × OutStops words asked old new
--- the shelf failed while diy7 wrote a file
+-- the shelf failed while diy7 or diycross7 wrote a file
 CausesAsked words asked (statuses.WriteFault Shelf) old new = Rose old.shelf.faults new.shelf.faults × ListStops asked old new
 CausesAsked words asked (statuses.WriteFault Input) old new = ⊥
--- classify7 or msum7 wants memory
+-- classify7, msum7 or diycross7 wants memory
 CausesAsked words asked statuses.NoMemory old new = MayWantMemory asked × NothingWritten old new
 
 abbrev pub Causes : List (List ℕ) → Status → Seen → Seen → Type 0

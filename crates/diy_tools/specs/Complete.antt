@@ -9,7 +9,7 @@ use Rattle.diy_io.specs.declared.source.TheConstants.{MAX_INPUT}
 use Rattle.diy_io.specs.Count.{Rose}
 use Rattle.diy_io.specs.Shelf.{Files}
 use Rattle.diy_words.specs.declared.usage.Usage.{Usage}
-use Rattle.diy_words.specs.Requests.{Asked, Sought, AsksTest, AsksName, AsksList, AsksFamilies, AsksSum, OfEdges, OfName, OfLines, asked_of}
+use Rattle.diy_words.specs.Requests.{Asked, Sought, AsksTest, AsksName, AsksList, AsksFamilies, AsksSum, AsksCross, AsksDemo, OfEdges, OfName, OfLines, asked_of}
 use Rattle.summed_logs.specs.Logs.{IsText, IsShort, AreRight}
 use Rattle.summed_logs.specs.SumEnds.{AreLogs}
 use Rattle.diy_tools.specs.declared.status.Status.{Status}
@@ -62,6 +62,8 @@ CanBeDone words (Err usage) old = ⊥
 CanBeDone words (Ok (AsksTest asked)) old = test_refused asked ≡ None
 CanBeDone words (Ok (AsksName asked)) old = CanName asked.arch asked.cycle old
 CanBeDone words (Ok (AsksList asked)) old = ⊤
+CanBeDone words (Ok (AsksCross asked)) old = ⊤
+CanBeDone words (Ok (AsksDemo asked)) old = ⊤
 CanBeDone words (Ok (AsksFamilies arch)) old = OfItsText old.input.left (IsSoundText arch)
 CanBeDone words (Ok AsksSum) old = CanSum words old
 

@@ -8,7 +8,7 @@ use Rattle.cycle_resolve.specs.Resolution.{turned}
 use Rattle.diy_io.specs.Shelf.{ShelfSeen}
 use Rattle.diy_io.specs.Wrote.{SinkSeen}
 use Rattle.diy_words.specs.declared.usage.Usage.{Usage}
-use Rattle.diy_words.specs.Requests.{Asked, ListAsked, AsksTest, AsksList, asked_of}
+use Rattle.diy_words.specs.Requests.{Asked, ListAsked, AsksTest, AsksList, CrossAsked, AsksCross, asked_of}
 use Rattle.listed_tests.specs.Plans.{IsPlanned, planned_text}
 use Rattle.printed_tests.specs.Headline.{BytesForce}
 use Rattle.diy_tools.specs.declared.status.Status.{Status}
@@ -17,6 +17,8 @@ use Rattle.diy_tools.specs.Machines.{Machine, machine_of}
 use Rattle.diy_tools.specs.Refused.{refused_of}
 use Rattle.diy_tools.specs.Printing.{Prints}
 use Rattle.diy_tools.specs.TestAnswers.{asked_text}
+use Rattle.listing_laws.specs.Listing.{IsOneOf}
+use Rattle.diy_tools.specs.CrossAnswers.{AnswersCross, cycles_asked, crossed_text}
 use Rattle.diy_tools.specs.ListAnswers.{AnswersList, plan_asked}
 
 -- a text is printed, and its bytes force a cycle
@@ -30,13 +32,20 @@ pub record ListsForcing (asked : ListAsked) (status : Status) (old new : ShelfSe
   pub forces : (cycle : List Edge) → IsPlanned (plan_asked asked) cycle →
       BytesForce (machine_of asked.arch).puts.name (machine_of asked.arch).writing (planned_text (plan_asked asked) cycle) (turned cycle) asked.mode
 
+-- the tests of the choices' cycles are written as they are asked for, and the bytes of the text of each force its cycle
+pub record CrossesForcing (asked : CrossAsked) (status : Status) (old new : ShelfSeen) (before after : SinkSeen) : Type 0 where
+  pub crosses : AnswersCross asked status old new before after
+  pub forces : (cycle : List Edge) → IsOneOf (cycles_asked asked) cycle →
+      BytesForce (machine_of asked.arch).puts.name (machine_of asked.arch).writing (crossed_text asked cycle) (turned cycle) asked.mode
+
 -- where the words ask for the test of edges that nothing refuses, it is printed and forces the cycle that they make; where
--- they ask for a listing, it is written and each of its tests forces its cycle
+-- they ask for a listing, or for the tests of choices, it is written and each of its tests forces its cycle
 abbrev pub HeadlineAsked : Result Asked Usage → Status → Devices → Devices → Type 0
 HeadlineAsked (Ok (AsksTest asked)) status old new =
     refused_of (machine_of asked.arch).puts asked.mode asked.edges ≡ None →
     PrintsForcing (machine_of asked.arch) (asked_text asked) asked.edges asked.mode status old.out new.out
 HeadlineAsked (Ok (AsksList asked)) status old new = ListsForcing asked status old.shelf new.shelf old.out new.out
+HeadlineAsked (Ok (AsksCross asked)) status old new = CrossesForcing asked status old.shelf new.shelf old.out new.out
 HeadlineAsked _ status old new = Unit {0}
 
 abbrev pub Headline : List (List ℕ) → Status → Seen → Seen → Type 0

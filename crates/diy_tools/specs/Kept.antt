@@ -27,6 +27,9 @@ use Rattle.test_maker.specs.Refusals.{refusal_of}
 use Rattle.diy_tools.specs.declared.status.Status.{Status}
 use Rattle.diy_tools.specs.declared.status.Refusal.{Refusal}
 use Rattle.diy_tools.specs.declared.status.Refusal.TheVariants as refusals
+use Rattle.diy_words.specs.Requests.{Asked, AsksCross}
+use Rattle.diy_words.specs.declared.usage.Usage.{Usage}
+use Rattle.diy_tools.specs.CrossAnswers.{AnswersCross}
 use Rattle.diy_tools.specs.Machines.{Machine}
 use Rattle.diy_tools.specs.NameAnswers.{AnswersLines, AnswersName}
 use Rattle.diy_tools.specs.Printing.{AnswersEdges}
@@ -69,6 +72,11 @@ abbrev pub MakesTestOf : Machine → ObsMode → List Edge → Test → Result (
 MakesTestOf m mode cycle test (Ok _) =
     (refused_making (refusal_of m.puts cycle mode) ≡ None) × (test_seen test ≡ shown (cycle_test m.puts m.writing mode cycle))
 MakesTestOf m mode cycle test (Err refusal) = refused_making (refusal_of m.puts cycle mode) ≡ Some refusal
+
+-- what is answered of words that ask for the tests of choices
+abbrev pub AnswersCrossing : Result Asked Usage → Status → ShelfSeen → ShelfSeen → SinkSeen → SinkSeen → Type 0
+AnswersCrossing (Ok (AsksCross asked)) status old new before after = AnswersCross asked status old new before after
+AnswersCrossing _ status old new before after = ⊥
 
 -- what a listing that is lent leaves, on an architecture
 abbrev pub EndsOn : Machine → Listing → ListingEnd → ShelfSeen → ShelfSeen → SinkSeen → SinkSeen → Type 0

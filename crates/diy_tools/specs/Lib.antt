@@ -9,6 +9,8 @@ pub mod NameAnswers
 pub mod FamilyAnswers
 pub mod ListAnswers
 pub mod SumAnswers
+pub mod CrossAnswers
+pub mod DemoAnswers
 pub mod Answers
 pub mod Kept
 pub mod Memory

@@ -63,6 +63,8 @@ usage_text usages.BadAfter = codes "BadAfter"
 usage_text usages.StrayWord = codes "StrayWord"
 usage_text usages.MissingArch = codes "MissingArch"
 usage_text usages.MissingEdges = codes "MissingEdges"
+usage_text usages.MissingNumber = codes "MissingNumber"
+usage_text usages.TooManyChoices = codes "TooManyChoices"
 usage_text usages.NotBuilt = codes "NotBuilt"
 
 -- the name of what is wrong with a line of cycles, and with a line of a log

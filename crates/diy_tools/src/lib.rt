@@ -1,6 +1,8 @@
 //! What each tool does, and `run`, the one call that the program makes.
 #![tactic(auto)]
 
+mod crossing;
+mod demo;
 mod edges;
 mod listing;
 mod naming;

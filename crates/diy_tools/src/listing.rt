@@ -69,7 +69,7 @@ fn list_on<H: Shelf, O: Sink>(
     }
 }
 
-fn listing_status(end: ListingEnd) -> Status
+pub(crate) fn listing_status(end: ListingEnd) -> Status
     ensures status { result ≡ listing_status end }
     ensures location { NamesLocation result }
 {

@@ -114,6 +114,8 @@ fn usage_name(kind: UsageKind) -> &'static [u8]
         UsageKind::StrayWord => b"StrayWord",
         UsageKind::MissingArch => b"MissingArch",
         UsageKind::MissingEdges => b"MissingEdges",
+        UsageKind::MissingNumber => b"MissingNumber",
+        UsageKind::TooManyChoices => b"TooManyChoices",
         UsageKind::NotBuilt => b"NotBuilt",
     }
 }

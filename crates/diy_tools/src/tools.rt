@@ -8,6 +8,8 @@ ghost use Rattle.diy_tools.specs.Limit.{Limited};
 ghost use Rattle.diy_tools.specs.Memory.{NeverWantsMemory};
 ghost use Rattle.diy_tools.specs.Report.{TakesLine, status_line, NamesLocation};
 
+use crate::crossing::cross;
+use crate::demo::demo;
 use crate::listing::list;
 use crate::naming::{families, norm};
 use crate::report::report;
@@ -19,7 +21,8 @@ use diy_words::{Request, read_request};
 use std::alloc::Global;
 
 /// Does what the words ask for: it prints the test of a cycle to `out`, or the names of cycles, or
-/// the sum of logs, or writes the tests of a listing to the shelf.
+/// the sum of logs, or how long some tests are, or writes the tests of a listing, or of choices, to
+/// the shelf.
 ///
 /// Where the words make no request, or the edges are refused, no device changes but `err`. What each
 /// tool reads of `input` and of the shelf, what it writes to `out` and to the shelf, and what stands
@@ -73,6 +76,8 @@ fn answer<I: Source, O: Sink, H: Shelf>(
         Ok(Request::Name(request)) => norm(&request, input, out),
         Ok(Request::List(request)) => list(request, shelf, out),
         Ok(Request::Families(arch)) => families(alloc, arch, input, out),
+        Ok(Request::Cross(request)) => cross(alloc, words, request, shelf, out),
+        Ok(Request::Demo(request)) => demo(&request, out),
         Ok(Request::Sum) => sum(alloc, words, input, shelf, out),
     }
 }

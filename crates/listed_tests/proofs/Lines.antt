@@ -78,3 +78,19 @@ count_built n a b c d digits small none first text second third =
     (second
     ∙ (ap (λ t. t ++ digits) (first ∙ ap (λ t. t ++ codes "Generator produced ") none)
     ∙ ap (λ t. codes "Generator produced " ++ t) (text ∙ ap decimal (sym (counted_itself n small)))))
+
+-- the files of the tests of cycles, numbered from the first one's number on
+pub files_from : Option (List ℕ) → (List Edge → List ℕ) → ℕ → List (List Edge) → List (List ℕ × List ℕ)
+files_from folder text first cycles = map (λ test. (path_of folder (file_of test.0 test.1), text test.1)) (enumerate_from first cycles)
+
+-- those up to a cycle, of the cycle, and of the rest
+pub files_parts : (folder : Option (List ℕ)) (text : List Edge → List ℕ) (us : List (List Edge)) (u : List Edge) (rest : List (List Edge))
+    → test_files folder text (us ++ u ∷ rest) ≡ test_files folder text us ++ (path_of folder (file_of (length us) u), text u) ∷ files_from folder text (length us + 1) rest
+unfolding test_files files_from
+files_parts folder text us u rest =
+    ap (map (λ test. (path_of folder (file_of test.0 test.1), text test.1))) (enumerate_from-append 0 us (u ∷ rest))
+    ∙ map-append (λ test. (path_of folder (file_of test.0 test.1), text test.1)) (enumerate_from 0 us) (enumerate_from (0 + length us) (u ∷ rest))
+    ∙ ap (λ k. map (λ test. (path_of folder (file_of test.0 test.1), text test.1)) (enumerate_from 0 us) ++ (path_of folder (file_of k u), text u) ∷ files_from folder text (k + 1) rest) (zero_plus (length us))
+  where
+    zero_plus : (k : ℕ) → 0 + k ≡ k
+    zero_plus k = omega arith

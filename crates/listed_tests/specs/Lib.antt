@@ -3,4 +3,5 @@ pub mod Texts
 pub mod Putting
 pub mod Plans
 pub mod Ends
+pub mod Given
 pub mod Keeping

@@ -3,6 +3,7 @@
 
 mod ending;
 mod files;
+mod given;
 mod listing;
 mod making;
 mod names;
@@ -12,6 +13,7 @@ mod wanted;
 
 pub use ending::ListingEnd;
 pub use files::MAX_FOLDER;
+pub use given::put_cycles;
 pub use listing::{Listing, list_tests};
 
 #[cfg(test)]

@@ -173,7 +173,7 @@ fn put_tests<A: Arch, H: Shelf, K: Fn(&[Edge]) -> bool, P: Fn(&Cycle) -> bool>(
 
 /// Puts the file of a cycle's test on the shelf, and gives its name. The names of the test and of
 /// the path are made in `name` and `path`, and what these held doesn't count.
-fn put_test<A: Arch, H: Shelf>(
+pub(crate) fn put_test<A: Arch, H: Shelf>(
     wanted: &Wanted,
     cycle: &Cycle,
     number: u128,
@@ -198,7 +198,7 @@ fn put_test<A: Arch, H: Shelf>(
 }
 
 /// Writes the line on how many tests there are.
-fn write_count<O: Sink>(count: u128, out: &mut O) -> Result<(), Failed>
+pub(crate) fn write_count<O: Sink>(count: u128, out: &mut O) -> Result<(), Failed>
     ensures { Wrote (O.seen out.old) (O.seen out.new) (count_line count) result }
 {
     let mut line: ArrayString<MAX_COUNT_LINE> = ArrayString::new();

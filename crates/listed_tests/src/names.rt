@@ -21,7 +21,7 @@ pub(crate) const MAX_LINE: usize = 208;
 /// The most bytes of lines that are kept.
 pub(crate) const MAX_LINES: usize = 98_304;
 
-type Lines = ArrayVec<u8, MAX_LINES>;
+pub(crate) type Lines = ArrayVec<u8, MAX_LINES>;
 
 /// The cycle whose line was the last that was kept, and the number of the next one.
 #[derive(Drop)]
@@ -67,7 +67,7 @@ impl Names {
 }
 
 /// Appends the line that names a file.
-fn push_line(file: &FileName, lines: &mut Lines)
+pub(crate) fn push_line(file: &FileName, lines: &mut Lines)
     requires { length lines.old.items + MAX_LINE ≤ MAX_LINES }
     ensures { lines.new.items ≡ lines.old.items ++ (file.now.bytes ++ codes "\n") }
 {

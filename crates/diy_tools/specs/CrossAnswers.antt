@@ -1,0 +1,47 @@
+-- What diycross7 answers.
+-- Source: own.
+use Rattle.std.specs.Prelude.{◌≡◌, ◌⊎◌, ℕ, List, Option}
+use Rattle.relax_edges.specs.declared.edge.Edge.{Edge}
+use Rattle.relax_edges.specs.declared.kinds.ObsMode.{ObsMode}
+use Rattle.crossed_cycles.specs.Choices.{crossed}
+use Rattle.diy_io.specs.Shelf.{ShelfSeen}
+use Rattle.diy_io.specs.Wrote.{SinkSeen}
+use Rattle.diy_words.specs.Requests.{CrossAsked}
+use Rattle.listed_tests.specs.declared.ending.ListingEnd.{ListingEnd}
+use Rattle.listed_tests.specs.Given.{EndsGiven}
+use Rattle.listed_tests.specs.Plans.{named_text}
+use Rattle.diy_tools.specs.declared.status.Status.{Status}
+use Rattle.diy_tools.specs.declared.status.Status.TheVariants.{NoMemory}
+use Rattle.diy_tools.specs.Machines.{Machine, machine_of}
+use Rattle.diy_tools.specs.Statuses.{listing_status}
+
+-- the cycles of the choices that words ask for
+abbrev pub cycles_asked : CrossAsked → List (List Edge)
+cycles_asked asked = crossed (machine_of asked.arch).puts asked.mode asked.places
+
+-- the text of the test of a cycle
+abbrev pub crossed_text : CrossAsked → List Edge → List ℕ
+crossed_text asked = named_text (machine_of asked.arch).puts (machine_of asked.arch).writing asked.mode
+
+-- what the writing of the tests of choices leaves with an end, on an architecture
+abbrev pub EndsChoices : Machine → ObsMode → Option (List ℕ) → List (List (List Edge)) → ListingEnd → ShelfSeen → ShelfSeen → SinkSeen → SinkSeen → Type 0
+EndsChoices m mode folder places end old new before after =
+    EndsGiven (λ (sink : SinkSeen). sink) folder (named_text m.puts m.writing mode) (crossed m.puts mode places) end old new before after
+
+-- those tests are written, each in a file, or a device failed
+pub record Crosses (m : Machine) (mode : ObsMode) (folder : Option (List ℕ)) (places : List (List (List Edge))) (status : Status) (old new : ShelfSeen) (before after : SinkSeen) : Type 0 where
+  pub end : ListingEnd
+  pub ends : EndsChoices m mode folder places end old new before after
+  pub status_is : status ≡ listing_status end
+
+-- that, or there is no memory, and nothing changed
+abbrev pub AnswersChoices : Machine → ObsMode → Option (List ℕ) → List (List (List Edge)) → Status → ShelfSeen → ShelfSeen → SinkSeen → SinkSeen → Type 0
+AnswersChoices m mode folder places status old new before after =
+    ((status ≡ NoMemory) × (new ≡ old) × (after ≡ before)) ⊎ Crosses m mode folder places status old new before after
+
+-- the same for what words ask for
+abbrev pub EndsCrossed : CrossAsked → ListingEnd → ShelfSeen → ShelfSeen → SinkSeen → SinkSeen → Type 0
+EndsCrossed asked = EndsChoices (machine_of asked.arch) asked.mode asked.folder asked.places
+
+abbrev pub AnswersCross : CrossAsked → Status → ShelfSeen → ShelfSeen → SinkSeen → SinkSeen → Type 0
+AnswersCross asked = AnswersChoices (machine_of asked.arch) asked.mode asked.folder asked.places

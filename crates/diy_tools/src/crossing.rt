@@ -1,0 +1,92 @@
+ghost use Rattle.std.specs.Prelude.{◌≡◌, ◌≤◌, Ok, length};
+ghost use Rattle.std.specs.Option.{ForSome, option_map};
+ghost use Rattle.diy_io.specs.Shelf.{Idle};
+ghost use Rattle.diy_words.specs.Given.{Gives, HasForm};
+ghost use Rattle.diy_words.specs.Requests.{asked_of};
+ghost use Rattle.diy_words.specs.declared.request.Request.TheVariants as requests;
+ghost use Rattle.diy_tools.specs.CrossAnswers.{AnswersChoices};
+ghost use Rattle.diy_tools.specs.Kept.{AnswersCrossing};
+ghost use Rattle.diy_tools.specs.Machines.{machine, machine_of};
+ghost use Rattle.diy_tools.specs.Report.{NamesLocation};
+
+use crate::listing::listing_status;
+use crate::status::Status;
+use arch_aarch64::A64;
+use arch_power::Power;
+use arch_riscv::Riscv;
+use arch_trait::Arch;
+use arch_x86::X86;
+use crossed_cycles::crossed_cycles;
+use diy_io::{NoMemory, Shelf, Sink, Words};
+use diy_words::{Cross, read_places};
+use listed_tests::{MAX_FOLDER, put_cycles};
+use relax_edges::{ArchName, ObsMode, Relaxes};
+use std::alloc::Global;
+
+/// Writes the tests of the choices of one relaxation a place, each in a file.
+pub(crate) fn cross<H: Shelf, O: Sink>(
+    alloc: Global,
+    words: &Words,
+    request: Cross,
+    shelf: &mut H,
+    out: &mut O,
+) -> Status
+    requires idle { (H.seen shelf.old).mode ≡ Idle }
+    requires given { Gives (Ok (requests.Cross request)) (asked_of words.now) }
+    requires form { HasForm (requests.Cross request) }
+    ensures answers { AnswersCrossing (asked_of words.now) result (H.seen shelf.old) (H.seen shelf.new) (O.seen out.old) (O.seen out.new) }
+    ensures location { NamesLocation result }
+{
+    match read_places(alloc, words) {
+        Ok(places) => cross_places(alloc, request, places.as_slice(), shelf, out),
+        Err(NoMemory) => Status::NoMemory,
+    }
+}
+
+/// Writes the tests of the choices from lists, on the architecture that is asked for.
+fn cross_places<H: Shelf, O: Sink>(
+    alloc: Global,
+    request: Cross,
+    places: &[Relaxes],
+    shelf: &mut H,
+    out: &mut O,
+) -> Status
+    requires idle { (H.seen shelf.old).mode ≡ Idle }
+    requires form { HasForm (requests.Cross request) }
+    ensures answers { AnswersChoices (machine_of request.entry.arch) request.entry.mode (option_map (λ folder. folder.now) request.entry.folder) places.now result (H.seen shelf.old) (H.seen shelf.new) (O.seen out.old) (O.seen out.new) }
+    ensures location { NamesLocation result }
+{
+    let Cross { arch, mode, folder } = request;
+    match arch {
+        ArchName::X86 => cross_on::<X86, H, O>(alloc, mode, folder, places, shelf, out),
+        ArchName::PPC => cross_on::<Power, H, O>(alloc, mode, folder, places, shelf, out),
+        ArchName::AArch64 => cross_on::<A64, H, O>(alloc, mode, folder, places, shelf, out),
+        ArchName::RISCV => cross_on::<Riscv, H, O>(alloc, mode, folder, places, shelf, out),
+    }
+}
+
+/// Writes the tests of the choices from lists, on an architecture.
+fn cross_on<A: Arch, H: Shelf, O: Sink>(
+    alloc: Global,
+    mode: ObsMode,
+    folder: Option<&str>,
+    places: &[Relaxes],
+    shelf: &mut H,
+    out: &mut O,
+) -> Status
+    requires idle { (H.seen shelf.old).mode ≡ Idle }
+    requires folder { ForSome folder (λ folder. length folder.now ≤ MAX_FOLDER) }
+    ensures answers { AnswersChoices (machine A.puts A.writing) mode (option_map (λ folder. folder.now) folder.entry) places.now result (H.seen shelf.old) (H.seen shelf.new) (O.seen out.old) (O.seen out.new) }
+    ensures location { NamesLocation result }
+{
+    match crossed_cycles::<A>(alloc, places, mode) {
+        Ok(cycles) => listing_status(put_cycles::<A, H, O>(
+            cycles.as_slice(),
+            mode,
+            folder,
+            shelf,
+            out,
+        )),
+        Err(NoMemory) => Status::NoMemory,
+    }
+}

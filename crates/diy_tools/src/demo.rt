@@ -1,0 +1,35 @@
+ghost use Rattle.std.specs.Prelude.{◌≡◌};
+ghost use Rattle.demo_tests.specs.DemoText.{demo_text};
+ghost use Rattle.diy_words.specs.Given.{HasForm};
+ghost use Rattle.diy_words.specs.declared.request.Request.TheVariants as requests;
+ghost use Rattle.diy_tools.specs.Machines.{machine_of};
+ghost use Rattle.diy_tools.specs.Printing.{Prints};
+ghost use Rattle.diy_tools.specs.Report.{NamesLocation};
+
+use crate::status::{Device, Status};
+use arch_aarch64::A64;
+use arch_power::Power;
+use arch_riscv::Riscv;
+use arch_x86::X86;
+use demo_tests::demo as count_tests;
+use diy_io::{Failed, Sink};
+use diy_words::Demo;
+use relax_edges::ArchName;
+
+/// Makes as many tests as are asked for, and prints how many there are of each family.
+pub(crate) fn demo<O: Sink>(request: &Demo, out: &mut O) -> Status
+    requires form { HasForm (requests.Demo request.now) }
+    ensures prints { Prints (demo_text (machine_of request.now.arch).puts (machine_of request.now.arch).writing request.now.count) result (O.seen out.old) (O.seen out.new) }
+    ensures location { NamesLocation result }
+{
+    let printed = match request.arch {
+        ArchName::X86 => count_tests::<X86, O>(request.count, out),
+        ArchName::PPC => count_tests::<Power, O>(request.count, out),
+        ArchName::AArch64 => count_tests::<A64, O>(request.count, out),
+        ArchName::RISCV => count_tests::<Riscv, O>(request.count, out),
+    };
+    match printed {
+        Ok(()) => Status::Done,
+        Err(Failed) => Status::WriteFault { of: Device::Out },
+    }
+}

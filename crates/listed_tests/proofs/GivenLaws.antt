@@ -1,0 +1,159 @@
+-- The steps of writing the files of cycles that are given, and what they come to.
+use Rattle.std.proofs.Common.{◌≡◌, ◌≤◌, ◌<◌, ℕ, ◌+◌, get_or, drop, List, [], ◌∷◌, ◌++◌, length, Option, refl, sym, ◌∙◌, ap, subst, arith, append-nil, append_assoc, length-append}
+use Rattle.std.proofs.Math.ListN.{drop_of_length-le}
+use Rattle.std.proofs.lemmas.List.{drop_more}
+use Rattle.std.specs.Prelude.{codes}
+use Rattle.relax_edges.specs.declared.edge.Edge.{Edge}
+use Rattle.diy_io.specs.Shelf.{ShelfSeen, Idle, NotCreated}
+use Rattle.listed_tests.specs.Files.{number_of, file_of, path_of, all_path, file_lines, test_files}
+use Rattle.listed_tests.specs.Given.{PutUpTo, given_files}
+use Rattle.listed_tests.specs.Putting.{Put, PutPart, Filling}
+use Rattle.listed_tests.proofs.Lines.{file_lines-append, file_lines_none, file_lines_one, file_lines_first, test_files_none, test_files_more, files_from, files_parts, counted_next, counted_once, file_counted, lines_counted}
+use Rattle.listed_tests.proofs.Shelves.{put_nothing, put_both, put_then_part, part_more, part_not_begun}
+
+length_more : (us : List (List Edge)) (u : List Edge) → length (us ++ u ∷ []) ≡ length us + 1
+length_more us u = omega (arith, length-append us (u ∷ []))
+
+-- the cycle at a place is the first of those that are left there
+pub left_at : (cycles : List (List Edge)) (i : ℕ) (u : List Edge) → i < length cycles → u ≡ get_or cycles i u → drop i cycles ≡ u ∷ drop (i + 1) cycles
+left_at cycles i u h e = drop_more cycles i u h ∙ ap (λ v. v ∷ drop (i + 1) cycles) (sym e)
+
+-- at the end none is left
+pub drop_all : (cycles : List (List Edge)) (i : ℕ) → length cycles ≤ i → drop i cycles ≡ []
+drop_all cycles i h = drop_of_length-le cycles h
+
+-- the files of the first cycles are there, and these are left
+pub record Puts (folder : Option (List ℕ)) (text : List Edge → List ℕ) (cycles rest : List (List Edge)) (old new : ShelfSeen) (number : ℕ) : Type 0 where
+  pub done : List (List Edge)
+  pub parts : cycles ≡ done ++ rest
+  pub files : Put old new (test_files folder text done)
+  pub counted : number_of number ≡ number_of (length done)
+
+module _ (folder : Option (List ℕ)) (text : List Edge → List ℕ) (cycles : List (List Edge)) where
+  -- before the first cycle
+  pub puts_first : (a : ShelfSeen) → a.mode ≡ Idle → Puts folder text cycles cycles a a 0
+  puts_first a idle = record {
+    done = [];
+    parts = refl;
+    files = subst (Put a a) (sym (test_files_none folder text)) (put_nothing a idle);
+    counted = refl;
+  }
+
+  -- one cycle more
+  pub puts_more : (rest more : List (List Edge)) (u : List Edge) (a b c : ShelfSeen) (number next : ℕ)
+      → Puts folder text cycles rest a b number → rest ≡ u ∷ more → next ≡ number_of (number + 1)
+      → Put b c ((path_of folder (file_of number u), text u) ∷ []) → Puts folder text cycles more a c next
+  puts_more rest more u a b c number next p left e put = record {
+    done = p.done ++ u ∷ [];
+    parts = p.parts ∙ ap (λ r. p.done ++ r) left ∙ sym (append_assoc p.done (u ∷ []) more);
+    files = subst (Put a c) (sym (test_files_more folder text p.done u))
+        (put_both a b c (test_files folder text p.done) _ p.files
+        (subst (λ file. Put b c ((path_of folder file, text u) ∷ [])) (file_counted number (length p.done) _ p.counted) put));
+    counted = ap number_of e ∙ counted_once (number + 1) ∙ counted_next number (length p.done) p.counted ∙ ap number_of (sym (length_more p.done u));
+  }
+
+  -- the shelf fails at a cycle's file
+  pub puts_stop : (rest more : List (List Edge)) (u : List Edge) (a b c : ShelfSeen) (number : ℕ)
+      → Puts folder text cycles rest a b number → rest ≡ u ∷ more
+      → PutPart b c [] (path_of folder (file_of number u)) (text u) → PutUpTo a c (test_files folder text cycles)
+  puts_stop rest more u a b c number p left part = record {
+    before = test_files folder text p.done;
+    next = (path_of folder (file_of (length p.done) u), text u);
+    after = files_from folder text (length p.done + 1) more;
+    parts = ap (test_files folder text) (p.parts ∙ ap (λ r. p.done ++ r) left) ∙ files_parts folder text p.done u more;
+    part = put_then_part a b c (test_files folder text p.done) _ (text u) p.files
+        (subst (λ file. PutPart b c [] (path_of folder file) (text u)) (file_counted number (length p.done) _ p.counted) part);
+  }
+
+  -- no cycle is left
+  pub puts_end : (rest : List (List Edge)) (a b : ShelfSeen) (number : ℕ) → Puts folder text cycles rest a b number → rest ≡ [] → Put a b (test_files folder text cycles)
+  puts_end rest a b number p left =
+      subst (λ us. Put a b (test_files folder text us)) (sym (p.parts ∙ ap (λ r. p.done ++ r) left ∙ append-nil p.done)) p.files
+
+  -- then the file that names all is there, or the shelf fails at it
+  pub given_put : (a b c : ShelfSeen) → Put a b (test_files folder text cycles) → Put b c ((all_path folder, file_lines 0 cycles) ∷ [])
+      → Put a c (given_files folder text cycles)
+  given_put a b c files names = put_both a b c (test_files folder text cycles) _ files names
+
+  pub given_stop : (a b c : ShelfSeen) → Put a b (test_files folder text cycles) → PutPart b c [] (all_path folder) (file_lines 0 cycles)
+      → PutUpTo a c (given_files folder text cycles)
+  given_stop a b c files part = record {
+    before = test_files folder text cycles;
+    next = (all_path folder, file_lines 0 cycles);
+    after = [];
+    parts = refl;
+    part = put_then_part a b c (test_files folder text cycles) _ _ files part;
+  }
+
+  -- the shelf fails before that
+  pub given_stopped : (a c : ShelfSeen) → PutUpTo a c (test_files folder text cycles) → PutUpTo a c (given_files folder text cycles)
+  given_stopped a c p = record {
+    before = p.before;
+    next = p.next;
+    after = p.after ++ (all_path folder, file_lines 0 cycles) ∷ [];
+    parts = ap (λ files. files ++ (all_path folder, file_lines 0 cycles) ∷ []) p.parts ∙ append_assoc p.before (p.next ∷ p.after) _;
+    part = p.part;
+  }
+
+-- the file that names the cycles has the lines of the first ones, but for those that wait, and these are left
+pub record Lists (path : List ℕ) (cycles rest : List (List Edge)) (old new : ShelfSeen) (number : ℕ) (waiting : List ℕ) : Type 0 where
+  pub done : List (List Edge)
+  pub parts : cycles ≡ done ++ rest
+  pub written : List ℕ
+  pub file : Filling old new path written
+  pub text : written ++ waiting ≡ file_lines 0 done
+  pub counted : number_of number ≡ number_of (length done)
+
+module _ (path : List ℕ) (cycles : List (List Edge)) where
+  -- the file is begun
+  pub lists_first : (a b : ShelfSeen) (waiting : List ℕ) → waiting ≡ [] → Filling a b path [] → Lists path cycles cycles a b 0 waiting
+  lists_first a b waiting none f = record {
+    done = [];
+    parts = refl;
+    written = [];
+    file = f;
+    text = none ∙ sym (file_lines_none 0);
+    counted = refl;
+  }
+
+  -- the lines that wait are written
+  pub lists_written : (rest : List (List Edge)) (a b c : ShelfSeen) (number : ℕ) (waiting : List ℕ) (l : Lists path cycles rest a b number waiting)
+      → Filling a c path (l.written ++ waiting) → Lists path cycles rest a c number []
+  lists_written rest a b c number waiting l f = record {
+    done = l.done;
+    parts = l.parts;
+    written = l.written ++ waiting;
+    file = f;
+    text = append-nil (l.written ++ waiting) ∙ l.text;
+    counted = l.counted;
+  }
+
+  -- one line more waits
+  pub lists_more : (rest more : List (List Edge)) (u : List Edge) (a b : ShelfSeen) (number next : ℕ) (waiting new : List ℕ)
+      → Lists path cycles rest a b number waiting → rest ≡ u ∷ more → next ≡ number_of (number + 1) → new ≡ waiting ++ (file_of number u ++ codes "\n")
+      → Lists path cycles more a b next new
+  lists_more rest more u a b number next waiting new l left e f =
+      let plus : 0 + length l.done ≡ length l.done = omega arith in
+      record {
+        done = l.done ++ u ∷ [];
+        parts = l.parts ∙ ap (λ r. l.done ++ r) left ∙ sym (append_assoc l.done (u ∷ []) more);
+        written = l.written;
+        file = l.file;
+        text = ap (λ t. l.written ++ t) f ∙ sym (append_assoc l.written waiting (file_of number u ++ codes "\n"))
+            ∙ ap (λ t. t ++ (file_of number u ++ codes "\n")) l.text
+            ∙ sym (file_lines-append 0 l.done (u ∷ []) ∙ ap (λ k. file_lines 0 l.done ++ file_lines k (u ∷ [])) plus
+            ∙ ap (λ t. file_lines 0 l.done ++ t) (file_lines_one (length l.done) u ∙ ap (λ t. t ++ codes "\n") (file_counted (length l.done) number _ (sym l.counted))));
+        counted = ap number_of e ∙ counted_once (number + 1) ∙ counted_next number (length l.done) l.counted ∙ ap number_of (sym (length_more l.done u));
+      }
+
+  -- the whole text of the file, where no cycle is left
+  pub lists_end : (rest : List (List Edge)) (a b : ShelfSeen) (number : ℕ) (waiting : List ℕ) (l : Lists path cycles rest a b number waiting)
+      → rest ≡ [] → l.written ++ waiting ≡ file_lines 0 cycles
+  lists_end rest a b number waiting l left = l.text ∙ ap (file_lines 0) (sym (l.parts ∙ ap (λ r. l.done ++ r) left ∙ append-nil l.done))
+
+  -- the shelf fails at what is written of it so far
+  pub lists_stop : (rest : List (List Edge)) (a b c : ShelfSeen) (number : ℕ) (waiting : List ℕ) (l : Lists path cycles rest a b number waiting)
+      → PutPart a c [] path (l.written ++ waiting) → PutPart a c [] path (file_lines 0 cycles)
+  lists_stop rest a b c number waiting l p =
+      part_more a c [] path (l.written ++ waiting) (file_lines (0 + length l.done) rest) (file_lines 0 cycles) p
+      (ap (file_lines 0) l.parts ∙ file_lines-append 0 l.done rest ∙ ap (λ t. t ++ file_lines (0 + length l.done) rest) (sym l.text))

@@ -1,0 +1,123 @@
+ghost use Rattle.std.specs.Prelude.{◌≡◌, ◌≤◌, ◌∷◌, [], length, None, OnOk, OnErr};
+ghost use Rattle.std.specs.List.{All};
+ghost use Rattle.std.specs.Option.{ForSome, option_map};
+ghost use Rattle.diy_io.specs.Shelf.{Idle};
+ghost use Rattle.test_maker.specs.Refusals.{refusal_of};
+ghost use Rattle.listed_tests.specs.Files.{all_path, file_lines, test_files};
+ghost use Rattle.listed_tests.specs.Given.{EndsGiven, PutUpTo, given_files};
+ghost use Rattle.listed_tests.specs.Plans.{folder_of, named_text};
+ghost use Rattle.listed_tests.specs.Putting.{Put, PutPart};
+
+use crate::ending::ListingEnd;
+use crate::files::{MAX_FOLDER, Path, path_of};
+use crate::listing::{put_test, write_count};
+use crate::making::Desk;
+use crate::names::{Lines, MAX_LINE, file_of, push_line};
+use crate::wanted::Wanted;
+use arch_trait::Arch;
+use arrayvec::ArrayString;
+use cycle_names::MAX_NAME;
+use diy_io::{Failed, Shelf, Sink};
+use edge_algebra::Cycle;
+use relax_edges::{MAX_EDGES, ObsMode};
+
+/// Writes a file for each of some cycles, in their order, then the file `@all` that names them, and
+/// then a line on their number to `out`. It takes no memory.
+///
+/// Each cycle has a test on the architecture in the mode. The files have the texts and the names
+/// that `list_tests` gives them, numbered from 0; cycles that are rotations of each other have one
+/// name, and the later one's file takes the place of the earlier one's.
+///
+/// `ShelfFault` comes only where the shelf's count of faults rose. Then the files up to one are
+/// whole, that one is as it was or has a prefix of its text, no other file changed, and nothing is
+/// written to `out`. `OutFault` comes only where the count of `out` rose. Then all files are whole,
+/// and `out` has a prefix of the line. In each case the shelf is at nothing again.
+pub fn put_cycles<A: Arch, H: Shelf, O: Sink>(
+    cycles: &[Cycle],
+    mode: ObsMode,
+    folder: Option<&str>,
+    shelf: &mut H,
+    out: &mut O,
+) -> ListingEnd
+    requires tests { All (λ cycle. refusal_of A.puts cycle mode ≡ None) cycles.now }
+    requires folder { ForSome folder (λ folder. length folder.now ≤ MAX_FOLDER) }
+    requires idle { (H.seen shelf.old).mode ≡ Idle }
+    ensures { EndsGiven O.seen (option_map (λ folder. folder.now) folder.entry) (named_text A.puts A.writing mode) cycles.now result (H.seen shelf.old) (H.seen shelf.new) out.old out.new }
+{
+    let wanted = Wanted {
+        threads: MAX_EDGES as u8,
+        mode,
+        folder,
+    };
+    match put_given::<A, H>(&wanted, cycles, shelf) {
+        Ok(()) => {}
+        Err(Failed) => return ListingEnd::ShelfFault,
+    }
+    match write_count(cycles.len() as u128, out) {
+        Ok(()) => ListingEnd::Done,
+        Err(Failed) => ListingEnd::OutFault,
+    }
+}
+
+/// Puts the files of cycles on the shelf, and then the one that names them.
+fn put_given<A: Arch, H: Shelf>(
+    wanted: &Wanted,
+    cycles: &[Cycle],
+    shelf: &mut H,
+) -> Result<(), Failed>
+    requires tests { All (λ cycle. refusal_of A.puts cycle wanted.now.mode ≡ None) cycles.now }
+    requires folder { ForSome wanted.now.folder (λ folder. length folder.now ≤ MAX_FOLDER) }
+    requires idle { (H.seen shelf.old).mode ≡ Idle }
+    ensures ok { OnOk result (Put (H.seen shelf.old) (H.seen shelf.new) (given_files (folder_of wanted.now) (named_text A.puts A.writing wanted.now.mode) cycles.now)) }
+    ensures failed { OnErr result (PutUpTo (H.seen shelf.old) (H.seen shelf.new) (given_files (folder_of wanted.now) (named_text A.puts A.writing wanted.now.mode) cycles.now)) }
+{
+    put_tests_of::<A, H>(wanted, cycles, shelf)?;
+    let path = path_of(wanted.folder, "@all");
+    put_names_of(path.as_str(), cycles, shelf)
+}
+
+/// Puts the files of the tests of cycles on the shelf.
+fn put_tests_of<A: Arch, H: Shelf>(
+    wanted: &Wanted,
+    cycles: &[Cycle],
+    shelf: &mut H,
+) -> Result<(), Failed>
+    requires tests { All (λ cycle. refusal_of A.puts cycle wanted.now.mode ≡ None) cycles.now }
+    requires folder { ForSome wanted.now.folder (λ folder. length folder.now ≤ MAX_FOLDER) }
+    requires idle { (H.seen shelf.old).mode ≡ Idle }
+    ensures ok { OnOk result (Put (H.seen shelf.old) (H.seen shelf.new) (test_files (folder_of wanted.now) (named_text A.puts A.writing wanted.now.mode) cycles.now)) }
+    ensures failed { OnErr result (PutUpTo (H.seen shelf.old) (H.seen shelf.new) (test_files (folder_of wanted.now) (named_text A.puts A.writing wanted.now.mode) cycles.now)) }
+{
+    let mut desk = Desk::new();
+    let mut name: ArrayString<MAX_NAME> = ArrayString::new();
+    let mut path = Path::new();
+    let mut number: u128 = 0;
+    for cycle in cycles {
+        put_test::<A, H>(
+            wanted, cycle, number, &mut desk, &mut name, &mut path, shelf,
+        )?;
+        number = number.saturating_add(1);
+    }
+    Ok(())
+}
+
+/// Puts the file on the shelf that names the files of cycles.
+fn put_names_of<H: Shelf>(path: &str, cycles: &[Cycle], shelf: &mut H) -> Result<(), Failed>
+    requires idle { (H.seen shelf.old).mode ≡ Idle }
+    ensures ok { OnOk result (Put (H.seen shelf.old) (H.seen shelf.new) ((path.now, file_lines 0 cycles.now) ∷ [])) }
+    ensures failed { OnErr result (PutPart (H.seen shelf.old) (H.seen shelf.new) [] path.now (file_lines 0 cycles.now)) }
+{
+    shelf.create(path)?;
+    let mut lines = Lines::new();
+    let mut number: u128 = 0;
+    for cycle in cycles {
+        if lines.remaining_capacity() < MAX_LINE {
+            shelf.append(lines.as_slice())?;
+            lines.clear();
+        }
+        push_line(&file_of(cycle, number), &mut lines);
+        number = number.saturating_add(1);
+    }
+    shelf.append(lines.as_slice())?;
+    shelf.finish()
+}
