@@ -1,6 +1,6 @@
 -- The cycles that are made of the cycle of a family: an edge is picked for each link.
 -- Source: own.
-use Rattle.std.specs.Prelude.{◌≡◌, Bool, true, not, ◌&&◌, MatchBool, List, [], ◌∷◌, None}
+use Rattle.std.specs.Prelude.{◌≡◌, ⊤, Bool, true, not, ◌&&◌, MatchBool, List, [], ◌∷◌, None}
 use Rattle.std.specs.List.{IsAmong}
 use Rattle.relax_edges.specs.declared.kinds.ArchName.{ArchName}
 use Rattle.relax_edges.specs.declared.kinds.Dir.{Dir}
@@ -19,7 +19,7 @@ is_choice arch from to edge =
 
 -- edges stand for those of a family's cycle, whatever is drawn: an external one stays, and for a link there is a choice
 abbrev pub IsFilled : ArchName → List Edge → List Edge → Type 0
-IsFilled arch [] [] = Unit {0}
+IsFilled arch [] [] = ⊤
 IsFilled arch (slot ∷ slots) (edge ∷ edges) =
     MatchBool (is_external slot) (edge ≡ slot) (is_choice arch (source_of slot) (target_of slot) edge ≡ true) × IsFilled arch slots edges
 IsFilled _ _ _ = ⊥
