@@ -4,12 +4,12 @@ use Rattle.std.proofs.Math.ListN.{drop_of_length-le}
 use Rattle.std.proofs.lemmas.List.{drop_more}
 use Rattle.std.specs.Prelude.{codes}
 use Rattle.relax_edges.specs.declared.edge.Edge.{Edge}
-use Rattle.diy_io.specs.Shelf.{ShelfSeen, Idle, NotCreated}
+use Rattle.diy_io.specs.Shelf.{ShelfSeen, Idle}
 use Rattle.listed_tests.specs.Files.{number_of, file_of, path_of, all_path, file_lines, test_files}
 use Rattle.listed_tests.specs.Given.{PutUpTo, given_files}
 use Rattle.listed_tests.specs.Putting.{Put, PutPart, Filling}
-use Rattle.listed_tests.proofs.Lines.{file_lines-append, file_lines_none, file_lines_one, file_lines_first, test_files_none, test_files_more, files_from, files_parts, counted_next, counted_once, file_counted, lines_counted}
-use Rattle.listed_tests.proofs.Shelves.{put_nothing, put_both, put_then_part, part_more, part_not_begun}
+use Rattle.listed_tests.proofs.Lines.{file_lines-append, file_lines_none, file_lines_one, test_files_none, test_files_more, files_from, files_parts, counted_next, counted_once, file_counted}
+use Rattle.listed_tests.proofs.Shelves.{put_nothing, put_both, put_then_part, part_more}
 
 length_more : (us : List (List Edge)) (u : List Edge) → length (us ++ u ∷ []) ≡ length us + 1
 length_more us u = omega (arith, length-append us (u ∷ []))

@@ -1,6 +1,6 @@
 use Rattle.std.proofs.Common.{◌≡◌, rules}
 use Rattle.listed_tests.specs.Files.{all_path}
-use Rattle.listed_tests.specs.Plans.{folder_of, named_text}
+use Rattle.listed_tests.specs.Plans.{folder_of}
 use Rattle.listed_tests.proofs.GivenLaws.{given_put, given_stop}
 use Rattle.listed_tests.proofs.Shelves.{ok_so, err_so}
 use Rattle.listed_tests.proofs.given.put_given.Goals as goal

@@ -1,4 +1,4 @@
-use Rattle.std.proofs.Common.{◌≡◌, drop}
+use Rattle.std.proofs.Common.{drop}
 use Rattle.listed_tests.proofs.GivenLaws.{Lists}
 use Rattle.listed_tests.proofs.given.put_names_of.Given as goal
 

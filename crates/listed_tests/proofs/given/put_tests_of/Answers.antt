@@ -1,4 +1,3 @@
-use Rattle.std.proofs.Common.{◌≡◌, ◌∷◌, drop}
 use Rattle.diy_io.specs.SinkLaws.{on_err}
 use Rattle.listed_tests.specs.Plans.{folder_of, named_text}
 use Rattle.listed_tests.proofs.GivenLaws.{left_at, puts_first, puts_more, puts_stop}

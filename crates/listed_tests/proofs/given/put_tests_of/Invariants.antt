@@ -1,4 +1,4 @@
-use Rattle.std.proofs.Common.{◌≡◌, drop}
+use Rattle.std.proofs.Common.{drop}
 use Rattle.listed_tests.specs.Plans.{folder_of, named_text}
 use Rattle.listed_tests.proofs.GivenLaws.{Puts}
 use Rattle.listed_tests.proofs.given.put_tests_of.Given as goal
