@@ -153,8 +153,8 @@ option_first words at text option within got named fit = ⊎_elim of_more of_las
         let k = subst (AllByRecursion IsOk) (unvalued_last tools.Cross false words at text option got named (omega arith)) fit in cc k.0
 
 other_tool : {X : Type 0} (request : X → Asked) (asked : Result X Usage) → ((x : X) → IsCrossing (Ok (request x)) → ⊥) → IsCrossing (asks request asked) → ⊥
-other_tool request (Ok x) no h = no x h
-other_tool request (Err usage) no h = h
+other_tool request (Ok x) apart h = apart x h
+other_tool request (Err usage) apart h = h
 
 -- what faultless words say
 pub record AllSaid (said : List (Result Said Usage)) (all : List Said) : Type 0 where
@@ -164,13 +164,13 @@ pub record AllSaid (said : List (Result Said Usage)) (all : List Said) : Type 0 
 all_said : (said : List (Result Said Usage)) (all : List Said) → said_all said ≡ Ok all → AllSaid said all
 all_said [] all e = let same : [] ≡ all = cc in record { faultless = tt; places = ap places_given same }
 all_said (Err usage ∷ rest) all e = cc e
-all_said (Ok first ∷ rest) all e = of_rest (said_all rest) refl e
+all_said (Ok first ∷ rest) all e = of_rest (said_all rest) (all_said rest) e
   where
-    of_rest : (further : Result (List Said) Usage) → said_all rest ≡ further → said_first first further ≡ Ok all → AllSaid (Ok first ∷ rest) all
-    of_rest (Err usage) r e = cc e
-    of_rest (Ok more) r e =
+    of_rest : (further : Result (List Said) Usage) → ((more : List Said) → further ≡ Ok more → AllSaid rest more) → said_first first further ≡ Ok all → AllSaid (Ok first ∷ rest) all
+    of_rest (Err usage) tail e = cc e
+    of_rest (Ok more) tail e =
         let same : first ∷ more ≡ all = cc e in
-        let further : AllSaid rest more = all_said rest more r in
+        let further : AllSaid rest more = tail more refl in
         record { faultless = (refl, further.faultless); places = ap (λ places. places_in first ++ places) further.places ∙ ap places_given same }
 
 crossed : (count : ℕ) (arch : Option ArchName) (mode : ObsMode) (folder : Option (List ℕ)) (places : List (List (List Edge))) → IsCrossing (asks AsksCross (cross_with count arch mode folder places)) →

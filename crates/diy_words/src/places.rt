@@ -17,10 +17,11 @@ pub fn read_places(alloc: Global, words: &Words) -> Result<Vec<Relaxes>, NoMemor
     let mut places = Vec::new(alloc);
     let mut at = 1;
     while at < words.len() {
-        match option_named(Tool::Cross, words.get(at)) {
+        let word = words.get(at);
+        match option_named(Tool::Cross, word) {
             Some(_) => at += 2,
             None => {
-                places.push(read_place(words.get(at)))?;
+                places.push(read_place(word))?;
                 at += 1;
             }
         }
