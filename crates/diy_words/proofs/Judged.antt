@@ -1,5 +1,5 @@
 -- What is held while the words are read is what the definition takes from all of them.
-use Rattle.std.proofs.Common.{◌≡◌, ℕ, zero, suc, ◌+◌, Bool, true, false, List, [], ◌∷◌, length, map, drop, Option, Some, None, Result, Ok, Err, refl, sym, ap, ◌∙◌, subst, arith, slice_get, lit≤}
+use Rattle.std.proofs.Common.{◌≡◌, ℕ, zero, suc, ◌+◌, Bool, true, false, List, [], ◌∷◌, length, drop, Option, Some, None, Result, Ok, Err, refl, sym, ap, ◌∙◌, subst, arith, slice_get, lit≤}
 use Rattle.std.specs.Option.{option_or}
 use Rattle.std.proofs.lemmas.List.{drop_all}
 use Rattle.relax_edges.specs.declared.edge.Edge.{Edge}
@@ -7,19 +7,22 @@ use Rattle.relax_edges.specs.declared.kinds.ArchName.{ArchName}
 use Rattle.relax_edges.specs.declared.kinds.ObsMode.{ObsMode}
 use Rattle.edge_lists.specs.Kept.{kept, added}
 use Rattle.edge_lists.specs.KeptLaws.{added_more, added_whole}
-use Rattle.std.specs.Prelude.{◌||◌}
+use Rattle.std.specs.Prelude.{◌||◌, is_some, nat_lt, if◌then◌else◌}
 use Rattle.std.specs.List.{list_any}
 use Rattle.diy_words.specs.declared.request.Request.{Request}
 use Rattle.diy_words.specs.declared.request.Request.TheVariants as requests
 use Rattle.diy_words.specs.declared.request.Sought.{Sought}
 use Rattle.diy_words.specs.declared.request.Sought.TheVariants as sought
 use Rattle.diy_words.specs.declared.usage.Usage.{Usage}
+use Rattle.diy_words.specs.declared.usage.UsageKind.TheVariants.{TooManyChoices}
+use Rattle.diy_words.specs.declared.request.TheConstants.{MAX_CHOICES}
+use Rattle.diy_words.proofs.ChoiceLaws.{choices_behind, choices_more, choices_told}
 use Rattle.diy_words.specs.declared.options.OptionName.{OptionName}
 use Rattle.diy_words.specs.Parts.{Alone, Valued, Unvalued, Waits, parts_from, parts_of, option_named, tool_named}
 use Rattle.diy_words.specs.declared.options.Tool.{Tool}
 use Rattle.diy_words.specs.declared.options.Tool.TheVariants as tools
-use Rattle.diy_words.specs.Requests.{Said, SaysArch, SaysName, SaysMode, SaysFrom, SaysEdges, SaysRelaxes, SaysSize, SaysExact, SaysThreads, SaysAfter, SaysFolder, SaysLog, NameAsked, ListAsked, Asked, AsksTest, AsksName, AsksList, AsksFamilies, AsksSum, OfEdges, OfName, OfLines, said_by, said_first, said_all, or_later, last_given, first_given, arch_in, name_in, mode_in, from_in, operand_in, edges_in, relaxes_in, size_in, is_exact, threads_in, after_in, folder_in, given_or, mode_or_accept, list_with, families_with, edges_given, asks, asked_with, named_with, asked_of, asked_for, tool_asked}
-use Rattle.diy_words.specs.Given.{Held, absorbed, all_absorbed, saying_from, finished, named, keeps, KeepsTest, KeepsName, KeepsList, KeepsFamilies, KeepsSum, tool_held, shown, shown_request, nothing_held, AskedHeld, NameHeld, SoughtHeld, HeldEdges, HeldName, HeldLines, sought_held, Gives, IsKept, IsSought}
+use Rattle.diy_words.specs.Requests.{Said, SaysArch, SaysName, SaysMode, SaysFrom, SaysEdges, SaysRelaxes, SaysSize, SaysExact, SaysThreads, SaysAfter, SaysFolder, SaysLog, SaysPlace, SaysCount, NameAsked, ListAsked, DemoAsked, Asked, AsksTest, AsksName, AsksList, AsksFamilies, AsksSum, AsksCross, AsksDemo, OfEdges, OfName, OfLines, said_by, saying, is_count, said_first, said_all, or_later, last_given, first_given, arch_in, name_in, mode_in, from_in, operand_in, edges_in, relaxes_in, size_in, is_exact, threads_in, after_in, folder_in, places_in, count_in, given_or, mode_or_accept, list_with, families_with, cross_with, places_given, choice_count, edges_given, asks, asked_with, named_with, asked_of, asked_for, tool_asked}
+use Rattle.diy_words.specs.Given.{Held, absorbed, all_absorbed, saying_from, finished, named, keeps, KeepsTest, KeepsName, KeepsList, KeepsFamilies, KeepsSum, KeepsCross, KeepsDemo, CrossHeld, crossed, held_at_end, tool_held, shown, shown_request, nothing_held, AskedHeld, NameHeld, SoughtHeld, HeldEdges, HeldName, HeldLines, sought_held, Gives, IsKept, IsSought}
 use Rattle.diy_words.specs.Requests as req
 
 drop_get : {X : Type 0} (xs : List X) (i : ℕ) (x : X) → slice_get xs i ≡ Some x → drop i xs ≡ x ∷ drop (i + 1) xs
@@ -36,39 +39,34 @@ option_parts : (tool : Tool) (word : List ℕ) (at : ℕ) (rest : List (List ℕ
 option_parts tool word at rest option e = rw e
 
 -- a word that stands alone and what the words behind it say
-pub alone_first : (tool : Tool) (words : List (List ℕ)) (at : ℕ) (word : List ℕ) →
+pub alone_first : (tool : Tool) (counted : Bool) (words : List (List ℕ)) (at : ℕ) (word : List ℕ) →
     slice_get words at ≡ Some word → option_named tool word ≡ None →
-    saying_from tool words at ≡ said_by tool (Alone at word) ∷ saying_from tool words (at + 1)
-alone_first tool words at word got plain =
-    ap (λ rest. map (said_by tool) (parts_of tool at rest)) (drop_get words at word got) ∙ ap (map (said_by tool)) (alone_parts tool word at (drop (at + 1) words) None plain refl)
+    saying_from tool counted words at ≡ said_by tool counted (Alone at word) ∷ saying_from tool (is_count (said_by tool counted (Alone at word)) || counted) words (at + 1)
+alone_first tool counted words at word got plain =
+    ap (λ rest. saying tool counted (parts_of tool at rest)) (drop_get words at word got) ∙ ap (saying tool counted) (alone_parts tool word at (drop (at + 1) words) None plain refl)
 
 -- an option with its value and what the words behind them say
-pub value_first : (tool : Tool) (words : List (List ℕ)) (at : ℕ) (word value : List ℕ) (option : OptionName) →
+pub value_first : (tool : Tool) (counted : Bool) (words : List (List ℕ)) (at : ℕ) (word value : List ℕ) (option : OptionName) →
     slice_get words at ≡ Some word → option_named tool word ≡ Some option → slice_get words (at + 1) ≡ Some value →
-    saying_from tool words at ≡ said_by tool (Valued option at value) ∷ saying_from tool words (at + 2)
-value_first tool words at word value option got named valued =
-    ap (λ rest. map (said_by tool) (parts_of tool at rest)) (drop_get words at word got) ∙
-    ap (map (said_by tool)) (option_parts tool word at (drop (at + 1) words) option named) ∙
-    ap (λ rest. map (said_by tool) (parts_from tool (Waits option at) (at + 1) rest)) (drop_get words (at + 1) value valued) ∙
+    saying_from tool counted words at ≡ said_by tool counted (Valued option at value) ∷ saying_from tool (is_count (said_by tool counted (Valued option at value)) || counted) words (at + 2)
+value_first tool counted words at word value option got named valued =
+    ap (λ rest. saying tool counted (parts_of tool at rest)) (drop_get words at word got) ∙
+    ap (saying tool counted) (option_parts tool word at (drop (at + 1) words) option named) ∙
+    ap (λ rest. saying tool counted (parts_from tool (Waits option at) (at + 1) rest)) (drop_get words (at + 1) value valued) ∙
     (let e : at + 1 + 1 ≡ at + 2 = omega arith in rw e)
 
 -- an option that is the last word
-pub unvalued_last : (tool : Tool) (words : List (List ℕ)) (at : ℕ) (word : List ℕ) (option : OptionName) →
+pub unvalued_last : (tool : Tool) (counted : Bool) (words : List (List ℕ)) (at : ℕ) (word : List ℕ) (option : OptionName) →
     slice_get words at ≡ Some word → option_named tool word ≡ Some option → at + 1 ≡ length words →
-    saying_from tool words at ≡ said_by tool (Unvalued option at) ∷ []
-unvalued_last tool words at word option got named last =
-    ap (λ rest. map (said_by tool) (parts_of tool at rest)) (drop_get words at word got) ∙
-    ap (map (said_by tool)) (option_parts tool word at (drop (at + 1) words) option named) ∙
-    ap (λ rest. map (said_by tool) (parts_from tool (Waits option at) (at + 1) rest)) (drop_all (at + 1) words (omega arith))
+    saying_from tool counted words at ≡ said_by tool counted (Unvalued option at) ∷ []
+unvalued_last tool counted words at word option got named last =
+    ap (λ rest. saying tool counted (parts_of tool at rest)) (drop_get words at word got) ∙
+    ap (saying tool counted) (option_parts tool word at (drop (at + 1) words) option named) ∙
+    ap (λ rest. saying tool counted (parts_from tool (Waits option at) (at + 1) rest)) (drop_all (at + 1) words (omega arith))
 
 fault_stays : (usage : Usage) (rest : List (Result Said Usage)) → all_absorbed (Err usage) rest ≡ Err usage
 fault_stays usage [] = refl
 fault_stays usage (x ∷ rest) = fault_stays usage rest
-
--- the next part was taken in
-pub taken : (old new : Held) (said : Result Said Usage) (here rest : List (Result Said Usage)) →
-    here ≡ said ∷ rest → Ok new ≡ absorbed old said → all_absorbed (Ok new) rest ≡ all_absorbed (Ok old) here
-taken old new said here rest e h = ap (λ r. all_absorbed r rest) h ∙ ap (all_absorbed (Ok old)) (sym e)
 
 -- the next part is faulty
 pub faulty : (old : Held) (usage : Usage) (said : Result Said Usage) (here rest : List (Result Said Usage)) →
@@ -90,6 +88,8 @@ held_behind h said = record {
   threads = given_or h.threads (last_given threads_in said);
   after = or_later h.after (last_given after_in said);
   folder = or_later h.folder (last_given folder_in said);
+  choices = choices_behind h.choices (places_given said);
+  count = or_later h.count (last_given count_in said);
 }
 
 later_twice : {X : Type 0} (a b c : Option X) → or_later (or_later a b) c ≡ or_later a (or_later b c)
@@ -115,6 +115,8 @@ held_with h said = record {
   threads = given_or h.threads (threads_in said);
   after = or_later h.after (after_in said);
   folder = or_later h.folder (folder_in said);
+  choices = choices_behind h.choices (places_in said);
+  count = or_later h.count (count_in said);
 }
 
 or_none : {X : Type 0} (a : Option X) → option_or a None ≡ a
@@ -149,7 +151,32 @@ absorbed_one h (SaysAfter cycle) = rw (or_none h.operand, or_false h.exact) refl
 absorbed_one h (SaysFolder folder) = rw (or_none h.operand, or_false h.exact) refl
 absorbed_one h SaysExact = rw (or_none h.operand, or_true h.exact) refl
 absorbed_one h SaysLog = rw (or_none h.operand, or_false h.exact) refl
+absorbed_one h (SaysPlace relaxes) = rw (or_none h.operand, or_false h.exact) refl
+absorbed_one h (SaysCount count) = rw (or_none h.operand, or_false h.exact) refl
 absorbed_one h (SaysEdges at edges) = rw (or_false h.exact) refl
+
+ok_is : {X : Type 0} (x y : X) → (let left : Result X Usage = Ok x in left) ≡ Ok y → x ≡ y
+ok_is x y e = cc e
+
+later_there : (a b : Option ℕ) → is_some b || is_some a ≡ is_some (or_later a b)
+later_there a None = refl
+later_there a (Some x) = refl
+
+-- a number is held where a word said one
+counted : (old new : Held) (said : Result Said Usage) → Ok new ≡ absorbed old said → is_count said || is_some old.count ≡ is_some new.count
+counted old new (Err usage) e = cc e
+counted old new (Ok said) e =
+    let same : new ≡ held_with old said = ok_is _ _ (e ∙ absorbed_one old said) in
+    later_there old.count (count_in said) ∙ ap (λ (h : Held). is_some h.count) (sym same)
+
+-- the next part was taken in
+pub taken : (tool : Tool) (words : List (List ℕ)) (at next : ℕ) (old new : Held) (said : Result Said Usage) →
+    saying_from tool (is_some old.count) words at ≡ said ∷ saying_from tool (is_count said || is_some old.count) words next →
+    Ok new ≡ absorbed old said → held_at_end tool words next new ≡ held_at_end tool words at old
+taken tool words at next old new said e h =
+    ap (λ b. all_absorbed (Ok new) (saying_from tool b words next)) (sym (counted old new said h)) ∙
+    ap (λ r. all_absorbed r (saying_from tool (is_count said || is_some old.count) words next)) h ∙
+    ap (all_absorbed (Ok old)) (sym e)
 
 held_one : (h : Held) (said : Said) (rest : List Said) → held_behind (held_with h said) rest ≡ held_behind h (said ∷ rest)
 held_one h said rest =
@@ -165,7 +192,9 @@ held_one h said rest =
     let threads = or_given_twice h.threads (threads_in said) (last_given threads_in rest) in
     let after = later_twice h.after (after_in said) (last_given after_in rest) in
     let folder = later_twice h.folder (folder_in said) (last_given folder_in rest) in
-    cc (arch, name, mode, from, operand, edges, relaxes, size, exact, threads, after, folder)
+    let choices = choices_more h.choices (places_in said) (places_given rest) in
+    let count = later_twice h.count (count_in said) (last_given count_in rest) in
+    cc (arch, name, mode, from, operand, edges, relaxes, size, exact, threads, after, folder, choices, count)
 
 abbrev held_after : Held → Result (List Said) Usage → Result Held Usage
 held_after h (Ok said) = Ok (held_behind h said)
@@ -190,6 +219,8 @@ kept_test (requests.Name request) arch name mode edges h = cc h
 kept_test (requests.List request) arch name mode edges h = cc h
 kept_test (requests.Families a) arch name mode edges h = cc h
 kept_test requests.Sum arch name mode edges h = cc h
+kept_test (requests.Cross own) arch name mode edges h = cc h
+kept_test (requests.Demo own) arch name mode edges h = cc h
 kept_test (requests.Test request) arch name mode edges h =
     let f = fields _ _ h in (f.0, f.1, f.2, f.3 ∙ added_whole [] edges (lit≤ tt))
   where
@@ -220,12 +251,11 @@ kept_name (requests.Test request) held asked h a s = cc h
 kept_name (requests.List request) held asked h a s = cc h
 kept_name (requests.Families arch) held asked h a s = cc h
 kept_name requests.Sum held asked h a s = cc h
+kept_name (requests.Cross own) held asked h a s = cc h
+kept_name (requests.Demo own) held asked h a s = cc h
 kept_name (requests.Name request) held asked h a s =
     let same : held ≡ (let shown : NameHeld = record { arch = request.arch; cycle = sought_held request.cycle } in shown) = cc h in
     (sym (ap (λ (n : NameHeld). n.arch) same) ∙ a, held_sought request.cycle asked.cycle (subst (λ (n : NameHeld). IsHeld n.cycle asked.cycle) same s))
-
-ok_is : {X : Type 0} (x y : X) → (let left : Result X Usage = Ok x in left) ≡ Ok y → x ≡ y
-ok_is x y e = cc e
 
 gives_test : (count : ℕ) (request : Result Request Usage) (arch : Option ArchName) (name : Option (List ℕ)) (mode : ObsMode) (edges : List Edge) →
     shown request ≡ keeps KeepsTest (finished count arch name mode (added (kept []) edges)) → Gives request (asks AsksTest (asked_with count arch name mode edges))
@@ -254,6 +284,8 @@ kept_list (requests.Name request) asked h = cc h
 kept_list (requests.List request) asked h = cc h
 kept_list (requests.Families arch) asked h = cc h
 kept_list requests.Sum asked h = cc h
+kept_list (requests.Cross own) asked h = cc h
+kept_list (requests.Demo own) asked h = cc h
 
 gives_list : (request : Result Request Usage) (asked : Result ListAsked Usage) → shown request ≡ keeps KeepsList asked → Gives request (asks AsksList asked)
 gives_list (Ok request) (Ok asked) h = kept_list request asked (ok_is _ _ h)
@@ -267,6 +299,8 @@ kept_families (requests.Name request) asked h = cc h
 kept_families (requests.List request) asked h = cc h
 kept_families (requests.Families arch) asked h = cc h
 kept_families requests.Sum asked h = cc h
+kept_families (requests.Cross own) asked h = cc h
+kept_families (requests.Demo own) asked h = cc h
 
 gives_families : (request : Result Request Usage) (asked : Result ArchName Usage) → shown request ≡ keeps KeepsFamilies asked → Gives request (asks AsksFamilies asked)
 gives_families (Ok request) (Ok asked) h = kept_families request asked (ok_is _ _ h)
@@ -279,11 +313,60 @@ kept_sum (requests.Test request) h = cc h
 kept_sum (requests.Name request) h = cc h
 kept_sum (requests.List request) h = cc h
 kept_sum (requests.Families arch) h = cc h
+kept_sum (requests.Cross own) h = cc h
+kept_sum (requests.Demo own) h = cc h
 kept_sum requests.Sum h = tt
 
 gives_sum : (request : Result Request Usage) → shown request ≡ Ok KeepsSum → Gives request (Ok AsksSum)
 gives_sum (Ok request) h = kept_sum request (ok_is _ _ h)
 gives_sum (Err usage) h = cc h
+
+kept_cross : (request : Request) (held : CrossHeld) (places : List (List (List Edge))) → shown_request request ≡ KeepsCross held →
+    IsKept request (AsksCross (record { arch = held.arch; mode = held.mode; folder = held.folder; places = places }))
+kept_cross (requests.Test request) held places h = cc h
+kept_cross (requests.Name request) held places h = cc h
+kept_cross (requests.List request) held places h = cc h
+kept_cross (requests.Families arch) held places h = cc h
+kept_cross requests.Sum held places h = cc h
+kept_cross (requests.Demo request) held places h = cc h
+kept_cross (requests.Cross request) held places h = fields _ _ h
+  where
+    fields : (a b : CrossHeld) → KeepsCross a ≡ KeepsCross b → (a.arch ≡ b.arch) × (a.mode ≡ b.mode) × (a.folder ≡ b.folder)
+    fields a b e = let same : a ≡ b = cc e in (ap (λ (o : CrossHeld). o.arch) same, ap (λ (o : CrossHeld). o.mode) same, ap (λ (o : CrossHeld). o.folder) same)
+
+gives_cross : (count : ℕ) (request : Result Request Usage) (arch : Option ArchName) (mode : ObsMode) (folder : Option (List ℕ)) (places : List (List (List Edge))) →
+    shown request ≡ keeps KeepsCross (crossed count arch mode folder (choices_behind 1 places)) → Gives request (asks AsksCross (cross_with count arch mode folder places))
+gives_cross count (Ok request) None mode folder places h = cc h
+gives_cross count (Err usage) None mode folder places h = cc h
+gives_cross count request (Some arch) mode folder places h =
+    of_test (nat_lt MAX_CHOICES (choice_count places)) request
+    (subst (λ b. shown request ≡ keeps KeepsCross (if b then Err (record { word = count; kind = TooManyChoices }) else Ok (record { arch = arch; mode = mode; folder = folder }))) (choices_told places) h)
+  where
+    of_test : (b : Bool) (request : Result Request Usage) →
+        shown request ≡ keeps KeepsCross (if b then Err (record { word = count; kind = TooManyChoices }) else Ok (record { arch = arch; mode = mode; folder = folder })) →
+        Gives request (asks AsksCross (if b then Err (record { word = count; kind = TooManyChoices }) else Ok (record { arch = arch; mode = mode; folder = folder; places = places })))
+    of_test true (Ok request) h = cc h
+    of_test true (Err usage) h = cc h
+    of_test false (Ok request) h = kept_cross request _ places (ok_is _ _ h)
+    of_test false (Err usage) h = cc h
+
+kept_demo : (request : Request) (asked : DemoAsked) → shown_request request ≡ KeepsDemo asked → IsKept request (AsksDemo asked)
+kept_demo (requests.Test request) asked h = cc h
+kept_demo (requests.Name request) asked h = cc h
+kept_demo (requests.List request) asked h = cc h
+kept_demo (requests.Families arch) asked h = cc h
+kept_demo requests.Sum asked h = cc h
+kept_demo (requests.Cross request) asked h = cc h
+kept_demo (requests.Demo request) asked h = fields _ _ h
+  where
+    fields : (a b : DemoAsked) → KeepsDemo a ≡ KeepsDemo b → (a.arch ≡ b.arch) × (a.count ≡ b.count)
+    fields a b e = let same : a ≡ b = cc e in (ap (λ (o : DemoAsked). o.arch) same, ap (λ (o : DemoAsked). o.count) same)
+
+gives_demo : (request : Result Request Usage) (asked : Result DemoAsked Usage) → shown request ≡ keeps KeepsDemo asked → Gives request (asks AsksDemo asked)
+gives_demo (Ok request) (Ok asked) h = kept_demo request asked (ok_is _ _ h)
+gives_demo (Ok request) (Err usage) h = cc h
+gives_demo (Err usage) (Ok asked) h = cc h
+gives_demo (Err usage) (Err fault) h = cc h
 
 gives_fault : (request : Result Request Usage) (usage : Usage) → shown request ≡ Err usage → Gives request (Err usage)
 gives_fault (Ok request) usage h = cc h
@@ -309,24 +392,19 @@ gives_held tools.Norm count request (Ok said) h =
 gives_held tools.Classify count request (Ok said) h =
     gives_families request _ (rw (sym (later_none (last_given arch_in said))) h)
 gives_held tools.Msum count request (Ok said) h = gives_sum request h
-gives_held tools.Later count request (Ok said) h = gives_fault request _ h
+gives_held tools.Cross count request (Ok said) h =
+    gives_cross count request _ _ _ (places_given said)
+    (rw (sym (later_none (last_given arch_in said)), sym (later_none (last_given folder_in said))) h)
+gives_held tools.Demo count request (Ok said) h =
+    gives_demo request _ (rw (sym (later_none (last_given arch_in said)), sym (later_none (last_given count_in said))) h)
 
 -- the request of a tool, where the first word names it
 pub gives_named : (words : List (List ℕ)) (word : List ℕ) (tool : Tool) (request : Result Request Usage) →
-    slice_get words 0 ≡ Some word → tool_named word ≡ Some tool → (tool ≡ tools.Later → ⊥) →
-    shown request ≡ tool_held tool (length words) (all_absorbed (Ok nothing_held) (saying_from tool words 1)) → Gives request (asked_of words)
-gives_named [] word tool request got named built h = cc got
-gives_named (first ∷ words) word tool request got named built h =
+    slice_get words 0 ≡ Some word → tool_named word ≡ Some tool →
+    shown request ≡ tool_held tool (length words) (held_at_end tool words 1 nothing_held) → Gives request (asked_of words)
+gives_named [] word tool request got named h = cc got
+gives_named (first ∷ words) word tool request got named h =
     let same : first ≡ word = cc got in
     let e : tool_named first ≡ Some tool = ap (λ w. tool_named w) same ∙ named in
-    rw e (of_tool tool built (gives_held tool (length (first ∷ words)) request (said_all (map (said_by tool) (parts_of tool 1 words)))
-    (h ∙ ap (tool_held tool (length (first ∷ words))) (all_held nothing_held (map (said_by tool) (parts_of tool 1 words))))))
-  where
-    of_tool : (t : Tool) → (t ≡ tools.Later → ⊥) → Gives request (tool_asked t (length (first ∷ words)) (said_all (map (said_by t) (parts_of t 1 words))))
-        → Gives request (asked_for (Some t) (length (first ∷ words)) words)
-    of_tool tools.DiyOne built g = g
-    of_tool tools.Diy built g = g
-    of_tool tools.Norm built g = g
-    of_tool tools.Classify built g = g
-    of_tool tools.Msum built g = g
-    of_tool tools.Later built g = absurd (built refl)
+    rw e (gives_held tool (length (first ∷ words)) request (said_all (saying tool false (parts_of tool 1 words)))
+    (h ∙ ap (tool_held tool (length (first ∷ words))) (all_held nothing_held (saying tool false (parts_of tool 1 words)))))

@@ -2,3 +2,5 @@ pub mod Judged
 pub mod RequestForm
 pub mod NumberLaws
 pub mod AfterLaws
+pub mod ChoiceLaws
+pub mod PlaceLaws

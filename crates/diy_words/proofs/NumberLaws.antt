@@ -18,19 +18,19 @@ no_plus [] h e = omega arith
 no_plus (byte ∷ digits) h e = not_in_digits own (byte ∷ digits) 43 h (λ r. omega (arith, r.0, r.1)) 0 (omega arith) e
 
 -- what isn't parsed is too large
-too_large : {E : Type 0} (digits : List ℕ) (e : E) → is_number digits ≡ true → ParsesUnsigned 8 10 digits (Err e) → 2 ^ 8 ≤ digits_value 10 digits
+too_large : {E : Type 0} (digits : List ℕ) (e : E) → is_number digits ≡ true → ParsesUnsigned 32 10 digits (Err e) → 2 ^ 32 ≤ digits_value 10 digits
 too_large {E = E} digits e h parses =
     let outer = and_parts (nat_lt 0 (length digits) && nat_le (length digits) 7) (list_all is_ascii_digit digits) h in
     let inner = and_parts (nat_lt 0 (length digits)) (nat_le (length digits) 7) outer.0 in
-    let iff : OkIff (let r : Result ℕ E = Err e in r) ((list_all is_ascii_digit digits ≡ true) × (0 < length digits) × (digits_value 10 digits < 2 ^ 8)) (digits_value 10 digits) = parse_plain own 8 digits (Err e) parses (no_plus digits outer.1) in
-    by_test (nat_lt (digits_value 10 digits) (2 ^ 8)) (λ t. absurd (iff (outer.1, grind (arith, nat_tests, inner.0), grind (arith, nat_tests, t)))) (λ t. grind (arith, nat_tests, t))
+    let iff : OkIff (let r : Result ℕ E = Err e in r) ((list_all is_ascii_digit digits ≡ true) × (0 < length digits) × (digits_value 10 digits < 2 ^ 32)) (digits_value 10 digits) = parse_plain own 32 digits (Err e) parses (no_plus digits outer.1) in
+    by_test (nat_lt (digits_value 10 digits) (2 ^ 32)) (λ t. absurd (iff (outer.1, grind (arith, nat_tests, inner.0), grind (arith, nat_tests, t)))) (λ t. grind (arith, nat_tests, t))
   where
     by_test : {G : Type 0} (b : Bool) → (b ≡ true → G) → (b ≡ false → G) → G
     by_test true f g = f refl
     by_test false f g = g refl
 
--- and so it is no number up to one of a byte
-pub unparsed : {E : Type 0} (greatest : ℕ) (digits : List ℕ) (e : E) → greatest < 256 → is_number digits ≡ true → ParsesUnsigned 8 10 digits (Err e) → None ≡ number_to greatest digits
+-- and so it is no number up to one of 32 bits
+pub unparsed : {E : Type 0} (greatest : ℕ) (digits : List ℕ) (e : E) → greatest < 2 ^ 32 → is_number digits ≡ true → ParsesUnsigned 32 10 digits (Err e) → None ≡ number_to greatest digits
 unparsed greatest digits e small h parses =
     let large = too_large digits e h parses in
     of_test (is_number digits) (nat_lt 0 (digits_value 10 digits)) (nat_le (digits_value 10 digits) greatest) (grind (arith, nat_tests, large))

@@ -1,6 +1,6 @@
 -- What a request has of its own form: the name of a test, and the size and the folder of a listing.
-use Rattle.std.proofs.Common.{◌≡◌, ◌≤◌, ℕ, ap, arith, lit≤, nat_lt, nat_le, Bool, true, false, List, [], ◌∷◌, map, Option, Some, None, Result, Ok, Err, refl, sym, subst, length}
-use Rattle.std.specs.Prelude.{if◌then◌else◌, IfOk, IfSome, ◌&&◌, codes}
+use Rattle.std.proofs.Common.{◌≡◌, ◌≤◌, ℕ, ap, arith, lit≤, nat_lt, nat_le, Bool, true, false, List, [], ◌∷◌, Option, Some, None, Result, Ok, Err, refl, sym, subst, length}
+use Rattle.std.specs.Prelude.{if◌then◌else◌, IfOk, IfSome, ◌&&◌, ◌||◌, codes}
 use Rattle.std.specs.Str.{bytes_eq}
 use Rattle.std.specs.Str.Parse.{digits_value}
 use Rattle.std.proofs.lemmas.Bool.Decides.{nat_tests}
@@ -14,7 +14,7 @@ use Rattle.edge_algebra.specs.declared.errors.CycleError.{CycleError}
 use Rattle.edge_algebra.specs.Compose.{composed}
 use Rattle.edge_lists.specs.declared.read.Separators.TheVariants.{BlanksAndCommas}
 use Rattle.edge_lists.specs.Spelled.{edges_of}
-use Rattle.diy_words.specs.declared.request.TheConstants.{MAX_FOLDER}
+use Rattle.diy_words.specs.declared.request.TheConstants.{MAX_FOLDER, MAX_CHOICES, MAX_TESTS}
 use Rattle.diy_words.specs.declared.request.Diy.{Diy}
 use Rattle.std.specs.Option.{ForSome}
 use Rattle.std.specs.Borrow.{Bor}
@@ -23,23 +23,24 @@ use Rattle.relax_edges.specs.declared.kinds.ObsMode.{ObsMode}
 use Rattle.diy_words.specs.declared.request.Request.{Request}
 use Rattle.diy_words.specs.declared.request.Request.TheVariants as requests
 use Rattle.diy_words.specs.declared.usage.Usage.{Usage}
-use Rattle.diy_words.specs.declared.usage.UsageKind.TheVariants.{UnknownOption, BadName, BadFolder}
+use Rattle.diy_words.specs.declared.usage.UsageKind.TheVariants.{UnknownOption, BadName, BadFolder, TooManyChoices}
 use Rattle.diy_words.specs.declared.options.Tool.{Tool}
 use Rattle.diy_words.specs.declared.options.Tool.TheVariants as tools
 use Rattle.diy_words.specs.declared.options.OptionName.TheVariants as opts
 use Rattle.diy_words.specs.Names.{is_name}
 use Rattle.diy_words.specs.Edges.{operand_edges}
 use Rattle.diy_words.specs.Parts.{Part, Alone, Valued, Unvalued, parts_of, tool_named, arch_named, mode_named}
-use Rattle.diy_words.specs.Requests.{Said, SaysArch, SaysName, SaysMode, SaysFrom, SaysEdges, SaysRelaxes, SaysSize, SaysExact, SaysThreads, SaysAfter, SaysFolder, SaysLog, Asked, AsksTest, AsksName, AsksList, AsksFamilies, AsksSum, NameAsked, ListAsked, fault, dashed_said, operand_said, relaxes_said, size_said, threads_said, after_said, cycle_said, size_in, given_or, list_with, families_with, said_by, said_first, said_all, arch_said, mode_said, edges_said, begins_option, or_later, last_given, arch_in, name_in, mode_in, relaxes_in, is_exact, threads_in, after_in, folder_in, mode_or_accept, edges_given, asks, asked_with, asked_for, norm_asked, tool_asked, asked_of}
+use Rattle.diy_words.specs.Requests.{Said, SaysArch, SaysName, SaysMode, SaysFrom, SaysEdges, SaysRelaxes, SaysSize, SaysExact, SaysThreads, SaysAfter, SaysFolder, SaysLog, SaysPlace, SaysCount, Asked, AsksTest, AsksName, AsksList, AsksFamilies, AsksSum, AsksCross, AsksDemo, NameAsked, ListAsked, fault, dashed_said, operand_said, relaxes_said, size_said, threads_said, after_said, cycle_said, size_in, given_or, list_with, families_with, cross_with, demo_with, choice_count, places_given, place_said, count_said, count_in, saying, is_count, said_by, said_first, said_all, arch_said, mode_said, edges_said, begins_option, or_later, last_given, arch_in, name_in, mode_in, relaxes_in, is_exact, threads_in, after_in, folder_in, mode_or_accept, edges_given, asks, asked_with, asked_for, norm_asked, tool_asked, asked_of}
 use Rattle.arrayvec.specs.ArrayString.{ArrayString}
 use Rattle.diy_words.specs.Given.{Gives, HasForm, list_kept}
 use Rattle.diy_words.specs.Numbers.{is_number, number_to}
 
--- a name and a folder that are said have their forms, and a size is one that cycles can have
+-- a name and a folder that are said have their forms, a size is one that cycles can have, and so many tests can be made
 abbrev IsFit : Said → Type 0
 IsFit (SaysName name) = is_name name ≡ true
 IsFit (SaysSize size) = size ≤ MAX_EDGES
 IsFit (SaysFolder folder) = length folder ≤ MAX_FOLDER
+IsFit (SaysCount count) = (1 ≤ count) × (count ≤ MAX_TESTS)
 IsFit _ = Unit {0}
 
 abbrev SaysForm : Result Said Usage → Type 0
@@ -68,32 +69,44 @@ alone_dashed tools.Diy at text = dashed_form at (bytes_eq text (codes "-exact"))
 alone_dashed tools.Norm at text = tt
 alone_dashed tools.Classify at text = tt
 alone_dashed tools.Msum at text = tt
-alone_dashed tools.Later at text = tt
+alone_dashed tools.Cross at text = tt
+alone_dashed tools.Demo at text = tt
 
-alone_operand : (tool : Tool) (at : ℕ) (text : List ℕ) → SaysForm (operand_said tool at text)
-alone_operand tools.DiyOne at text = edges_form at (operand_edges text)
-alone_operand tools.Diy at text = tt
-alone_operand tools.Norm at text = edges_form at (operand_edges text)
-alone_operand tools.Classify at text = tt
-alone_operand tools.Msum at text = tt
-alone_operand tools.Later at text = tt
+place_form : (at : ℕ) (relaxes : Result (List (List Edge)) RelaxError) → SaysForm (place_said at relaxes)
+place_form at (Ok relaxes) = tt
+place_form at (Err error) = tt
 
-alone_form : (tool : Tool) (at : ℕ) (text : List ℕ) (b : Bool) → SaysForm (if b then dashed_said tool at text else operand_said tool at text)
-alone_form tool at text true = alone_dashed tool at text
-alone_form tool at text false = alone_operand tool at text
+number_form : (greatest : ℕ) (text : List ℕ) (number : ℕ) → number_to greatest text ≡ Some number → (1 ≤ number) × (number ≤ greatest)
+number_form greatest text number h = of_test (is_number text) (nat_lt 0 (digits_value 10 text)) (nat_le (digits_value 10 text) greatest) refl refl h
+  where
+    of_test : (p q r : Bool) → nat_lt 0 (digits_value 10 text) ≡ q → nat_le (digits_value 10 text) greatest ≡ r → (if p && q && r then Some (digits_value 10 text) else None) ≡ Some number
+        → (1 ≤ number) × (number ≤ greatest)
+    of_test true true true f e h = let same : digits_value 10 text ≡ number = cc h in subst (λ n. (1 ≤ n) × (n ≤ greatest)) same (grind (arith, nat_tests, f), grind (arith, nat_tests, e))
+    of_test true true false f e h = cc h
+    of_test true false r f e h = cc h
+    of_test false q r f e h = cc h
+
+count_form : (at : ℕ) (count : Option ℕ) → ((n : ℕ) → count ≡ Some n → (1 ≤ n) × (n ≤ MAX_TESTS)) → SaysForm (count_said at count)
+count_form at (Some count) fit = fit count refl
+count_form at None fit = tt
+
+alone_operand : (tool : Tool) (counted : Bool) (at : ℕ) (text : List ℕ) → SaysForm (operand_said tool counted at text)
+alone_operand tools.DiyOne counted at text = edges_form at (operand_edges text)
+alone_operand tools.Diy counted at text = tt
+alone_operand tools.Cross counted at text = place_form at (relaxes_of text)
+alone_operand tools.Norm counted at text = edges_form at (operand_edges text)
+alone_operand tools.Classify counted at text = tt
+alone_operand tools.Msum counted at text = tt
+alone_operand tools.Demo false at text = count_form at (number_to MAX_TESTS text) (number_form MAX_TESTS text)
+alone_operand tools.Demo true at text = tt
+
+alone_form : (tool : Tool) (counted : Bool) (at : ℕ) (text : List ℕ) (b : Bool) → SaysForm (if b then dashed_said tool at text else operand_said tool counted at text)
+alone_form tool counted at text true = alone_dashed tool at text
+alone_form tool counted at text false = alone_operand tool counted at text
 
 relaxes_form : (at : ℕ) (relaxes : Result (List (List Edge)) RelaxError) → SaysForm (relaxes_said at relaxes)
 relaxes_form at (Ok relaxes) = tt
 relaxes_form at (Err error) = tt
-
-number_few : (text : List ℕ) (size : ℕ) → number_to MAX_EDGES text ≡ Some size → size ≤ MAX_EDGES
-number_few text size h = of_test (is_number text) (nat_lt 0 (digits_value 10 text)) (nat_le (digits_value 10 text) MAX_EDGES) refl h
-  where
-    of_test : (p q r : Bool) → nat_le (digits_value 10 text) MAX_EDGES ≡ r → (if p && q && r then Some (digits_value 10 text) else None) ≡ Some size → size ≤ MAX_EDGES
-    of_test true true true e h = let same : digits_value 10 text ≡ size = cc h in subst (λ n. n ≤ MAX_EDGES) same (grind (arith, nat_tests, e))
-    of_test true true false e h = cc h
-    of_test true false r e h = cc h
-    of_test false q r e h = cc h
 
 size_form : (at : ℕ) (size : Option ℕ) → ((n : ℕ) → size ≡ Some n → n ≤ MAX_EDGES) → SaysForm (size_said at size)
 size_form at (Some size) few = few size refl
@@ -120,18 +133,18 @@ name_form : (at : ℕ) (text : List ℕ) (b : Bool) → is_name text ≡ b → S
 name_form at text true e = e
 name_form at text false e = tt
 
-said_form : (tool : Tool) (part : Part) → SaysForm (said_by tool part)
-said_form tool (Alone at text) = alone_form tool at text (begins_option text)
-said_form tool (Valued opts.Arch at value) = arch_form _ (arch_named value)
-said_form tool (Valued opts.Name at value) = name_form _ value (is_name value) refl
-said_form tool (Valued opts.Obs at value) = mode_form _ (mode_named value)
-said_form tool (Valued opts.From at value) = tt
-said_form tool (Valued opts.Edges at value) = relaxes_form _ (relaxes_of value)
-said_form tool (Valued opts.Size at value) = size_form _ (number_to MAX_EDGES value) (number_few value)
-said_form tool (Valued opts.Nprocs at value) = threads_form _ (number_to MAX_EDGES value)
-said_form tool (Valued opts.After at value) = after_form _ (edges_of BlanksAndCommas value)
-said_form tool (Valued opts.Folder at value) = folder_form _ value (nat_lt 0 (length value)) (nat_le (length value) MAX_FOLDER) refl
-said_form tool (Unvalued option at) = tt
+said_form : (tool : Tool) (counted : Bool) (part : Part) → SaysForm (said_by tool counted part)
+said_form tool counted (Alone at text) = alone_form tool counted at text (begins_option text)
+said_form tool counted (Valued opts.Arch at value) = arch_form _ (arch_named value)
+said_form tool counted (Valued opts.Name at value) = name_form _ value (is_name value) refl
+said_form tool counted (Valued opts.Obs at value) = mode_form _ (mode_named value)
+said_form tool counted (Valued opts.From at value) = tt
+said_form tool counted (Valued opts.Edges at value) = relaxes_form _ (relaxes_of value)
+said_form tool counted (Valued opts.Size at value) = size_form _ (number_to MAX_EDGES value) (λ n e. (number_form MAX_EDGES value n e).1)
+said_form tool counted (Valued opts.Nprocs at value) = threads_form _ (number_to MAX_EDGES value)
+said_form tool counted (Valued opts.After at value) = after_form _ (edges_of BlanksAndCommas value)
+said_form tool counted (Valued opts.Folder at value) = folder_form _ value (nat_lt 0 (length value)) (nat_le (length value) MAX_FOLDER) refl
+said_form tool counted (Unvalued option at) = tt
 
 -- so have all that words say, where none is faulty
 abbrev AllForm : Result (List Said) Usage → Type 0
@@ -147,9 +160,9 @@ said_all_form [] h = tt
 said_all_form (Ok said ∷ rest) h = first_form said (said_all rest) h.0 (said_all_form rest h.1)
 said_all_form (Err usage ∷ rest) h = tt
 
-parts_form : (tool : Tool) (parts : List Part) → AllByRecursion SaysForm (map (said_by tool) parts)
-parts_form tool [] = tt
-parts_form tool (part ∷ parts) = (said_form tool part, parts_form tool parts)
+parts_form : (tool : Tool) (counted : Bool) (parts : List Part) → AllByRecursion SaysForm (saying tool counted parts)
+parts_form tool counted [] = tt
+parts_form tool counted (part ∷ parts) = (said_form tool counted part, parts_form tool (is_count (said_by tool counted part) || counted) parts)
 
 -- and the last of each thing among them
 given_fit : {X : Type 0} (P : X → Type 0) (given : Said → Option X) → ((said : Said) (x : X) → IsFit said → given said ≡ Some x → P x)
@@ -174,6 +187,8 @@ name_fit (SaysThreads _) x h e = cc
 name_fit (SaysAfter _) x h e = cc
 name_fit (SaysFolder _) x h e = cc
 name_fit SaysLog x h e = cc
+name_fit (SaysPlace _) x h e = cc
+name_fit (SaysCount _) x h e = cc
 
 size_fit : (said : Said) (x : ℕ) → IsFit said → size_in said ≡ Some x → x ≤ MAX_EDGES
 size_fit (SaysArch _) x h e = cc
@@ -188,6 +203,8 @@ size_fit (SaysThreads _) x h e = cc
 size_fit (SaysAfter _) x h e = cc
 size_fit (SaysFolder _) x h e = cc
 size_fit SaysLog x h e = cc
+size_fit (SaysPlace _) x h e = cc
+size_fit (SaysCount _) x h e = cc
 
 folder_fit : (said : Said) (x : List ℕ) → IsFit said → folder_in said ≡ Some x → length x ≤ MAX_FOLDER
 folder_fit (SaysArch _) x h e = cc
@@ -202,6 +219,24 @@ folder_fit (SaysThreads _) x h e = cc
 folder_fit (SaysAfter _) x h e = cc
 folder_fit (SaysFolder own) x h e = let same : own ≡ x = cc in subst (λ y. length y ≤ MAX_FOLDER) same h
 folder_fit SaysLog x h e = cc
+folder_fit (SaysPlace _) x h e = cc
+folder_fit (SaysCount _) x h e = cc
+
+count_fit : (said : Said) (x : ℕ) → IsFit said → count_in said ≡ Some x → (1 ≤ x) × (x ≤ MAX_TESTS)
+count_fit (SaysArch _) x h e = cc
+count_fit (SaysName _) x h e = cc
+count_fit (SaysMode _) x h e = cc
+count_fit (SaysFrom _ _) x h e = cc
+count_fit (SaysEdges _ _) x h e = cc
+count_fit (SaysRelaxes _) x h e = cc
+count_fit (SaysSize _) x h e = cc
+count_fit SaysExact x h e = cc
+count_fit (SaysThreads _) x h e = cc
+count_fit (SaysAfter _) x h e = cc
+count_fit (SaysFolder _) x h e = cc
+count_fit SaysLog x h e = cc
+count_fit (SaysPlace _) x h e = cc
+count_fit (SaysCount own) x h e = let same : own ≡ x = cc in subst (λ y. (1 ≤ y) × (y ≤ MAX_TESTS)) same h
 
 given_form : (said : List Said) (name : List ℕ) → AllByRecursion IsFit said → last_given name_in said ≡ Some name → is_name name ≡ true
 given_form said name h e = given_fit (λ name. is_name name ≡ true) name_in name_fit said name h e
@@ -217,10 +252,13 @@ size_few : (said : List Said) (size : Option ℕ) → AllByRecursion IsFit said 
 size_few said None h e = lit≤ tt
 size_few said (Some size) h e = given_size said size h e
 
--- the name of a test that words ask for has its form, and so have the size and the folder of a listing
+-- the name of a test that words ask for has its form, and so have the size and the folder of a listing, the folder of
+-- diycross7 and the number of demo
 abbrev pub IsNamedSo : Asked → Type 0
 IsNamedSo (AsksTest asked) = IfSome asked.name (λ name. is_name name ≡ true)
 IsNamedSo (AsksList asked) = (asked.size ≤ MAX_EDGES) × IfSome asked.folder (λ folder. length folder ≤ MAX_FOLDER)
+IsNamedSo (AsksCross asked) = IfSome asked.folder (λ folder. length folder ≤ MAX_FOLDER)
+IsNamedSo (AsksDemo asked) = (1 ≤ asked.count) × (asked.count ≤ MAX_TESTS)
 IsNamedSo _ = Unit {0}
 
 abbrev AskedSo : Result Asked Usage → Type 0
@@ -247,6 +285,20 @@ families_form : (asked : Result ArchName Usage) → AskedSo (asks AsksFamilies a
 families_form (Ok asked) = tt
 families_form (Err usage) = tt
 
+cross_form : (count : ℕ) (arch : Option ArchName) (mode : ObsMode) (folder : Option (List ℕ)) (places : List (List (List Edge))) → IfSome folder (λ folder. length folder ≤ MAX_FOLDER)
+    → AskedSo (asks AsksCross (cross_with count arch mode folder places))
+cross_form count None mode folder places h = tt
+cross_form count (Some arch) mode folder places h = of_test (nat_lt MAX_CHOICES (choice_count places))
+  where
+    of_test : (b : Bool) → AskedSo (asks AsksCross (if b then Err (record { word = count; kind = TooManyChoices }) else Ok (record { arch = arch; mode = mode; folder = folder; places = places })))
+    of_test true = tt
+    of_test false = h
+
+demo_form : (count : ℕ) (arch : Option ArchName) (tests : Option ℕ) → ((n : ℕ) → tests ≡ Some n → (1 ≤ n) × (n ≤ MAX_TESTS)) → AskedSo (asks AsksDemo (demo_with count arch tests))
+demo_form count None tests h = tt
+demo_form count (Some arch) None h = tt
+demo_form count (Some arch) (Some tests) h = h tests refl
+
 tool_form : (tool : Tool) (count : ℕ) (said : Result (List Said) Usage) → AllForm said → AskedSo (tool_asked tool count said)
 tool_form tool count (Err usage) h = tt
 tool_form tools.DiyOne count (Ok said) h = test_form count said (last_given arch_in said) (last_given name_in said) (mode_or_accept (last_given mode_in said)) h refl
@@ -256,16 +308,14 @@ tool_form tools.Diy count (Ok said) h =
 tool_form tools.Norm count (Ok said) h = norm_form (norm_asked count said)
 tool_form tools.Classify count (Ok said) h = families_form (families_with count (last_given arch_in said))
 tool_form tools.Msum count (Ok said) h = tt
-tool_form tools.Later count (Ok said) h = tt
+tool_form tools.Cross count (Ok said) h =
+    cross_form count (last_given arch_in said) (mode_or_accept (last_given mode_in said)) (last_given folder_in said) (places_given said) (given_folder said (last_given folder_in said) h refl)
+tool_form tools.Demo count (Ok said) h =
+    demo_form count (last_given arch_in said) (last_given count_in said) (λ n e. given_fit (λ n. (1 ≤ n) × (n ≤ MAX_TESTS)) count_in count_fit said n h e)
 
 found_form : (found : Option Tool) (count : ℕ) (words : List (List ℕ)) → AskedSo (asked_for found count words)
 found_form None count words = tt
-found_form (Some tools.DiyOne) count words = tool_form tools.DiyOne count _ (said_all_form (map (said_by tools.DiyOne) (parts_of tools.DiyOne 1 words)) (parts_form tools.DiyOne (parts_of tools.DiyOne 1 words)))
-found_form (Some tools.Diy) count words = tool_form tools.Diy count _ (said_all_form (map (said_by tools.Diy) (parts_of tools.Diy 1 words)) (parts_form tools.Diy (parts_of tools.Diy 1 words)))
-found_form (Some tools.Norm) count words = tool_form tools.Norm count _ (said_all_form (map (said_by tools.Norm) (parts_of tools.Norm 1 words)) (parts_form tools.Norm (parts_of tools.Norm 1 words)))
-found_form (Some tools.Classify) count words = tool_form tools.Classify count _ (said_all_form (map (said_by tools.Classify) (parts_of tools.Classify 1 words)) (parts_form tools.Classify (parts_of tools.Classify 1 words)))
-found_form (Some tools.Msum) count words = tool_form tools.Msum count _ (said_all_form (map (said_by tools.Msum) (parts_of tools.Msum 1 words)) (parts_form tools.Msum (parts_of tools.Msum 1 words)))
-found_form (Some tools.Later) count words = tt
+found_form (Some tool) count words = tool_form tool count _ (said_all_form (saying tool false (parts_of tool 1 words)) (parts_form tool false (parts_of tool 1 words)))
 
 words_form : (words : List (List ℕ)) → AskedSo (asked_of words)
 words_form [] = tt
@@ -295,17 +345,13 @@ request_form words result h = of_asked result (asked_of words) (words_form words
     of_asked : (result : Result Request Usage) (asked : Result Asked Usage) → AskedSo asked → Gives result asked → IfOk result HasForm
     of_asked (Ok (requests.Test request)) (Ok (AsksTest asked)) e h = named_so request.name (subst (λ (name : Option (List ℕ)). IfSome name (λ name. is_name name ≡ true)) (sym h.1) e)
     of_asked (Ok (requests.List request)) (Ok (AsksList asked)) e h = listed_so request asked h e
+    of_asked (Ok (requests.Cross request)) (Ok (AsksCross asked)) e h = folder_so request.folder (subst (λ (f : Option (List ℕ)). IfSome f (λ folder. length folder ≤ MAX_FOLDER)) (sym h.2) e)
+    of_asked (Ok (requests.Demo request)) (Ok (AsksDemo asked)) e h = subst (λ n. (1 ≤ n) × (n ≤ MAX_TESTS)) (sym h.1) e
     of_asked (Ok (requests.Name request)) asked e h = tt
     of_asked (Ok (requests.Families arch)) asked e h = tt
     of_asked (Ok requests.Sum) asked e h = tt
-    of_asked (Ok (requests.Test request)) (Err usage) e h = absurd h
-    of_asked (Ok (requests.List request)) (Err usage) e h = absurd h
-    of_asked (Ok (requests.Test request)) (Ok (AsksName asked)) e h = absurd h
-    of_asked (Ok (requests.Test request)) (Ok (AsksList asked)) e h = absurd h
-    of_asked (Ok (requests.Test request)) (Ok (AsksFamilies asked)) e h = absurd h
-    of_asked (Ok (requests.Test request)) (Ok AsksSum) e h = absurd h
-    of_asked (Ok (requests.List request)) (Ok (AsksTest asked)) e h = absurd h
-    of_asked (Ok (requests.List request)) (Ok (AsksName asked)) e h = absurd h
-    of_asked (Ok (requests.List request)) (Ok (AsksFamilies asked)) e h = absurd h
-    of_asked (Ok (requests.List request)) (Ok AsksSum) e h = absurd h
+    of_asked (Ok (requests.Test request)) asked e h = absurd h
+    of_asked (Ok (requests.List request)) asked e h = absurd h
+    of_asked (Ok (requests.Cross request)) asked e h = absurd h
+    of_asked (Ok (requests.Demo request)) asked e h = absurd h
     of_asked (Err usage) asked e h = tt

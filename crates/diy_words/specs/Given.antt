@@ -1,5 +1,5 @@
 -- What words have said so far, as it is held while they are read.
-use Rattle.std.specs.Prelude.{ℕ, ◌≡◌, ◌<◌, ◌≤◌, Bool, true, false, IfSome, List, [], ◌∷◌, length, map, drop, slice_get, Option, Some, None, Result, Ok, Err}
+use Rattle.std.specs.Prelude.{is_some, ℕ, ◌+◌, ◌*◌, ◌≡◌, ◌<◌, ◌≤◌, Bool, true, false, nat_lt, min, if◌then◌else◌, IfSome, List, [], ◌∷◌, length, drop, slice_get, Option, Some, None, Result, Ok, Err}
 use Rattle.std.specs.Option.{option_map, option_or, ForSome}
 use Rattle.relax_edges.specs.declared.kinds.ArchName.{ArchName}
 use Rattle.relax_edges.specs.declared.kinds.ObsMode.{ObsMode}
@@ -12,7 +12,7 @@ use Rattle.edge_lists.specs.Kept.{kept, added}
 use Rattle.edge_algebra.specs.Compose.{composed}
 use Rattle.std.specs.Result.{result_ok}
 use Rattle.diy_words.specs.declared.request.Diy.{Diy}
-use Rattle.diy_words.specs.declared.request.TheConstants.{MAX_FOLDER}
+use Rattle.diy_words.specs.declared.request.TheConstants.{MAX_FOLDER, MAX_CHOICES, MAX_TESTS}
 use Rattle.diy_words.specs.declared.options.OptionName.{OptionName}
 use Rattle.diy_words.specs.declared.request.Request.{Request}
 use Rattle.diy_words.specs.declared.request.Request.TheVariants as requests
@@ -23,13 +23,13 @@ use Rattle.diy_words.specs.declared.options.Tool.TheVariants as tools
 use Rattle.diy_words.specs.Names.{is_name}
 use Rattle.diy_words.specs.declared.said.Said.{Said}
 use Rattle.diy_words.specs.declared.usage.Usage.{Usage}
-use Rattle.diy_words.specs.declared.usage.UsageKind.TheVariants.{MissingArch, StrayWord, NotBuilt}
+use Rattle.diy_words.specs.declared.usage.UsageKind.TheVariants.{MissingArch, StrayWord, TooManyChoices}
 use Rattle.diy_words.specs.Parts.{parts_of, option_named}
-use Rattle.diy_words.specs.Requests.{Asked, AsksTest, AsksName, AsksList, AsksFamilies, AsksSum, ListAsked, OfEdges, OfName, OfLines, SaysArch, SaysName, SaysMode, SaysFrom, SaysEdges, SaysRelaxes, SaysSize, SaysExact, SaysThreads, SaysAfter, SaysFolder, SaysLog, said_by, list_with, families_with}
+use Rattle.diy_words.specs.Requests.{Asked, AsksTest, AsksName, AsksList, AsksFamilies, AsksSum, AsksCross, AsksDemo, ListAsked, DemoAsked, OfEdges, OfName, OfLines, SaysArch, SaysName, SaysMode, SaysFrom, SaysEdges, SaysRelaxes, SaysSize, SaysExact, SaysThreads, SaysAfter, SaysFolder, SaysLog, SaysPlace, SaysCount, said_by, saying, list_with, families_with, demo_with}
 use Rattle.diy_words.specs.Requests as req
 
 -- what is held: the last of each thing that was given, where the last value of `-from` and the first operand of edges
--- stand, and the edges
+-- stand, and the edges; in how many ways a relaxation can be chosen for each place, and how many tests demo makes
 pub record Held : Type 0 where
   pub arch : Option ArchName
   pub name : Option (List ℕ)
@@ -43,6 +43,8 @@ pub record Held : Type 0 where
   pub threads : ℕ
   pub after : Option (List Edge)
   pub folder : Option (List ℕ)
+  pub choices : ℕ
+  pub count : Option ℕ
 
 -- what the code holds
 abbrev pub held : Said → Held
@@ -59,6 +61,8 @@ held said = record {
   threads = said.threads;
   after = said.after;
   folder = option_map (λ folder. folder.now) said.folder;
+  choices = said.choices;
+  count = said.count;
 }
 
 -- nothing yet
@@ -76,7 +80,13 @@ nothing_held = record {
   threads = 4;
   after = None;
   folder = None;
+  choices = 1;
+  count = None;
 }
+
+-- in how many ways relaxations are chosen with those of one place more: no number of ways above the limit is told from another
+abbrev pub more_choices : ℕ → ℕ → ℕ
+more_choices choices relaxes = min (choices * relaxes) (MAX_CHOICES + 1)
 
 -- what is held after a part of the words
 abbrev pub absorbed : Held → Result req.Said Usage → Result Held Usage
@@ -92,6 +102,8 @@ absorbed h (Ok (SaysThreads threads)) = Ok (record h { threads = threads })
 absorbed h (Ok (SaysAfter cycle)) = Ok (record h { after = Some cycle })
 absorbed h (Ok (SaysFolder folder)) = Ok (record h { folder = Some folder })
 absorbed h (Ok SaysLog) = Ok h
+absorbed h (Ok (SaysPlace relaxes)) = Ok (record h { choices = more_choices h.choices (length relaxes) })
+absorbed h (Ok (SaysCount count)) = Ok (record h { count = Some count })
 absorbed h (Err usage) = Err usage
 
 -- what a call leaves held, or its fault
@@ -106,8 +118,12 @@ all_absorbed (Ok h) (said ∷ rest) = all_absorbed (absorbed h said) rest
 all_absorbed (Err usage) (said ∷ rest) = all_absorbed (Err usage) rest
 
 -- what the words from a place on say
-abbrev pub saying_from : Tool → List (List ℕ) → ℕ → List (Result req.Said Usage)
-saying_from tool words at = map (said_by tool) (parts_of tool at (drop at words))
+abbrev pub saying_from : Tool → Bool → List (List ℕ) → ℕ → List (Result req.Said Usage)
+saying_from tool counted words at = saying tool counted (parts_of tool at (drop at words))
+
+-- what is held after all words, from what is held before those from a place on
+abbrev pub held_at_end : Tool → List (List ℕ) → ℕ → Held → Result Held Usage
+held_at_end tool words at h = all_absorbed (Ok h) (saying_from tool (is_some h.count) words at)
 
 -- the cycle that is sought, as it is kept
 abbrev pub IsSought : Sought → req.Sought → Type 0
@@ -137,6 +153,9 @@ IsKept (requests.Name request) (AsksName asked) = (request.arch ≡ asked.arch) 
 IsKept (requests.List request) (AsksList asked) = list_kept request ≡ asked
 IsKept (requests.Families arch) (AsksFamilies asked) = arch ≡ asked
 IsKept requests.Sum AsksSum = Unit {0}
+IsKept (requests.Cross request) (AsksCross asked) =
+    (request.arch ≡ asked.arch) × (request.mode ≡ asked.mode) × (option_map (λ folder. folder.now) request.folder ≡ asked.folder)
+IsKept (requests.Demo request) (AsksDemo asked) = (request.arch ≡ asked.arch) × (request.count ≡ asked.count)
 IsKept _ _ = ⊥
 
 -- a call gives the request that words make, or their first fault
@@ -147,18 +166,20 @@ Gives (Err usage) (Ok asked) = ⊥
 Gives (Err usage) (Err fault) = usage ≡ fault
 
 -- the name of a test that is asked for, if one is given, has its form; the cycles of a listing have at most as many edges as
--- there may be, and so have the bytes of its folder
+-- there may be, and so have the bytes of its folder, and of that of diycross7; demo makes a test at least, and at most so many
 abbrev pub HasForm : Request → Type 0
 HasForm (requests.Test request) = IfSome request.name (λ name. is_name name.bytes ≡ true)
 HasForm (requests.List request) = (request.limits.size ≤ MAX_EDGES) × ForSome request.folder (λ folder. length folder.now ≤ MAX_FOLDER)
+HasForm (requests.Cross request) = ForSome request.folder (λ folder. length folder.now ≤ MAX_FOLDER)
+HasForm (requests.Demo request) = (1 ≤ request.count) × (request.count ≤ MAX_TESTS)
 HasForm _ = Unit {0}
 
 -- a call that takes in the part of the words at a place gives the place behind it, or the fault there: what is held
 -- after all words stays the same
 abbrev pub Steps : Tool → List (List ℕ) → ℕ → Held → Held → Result ℕ Usage → Type 0
 Steps tool words at old new (Ok next) =
-    (at < next) × (all_absorbed (Ok new) (saying_from tool words next) ≡ all_absorbed (Ok old) (saying_from tool words at))
-Steps tool words at old new (Err usage) = Err usage ≡ all_absorbed (Ok old) (saying_from tool words at)
+    (at < next) × (held_at_end tool words next new ≡ held_at_end tool words at old)
+Steps tool words at old new (Err usage) = Err usage ≡ held_at_end tool words at old
 
 -- the request of diyone7 as it is kept, from what is held at the end
 pub record AskedHeld : Type 0 where
@@ -193,6 +214,18 @@ named count (Some arch) (Some from) None edges = Ok (record { arch = arch; cycle
 named count (Some arch) None (Some operand) edges = Ok (record { arch = arch; cycle = HeldEdges edges })
 named count (Some arch) (Some from) (Some operand) edges = Err (record { word = operand; kind = StrayWord })
 
+-- the request of diycross7 as it is kept, from what is held at the end
+pub record CrossHeld : Type 0 where
+  pub arch : ArchName
+  pub mode : ObsMode
+  pub folder : Option (List ℕ)
+
+abbrev pub crossed : ℕ → Option ArchName → ObsMode → Option (List ℕ) → ℕ → Result CrossHeld Usage
+crossed count None mode folder choices = Err (record { word = count; kind = MissingArch })
+crossed count (Some arch) mode folder choices =
+    if nat_lt MAX_CHOICES choices then Err (record { word = count; kind = TooManyChoices })
+    else Ok (record { arch = arch; mode = mode; folder = folder })
+
 -- a request as it is kept
 pub data Kept : Type 0 where
   KeepsTest : AskedHeld → Kept
@@ -200,12 +233,14 @@ pub data Kept : Type 0 where
   KeepsList : ListAsked → Kept
   KeepsFamilies : ArchName → Kept
   KeepsSum : Kept
+  KeepsCross : CrossHeld → Kept
+  KeepsDemo : DemoAsked → Kept
 
 abbrev pub keeps : {X : Type 0} → (X → Kept) → Result X Usage → Result Kept Usage
 keeps request (Ok asked) = Ok (request asked)
 keeps request (Err usage) = Err usage
 
--- the requests of diyone7, norm7 and diy7 from what is held
+-- the requests of diyone7, norm7, diy7, diycross7 and demo from what is held
 abbrev pub test_held : ℕ → Held → Result AskedHeld Usage
 test_held count h = finished count h.arch h.name h.mode h.edges
 
@@ -215,6 +250,12 @@ name_held count h = named count h.arch h.from h.operand h.edges
 abbrev pub list_held : ℕ → Held → Result ListAsked Usage
 list_held count h = list_with count h.arch h.relaxes h.size h.exact h.threads h.mode h.after h.folder
 
+abbrev pub cross_held : ℕ → Held → Result CrossHeld Usage
+cross_held count h = crossed count h.arch h.mode h.folder h.choices
+
+abbrev pub demo_held : ℕ → Held → Result DemoAsked Usage
+demo_held count h = demo_with count h.arch h.count
+
 -- the request of a tool from what is held after all words
 abbrev pub tool_held : Tool → ℕ → Result Held Usage → Result Kept Usage
 tool_held tool count (Err usage) = Err usage
@@ -223,7 +264,8 @@ tool_held tools.Diy count (Ok h) = keeps KeepsList (list_held count h)
 tool_held tools.Norm count (Ok h) = keeps KeepsName (name_held count h)
 tool_held tools.Classify count (Ok h) = keeps KeepsFamilies (families_with count h.arch)
 tool_held tools.Msum count (Ok h) = Ok KeepsSum
-tool_held tools.Later count (Ok h) = Err (record { word = 0; kind = NotBuilt })
+tool_held tools.Cross count (Ok h) = keeps KeepsCross (cross_held count h)
+tool_held tools.Demo count (Ok h) = keeps KeepsDemo (demo_held count h)
 
 -- a request as it is shown
 abbrev pub shown_request : Request → Kept
@@ -233,6 +275,9 @@ shown_request (requests.Name request) = KeepsName (record { arch = request.arch;
 shown_request (requests.List request) = KeepsList (list_kept request)
 shown_request (requests.Families arch) = KeepsFamilies arch
 shown_request requests.Sum = KeepsSum
+shown_request (requests.Cross request) =
+    KeepsCross (record { arch = request.arch; mode = request.mode; folder = option_map (λ folder. folder.now) request.folder })
+shown_request (requests.Demo request) = KeepsDemo (record { arch = request.arch; count = request.count })
 
 -- what a call gives
 abbrev pub shown : Result Request Usage → Result Kept Usage

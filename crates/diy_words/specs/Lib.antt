@@ -4,3 +4,4 @@ pub mod Numbers
 pub mod Parts
 pub mod Requests
 pub mod Given
+pub mod GivenLaws

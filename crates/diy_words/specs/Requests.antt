@@ -1,6 +1,6 @@
 -- The request that words make, or the first fault among them. Words are judged from left to right, an option with its
 -- value; then all of them. Source: own, after the command lines of the diy tools.
-use Rattle.std.specs.Prelude.{ℕ, ◌+◌, ◌==◌, ◌&&◌, Bool, true, false, nat_lt, nat_le, if◌then◌else◌, List, [], ◌∷◌, ◌++◌, length, map, Option, Some, None, Result, Ok, Err, codes}
+use Rattle.std.specs.Prelude.{is_some, ℕ, ◌+◌, ◌*◌, ◌==◌, ◌&&◌, ◌||◌, Bool, true, false, nat_lt, nat_le, if◌then◌else◌, List, [], ◌∷◌, ◌++◌, length, Option, Some, None, Result, Ok, Err, codes}
 use Rattle.std.specs.Option.{option_or}
 use Rattle.std.specs.List.{list_any}
 use Rattle.std.specs.Str.{bytes_eq}
@@ -19,8 +19,8 @@ use Rattle.relax_edges.specs.declared.kinds.ObsMode.TheVariants.{Accept}
 use Rattle.relax_edges.specs.declared.edge.Edge.{Edge}
 use Rattle.diy_words.specs.declared.usage.Usage.{Usage}
 use Rattle.diy_words.specs.declared.usage.UsageKind.{UsageKind}
-use Rattle.diy_words.specs.declared.usage.UsageKind.TheVariants.{UnknownTool, UnknownOption, MissingValue, BadNumber, UnknownArch, BadMode, BadName, BadFolder, UnknownEdge, BadBracket, RelaxTooLong, DoesNotJoin, TooManyRelaxes, BadAfter, StrayWord, MissingArch, MissingEdges, NotBuilt}
-use Rattle.diy_words.specs.declared.request.TheConstants.{MAX_FOLDER}
+use Rattle.diy_words.specs.declared.usage.UsageKind.TheVariants.{UnknownTool, UnknownOption, MissingValue, BadNumber, UnknownArch, BadMode, BadName, BadFolder, UnknownEdge, BadBracket, RelaxTooLong, DoesNotJoin, TooManyRelaxes, BadAfter, StrayWord, MissingArch, MissingEdges, MissingNumber, TooManyChoices, NotBuilt}
+use Rattle.diy_words.specs.declared.request.TheConstants.{MAX_FOLDER, MAX_CHOICES, MAX_TESTS}
 use Rattle.diy_words.specs.declared.options.Tool.{Tool}
 use Rattle.diy_words.specs.declared.options.Tool.TheVariants as tools
 use Rattle.diy_words.specs.declared.options.OptionName.TheVariants as opts
@@ -29,7 +29,8 @@ use Rattle.diy_words.specs.Numbers.{number_to}
 use Rattle.diy_words.specs.Edges.{operand_edges}
 use Rattle.diy_words.specs.Parts.{Part, Alone, Valued, Unvalued, parts_of, tool_named, arch_named, mode_named}
 
--- what a word says, an option with its value; the value of `-from` and an operand of edges with their places
+-- what a word says, an option with its value; the value of `-from` and an operand of edges with their places; an operand of
+-- diycross7, the relaxations of a place of its cycles; the operand of demo, a number
 pub data Said : Type 0 where
   SaysArch : ArchName → Said
   SaysName : List ℕ → Said
@@ -43,6 +44,8 @@ pub data Said : Type 0 where
   SaysAfter : List Edge → Said
   SaysFolder : List ℕ → Said
   SaysLog : Said
+  SaysPlace : List (List Edge) → Said
+  SaysCount : ℕ → Said
 
 -- what diyone7 is asked for: a test, under a name that is given or that of its cycle
 pub record TestAsked : Type 0 where
@@ -74,14 +77,30 @@ pub record ListAsked : Type 0 where
   pub after : Option (List Edge)
   pub folder : Option (List ℕ)
 
+-- what diycross7 is asked for: the tests of the cycles that have, at each place, one relaxation of the place's list, each test
+-- in a file; the lists are in the order of the operands
+pub record CrossAsked : Type 0 where
+  pub arch : ArchName
+  pub mode : ObsMode
+  pub folder : Option (List ℕ)
+  pub places : List (List (List Edge))
+
+-- what demo is asked for: how many tests
+pub record DemoAsked : Type 0 where
+  pub arch : ArchName
+  pub count : ℕ
+
 -- what words ask for: a test; the names of cycles; the tests of a listing; the names of the cycles of the input's lines by
--- their families; the sum of the logs that the words behind the first name, or of the input where there is none
+-- their families; the sum of the logs that the words behind the first name, or of the input where there is none; the tests of
+-- the choices of relaxations; some number of tests
 pub data Asked : Type 0 where
   AsksTest : TestAsked → Asked
   AsksName : NameAsked → Asked
   AsksList : ListAsked → Asked
   AsksFamilies : ArchName → Asked
   AsksSum : Asked
+  AsksCross : CrossAsked → Asked
+  AsksDemo : DemoAsked → Asked
 
 -- a fault at a word
 abbrev pub fault : ℕ → UsageKind → Result Said Usage
@@ -119,6 +138,11 @@ abbrev pub relaxes_said : ℕ → Result (List (List Edge)) RelaxError → Resul
 relaxes_said at (Ok relaxes) = Ok (SaysRelaxes relaxes)
 relaxes_said at (Err error) = fault at (relax_usage error.kind)
 
+-- the relaxations of an operand of diycross7, at its place
+abbrev pub place_said : ℕ → Result (List (List Edge)) RelaxError → Result Said Usage
+place_said at (Ok relaxes) = Ok (SaysPlace relaxes)
+place_said at (Err error) = fault at (relax_usage error.kind)
+
 -- the value of `-size`, and that of `-nprocs`, at its place
 abbrev pub size_said : ℕ → Option ℕ → Result Said Usage
 size_said at (Some size) = Ok (SaysSize size)
@@ -127,6 +151,11 @@ size_said at None = fault at BadNumber
 abbrev pub threads_said : ℕ → Option ℕ → Result Said Usage
 threads_said at (Some threads) = Ok (SaysThreads threads)
 threads_said at None = fault at BadNumber
+
+-- the number that is the operand of demo, at its place
+abbrev pub count_said : ℕ → Option ℕ → Result Said Usage
+count_said at (Some count) = Ok (SaysCount count)
+count_said at None = fault at BadNumber
 
 -- the value of `-after`, at its place: edges that make a cycle, of whatever architecture
 abbrev pub cycle_said : ℕ → Result (List Edge) CycleError → Result Said Usage
@@ -152,28 +181,44 @@ abbrev pub dashed_said : Tool → ℕ → List ℕ → Result Said Usage
 dashed_said tools.Diy at text = if bytes_eq text (codes "-exact") then Ok SaysExact else fault at UnknownOption
 dashed_said _ at text = fault at UnknownOption
 
--- an operand of a tool, at its place
-abbrev pub operand_said : Tool → ℕ → List ℕ → Result Said Usage
-operand_said tools.DiyOne at text = edges_said at (operand_edges text)
-operand_said tools.Diy at text = fault at StrayWord
-operand_said tools.Norm at text = edges_said at (operand_edges text)
-operand_said tools.Classify at text = fault at NotBuilt
-operand_said tools.Msum at text = Ok SaysLog
-operand_said tools.Later at text = fault at NotBuilt
+-- an operand of a tool, at its place; demo takes one, and where it is counted already, a second is stray
+abbrev pub operand_said : Tool → Bool → ℕ → List ℕ → Result Said Usage
+operand_said tools.DiyOne _ at text = edges_said at (operand_edges text)
+operand_said tools.Diy _ at text = fault at StrayWord
+operand_said tools.Cross _ at text = place_said at (relaxes_of text)
+operand_said tools.Norm _ at text = edges_said at (operand_edges text)
+operand_said tools.Classify _ at text = fault at NotBuilt
+operand_said tools.Msum _ at text = Ok SaysLog
+operand_said tools.Demo false at text = count_said at (number_to MAX_TESTS text)
+operand_said tools.Demo true at text = fault at StrayWord
 
--- what a word says, an option with its value, or what is wrong with it
-abbrev pub said_by : Tool → Part → Result Said Usage
-said_by tool (Alone at text) = if begins_option text then dashed_said tool at text else operand_said tool at text
-said_by tool (Valued opts.Arch at value) = arch_said (at + 1) (arch_named value)
-said_by tool (Valued opts.Name at value) = name_said (at + 1) value
-said_by tool (Valued opts.Obs at value) = mode_said (at + 1) (mode_named value)
-said_by tool (Valued opts.From at value) = Ok (SaysFrom (at + 1) value)
-said_by tool (Valued opts.Edges at value) = relaxes_said (at + 1) (relaxes_of value)
-said_by tool (Valued opts.Size at value) = size_said (at + 1) (number_to MAX_EDGES value)
-said_by tool (Valued opts.Nprocs at value) = threads_said (at + 1) (number_to MAX_EDGES value)
-said_by tool (Valued opts.After at value) = after_said (at + 1) (edges_of BlanksAndCommas value)
-said_by tool (Valued opts.Folder at value) = folder_said (at + 1) value
-said_by tool (Unvalued _ at) = fault at MissingValue
+-- what a word says, an option with its value, or what is wrong with it; `counted` says whether a word before it said a number
+abbrev pub said_by : Tool → Bool → Part → Result Said Usage
+said_by tool counted (Alone at text) = if begins_option text then dashed_said tool at text else operand_said tool counted at text
+said_by tool counted (Valued opts.Arch at value) = arch_said (at + 1) (arch_named value)
+said_by tool counted (Valued opts.Name at value) = name_said (at + 1) value
+said_by tool counted (Valued opts.Obs at value) = mode_said (at + 1) (mode_named value)
+said_by tool counted (Valued opts.From at value) = Ok (SaysFrom (at + 1) value)
+said_by tool counted (Valued opts.Edges at value) = relaxes_said (at + 1) (relaxes_of value)
+said_by tool counted (Valued opts.Size at value) = size_said (at + 1) (number_to MAX_EDGES value)
+said_by tool counted (Valued opts.Nprocs at value) = threads_said (at + 1) (number_to MAX_EDGES value)
+said_by tool counted (Valued opts.After at value) = after_said (at + 1) (edges_of BlanksAndCommas value)
+said_by tool counted (Valued opts.Folder at value) = folder_said (at + 1) value
+said_by tool counted (Unvalued _ at) = fault at MissingValue
+
+-- how many tests demo makes, and whether a word says so
+abbrev pub count_in : Said → Option ℕ
+count_in (SaysCount count) = Some count
+count_in _ = None
+
+abbrev pub is_count : Result Said Usage → Bool
+is_count (Ok said) = is_some (count_in said)
+is_count (Err _) = false
+
+-- what the parts of the words say, one after another
+abbrev pub saying : Tool → Bool → List Part → List (Result Said Usage)
+saying tool counted [] = []
+saying tool counted (part ∷ parts) = said_by tool counted part ∷ saying tool (is_count (said_by tool counted part) || counted) parts
 
 -- something said before the rest, where the rest has no fault
 abbrev pub said_first : Said → Result (List Said) Usage → Result (List Said) Usage
@@ -237,6 +282,11 @@ abbrev pub folder_in : Said → Option (List ℕ)
 folder_in (SaysFolder folder) = Some folder
 folder_in _ = None
 
+-- the relaxations of a place
+abbrev pub places_in : Said → List (List (List Edge))
+places_in (SaysPlace relaxes) = relaxes ∷ []
+places_in _ = []
+
 -- the later of two, where it is there
 abbrev pub or_later : {X : Type 0} → Option X → Option X → Option X
 or_later earlier (Some later) = Some later
@@ -256,6 +306,16 @@ first_given given (said ∷ rest) = option_or (given said) (first_given given re
 abbrev pub edges_given : List Said → List Edge
 edges_given [] = []
 edges_given (said ∷ rest) = edges_in said ++ edges_given rest
+
+-- the relaxations of all places
+abbrev pub places_given : List Said → List (List (List Edge))
+places_given [] = []
+places_given (said ∷ rest) = places_in said ++ places_given rest
+
+-- in how many ways a relaxation can be chosen for each place: one way for no place
+abbrev pub choice_count : List (List (List Edge)) → ℕ
+choice_count [] = 1
+choice_count (place ∷ places) = length place * choice_count places
 
 -- what was given, or else what stands for it
 abbrev pub given_or : {X : Type 0} → X → Option X → X
@@ -291,6 +351,19 @@ abbrev pub families_with : ℕ → Option ArchName → Result ArchName Usage
 families_with count None = Err (record { word = count; kind = MissingArch })
 families_with count (Some arch) = Ok arch
 
+-- the request of diycross7 from what was given
+abbrev pub cross_with : ℕ → Option ArchName → ObsMode → Option (List ℕ) → List (List (List Edge)) → Result CrossAsked Usage
+cross_with count None mode folder places = Err (record { word = count; kind = MissingArch })
+cross_with count (Some arch) mode folder places =
+    if nat_lt MAX_CHOICES (choice_count places) then Err (record { word = count; kind = TooManyChoices })
+    else Ok (record { arch = arch; mode = mode; folder = folder; places = places })
+
+-- the request of demo from what was given
+abbrev pub demo_with : ℕ → Option ArchName → Option ℕ → Result DemoAsked Usage
+demo_with count None tests = Err (record { word = count; kind = MissingArch })
+demo_with count (Some arch) None = Err (record { word = count; kind = MissingNumber })
+demo_with count (Some arch) (Some tests) = Ok (record { arch = arch; count = tests })
+
 -- a request of one of the tools
 abbrev pub asks : {X : Type 0} → (X → Asked) → Result X Usage → Result Asked Usage
 asks request (Ok asked) = Ok (request asked)
@@ -312,6 +385,11 @@ diy_asked count said =
     list_with count (last_given arch_in said) (last_given relaxes_in said) (given_or 6 (last_given size_in said)) (list_any is_exact said)
     (given_or 4 (last_given threads_in said)) (mode_or_accept (last_given mode_in said)) (last_given after_in said) (last_given folder_in said)
 
+-- the request of diycross7 from what its words say
+abbrev pub cross_asked : ℕ → List Said → Result CrossAsked Usage
+cross_asked count said =
+    cross_with count (last_given arch_in said) (mode_or_accept (last_given mode_in said)) (last_given folder_in said) (places_given said)
+
 -- the request of a tool from what its words say, where no word is faulty
 abbrev pub tool_asked : Tool → ℕ → Result (List Said) Usage → Result Asked Usage
 tool_asked tool count (Err usage) = Err usage
@@ -320,15 +398,25 @@ tool_asked tools.Diy count (Ok said) = asks AsksList (diy_asked count said)
 tool_asked tools.Norm count (Ok said) = asks AsksName (norm_asked count said)
 tool_asked tools.Classify count (Ok said) = asks AsksFamilies (families_with count (last_given arch_in said))
 tool_asked tools.Msum count (Ok said) = Ok AsksSum
-tool_asked tools.Later count (Ok said) = Err (record { word = 0; kind = NotBuilt })
+tool_asked tools.Cross count (Ok said) = asks AsksCross (cross_asked count said)
+tool_asked tools.Demo count (Ok said) = asks AsksDemo (demo_with count (last_given arch_in said) (last_given count_in said))
 
 -- the request of a tool from its words but the first
 abbrev pub asked_for : Option Tool → ℕ → List (List ℕ) → Result Asked Usage
 asked_for None count words = Err (record { word = 0; kind = UnknownTool })
-asked_for (Some tools.Later) count words = Err (record { word = 0; kind = NotBuilt })
-asked_for (Some tool) count words = tool_asked tool count (said_all (map (said_by tool) (parts_of tool 1 words)))
+asked_for (Some tool) count words = tool_asked tool count (said_all (saying tool false (parts_of tool 1 words)))
 
 -- the request that words make: the first names the tool
 abbrev pub asked_of : List (List ℕ) → Result Asked Usage
 asked_of [] = Err (record { word = 0; kind = UnknownTool })
 asked_of (tool ∷ words) = asked_for (tool_named tool) (length (tool ∷ words)) words
+
+-- words ask for something of diycross7
+abbrev pub IsCrossing : Result Asked Usage → Type 0
+IsCrossing (Ok (AsksCross _)) = Unit {0}
+IsCrossing _ = ⊥
+
+-- the relaxations of the places of the cycles, where words ask for something of diycross7
+abbrev pub places_of : Result Asked Usage → List (List (List Edge))
+places_of (Ok (AsksCross asked)) = asked.places
+places_of _ = []

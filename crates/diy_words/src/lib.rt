@@ -4,11 +4,18 @@
 mod name;
 mod number;
 mod options;
+mod places;
 mod read;
 mod request;
 mod said;
+#[cfg(test)]
+mod tests;
 mod usage;
 
+pub use places::read_places;
 pub use read::read_request;
-pub use request::{Diy, DiyOne, MAX_FOLDER, MAX_NAME, Norm, Request, Sought, Source, TestName};
+pub use request::{
+    Cross, Demo, Diy, DiyOne, MAX_CHOICES, MAX_FOLDER, MAX_NAME, MAX_TESTS, Norm, Request, Sought,
+    Source, TestName,
+};
 pub use usage::{Usage, UsageKind};

@@ -1,4 +1,4 @@
-ghost use Rattle.std.specs.Prelude.{◌≡◌, true, false};
+ghost use Rattle.std.specs.Prelude.{◌≡◌, ◌≤◌, true, false, IfSome};
 ghost use Rattle.std.specs.Char.{is_ascii_digit};
 ghost use Rattle.std.specs.List.{list_all};
 ghost use Rattle.std.specs.Result.{result_ok};
@@ -6,13 +6,14 @@ ghost use Rattle.std.specs.Str.Parse.{digits_value};
 ghost use Rattle.diy_words.specs.Numbers.{is_number, number_to};
 
 /// The number from 1 to `greatest` that a text is, if it is one: 1 to 7 digits.
-pub fn number_to(greatest: u8, text: &str) -> Option<u8>
-    ensures { result ≡ number_to greatest text.now }
+pub fn number_to(greatest: u32, text: &str) -> Option<u32>
+    ensures value { result ≡ number_to greatest text.now }
+    ensures range { IfSome result (λ number. (1 ≤ number) × (number ≤ greatest)) }
 {
     if !is_number(text) {
         return None;
     }
-    match text.parse::<u8>() {
+    match text.parse::<u32>() {
         Ok(number) => {
             if number > 0 && number <= greatest {
                 Some(number)

@@ -9,11 +9,11 @@ use relax_edges::{ArchName, ObsMode};
 pub enum Tool {
     DiyOne,
     Diy,
+    Cross,
     Norm,
     Classify,
     Msum,
-    /// A tool that isn't built yet.
-    Later,
+    Demo,
 }
 
 /// The options of the tools that take a value.
@@ -37,11 +37,11 @@ pub fn tool_named(text: &str) -> Option<Tool>
     match text {
         "diyone7" => Some(Tool::DiyOne),
         "diy7" => Some(Tool::Diy),
-        "diycross7" => Some(Tool::Later),
+        "diycross7" => Some(Tool::Cross),
         "norm7" => Some(Tool::Norm),
         "classify7" => Some(Tool::Classify),
         "msum7" => Some(Tool::Msum),
-        "demo" => Some(Tool::Later),
+        "demo" => Some(Tool::Demo),
         _ => None,
     }
 }
@@ -53,9 +53,10 @@ pub fn option_named(tool: Tool, text: &str) -> Option<OptionName>
     match tool {
         Tool::DiyOne => diyone_option(text),
         Tool::Diy => diy_option(text),
+        Tool::Cross => cross_option(text),
         Tool::Norm => norm_option(text),
-        Tool::Classify => classify_option(text),
-        Tool::Msum | Tool::Later => None,
+        Tool::Classify | Tool::Demo => arch_option(text),
+        Tool::Msum => None,
     }
 }
 
@@ -85,7 +86,19 @@ fn diy_option(text: &str) -> Option<OptionName>
     }
 }
 
-fn classify_option(text: &str) -> Option<OptionName>
+fn cross_option(text: &str) -> Option<OptionName>
+    ensures { result ≡ option_named tools.Cross text.now }
+{
+    match text {
+        "-arch" => Some(OptionName::Arch),
+        "-obs" => Some(OptionName::Obs),
+        "-o" => Some(OptionName::Folder),
+        _ => None,
+    }
+}
+
+/// The option of a tool that has `-arch` alone.
+fn arch_option(text: &str) -> Option<OptionName>
     ensures { result ≡ option_named tools.Classify text.now }
 {
     match text {

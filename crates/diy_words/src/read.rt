@@ -1,10 +1,10 @@
 ghost use Rattle.std.specs.Prelude.{◌≡◌, ◌<◌, ◌+◌, ◌^◌, length, IfOk, Ok};
 ghost use Rattle.diy_words.specs.declared.usage.UsageKind.TheVariants.{MissingArch};
 ghost use Rattle.diy_words.specs.Requests.{asked_of, families_with};
-ghost use Rattle.diy_words.specs.Given.{Gives, HasForm, Steps, IsPlain, IsOption, held, saying_from, shown, keeps, KeepsTest, KeepsName, KeepsList, KeepsFamilies, tool_held, test_held, name_held, list_held, all_absorbed, nothing_held};
+ghost use Rattle.diy_words.specs.Given.{Gives, HasForm, Steps, IsPlain, IsOption, held, saying_from, shown, keeps, KeepsTest, KeepsName, KeepsList, KeepsFamilies, KeepsCross, KeepsDemo, tool_held, test_held, name_held, list_held, cross_held, demo_held, held_at_end, nothing_held};
 
 use crate::options::{OptionName, Tool, option_named, tool_named};
-use crate::request::{Diy, DiyOne, Norm, Request, Sought};
+use crate::request::{Cross, Demo, Diy, DiyOne, MAX_CHOICES, Norm, Request, Sought};
 use crate::said::{Said, unvalued};
 use crate::usage::{Usage, UsageKind};
 use diy_io::Words;
@@ -14,8 +14,9 @@ use diy_io::Words;
 pub fn read_request(words: &Words) -> Result<Request<'_>, Usage>
     ensures given { Gives result (asked_of words.now) }
 
-    // The name of a test has its form; the cycles of a listing have at most `MAX_EDGES` edges, and its
-    // folder at most `MAX_FOLDER` bytes.
+    // The name of a test has its form; the cycles of a listing have at most `MAX_EDGES` edges, its
+    // folder and that of diycross7 have at most `MAX_FOLDER` bytes, and demo makes 1 to `MAX_TESTS`
+    // tests.
     ensures form { IfOk result HasForm }
 {
     if words.len() == 0 {
@@ -25,15 +26,7 @@ pub fn read_request(words: &Words) -> Result<Request<'_>, Usage>
         });
     }
     match tool_named(words.get(0)) {
-        Some(Tool::Later) => Err(Usage {
-            word: 0,
-            kind: UsageKind::NotBuilt,
-        }),
-        Some(Tool::DiyOne) => read_words(Tool::DiyOne, words),
-        Some(Tool::Diy) => read_words(Tool::Diy, words),
-        Some(Tool::Norm) => read_words(Tool::Norm, words),
-        Some(Tool::Classify) => read_words(Tool::Classify, words),
-        Some(Tool::Msum) => read_words(Tool::Msum, words),
+        Some(tool) => read_words(tool, words),
         None => Err(Usage {
             word: 0,
             kind: UsageKind::UnknownTool,
@@ -43,7 +36,7 @@ pub fn read_request(words: &Words) -> Result<Request<'_>, Usage>
 
 fn read_words(tool: Tool, words: &Words) -> Result<Request<'_>, Usage>
     requires { 0 < length words.now }
-    ensures { shown result ≡ tool_held tool (length words.now) (all_absorbed (Ok nothing_held) (saying_from tool words.now 1)) }
+    ensures { shown result ≡ tool_held tool (length words.now) (held_at_end tool words.now 1 nothing_held) }
 {
     let mut said = Said::new();
     let mut at = 1;
@@ -112,10 +105,8 @@ fn finish(tool: Tool, count: usize, said: Said<'_>) -> Result<Request<'_>, Usage
         Tool::Norm => finish_name(count, said),
         Tool::Classify => finish_families(count, said),
         Tool::Msum => Ok(Request::Sum),
-        Tool::Later => Err(Usage {
-            word: 0,
-            kind: UsageKind::NotBuilt,
-        }),
+        Tool::Cross => finish_cross(count, said),
+        Tool::Demo => finish_demo(count, said),
     }
 }
 
@@ -148,6 +139,8 @@ fn finish_list(count: usize, said: Said<'_>) -> Result<Request<'_>, Usage>
         from: _,
         operand: _,
         edges: _,
+        choices: _,
+        count: _,
     } = said;
     let Some(arch) = arch else {
         return Err(missing_arch(count));
@@ -175,6 +168,40 @@ fn finish_families(count: usize, said: Said<'_>) -> Result<Request<'_>, Usage>
     match said.arch {
         Some(arch) => Ok(Request::Families(arch)),
         None => Err(missing_arch(count)),
+    }
+}
+
+fn finish_cross(count: usize, said: Said<'_>) -> Result<Request<'_>, Usage>
+    ensures { shown result ≡ keeps KeepsCross (cross_held count (held said.entry)) }
+{
+    let Some(arch) = said.arch else {
+        return Err(missing_arch(count));
+    };
+    if said.choices > MAX_CHOICES {
+        return Err(Usage {
+            word: count,
+            kind: UsageKind::TooManyChoices,
+        });
+    }
+    Ok(Request::Cross(Cross {
+        arch,
+        mode: said.mode,
+        folder: said.folder,
+    }))
+}
+
+fn finish_demo(count: usize, said: Said<'_>) -> Result<Request<'_>, Usage>
+    ensures { shown result ≡ keeps KeepsDemo (demo_held count (held said.entry)) }
+{
+    let Some(arch) = said.arch else {
+        return Err(missing_arch(count));
+    };
+    match said.count {
+        Some(tests) => Ok(Request::Demo(Demo { arch, count: tests })),
+        None => Err(Usage {
+            word: count,
+            kind: UsageKind::MissingNumber,
+        }),
     }
 }
 

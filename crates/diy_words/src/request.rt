@@ -10,6 +10,12 @@ pub const MAX_NAME: usize = 800;
 /// The most bytes that the name of a folder has.
 pub const MAX_FOLDER: usize = 1024;
 
+/// The most ways in which diycross7 chooses a relaxation for each place of a cycle.
+pub const MAX_CHOICES: u32 = 65_536;
+
+/// The most tests that demo makes.
+pub const MAX_TESTS: u32 = 1_000_000;
+
 /// The name of a test.
 pub type TestName = ArrayString<MAX_NAME>;
 
@@ -27,6 +33,10 @@ pub enum Request<'a> {
     /// The sum of the logs that the words behind the first name, or of the input where there is no
     /// such word, of msum7.
     Sum,
+    /// The tests of the choices of relaxations, of diycross7.
+    Cross(Cross<'a>),
+    /// Some number of tests, of demo.
+    Demo(Demo),
 }
 
 /// What norm7 is asked for.
@@ -88,4 +98,24 @@ pub struct Diy<'a> {
     pub after: Option<Cycle>,
     /// The folder of the files, if one is given.
     pub folder: Option<&'a str>,
+}
+
+/// What diycross7 is asked for. The relaxations of its operands are read by `read_places`.
+#[derive(Drop)]
+pub struct Cross<'a> {
+    /// The architecture of the tests.
+    pub arch: ArchName,
+    /// When locations have observers.
+    pub mode: ObsMode,
+    /// The folder of the files, if one is given.
+    pub folder: Option<&'a str>,
+}
+
+/// What demo is asked for.
+#[derive(Drop)]
+pub struct Demo {
+    /// The architecture of the tests.
+    pub arch: ArchName,
+    /// How many tests, from 1 to `MAX_TESTS`.
+    pub count: u32,
 }

@@ -1,19 +1,20 @@
-ghost use Rattle.std.specs.Prelude.{◌≡◌, ◌<◌, ◌+◌, ◌^◌, Err};
+ghost use Rattle.std.specs.Prelude.{◌≡◌, ◌<◌, ◌≤◌, ◌+◌, ◌^◌, Bool, is_some, Err};
 ghost use Rattle.relax_edges.specs.Relaxations.{relaxes_of};
 ghost use Rattle.relax_edges.specs.declared.TheConstants.{MAX_EDGES};
 ghost use Rattle.edge_lists.specs.declared.read.Separators.TheVariants.{BlanksAndCommas};
 ghost use Rattle.edge_lists.specs.Spelled.{edges_of};
 ghost use Rattle.edge_algebra.specs.Compose.{composed};
 ghost use Rattle.diy_words.specs.Edges.{operand_edges};
-ghost use Rattle.diy_words.specs.Given.{cycle_kept};
+ghost use Rattle.diy_words.specs.Given.{cycle_kept, more_choices};
 ghost use Rattle.diy_words.specs.Numbers.{number_to};
+ghost use Rattle.diy_words.specs.declared.options.Tool.TheVariants as tools;
 ghost use Rattle.diy_words.specs.Parts.{Part, Alone, Valued, Unvalued, arch_named, mode_named};
-ghost use Rattle.diy_words.specs.Requests.{said_by, arch_said, name_said, mode_said, edges_said, relaxes_said, relax_usage, size_said, threads_said, after_said, cycle_said, folder_said, dashed_said, operand_said, begins_option};
+ghost use Rattle.diy_words.specs.Requests.{said_by, arch_said, name_said, mode_said, edges_said, relaxes_said, relax_usage, size_said, threads_said, after_said, cycle_said, folder_said, place_said, count_said, dashed_said, operand_said, begins_option};
 
 use crate::name::name_of;
 use crate::number::number_to;
 use crate::options::{OptionName, Tool, arch_named, mode_named};
-use crate::request::{MAX_FOLDER, Source, TestName};
+use crate::request::{MAX_CHOICES, MAX_FOLDER, MAX_TESTS, Source, TestName};
 use crate::usage::{Usage, UsageKind};
 use cycle_enum::Limits;
 use edge_algebra::{Cycle, cycle};
@@ -36,6 +37,10 @@ pub struct Said<'a> {
     pub threads: u8,
     pub after: Option<Cycle>,
     pub folder: Option<&'a str>,
+    /// In how many ways a relaxation can be chosen for each place, up to one more than may be.
+    pub choices: u32,
+    /// How many tests demo makes.
+    pub count: Option<u32>,
 }
 
 impl<'a> Said<'a> {
@@ -59,6 +64,8 @@ impl<'a> Said<'a> {
             threads: 4,
             after: None,
             folder: None,
+            choices: 1,
+            count: None,
         }
     }
 
@@ -71,7 +78,7 @@ impl<'a> Said<'a> {
         value: &'a str,
     ) -> Result<(), Usage>
         requires { at + 1 < 2 ^ 64 }
-        ensures { left_by result (held self.new) ≡ absorbed (held self.old) (said_by tool (Valued option at value.now)) }
+        ensures { left_by result (held self.new) ≡ absorbed (held self.old) (said_by tool (is_some self.old.count) (Valued option at value.now)) }
     {
         let _tool = tool;
         match option {
@@ -157,9 +164,9 @@ impl<'a> Said<'a> {
     fn take_size(&mut self, at: usize, value: &str) -> Result<(), Usage>
         ensures { left_by result (held self.new) ≡ absorbed (held self.old) (size_said at (number_to MAX_EDGES value.now)) }
     {
-        match number_to(MAX_EDGES as u8, value) {
+        match number_to(MAX_EDGES as u32, value) {
             Some(size) => {
-                self.limits.size = size;
+                self.limits.size = size as u8;
                 Ok(())
             }
             None => Err(Usage {
@@ -172,9 +179,9 @@ impl<'a> Said<'a> {
     fn take_threads(&mut self, at: usize, value: &str) -> Result<(), Usage>
         ensures { left_by result (held self.new) ≡ absorbed (held self.old) (threads_said at (number_to MAX_EDGES value.now)) }
     {
-        match number_to(MAX_EDGES as u8, value) {
+        match number_to(MAX_EDGES as u32, value) {
             Some(threads) => {
-                self.threads = threads;
+                self.threads = threads as u8;
                 Ok(())
             }
             None => Err(Usage {
@@ -221,7 +228,7 @@ impl<'a> Said<'a> {
 
     /// Takes in a word of a tool at place `at` that stands alone.
     pub fn take_alone(&mut self, tool: Tool, at: usize, text: &str) -> Result<(), Usage>
-        ensures { left_by result (held self.new) ≡ absorbed (held self.old) (said_by tool (Alone at text.now)) }
+        ensures { left_by result (held self.new) ≡ absorbed (held self.old) (said_by tool (is_some self.old.count) (Alone at text.now)) }
     {
         if begins_option(text.as_bytes()) {
             self.take_dashed(tool, at, text)
@@ -247,7 +254,7 @@ impl<'a> Said<'a> {
     }
 
     fn take_operand(&mut self, tool: Tool, at: usize, text: &str) -> Result<(), Usage>
-        ensures { left_by result (held self.new) ≡ absorbed (held self.old) (operand_said tool at text.now) }
+        ensures { left_by result (held self.new) ≡ absorbed (held self.old) (operand_said tool (is_some self.old.count) at text.now) }
     {
         match tool {
             Tool::DiyOne | Tool::Norm => self.take_edges(at, text),
@@ -256,7 +263,9 @@ impl<'a> Said<'a> {
                 kind: UsageKind::StrayWord,
             }),
             Tool::Msum => Ok(()),
-            Tool::Classify | Tool::Later => Err(Usage {
+            Tool::Cross => self.take_place(at, text),
+            Tool::Demo => self.take_count(at, text),
+            Tool::Classify => Err(Usage {
                 word: at,
                 kind: UsageKind::NotBuilt,
             }),
@@ -277,6 +286,53 @@ impl<'a> Said<'a> {
             }),
         }
     }
+
+    /// Takes in the relaxations of one place more.
+    fn take_place(&mut self, at: usize, text: &str) -> Result<(), Usage>
+        ensures { left_by result (held self.new) ≡ absorbed (held self.old) (place_said at (relaxes_of text.now)) }
+    {
+        let mut relaxes = Relaxes::new();
+        match read_relaxes(text, &mut relaxes) {
+            Ok(()) => {
+                self.choices = more_choices(self.choices, relaxes.len());
+                Ok(())
+            }
+            Err(error) => Err(Usage {
+                word: at,
+                kind: relax_usage(error.kind),
+            }),
+        }
+    }
+
+    /// Takes in the number of demo, if none was taken before.
+    fn take_count(&mut self, at: usize, text: &str) -> Result<(), Usage>
+        ensures { left_by result (held self.new) ≡ absorbed (held self.old) (operand_said tools.Demo (is_some self.old.count) at text.now) }
+    {
+        if self.count.is_some() {
+            return Err(Usage {
+                word: at,
+                kind: UsageKind::StrayWord,
+            });
+        }
+        match number_to(MAX_TESTS, text) {
+            Some(count) => {
+                self.count = Some(count);
+                Ok(())
+            }
+            None => Err(Usage {
+                word: at,
+                kind: UsageKind::BadNumber,
+            }),
+        }
+    }
+}
+
+/// In how many ways relaxations are chosen with those of one place more, up to one more than may be.
+fn more_choices(choices: u32, relaxes: usize) -> u32
+    requires { relaxes ≤ 64 }
+    ensures { result ≡ more_choices choices relaxes }
+{
+    (choices as u64 * relaxes as u64).min(MAX_CHOICES as u64 + 1) as u32
 }
 
 /// What is wrong with relaxations, as a fault of words.
@@ -304,7 +360,7 @@ fn cycle_of(list: &EdgeList) -> Option<Cycle>
 
 /// What is wrong with an option at place `at` that is the last word.
 pub fn unvalued(tool: Tool, option: OptionName, at: usize) -> Usage
-    ensures { said_by tool (Unvalued option at) ≡ Err result }
+    ensures { (counted : Bool) → said_by tool counted (Unvalued option at) ≡ Err result }
 {
     let _ = (tool, option);
     Usage {

@@ -39,12 +39,16 @@ pub enum UsageKind {
     UnknownName,
     /// The edges of `-after` make no cycle.
     BadAfter,
-    /// An operand stands where the tool takes none, or beside `-from`.
+    /// An operand stands where the tool takes none, or no other, or beside `-from`.
     StrayWord,
     /// The tool needs `-arch`, and it isn't there.
     MissingArch,
     /// The tool needs `-edges`, and it isn't there.
     MissingEdges,
-    /// The tool or operand isn't built yet.
+    /// The tool needs a number, and it isn't there.
+    MissingNumber,
+    /// There are more than 65,536 ways to choose a relaxation for each place.
+    TooManyChoices,
+    /// The operand isn't built yet.
     NotBuilt,
 }

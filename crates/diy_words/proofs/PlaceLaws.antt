@@ -1,0 +1,251 @@
+-- Where words ask for something of diycross7, each word that is neither an option nor its value spells the relaxations of a place.
+use Rattle.std.proofs.Common.{◌≡◌, ◌<◌, ◌≤◌, ◌+◌, ⊎_elim, drop, get_or, ℕ, Bool, true, false, List, [], ◌∷◌, ◌++◌, length, Option, Some, None, Result, Ok, Err, append_assoc, append-nil, refl, sym, ap, ◌∙◌, subst, arith, slice_get, nat_lt, nat_le}
+use Rattle.std.specs.Prelude.{◌&&◌, ◌||◌, if◌then◌else◌, IsOk}
+use Rattle.std.specs.List.{AllByRecursion}
+use Rattle.std.proofs.lemmas.Bool.{cases_lt}
+use Rattle.std.proofs.lemmas.List.{drop_all}
+use Rattle.std.proofs.lemmas.Option.{slice_get-get_or}
+use Rattle.relax_edges.specs.declared.TheConstants.{MAX_EDGES}
+use Rattle.relax_edges.specs.declared.edge.Edge.{Edge}
+use Rattle.relax_edges.specs.declared.kinds.ArchName.{ArchName}
+use Rattle.relax_edges.specs.declared.kinds.ObsMode.{ObsMode}
+use Rattle.relax_edges.specs.declared.relax_error.RelaxError.{RelaxError}
+use Rattle.relax_edges.specs.Relaxations.{relaxes_of}
+use Rattle.edge_algebra.specs.declared.errors.CycleError.{CycleError}
+use Rattle.edge_algebra.specs.Compose.{composed}
+use Rattle.edge_lists.specs.declared.read.Separators.TheVariants.{BlanksAndCommas}
+use Rattle.edge_lists.specs.Spelled.{edges_of}
+use Rattle.diy_words.specs.declared.options.OptionName.{OptionName}
+use Rattle.diy_words.specs.declared.options.OptionName.TheVariants as opts
+use Rattle.diy_words.specs.declared.options.Tool.{Tool}
+use Rattle.diy_words.specs.declared.options.Tool.TheVariants as tools
+use Rattle.diy_words.specs.declared.request.TheConstants.{MAX_CHOICES, MAX_FOLDER}
+use Rattle.diy_words.specs.declared.usage.Usage.{Usage}
+use Rattle.diy_words.specs.declared.usage.UsageKind.TheVariants.{UnknownOption, BadName, BadFolder, TooManyChoices}
+use Rattle.diy_words.specs.Given.{saying_from}
+use Rattle.diy_words.specs.Names.{is_name}
+use Rattle.diy_words.specs.Numbers.{number_to}
+use Rattle.diy_words.specs.Parts.{Part, Alone, Valued, Unvalued, parts_of, tool_named, option_named, arch_named, mode_named}
+use Rattle.diy_words.specs.Requests.{Said, SaysName, SaysFolder, Asked, AsksTest, AsksName, AsksList, AsksFamilies, AsksCross, AsksDemo, fault, place_said, arch_said, mode_said, relaxes_said, size_said, threads_said, cycle_said, after_said, begins_option, is_count, said_by, saying, said_first, said_all, places_in, places_given, choice_count, asks, cross_with, families_with, demo_with, diyone_asked, diy_asked, norm_asked, mode_or_accept, last_given, arch_in, mode_in, folder_in, count_in, tool_asked, asked_for, asked_of, IsCrossing, places_of}
+use Rattle.diy_words.proofs.Judged.{alone_first, value_first, unvalued_last}
+
+-- the relaxations of the places among what words say
+abbrev places_by : Result Said Usage → List (List (List Edge))
+places_by (Ok said) = places_in said
+places_by (Err _) = []
+
+abbrev pub places_said : List (Result Said Usage) → List (List (List Edge))
+places_said [] = []
+places_said (said ∷ rest) = places_by said ++ places_said rest
+
+-- the words of diycross7 from a place on: none is faulty, and which relaxations they are
+abbrev pub from_place : List (List ℕ) → ℕ → List (Result Said Usage)
+from_place words at = saying_from tools.Cross false words at
+
+abbrev pub AreFaultless : List (List ℕ) → ℕ → Type 0
+AreFaultless words at = AllByRecursion IsOk (from_place words at)
+
+abbrev pub places_from : List (List ℕ) → ℕ → List (List (List Edge))
+places_from words at = places_said (from_place words at)
+
+-- no word of diycross7 is a number of tests
+uncounted : (parts : List Part) (a b : Bool) → saying tools.Cross a parts ≡ saying tools.Cross b parts
+uncounted [] a b = refl
+uncounted (Alone at text ∷ parts) a b = ap (λ rest. said_by tools.Cross a (Alone at text) ∷ rest) (uncounted parts (is_count (said_by tools.Cross a (Alone at text)) || a) (is_count (said_by tools.Cross b (Alone at text)) || b))
+uncounted (Valued option at value ∷ parts) a b = ap (λ rest. said_by tools.Cross a (Valued option at value) ∷ rest) (uncounted parts (is_count (said_by tools.Cross a (Valued option at value)) || a) (is_count (said_by tools.Cross b (Valued option at value)) || b))
+uncounted (Unvalued option at ∷ parts) a b = ap (λ rest. said_by tools.Cross a (Unvalued option at) ∷ rest) (uncounted parts (is_count (said_by tools.Cross a (Unvalued option at)) || a) (is_count (said_by tools.Cross b (Unvalued option at)) || b))
+
+-- a word that spells relaxations, before others
+pub record PlaceFirst (words : List (List ℕ)) (at : ℕ) (text : List ℕ) : Type 0 where
+  pub read : IsOk (relaxes_of text)
+  pub faultless : AreFaultless words (at + 1)
+  pub first : (relaxes : List (List Edge)) → relaxes_of text ≡ Ok relaxes → places_from words at ≡ relaxes ∷ places_from words (at + 1)
+
+pub place_first : (words : List (List ℕ)) (at : ℕ) (text : List ℕ) → slice_get words at ≡ Some text → option_named tools.Cross text ≡ None → AreFaultless words at → PlaceFirst words at text
+place_first words at text got plain fit =
+    of_test (begins_option text) (relaxes_of text) refl (alone_first tools.Cross false words at text got plain ∙ ap (λ rest. said_by tools.Cross false (Alone at text) ∷ rest) (uncounted (parts_of tools.Cross (at + 1) (drop (at + 1) words)) (is_count (said_by tools.Cross false (Alone at text)) || false) false))
+  where
+    of_test : (b : Bool) (read : Result (List (List Edge)) RelaxError) → relaxes_of text ≡ read → from_place words at ≡ (if b then fault at UnknownOption else place_said at read) ∷ from_place words (at + 1) → PlaceFirst words at text
+    of_test true read r e = let k = rw e at fit in cc k.0
+    of_test false (Err error) r e = let k = rw e at fit in cc k.0
+    of_test false (Ok own) r e =
+        let k = rw e at fit in
+        record {
+          read = rw r refl;
+          faultless = k.1;
+          first = λ relaxes given. ap places_said e ∙ (let same : own ≡ relaxes = cc in ap (λ x. x ∷ places_from words (at + 1)) same);
+        }
+
+arch_none : (at : ℕ) (arch : Option ArchName) → places_by (arch_said at arch) ≡ []
+arch_none at None = refl
+arch_none at (Some arch) = refl
+
+name_none : (at : ℕ) (text : List ℕ) (b : Bool) → places_by (if b then Ok (SaysName text) else fault at BadName) ≡ []
+name_none at text true = refl
+name_none at text false = refl
+
+mode_none : (at : ℕ) (mode : Option ObsMode) → places_by (mode_said at mode) ≡ []
+mode_none at None = refl
+mode_none at (Some mode) = refl
+
+relaxes_none : (at : ℕ) (relaxes : Result (List (List Edge)) RelaxError) → places_by (relaxes_said at relaxes) ≡ []
+relaxes_none at (Ok relaxes) = refl
+relaxes_none at (Err error) = refl
+
+size_none : (at : ℕ) (size : Option ℕ) → places_by (size_said at size) ≡ []
+size_none at None = refl
+size_none at (Some size) = refl
+
+threads_none : (at : ℕ) (threads : Option ℕ) → places_by (threads_said at threads) ≡ []
+threads_none at None = refl
+threads_none at (Some threads) = refl
+
+cycle_none : (at : ℕ) (cycle : Result (List Edge) CycleError) → places_by (cycle_said at cycle) ≡ []
+cycle_none at (Ok cycle) = refl
+cycle_none at (Err error) = refl
+
+after_none : (at : ℕ) (edges : Option (List Edge)) → places_by (after_said at edges) ≡ []
+after_none at None = refl
+after_none at (Some edges) = cycle_none at (composed edges)
+
+folder_none : (at : ℕ) (text : List ℕ) (b : Bool) → places_by (if b then Ok (SaysFolder text) else fault at BadFolder) ≡ []
+folder_none at text true = refl
+folder_none at text false = refl
+
+-- an option gives no relaxations of a place
+value_none : (option : OptionName) (at : ℕ) (value : List ℕ) → places_by (said_by tools.Cross false (Valued option at value)) ≡ []
+value_none opts.Arch at value = arch_none (at + 1) (arch_named value)
+value_none opts.Name at value = name_none (at + 1) value (is_name value)
+value_none opts.Obs at value = mode_none (at + 1) (mode_named value)
+value_none opts.From at value = refl
+value_none opts.Edges at value = relaxes_none (at + 1) (relaxes_of value)
+value_none opts.Size at value = size_none (at + 1) (number_to MAX_EDGES value)
+value_none opts.Nprocs at value = threads_none (at + 1) (number_to MAX_EDGES value)
+value_none opts.After at value = after_none (at + 1) (edges_of BlanksAndCommas value)
+value_none opts.Folder at value = folder_none (at + 1) value (nat_lt 0 (length value) && nat_le (length value) MAX_FOLDER)
+
+-- an option with its value, before others
+pub record OptionFirst (words : List (List ℕ)) (at : ℕ) : Type 0 where
+  pub valued : at + 1 < length words
+  pub faultless : AreFaultless words (at + 2)
+  pub first : places_from words at ≡ places_from words (at + 2)
+
+pub option_first : (words : List (List ℕ)) (at : ℕ) (text : List ℕ) (option : OptionName) → at < length words → slice_get words at ≡ Some text → option_named tools.Cross text ≡ Some option → AreFaultless words at → OptionFirst words at
+option_first words at text option within got named fit = ⊎_elim of_more of_last (cases_lt (at + 1) (length words))
+  where
+    of_value : (value : List ℕ) → at + 1 < length words → slice_get words (at + 1) ≡ Some value → OptionFirst words at
+    of_value value more valued =
+        let e : from_place words at ≡ said_by tools.Cross false (Valued option at value) ∷ from_place words (at + 2) =
+            value_first tools.Cross false words at text value option got named valued ∙
+            ap (λ rest. said_by tools.Cross false (Valued option at value) ∷ rest) (uncounted (parts_of tools.Cross (at + 2) (drop (at + 2) words)) (is_count (said_by tools.Cross false (Valued option at value)) || false) false) in
+        let k = subst (AllByRecursion IsOk) e fit in
+        record {
+          valued = more;
+          faultless = k.1;
+          first = ap places_said e ∙ ap (λ none. none ++ places_from words (at + 2)) (value_none option at value);
+        }
+
+    of_more : at + 1 < length words → OptionFirst words at
+    of_more more = of_value (get_or words (at + 1) []) more (slice_get-get_or words (at + 1) [] more)
+
+    of_last : length words ≤ at + 1 → OptionFirst words at
+    of_last last =
+        let k = subst (AllByRecursion IsOk) (unvalued_last tools.Cross false words at text option got named (omega arith)) fit in cc k.0
+
+other_tool : {X : Type 0} (request : X → Asked) (asked : Result X Usage) → ((x : X) → IsCrossing (Ok (request x)) → ⊥) → IsCrossing (asks request asked) → ⊥
+other_tool request (Ok x) apart h = apart x h
+other_tool request (Err usage) apart h = h
+
+-- what faultless words say
+pub record AllSaid (said : List (Result Said Usage)) (all : List Said) : Type 0 where
+  pub faultless : AllByRecursion IsOk said
+  pub places : places_said said ≡ places_given all
+
+all_said : (said : List (Result Said Usage)) (all : List Said) → said_all said ≡ Ok all → AllSaid said all
+all_said [] all e = let same : [] ≡ all = cc in record { faultless = tt; places = ap places_given same }
+all_said (Err usage ∷ rest) all e = cc e
+all_said (Ok first ∷ rest) all e = of_rest (said_all rest) (all_said rest) e
+  where
+    of_rest : (further : Result (List Said) Usage) → ((more : List Said) → further ≡ Ok more → AllSaid rest more) → said_first first further ≡ Ok all → AllSaid (Ok first ∷ rest) all
+    of_rest (Err usage) tail e = cc e
+    of_rest (Ok more) tail e =
+        let same : first ∷ more ≡ all = cc e in
+        let further : AllSaid rest more = tail more refl in
+        record { faultless = (refl, further.faultless); places = ap (λ places. places_in first ++ places) further.places ∙ ap places_given same }
+
+crossed : (count : ℕ) (arch : Option ArchName) (mode : ObsMode) (folder : Option (List ℕ)) (places : List (List (List Edge))) → IsCrossing (asks AsksCross (cross_with count arch mode folder places)) →
+    places ≡ places_of (asks AsksCross (cross_with count arch mode folder places))
+crossed count None mode folder places h = absurd h
+crossed count (Some arch) mode folder places h = of_test (nat_lt MAX_CHOICES (choice_count places)) h
+  where
+    of_test : (b : Bool) → IsCrossing (asks AsksCross (if b then Err (record { word = count; kind = TooManyChoices }) else Ok (record { arch = arch; mode = mode; folder = folder; places = places }))) →
+        places ≡ places_of (asks AsksCross (if b then Err (record { word = count; kind = TooManyChoices }) else Ok (record { arch = arch; mode = mode; folder = folder; places = places })))
+    of_test true h = absurd h
+    of_test false h = refl
+
+no_cross : (tool : Tool) (count : ℕ) (said : Result (List Said) Usage) → (tool ≡ tools.Cross → ⊥) → IsCrossing (tool_asked tool count said) → ⊥
+no_cross tool count (Err usage) other h = h
+no_cross tools.DiyOne count (Ok said) other h = other_tool AsksTest (diyone_asked count said) (λ x k. k) h
+no_cross tools.Diy count (Ok said) other h = other_tool AsksList (diy_asked count said) (λ x k. k) h
+no_cross tools.Cross count (Ok said) other h = other refl
+no_cross tools.Norm count (Ok said) other h = other_tool AsksName (norm_asked count said) (λ x k. k) h
+no_cross tools.Classify count (Ok said) other h = other_tool AsksFamilies (families_with count (last_given arch_in said)) (λ x k. k) h
+no_cross tools.Msum count (Ok said) other h = h
+no_cross tools.Demo count (Ok said) other h = other_tool AsksDemo (demo_with count (last_given arch_in said) (last_given count_in said)) (λ x k. k) h
+
+-- the words of diycross7 behind the tool's name, and what they ask for
+record CrossAsks (words : List (List ℕ)) (asked : Result Asked Usage) : Type 0 where
+  faultless : AllByRecursion IsOk (saying tools.Cross false (parts_of tools.Cross 1 words))
+  first : places_said (saying tools.Cross false (parts_of tools.Cross 1 words)) ≡ places_of asked
+
+cross_asks : (found : Option Tool) (count : ℕ) (words : List (List ℕ)) → IsCrossing (asked_for found count words) → CrossAsks words (asked_for found count words)
+cross_asks None count words h = absurd h
+cross_asks (Some tools.Cross) count words h = of_said (said_all (saying tools.Cross false (parts_of tools.Cross 1 words))) refl h
+  where
+    of_said : (said : Result (List Said) Usage) → said_all (saying tools.Cross false (parts_of tools.Cross 1 words)) ≡ said → IsCrossing (tool_asked tools.Cross count said) → CrossAsks words (tool_asked tools.Cross count said)
+    of_said (Err usage) e h = absurd h
+    of_said (Ok said) e h =
+        let all : AllSaid (saying tools.Cross false (parts_of tools.Cross 1 words)) said = all_said (saying tools.Cross false (parts_of tools.Cross 1 words)) said e in
+        record { faultless = all.faultless; first = all.places ∙ crossed count (last_given arch_in said) (mode_or_accept (last_given mode_in said)) (last_given folder_in said) (places_given said) h }
+cross_asks (Some tool) count words h = absurd (no_cross tool count (said_all (saying tool false (parts_of tool 1 words))) (λ e. cc e) h)
+
+-- the words of diycross7 begin so
+pub record CrossWords (words : List (List ℕ)) : Type 0 where
+  pub faultless : AreFaultless words 1
+  pub first : places_from words 1 ≡ places_of (asked_of words)
+
+pub cross_words : (words : List (List ℕ)) → IsCrossing (asked_of words) → CrossWords words
+cross_words [] h = absurd h
+cross_words (first ∷ words) h =
+    let asks = cross_asks (tool_named first) (length (first ∷ words)) words h in
+    record { faultless = asks.faultless; first = asks.first }
+
+-- no word is left at the end
+pub none_left : (words : List (List ℕ)) (at : ℕ) → length words ≤ at → places_from words at ≡ []
+none_left words at h = ap (λ rest. places_said (saying tools.Cross false (parts_of tools.Cross at rest))) (drop_all at words h)
+
+-- the lists of the operands before a place are read, and no word from there on is faulty
+pub record PlacesRead (words : List (List ℕ)) (at : ℕ) (places : List (List (List Edge))) : Type 0 where
+  pub faultless : AreFaultless words at
+  pub read : places ++ places_from words at ≡ places_of (asked_of words)
+
+pub places_begun : (words : List (List ℕ)) → IsCrossing (asked_of words) → PlacesRead words 1 []
+places_begun words h = let begun = cross_words words h in record { faultless = begun.faultless; read = begun.first }
+
+pub place_read : (words : List (List ℕ)) (at : ℕ) (text : List ℕ) (places : List (List (List Edge))) (relaxes : List (List Edge)) →
+    slice_get words at ≡ Some text → option_named tools.Cross text ≡ None → PlacesRead words at places → relaxes_of text ≡ Ok relaxes → PlacesRead words (at + 1) (places ++ relaxes ∷ [])
+place_read words at text places relaxes got plain before spelled =
+    let next = place_first words at text got plain before.faultless in
+    record {
+      faultless = next.faultless;
+      read = append_assoc places (relaxes ∷ []) (places_from words (at + 1)) ∙ ap (λ rest. places ++ rest) (sym (next.first relaxes spelled)) ∙ before.read;
+    }
+
+pub option_read : (words : List (List ℕ)) (at : ℕ) (text : List ℕ) (option : OptionName) (places : List (List (List Edge))) →
+    at < length words → slice_get words at ≡ Some text → option_named tools.Cross text ≡ Some option → PlacesRead words at places → PlacesRead words (at + 2) places
+option_read words at text option places within got named before =
+    let next = option_first words at text option within got named before.faultless in
+    record { faultless = next.faultless; read = ap (λ rest. places ++ rest) (sym next.first) ∙ before.read }
+
+pub places_ended : (words : List (List ℕ)) (at : ℕ) (places : List (List (List Edge))) → length words ≤ at → PlacesRead words at places → places ≡ places_of (asked_of words)
+places_ended words at places last before = sym (append-nil places) ∙ ap (λ rest. places ++ rest) (sym (none_left words at last)) ∙ before.read

@@ -1,0 +1,28 @@
+use Rattle.std.proofs.Common.{arith, ◌∙◌, sym, subst, []}
+use Rattle.diy_words.proofs.PlaceLaws.{PlacesRead, OptionFirst, places_begun, place_first, place_read, option_first, option_read, places_ended}
+use Rattle.diy_words.proofs.places.read_places.Goals as goal
+
+pub loop-at-init : goal.loop-at-init
+loop-at-init c = subst (PlacesRead c.args.words.now 1) (sym c.new-places.ensures.items) (places_begun c.args.words.now c.requires)
+
+pub overflow_add-at : goal.overflow_add-at
+overflow_add-at c =
+    let first : OptionFirst c.args.words.now c.loop-at.at =
+        option_first c.args.words.now c.loop-at.at c.get-word.result.now c.in-Some.field-0 (omega arith) c.get-word.ensures (sym c.option_named.ensures ∙ c.in-Some.is) c.loop-at.invariant.faultless in
+    omega (arith, first.valued)
+
+pub loop-at-preserved-in-Some : goal.loop-at-preserved-in-Some
+loop-at-preserved-in-Some c =
+    option_read c.args.words.now c.loop-at.at c.get-word.result.now c.in-Some.field-0 c.loop-at.places.items (omega arith) c.get-word.ensures (sym c.option_named.ensures ∙ c.in-Some.is) c.loop-at.invariant
+
+pub read_place-requires : goal.read_place-requires
+read_place-requires c =
+    (place_first c.args.words.now c.loop-at.at c.get-word.result.now c.get-word.ensures (sym c.option_named.ensures ∙ c.in-None.is) c.loop-at.invariant.faultless).read
+
+pub loop-at-preserved : goal.loop-at-preserved
+loop-at-preserved c =
+    subst (PlacesRead c.args.words.now _) (sym c.in_ok-push-in-None.ensures.items)
+    (place_read c.args.words.now c.loop-at.at c.get-word.result.now c.loop-at.places.items c.read_place.result c.get-word.ensures (sym c.option_named.ensures ∙ c.in-None.is) c.loop-at.invariant c.read_place.ensures)
+
+pub returns : goal.returns
+returns c = places_ended c.args.words.now c.loop-at.at c.loop-at.places.items (omega arith) c.loop-at.invariant

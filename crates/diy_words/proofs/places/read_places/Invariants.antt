@@ -1,0 +1,9 @@
+use Rattle.std.proofs.Common.{◌-◌, length}
+use Rattle.diy_words.proofs.PlaceLaws.{PlacesRead}
+use Rattle.diy_words.proofs.places.read_places.Given as goal
+
+abbrev pub invariant-loop-at : goal.invariant-loop-at
+invariant-loop-at l = PlacesRead l.words l.at l.places.items
+
+abbrev pub decreases-loop-at : goal.decreases-loop-at
+decreases-loop-at l = length l.words - l.at

@@ -1,0 +1,42 @@
+ghost use Rattle.std.specs.Prelude.{◌≡◌, Ok, IfOk, IsOk};
+ghost use Rattle.relax_edges.specs.Relaxations.{relaxes_of};
+ghost use Rattle.diy_words.specs.Requests.{asked_of, IsCrossing, places_of};
+
+use crate::options::{Tool, option_named};
+use diy_io::{NoMemory, Words};
+use relax_edges::{Relaxes, read_relaxes};
+use std::alloc::Global;
+
+/// The lists of relaxations of the operands of diycross7, in their order. The error comes for want
+/// of memory alone.
+pub fn read_places(alloc: Global, words: &Words) -> Result<Vec<Relaxes>, NoMemory>
+    // The words ask for something of diycross7.
+    requires { IsCrossing (asked_of words.now) }
+    ensures { IfOk result (λ places. places.items ≡ places_of (asked_of words.now)) }
+{
+    let mut places = Vec::new(alloc);
+    let mut at = 1;
+    while at < words.len() {
+        let word = words.get(at);
+        match option_named(Tool::Cross, word) {
+            Some(_) => at += 2,
+            None => {
+                places.push(read_place(word))?;
+                at += 1;
+            }
+        }
+    }
+    Ok(places)
+}
+
+/// The relaxations that a text spells.
+fn read_place(text: &str) -> Relaxes
+    requires { IsOk (relaxes_of text.now) }
+    ensures { relaxes_of text.now ≡ Ok result }
+{
+    let mut relaxes = Relaxes::new();
+    match read_relaxes(text, &mut relaxes) {
+        Ok(()) => relaxes,
+        Err(_) => unreachable!(),
+    }
+}
