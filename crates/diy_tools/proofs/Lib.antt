@@ -2,6 +2,7 @@ pub mod Reported
 pub mod Running
 pub mod Forced
 pub mod Listed
+pub mod Crossed
 pub mod Summed
 pub mod Caused
 pub mod Completed

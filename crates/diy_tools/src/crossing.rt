@@ -24,6 +24,7 @@ use relax_edges::{ArchName, ObsMode, Relaxes};
 use std::alloc::Global;
 
 /// Writes the tests of the choices of one relaxation a place, each in a file.
+#[tactic(auto, using(crate::proofs::Crossed::asks_choices, crate::proofs::Crossed::choices_answered, crate::proofs::Crossed::choices_unread))]
 pub(crate) fn cross<H: Shelf, O: Sink>(
     alloc: Global,
     words: &Words,
@@ -44,6 +45,7 @@ pub(crate) fn cross<H: Shelf, O: Sink>(
 }
 
 /// Writes the tests of the choices from lists, on the architecture that is asked for.
+#[tactic(auto, using(crate::proofs::Crossed::choices_on))]
 fn cross_places<H: Shelf, O: Sink>(
     alloc: Global,
     request: Cross,
@@ -66,6 +68,7 @@ fn cross_places<H: Shelf, O: Sink>(
 }
 
 /// Writes the tests of the choices from lists, on an architecture.
+#[tactic(auto, using(crate::proofs::Crossed::choices_written))]
 fn cross_on<A: Arch, H: Shelf, O: Sink>(
     alloc: Global,
     mode: ObsMode,

@@ -1,0 +1,90 @@
+-- What the writing of the tests of choices leaves, as the answers see it.
+use Rattle.std.proofs.Common.{◌≡◌, ℕ, List, Option, Ok, Err, refl, sym, ap, subst, inl, inr}
+use Rattle.std.specs.Option.{option_map}
+use Rattle.std.specs.Prelude.{Result}
+use Rattle.relax_edges.specs.declared.edge.Edge.{Edge}
+use Rattle.relax_edges.specs.declared.kinds.ArchName.{ArchName}
+use Rattle.relax_edges.specs.declared.kinds.ObsMode.{ObsMode}
+use Rattle.diy_io.specs.Shelf.{ShelfSeen}
+use Rattle.diy_io.specs.Wrote.{SinkSeen}
+use Rattle.diy_words.specs.declared.request.Cross.{Cross}
+use Rattle.diy_words.specs.declared.request.Request.TheVariants as requests
+use Rattle.diy_words.specs.declared.usage.Usage.{Usage}
+use Rattle.diy_words.specs.Given.{Gives}
+use Rattle.diy_words.specs.Requests.{Asked, AsksTest, AsksName, AsksList, AsksFamilies, AsksSum, AsksCross, AsksDemo, IsCrossing, places_of}
+use Rattle.listed_tests.specs.declared.ending.ListingEnd.{ListingEnd}
+use Rattle.listed_tests.specs.declared.ending.ListingEnd.TheVariants as ends
+use Rattle.listed_tests.specs.Given.{EndsGiven}
+use Rattle.listed_tests.specs.Plans.{named_text}
+use Rattle.crossed_cycles.specs.Choices.{crossed}
+use Rattle.diy_tools.specs.declared.status.Status.{Status}
+use Rattle.diy_tools.specs.declared.status.Status.TheVariants.{NoMemory}
+use Rattle.diy_tools.specs.CrossAnswers.{AnswersChoices}
+use Rattle.diy_tools.specs.Kept.{AnswersCrossing}
+use Rattle.diy_tools.specs.Machines.{Machine, machine_of}
+use Rattle.diy_tools.specs.Statuses.{listing_status}
+
+-- what is said of a sink is said of what it tells
+given_seen : {Sink : Type 0} (seen : Sink → SinkSeen) (folder : Option (List ℕ)) (text : List Edge → List ℕ) (cycles : List (List Edge)) (end : ListingEnd) (old new : ShelfSeen) (out after : Sink)
+    → EndsGiven seen folder text cycles end old new out after → EndsGiven (λ (sink : SinkSeen). sink) folder text cycles end old new (seen out) (seen after)
+given_seen seen folder text cycles ends.Done old new out after h = h
+given_seen seen folder text cycles ends.OutFault old new out after h = h
+given_seen seen folder text cycles ends.ShelfFault old new out after h = (ap seen h.0, h.1)
+
+-- the tests of the cycles of choices are written
+pub choices_written : {Sink : Type 0} (seen : Sink → SinkSeen) (m : Machine) (mode : ObsMode) (folder : Option (List ℕ)) (places : List (List (List Edge))) (cycles : List (List Edge))
+    (end : ListingEnd) (status : Status) (old new : ShelfSeen) (out after : Sink) → cycles ≡ crossed m.puts mode places → status ≡ listing_status end
+    → EndsGiven seen folder (named_text m.puts m.writing mode) cycles end old new out after → AnswersChoices m mode folder places status old new (seen out) (seen after)
+choices_written seen m mode folder places cycles end status old new out after are e h = inr (record {
+  end = end;
+  ends = subst (λ us. EndsGiven (λ (sink : SinkSeen). sink) folder (named_text m.puts m.writing mode) us end old new (seen out) (seen after)) are
+      (given_seen seen folder (named_text m.puts m.writing mode) cycles end old new out after h);
+  status_is = e;
+})
+
+-- what is answered on an architecture is answered on the one with its name
+pub choices_on : (arch named : ArchName) (mode : ObsMode) (folder : Option (List ℕ)) (places : List (List (List Edge))) (status : Status) (old new : ShelfSeen) (before after : SinkSeen)
+    → arch ≡ named → AnswersChoices (machine_of named) mode folder places status old new before after → AnswersChoices (machine_of arch) mode folder places status old new before after
+choices_on arch named mode folder places status old new before after same h =
+    subst (λ (a : ArchName). AnswersChoices (machine_of a) mode folder places status old new before after) (sym same) h
+
+-- words that make such a request ask for choices
+pub asks_choices : (asked : Result Asked Usage) (request : Cross) → Gives (Ok (requests.Cross request)) asked → IsCrossing asked
+asks_choices (Err usage) request g = absurd g
+asks_choices (Ok (AsksTest asked)) request g = absurd g
+asks_choices (Ok (AsksName asked)) request g = absurd g
+asks_choices (Ok (AsksList asked)) request g = absurd g
+asks_choices (Ok (AsksFamilies arch)) request g = absurd g
+asks_choices (Ok AsksSum) request g = absurd g
+asks_choices (Ok (AsksDemo asked)) request g = absurd g
+asks_choices (Ok (AsksCross asked)) request g = tt
+
+-- what is answered of the request is answered of them
+pub choices_answered : (asked : Result Asked Usage) (request : Cross) (places : List (List (List Edge))) (status : Status) (old new : ShelfSeen) (before after : SinkSeen)
+    → Gives (Ok (requests.Cross request)) asked → places ≡ places_of asked
+    → AnswersChoices (machine_of request.arch) request.mode (option_map (λ folder. folder.now) request.folder) places status old new before after
+    → AnswersCrossing asked status old new before after
+choices_answered (Err usage) request places status old new before after g e h = absurd g
+choices_answered (Ok (AsksTest asked)) request places status old new before after g e h = absurd g
+choices_answered (Ok (AsksName asked)) request places status old new before after g e h = absurd g
+choices_answered (Ok (AsksList asked)) request places status old new before after g e h = absurd g
+choices_answered (Ok (AsksFamilies arch)) request places status old new before after g e h = absurd g
+choices_answered (Ok AsksSum) request places status old new before after g e h = absurd g
+choices_answered (Ok (AsksDemo asked)) request places status old new before after g e h = absurd g
+choices_answered (Ok (AsksCross asked)) request places status old new before after g e h =
+    subst (λ (lists : List (List (List Edge))). AnswersChoices (machine_of asked.arch) asked.mode asked.folder lists status old new before after) e
+    (subst (λ (f : Option (List ℕ)). AnswersChoices (machine_of asked.arch) asked.mode f places status old new before after) g.2
+    (subst (λ (m : ObsMode). AnswersChoices (machine_of asked.arch) m (option_map (λ folder. folder.now) request.folder) places status old new before after) g.1
+    (subst (λ (a : ArchName). AnswersChoices (machine_of a) request.mode (option_map (λ folder. folder.now) request.folder) places status old new before after) g.0 h)))
+
+-- there is no memory, and nothing changed
+pub choices_unread : (asked : Result Asked Usage) (request : Cross) (shelf : ShelfSeen) (sink : SinkSeen)
+    → Gives (Ok (requests.Cross request)) asked → AnswersCrossing asked NoMemory shelf shelf sink sink
+choices_unread (Err usage) request shelf sink g = absurd g
+choices_unread (Ok (AsksTest asked)) request shelf sink g = absurd g
+choices_unread (Ok (AsksName asked)) request shelf sink g = absurd g
+choices_unread (Ok (AsksList asked)) request shelf sink g = absurd g
+choices_unread (Ok (AsksFamilies arch)) request shelf sink g = absurd g
+choices_unread (Ok AsksSum) request shelf sink g = absurd g
+choices_unread (Ok (AsksDemo asked)) request shelf sink g = absurd g
+choices_unread (Ok (AsksCross asked)) request shelf sink g = inl (refl, refl, refl)
