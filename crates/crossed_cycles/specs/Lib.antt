@@ -1,0 +1,5 @@
+pub mod Choices
+pub mod Steps
+pub mod NormalForms
+pub mod Known
+pub mod Laws

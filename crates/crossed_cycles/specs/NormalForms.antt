@@ -1,0 +1,12 @@
+-- Which cycles are known, by their normal forms.
+-- Source: own.
+use Rattle.std.specs.Prelude.{◌≡◌, ℕ, List, map}
+use Rattle.relax_edges.specs.declared.edge.Edge.{Edge}
+use Rattle.relax_edges.specs.Order.{rank_of}
+use Rattle.walk_laws.specs.Order.{IsLeast}
+
+-- the ranks of the normal form of a cycle
+pub record IsNormalForm (u : List Edge) (ranks : List ℕ) : Type 0 where
+  pub least : List Edge
+  pub is : IsLeast u least
+  pub has : ranks ≡ map rank_of least

@@ -1,0 +1,13 @@
+//! The cycles of all choices of one relaxation at each place.
+#![tactic(auto)]
+
+mod choose;
+mod kept;
+mod laws;
+mod normal_form;
+
+pub use choose::crossed_cycles;
+pub use laws::crosses_all;
+
+#[cfg(test)]
+mod tests;
