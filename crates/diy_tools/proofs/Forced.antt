@@ -55,6 +55,8 @@ use Rattle.diy_tools.specs.Machines.{Machine, machine_of}
 use Rattle.diy_tools.specs.Refused.{refused_list, refused_of, refused_of_arch, refused_composing, refused_making}
 use Rattle.diy_tools.specs.Printing.{AnswersEdges}
 use Rattle.diy_tools.specs.TestAnswers.{asked_text, test_name}
+use Rattle.crossed_cycles.specs.Laws.{IsCrossed}
+use Rattle.crossed_cycles.proofs.Crossing.{crosses_all}
 use Rattle.diy_tools.specs.CrossAnswers.{AnswersCross}
 use Rattle.diy_tools.specs.ListAnswers.{AnswersList}
 use Rattle.diy_tools.specs.Answers.{Answers, AnswersAsked}
@@ -206,8 +208,8 @@ asked_force words status old new h = of_asked (asked_of words) refl h
     of_cross asked h = record {
       crosses = h;
       forces = λ cycle kept.
-          let has = each_has_test (machine_of asked.arch).puts asked.mode asked.places cycle kept in
-          text_forces asked.arch asked.mode (name_of cycle) cycle (cycle_named_so cycle has.0) has.0 has.1;
+          let has : IsCrossed (machine_of asked.arch).puts asked.mode asked.places cycle = (crosses_all (machine_of asked.arch).puts asked.mode asked.places).each cycle kept in
+          text_forces asked.arch asked.mode (name_of cycle) cycle (cycle_named_so cycle has.cycle) has.cycle has.has_test;
     }
 
     of_asked : (asked : Result Asked Usage) → asked_of words ≡ asked → AnswersAsked words asked status old new → HeadlineAsked asked status old new

@@ -14,6 +14,7 @@ use arch_x86::X86;
 use demo_tests::demo as count_tests;
 use diy_io::{Failed, Sink};
 use diy_words::Demo;
+use family_laws::families_have_tests;
 use relax_edges::ArchName;
 
 /// Makes as many tests as are asked for, and prints how many there are of each family.
@@ -22,6 +23,7 @@ pub(crate) fn demo<O: Sink>(request: &Demo, out: &mut O) -> Status
     ensures prints { Prints (demo_text (machine_of request.now.arch).puts (machine_of request.now.arch).writing request.now.count) result (O.seen out.old) (O.seen out.new) }
     ensures location { NamesLocation result }
 {
+    families_have_tests();
     let printed = match request.arch {
         ArchName::X86 => count_tests::<X86, O>(request.count, out),
         ArchName::PPC => count_tests::<Power, O>(request.count, out),
