@@ -136,8 +136,8 @@ option_first words at text option within got named fit = ⊎_elim of_more of_las
     of_value : (value : List ℕ) → at + 1 < length words → slice_get words (at + 1) ≡ Some value → OptionFirst words at
     of_value value more valued =
         let e : from_place words at ≡ said_by tools.Cross false (Valued option at value) ∷ from_place words (at + 2) =
-            value_first tools.Cross false words at text value option got named valued ∙
-            ap (λ rest. said_by tools.Cross false (Valued option at value) ∷ rest) (uncounted (parts_of tools.Cross (at + 2) (drop (at + 2) words)) (is_count (said_by tools.Cross false (Valued option at value)) || false) false) in
+        value_first tools.Cross false words at text value option got named valued ∙
+        ap (λ rest. said_by tools.Cross false (Valued option at value) ∷ rest) (uncounted (parts_of tools.Cross (at + 2) (drop (at + 2) words)) (is_count (said_by tools.Cross false (Valued option at value)) || false) false) in
         let k = subst (AllByRecursion IsOk) e fit in
         record {
           valued = more;

@@ -30,7 +30,7 @@ use Rattle.diy_words.specs.declared.options.OptionName.TheVariants as opts
 use Rattle.diy_words.specs.Names.{is_name}
 use Rattle.diy_words.specs.Edges.{operand_edges}
 use Rattle.diy_words.specs.Parts.{Part, Alone, Valued, Unvalued, parts_of, tool_named, arch_named, mode_named}
-use Rattle.diy_words.specs.Requests.{Said, SaysArch, SaysName, SaysMode, SaysFrom, SaysEdges, SaysRelaxes, SaysSize, SaysExact, SaysThreads, SaysAfter, SaysFolder, SaysLog, SaysPlace, SaysCount, Asked, AsksTest, AsksName, AsksList, AsksFamilies, AsksSum, AsksCross, AsksDemo, NameAsked, ListAsked, fault, dashed_said, operand_said, relaxes_said, size_said, threads_said, after_said, cycle_said, size_in, given_or, list_with, families_with, cross_with, demo_with, choice_count, places_given, place_said, count_said, count_in, saying, is_count, said_by, said_first, said_all, arch_said, mode_said, edges_said, begins_option, or_later, last_given, arch_in, name_in, mode_in, relaxes_in, is_exact, threads_in, after_in, folder_in, mode_or_accept, edges_given, asks, asked_with, asked_for, norm_asked, tool_asked, asked_of}
+use Rattle.diy_words.specs.Requests.{Said, SaysArch, SaysName, SaysMode, SaysFrom, SaysEdges, SaysRelaxes, SaysSize, SaysExact, SaysThreads, SaysAfter, SaysFolder, SaysLog, SaysPlace, SaysCount, Asked, AsksTest, AsksName, AsksList, AsksFamilies, AsksCross, AsksDemo, NameAsked, ListAsked, fault, dashed_said, operand_said, relaxes_said, size_said, threads_said, after_said, cycle_said, size_in, given_or, list_with, families_with, cross_with, demo_with, choice_count, places_given, place_said, count_said, count_in, saying, is_count, said_by, said_first, said_all, arch_said, mode_said, edges_said, begins_option, or_later, last_given, arch_in, name_in, mode_in, relaxes_in, is_exact, threads_in, after_in, folder_in, mode_or_accept, edges_given, asks, asked_with, asked_for, norm_asked, tool_asked, asked_of}
 use Rattle.arrayvec.specs.ArrayString.{ArrayString}
 use Rattle.diy_words.specs.Given.{Gives, HasForm, list_kept}
 use Rattle.diy_words.specs.Numbers.{is_number, number_to}

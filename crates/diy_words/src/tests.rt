@@ -59,7 +59,12 @@ fn places_are_read(rt: HostRuntime) -> Result<(), Fail> {
     assert_eq!(rt; places.len(), 4);
     assert!(rt; are_spelled(&places[0], &[&["PodWW"], &["LwSyncdWW"]]));
     assert!(rt; are_spelled(&places[1], &[&["Rfe"]]));
-    assert!(rt; are_spelled(&places[2], &[&["PodRR"], &["DpAddrdR"], &["PodRR", "PodRR"]]));
+    assert!(rt;
+        are_spelled(
+            &places[2],
+            &[&["PodRR"], &["DpAddrdR"], &["PodRR", "PodRR"]]
+        )
+    );
     assert!(rt; are_spelled(&places[3], &[&["Fre"]]));
     Ok(())
 }
