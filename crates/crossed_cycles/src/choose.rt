@@ -45,8 +45,8 @@ fn has_empty(lists: &[Relaxes]) -> bool
     lists.iter().any(|list| list.is_empty())
 }
 
-/// Keeps the accepted cycles of all choices from the lists, each behind the edges that are joined
-/// already. Where the edges of a relaxation don't fit, no choice with it is a cycle.
+/// Keeps the accepted cycles of all choices from the lists, each appended to the edges that are
+/// joined already. Where the edges of a relaxation don't fit, no choice with it is a cycle.
 fn choose<A: Arch>(
     lists: &[Relaxes],
     mode: ObsMode,
