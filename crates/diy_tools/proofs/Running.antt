@@ -21,7 +21,7 @@ use Rattle.cycle_lines.specs.Normed.{name_line}
 use Rattle.diy_io.specs.Taken.{SourceSeen}
 use Rattle.diy_io.specs.Shelf.{ShelfSeen}
 use Rattle.diy_words.specs.declared.request.Diy.{Diy}
-use Rattle.diy_tools.specs.Devices.{Devices, Seen, devices}
+use Rattle.diy_tools.specs.Devices.{Seen, devices}
 use Rattle.diy_tools.specs.SumAnswers.{AnswersSum}
 use Rattle.test_maker.specs.CycleText.{cycle_text}
 use Rattle.diy_words.specs.declared.request.Sought.{Sought}

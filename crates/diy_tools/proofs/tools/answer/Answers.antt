@@ -2,7 +2,7 @@ use Rattle.std.proofs.Common.{subst, Ok}
 use Rattle.diy_words.specs.declared.request.Request.{Request}
 use Rattle.diy_words.specs.Given.{Gives}
 use Rattle.diy_words.specs.Requests.{asked_of}
-use Rattle.diy_tools.proofs.Running.{name_answered, families_answered}
+use Rattle.diy_tools.proofs.Running.{name_answered}
 use Rattle.diy_tools.proofs.tools.answer.Goals as goal
 
 pub returns-in-Ok-Name-clause-answers : goal.returns-in-Ok-Name-clause-answers
