@@ -23,11 +23,11 @@ is_choice arch from to edge =
 unfoldable pub choices_of : ArchName → Dir → Dir → List Edge
 choices_of arch from to = filter (is_choice arch from to) edges_in_order
 
--- the choice for a link that a seed draws
-abbrev pub choice_at : ArchName → ℕ → Edge → Edge
-choice_at arch seed link =
+-- the choice for a link by the number that was drawn
+unfoldable pub choice_of : ArchName → ℕ → Edge → Edge
+choice_of arch number link =
     let choices = choices_of arch (source_of link) (target_of link) in
-    slice_index_or choices (drawn seed % length choices) link
+    slice_index_or choices (number % length choices) link
 
 -- the seed after an edge of a family's cycle: there is a draw for each link
 abbrev pub seed_past : ℕ → Edge → ℕ
@@ -35,7 +35,7 @@ seed_past seed slot = if is_external slot then seed else next_seed seed
 
 -- the edge for an edge of a family's cycle: an external one stays
 abbrev pub edge_for : ArchName → ℕ → Edge → Edge
-edge_for arch seed slot = if is_external slot then slot else choice_at arch (next_seed seed) slot
+edge_for arch seed slot = if is_external slot then slot else choice_of arch (drawn (next_seed seed)) slot
 
 -- the edges for those of a family's cycle
 abbrev pub filled : ArchName → ℕ → List Edge → List Edge
