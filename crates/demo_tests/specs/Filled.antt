@@ -1,6 +1,6 @@
 -- How the cycle of a test is made of the cycle of its family: a draw picks each link.
 -- Source: own.
-use Rattle.std.specs.Prelude.{◌≡◌, ⊤, ⊥, ℕ, ◌%◌, Bool, true, not, ◌&&◌, if◌then◌else◌, MatchBool, List, [], ◌∷◌, length, filter, slice_index_or, None}
+use Rattle.std.specs.Prelude.{◌≡◌, ⊤, ℕ, ◌%◌, Bool, true, not, ◌&&◌, if◌then◌else◌, MatchBool, List, [], ◌∷◌, length, filter, slice_index_or, None}
 use Rattle.std.specs.List.{IsAmong}
 use Rattle.relax_edges.specs.declared.kinds.ArchName.{ArchName}
 use Rattle.relax_edges.specs.declared.kinds.Dir.{Dir}

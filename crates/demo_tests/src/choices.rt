@@ -1,4 +1,4 @@
-ghost use Rattle.std.specs.Prelude.{◌≡◌};
+ghost use Rattle.std.specs.Prelude.{◌≡◌, ◌<◌, ◌++◌, true, if◌then◌else◌, length, [], ◌∷◌};
 ghost use Rattle.relax_edges.specs.declared.kinds.Dir.TheVariants.{R, W};
 ghost use Rattle.demo_tests.specs.Filled.{choice_of, choices_of, is_choice};
 
@@ -38,8 +38,10 @@ impl Choices {
     }
 
     /// The choices for a link from an access to another.
+    #[tactic(auto, using(crate::proofs::ChoiceLaws::some_choices))]
     fn between(&self, from: Dir, to: Dir) -> &[Edge]
-        ensures { result.now ≡ choices_of self.now.arch from to }
+        ensures choices { result.now ≡ choices_of self.now.arch from to }
+        ensures some { 0 < length result.now }
     {
         match from {
             Dir::R => match to {
@@ -53,7 +55,8 @@ impl Choices {
         }
     }
 
-    /// The choice for a link that was drawn.
+    /// The choice for a link by the number that was drawn.
+    #[tactic(auto, unfolding(crate::specs::Filled::choice_of))]
     pub(crate) fn choice(&self, drawn: u32, link: Edge) -> Edge
         ensures { result ≡ choice_of self.now.arch drawn link }
     {
@@ -68,12 +71,19 @@ fn choices_of(arch: ArchName, from: Dir, to: Dir) -> LinkChoices
 {
     let mut choices = LinkChoices::new();
     for rank in 0..EDGES {
-        let edge = Edge::at_rank(rank);
-        if is_choice(arch, from, to, edge) {
-            choices.push(edge);
-        }
+        add_choice(arch, from, to, Edge::at_rank(rank), &mut choices);
     }
     choices
+}
+
+/// Adds an edge where it is a choice for a link from an access to another.
+fn add_choice(arch: ArchName, from: Dir, to: Dir, edge: Edge, choices: &mut LinkChoices)
+    requires { is_choice arch from to edge ≡ true → length choices.old.items < 16 }
+    ensures { choices.new.items ≡ choices.old.items ++ (if is_choice arch from to edge then edge ∷ [] else []) }
+{
+    if is_choice(arch, from, to, edge) {
+        choices.push(edge);
+    }
 }
 
 /// Whether an edge is a choice for a link from an access to another.

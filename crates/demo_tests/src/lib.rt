@@ -2,14 +2,14 @@
 #![tactic(auto)]
 
 mod choices;
-mod demo;
 mod draws;
 mod filling;
+mod making;
 mod measure;
 mod summary;
 mod tally;
 
-pub use demo::demo;
+pub use making::demo;
 
 #[cfg(test)]
 mod tests;
