@@ -67,8 +67,8 @@ filled_alike arch (s ∷ slots) [] h = absurd h
 filled_alike arch (s ∷ slots) (e ∷ edges) h = by_test (is_external s)
     (λ t. let same : e ≡ s = rw t at h.0 in (ap source_of same, ap target_of same, filled_alike arch slots edges h.1))
     (λ f. let passed : is_choice arch (source_of s) (target_of s) e ≡ true = rw f at h.0 in
-        let ends = choice_alike arch (source_of s) (target_of s) e passed in
-        (ends.0, ends.1, filled_alike arch slots edges h.1))
+    let ends = choice_alike arch (source_of s) (target_of s) e passed in
+    (ends.0, ends.1, filled_alike arch slots edges h.1))
 
 alike_joined : (u v : List Edge) → AreAlike u v → is_joined u ≡ is_joined v
 alike_joined [] [] h = refl

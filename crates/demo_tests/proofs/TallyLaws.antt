@@ -149,14 +149,14 @@ family_more T number place =
     let parts : family_numbers (suc number) place ≡ family_numbers number place ++ filter p (number ∷ []) = filter-append p (upto number) (number ∷ []) in
     by_test (number % 14 == place)
     (λ t.
-      let same : number % 14 ≡ place = eqb-true (number % 14) place t in
-      cond-true (number % 14 == place) _ _ t
-      ∙ ap (λ k. counted (text_tally (T number)) (tally_of T (family_numbers number k))) same
-      ∙ sym (tally_more T (family_numbers number place) number)
-      ∙ ap (tally_of T) (sym (parts ∙ ap (λ xs. family_numbers number place ++ xs) (cond-true (number % 14 == place) (number ∷ []) [] t))))
+    let same : number % 14 ≡ place = eqb-true (number % 14) place t in
+    cond-true (number % 14 == place) _ _ t
+    ∙ ap (λ k. counted (text_tally (T number)) (tally_of T (family_numbers number k))) same
+    ∙ sym (tally_more T (family_numbers number place) number)
+    ∙ ap (tally_of T) (sym (parts ∙ ap (λ xs. family_numbers number place ++ xs) (cond-true (number % 14 == place) (number ∷ []) [] t))))
     (λ f.
-      cond-false (number % 14 == place) _ _ f
-      ∙ ap (tally_of T) (sym (parts ∙ ap (λ xs. family_numbers number place ++ xs) (cond-false (number % 14 == place) (number ∷ []) [] f) ∙ append-nil (family_numbers number place))))
+    cond-false (number % 14 == place) _ _ f
+    ∙ ap (tally_of T) (sym (parts ∙ ap (λ xs. family_numbers number place ++ xs) (cond-false (number % 14 == place) (number ∷ []) [] f) ∙ append-nil (family_numbers number place))))
 
 pub families_more : (T : ℕ → List ℕ) (text : Tally) (old new : List TestTally) (number place : ℕ) → text ≡ text_tally (T number) → old ≡ family_tallies T number → place ≡ number % 14
     → ((d : TestTally) → new ≡ slice_set old place (counted text (slice_index_or old place d))) → new ≡ family_tallies T (number + 1)
