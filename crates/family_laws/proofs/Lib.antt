@@ -1,0 +1,4 @@
+pub mod Bare
+pub mod Rooms
+pub mod Slots
+pub mod Tests

@@ -1,0 +1,87 @@
+-- The edges that stand for those of a family's cycle are of the architecture, and their bare edges are the family's.
+use Rattle.std.proofs.Common.{◌≡◌, Bool, true, false, not, List, [], ◌∷◌, refl, ◌∙◌, ap}
+use Rattle.std.specs.Prelude.{MatchBool}
+use Rattle.std.specs.List.{list_all}
+use Rattle.std.proofs.lemmas.Bool.{and_parts, and_from, not-true}
+use Rattle.relax_edges.specs.declared.kinds.ArchName.{ArchName}
+use Rattle.relax_edges.specs.declared.kinds.Dir.{Dir}
+use Rattle.relax_edges.specs.declared.kinds.Dir.TheVariants as dirs
+use Rattle.relax_edges.specs.declared.kinds.Reach.TheVariants.{Internal, External}
+use Rattle.relax_edges.specs.declared.kinds.Sd.TheVariants.{Same, Diff}
+use Rattle.relax_edges.specs.declared.edge.Edge.{Edge}
+use Rattle.relax_edges.specs.declared.edge.Edge.TheVariants as edges
+use Rattle.relax_edges.specs.EdgeTable.{source_of, target_of, is_of_arch, same_dir, is_external, is_diff}
+use Rattle.family_laws.specs.Filled.{IsFilled, is_choice}
+use Rattle.family_laws.proofs.Bare.{bare, bare_edges}
+
+-- an edge as the cycle of a family has it: an external communication, or program order to another location
+abbrev pub is_slot : Edge → Bool
+is_slot (edges.Com _ External) = true
+is_slot (edges.Po Diff _ _) = true
+is_slot _ = false
+
+same_dirs : (d e : Dir) → same_dir d e ≡ true → d ≡ e
+same_dirs dirs.R dirs.R h = refl
+same_dirs dirs.R dirs.W h = cc
+same_dirs dirs.W dirs.R h = cc
+same_dirs dirs.W dirs.W h = refl
+
+-- the bare edge of an edge that stays in its thread and leads to another location
+inner_bare : (edge : Edge) → is_external edge ≡ false → is_diff edge ≡ true → bare edge ≡ edges.Po Diff (source_of edge) (target_of edge)
+inner_bare (edges.Com kind External) inner moves = cc
+inner_bare (edges.Com kind Internal) inner moves = cc
+inner_bare (edges.Po Diff from to) inner moves = refl
+inner_bare (edges.Po Same from to) inner moves = cc
+inner_bare (edges.Fenced kind Diff from to) inner moves = refl
+inner_bare (edges.Fenced kind Same from to) inner moves = cc
+inner_bare (edges.Dep kind Diff to) inner moves = refl
+inner_bare (edges.Dep kind Same to) inner moves = cc
+inner_bare (edges.Data Diff) inner moves = refl
+inner_bare (edges.Data Same) inner moves = cc
+
+-- an edge that stands for one of a family's
+record Stands (arch : ArchName) (slot edge : Edge) : Type 0 where
+  bare_is : bare edge ≡ slot
+  of_arch : is_of_arch edge arch ≡ true
+
+choice_stands : (arch : ArchName) (from to : Dir) (edge : Edge) → is_choice arch from to edge ≡ true → Stands arch (edges.Po Diff from to) edge
+unfolding is_choice
+choice_stands arch from to edge h =
+    let p = and_parts _ (same_dir (target_of edge) to) h in
+    let q = and_parts _ (same_dir (source_of edge) from) p.0 in
+    let r = and_parts _ (is_of_arch edge arch) q.0 in
+    let s = and_parts (not (is_external edge)) (is_diff edge) r.0 in
+    record {
+      bare_is =
+          inner_bare edge (not-true (is_external edge) s.0) s.1
+          ∙ ap (λ d. edges.Po Diff d (target_of edge)) (same_dirs (source_of edge) from q.1)
+          ∙ ap (λ d. edges.Po Diff from d) (same_dirs (target_of edge) to p.1);
+      of_arch = r.1;
+    }
+
+slot_stands : (arch : ArchName) (slot edge : Edge) → is_slot slot ≡ true → MatchBool (is_external slot) (edge ≡ slot) (is_choice arch (source_of slot) (target_of slot) edge ≡ true) → Stands arch slot edge
+slot_stands arch (edges.Com kind External) edge s h = record { bare_is = ap bare h; of_arch = ap (λ e. is_of_arch e arch) h }
+slot_stands arch (edges.Com kind Internal) edge s h = cc
+slot_stands arch (edges.Po Diff from to) edge s h = choice_stands arch from to edge h
+slot_stands arch (edges.Po Same from to) edge s h = cc
+slot_stands arch (edges.Fenced kind place from to) edge s h = cc
+slot_stands arch (edges.Dep kind place to) edge s h = cc
+slot_stands arch (edges.Data place) edge s h = cc
+
+-- edges that stand for those of a family's cycle
+pub record AllStand (arch : ArchName) (slots es : List Edge) : Type 0 where
+  pub bare_are : bare_edges es ≡ slots
+  pub of_arch : list_all (λ e. is_of_arch e arch) es ≡ true
+
+pub filled_stand : (arch : ArchName) (slots es : List Edge) → list_all is_slot slots ≡ true → IsFilled arch slots es → AllStand arch slots es
+filled_stand arch [] [] s h = record { bare_are = refl; of_arch = refl }
+filled_stand arch [] (e ∷ es) s h = absurd h
+filled_stand arch (slot ∷ slots) [] s h = absurd h
+filled_stand arch (slot ∷ slots) (e ∷ es) s h =
+    let p = and_parts (is_slot slot) (list_all is_slot slots) s in
+    let this = slot_stands arch slot e p.0 h.0 in
+    let rest = filled_stand arch slots es p.1 h.1 in
+    record {
+      bare_are = ap (λ x. x ∷ bare_edges es) this.bare_is ∙ ap (λ xs. slot ∷ xs) rest.bare_are;
+      of_arch = and_from (is_of_arch e arch) (list_all (λ x. is_of_arch x arch) es) this.of_arch rest.of_arch;
+    }

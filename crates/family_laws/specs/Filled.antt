@@ -1,0 +1,31 @@
+-- The cycles that are made of the cycle of a family: an edge is picked for each link.
+-- Source: own.
+use Rattle.std.specs.Prelude.{◌≡◌, ⊤, Bool, true, not, ◌&&◌, MatchBool, List, [], ◌∷◌, None}
+use Rattle.std.specs.List.{IsAmong}
+use Rattle.relax_edges.specs.declared.kinds.ArchName.{ArchName}
+use Rattle.relax_edges.specs.declared.kinds.Dir.{Dir}
+use Rattle.relax_edges.specs.declared.kinds.ObsMode.TheVariants.{Accept}
+use Rattle.relax_edges.specs.declared.edge.Edge.{Edge}
+use Rattle.relax_edges.specs.EdgeTable.{source_of, target_of, is_of_arch, same_dir, is_external, is_diff}
+use Rattle.cycle_names.specs.declared.family.Family.{Family}
+use Rattle.cycle_names.specs.Families.{all_families, family_edges}
+use Rattle.arch_trait.specs.Threads.{Puts}
+use Rattle.test_maker.specs.Refusals.{refusal_of}
+
+-- an edge is a choice for a link from an access to another: it stays in its thread, leads to another location, and is of the architecture
+unfoldable pub is_choice : ArchName → Dir → Dir → Edge → Bool
+is_choice arch from to edge =
+    not (is_external edge) && is_diff edge && is_of_arch edge arch && same_dir (source_of edge) from && same_dir (target_of edge) to
+
+-- edges stand for those of a family's cycle, whatever is drawn: an external one stays, and for a link there is a choice
+abbrev pub IsFilled : ArchName → List Edge → List Edge → Type 0
+IsFilled arch [] [] = ⊤
+IsFilled arch (slot ∷ slots) (edge ∷ edges) =
+    MatchBool (is_external slot) (edge ≡ slot) (is_choice arch (source_of slot) (target_of slot) edge ≡ true) × IsFilled arch slots edges
+IsFilled _ _ _ = ⊥
+
+-- every cycle that is made so of a family's has a test
+abbrev pub MakesAll : Puts → Type 0
+MakesAll puts =
+    (family : Family) → IsAmong all_families family → (edges : List Edge) →
+    IsFilled puts.name (family_edges family) edges → refusal_of puts edges Accept ≡ None
