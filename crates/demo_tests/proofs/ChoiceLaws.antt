@@ -1,0 +1,100 @@
+-- The choices for a link: there is one at least, there are few, and they are found among all edges in order.
+use Rattle.std.proofs.Common.{◌≡◌, ◌<◌, ◌≤◌, ◌+◌, ℕ, Bool, true, false, List, [], ◌∷◌, ◌++◌, length, take, drop, get_or, refl, sym, ap, ◌∙◌, arith, subst, length-append}
+use Rattle.std.specs.Prelude.{cond, filter, nat_lt, nat_le, slice_get, Some}
+use Rattle.std.proofs.lemmas.Bool.{cond-true}
+use Rattle.std.proofs.lemmas.Bool.Decides.{nat_tests}
+use Rattle.std.proofs.lemmas.List.{take-append-drop, take_all}
+use Rattle.std.proofs.lemmas.List.Elements.{filter-append, filter_more}
+use Rattle.std.proofs.lemmas.List.Filters.{length-filter_more}
+use Rattle.std.proofs.lemmas.Option.{get_or_from_slice_get}
+use Rattle.relax_edges.specs.declared.kinds.ArchName.{ArchName}
+use Rattle.relax_edges.specs.declared.kinds.ArchName.TheVariants.{X86, PPC, AArch64, RISCV}
+use Rattle.relax_edges.specs.declared.kinds.Dir.{Dir}
+use Rattle.relax_edges.specs.declared.kinds.Dir.TheVariants as dirs
+use Rattle.relax_edges.specs.declared.edge.Edge.{Edge}
+use Rattle.relax_edges.specs.AllEdges.{edges_in_order}
+use Rattle.relax_edges.specs.Order.{rank_of}
+use Rattle.relax_edges.proofs.Ranks.{placed, edges-length}
+use Rattle.demo_tests.specs.Filled.{is_choice, choices_of}
+
+some_of : (arch : ArchName) (from to : Dir) → nat_lt 0 (length (choices_of arch from to)) ≡ true
+unfolding choices_of is_choice edges_in_order
+some_of X86 dirs.R dirs.R = refl
+some_of X86 dirs.R dirs.W = refl
+some_of X86 dirs.W dirs.R = refl
+some_of X86 dirs.W dirs.W = refl
+some_of PPC dirs.R dirs.R = refl
+some_of PPC dirs.R dirs.W = refl
+some_of PPC dirs.W dirs.R = refl
+some_of PPC dirs.W dirs.W = refl
+some_of AArch64 dirs.R dirs.R = refl
+some_of AArch64 dirs.R dirs.W = refl
+some_of AArch64 dirs.W dirs.R = refl
+some_of AArch64 dirs.W dirs.W = refl
+some_of RISCV dirs.R dirs.R = refl
+some_of RISCV dirs.R dirs.W = refl
+some_of RISCV dirs.W dirs.R = refl
+some_of RISCV dirs.W dirs.W = refl
+
+few_of : (arch : ArchName) (from to : Dir) → nat_le (length (choices_of arch from to)) 16 ≡ true
+unfolding choices_of is_choice edges_in_order
+few_of X86 dirs.R dirs.R = refl
+few_of X86 dirs.R dirs.W = refl
+few_of X86 dirs.W dirs.R = refl
+few_of X86 dirs.W dirs.W = refl
+few_of PPC dirs.R dirs.R = refl
+few_of PPC dirs.R dirs.W = refl
+few_of PPC dirs.W dirs.R = refl
+few_of PPC dirs.W dirs.W = refl
+few_of AArch64 dirs.R dirs.R = refl
+few_of AArch64 dirs.R dirs.W = refl
+few_of AArch64 dirs.W dirs.R = refl
+few_of AArch64 dirs.W dirs.W = refl
+few_of RISCV dirs.R dirs.R = refl
+few_of RISCV dirs.R dirs.W = refl
+few_of RISCV dirs.W dirs.R = refl
+few_of RISCV dirs.W dirs.W = refl
+
+-- there is a choice for each link
+pub some_choices : (arch : ArchName) (from to : Dir) → 0 < length (choices_of arch from to)
+some_choices arch from to = grind (arith, nat_tests, some_of arch from to)
+
+-- and there are at most 16
+few_choices : (arch : ArchName) (from to : Dir) → length (choices_of arch from to) ≤ 16
+few_choices arch from to = grind (arith, nat_tests, few_of arch from to)
+
+-- a filter keeps no more of a part
+length-filter-take : (p : Edge → Bool) (xs : List Edge) (k : ℕ) → length (filter p (take k xs)) ≤ length (filter p xs)
+length-filter-take p xs k =
+    let parts : filter p xs ≡ filter p (take k xs) ++ filter p (drop k xs) =
+    ap (filter p) (sym (take-append-drop k xs)) ∙ filter-append p (take k xs) (drop k xs) in
+    omega (arith, ap length parts, length-append (filter p (take k xs)) (filter p (drop k xs)))
+
+-- an edge is at its rank
+at_rank_of : (k : ℕ) (e : Edge) → rank_of e ≡ k → get_or edges_in_order k e ≡ e
+at_rank_of k e h = rw (sym h) (get_or_from_slice_get edges_in_order (rank_of e) e e (placed e))
+
+-- there is room for a choice more
+pub room_for : (arch : ArchName) (from to : Dir) (k : ℕ) (e : Edge) (items : List Edge) → k < 168 → rank_of e ≡ k → items ≡ filter (is_choice arch from to) (take k edges_in_order)
+    → is_choice arch from to e ≡ true → length items < 16
+unfolding choices_of
+room_for arch from to k e items h r i passed =
+    let p = is_choice arch from to in
+    let one : ◌≡◌ {A = ℕ} (cond (p (get_or edges_in_order k e)) 1 0) 1 = ap (λ x. cond {A = ℕ} (p x) 1 0) (at_rank_of k e r) ∙ cond-true {A = ℕ} (p e) 1 0 passed in
+    let more = length-filter_more p edges_in_order k e (omega (arith, edges-length)) in
+    omega (arith, ap length i, one, more, length-filter-take p edges_in_order (k + 1), few_choices arch from to)
+
+-- an edge more is looked at
+pub chosen_more : (arch : ArchName) (from to : Dir) (k : ℕ) (e : Edge) (items new : List Edge) → k < 168 → rank_of e ≡ k → items ≡ filter (is_choice arch from to) (take k edges_in_order)
+    → new ≡ items ++ cond (is_choice arch from to e) (e ∷ []) [] → new ≡ filter (is_choice arch from to) (take (k + 1) edges_in_order)
+chosen_more arch from to k e items new h r i n =
+    let p = is_choice arch from to in
+    let e_is = at_rank_of k e r in
+    n ∙ ap (λ xs. xs ++ cond (p e) (e ∷ []) []) i
+    ∙ ap (λ x. filter p (take k edges_in_order) ++ cond (p x) (x ∷ []) []) (sym e_is)
+    ∙ sym (filter_more p edges_in_order k e (omega (arith, edges-length)))
+
+-- all are
+pub chosen_all : (arch : ArchName) (from to : Dir) (k : ℕ) (items : List Edge) → k ≡ 168 → items ≡ filter (is_choice arch from to) (take k edges_in_order) → items ≡ choices_of arch from to
+unfolding choices_of
+chosen_all arch from to k items h i = i ∙ ap (filter (is_choice arch from to)) (take_all k edges_in_order (omega (arith, edges-length)))

@@ -1,0 +1,147 @@
+-- What is filled in for a family's cycle is a cycle, whose edges are choices.
+use Rattle.std.proofs.Common.{◌≡◌, ◌<◌, ◌≤◌, ℕ, zero, suc, ◌%◌, Bool, true, false, List, [], ◌∷◌, ◌++◌, length, take, get_or, Some, None, Ok, Err, refl, sym, ap, ◌∙◌, arith, subst}
+use Rattle.std.specs.Prelude.{◌&&◌, MatchBool, Result, filter, nat_lt, nat_le}
+use Rattle.std.specs.List.{All, IsAmong, list_all}
+use Rattle.std.proofs.lemmas.Bool.{and_parts, cond-true, cond-false}
+use Rattle.std.proofs.lemmas.Bool.Decides.{nat_tests}
+use Rattle.std.proofs.lemmas.List.Elements.{filter_passes}
+use Rattle.std.proofs.lemmas.List.Sums.{AllPass-from_list_all}
+use Rattle.list_laws.proofs.Cases.{by_test}
+use Rattle.relax_edges.specs.declared.TheConstants.{MAX_EDGES}
+use Rattle.relax_edges.specs.declared.kinds.ArchName.{ArchName}
+use Rattle.relax_edges.specs.declared.kinds.Dir.{Dir}
+use Rattle.relax_edges.specs.declared.kinds.Dir.TheVariants as dirs
+use Rattle.relax_edges.specs.declared.edge.Edge.{Edge}
+use Rattle.relax_edges.specs.EdgeTable.{source_of, target_of, is_of_arch, same_dir, is_external, is_diff, joins_to}
+use Rattle.walk_laws.specs.Composable.{IsCycle, is_joined, is_closed, joins_first}
+use Rattle.edge_algebra.specs.declared.errors.CycleError.{CycleError}
+use Rattle.edge_algebra.specs.Compose.{composed}
+use Rattle.edge_algebra.proofs.Composed.{composes_exactly}
+use Rattle.cycle_names.specs.declared.family.Family.{Family}
+use Rattle.cycle_names.specs.Families.{all_families, family_edges}
+use Rattle.demo_tests.specs.Draws.{drawn, next_seed}
+use Rattle.demo_tests.specs.Filled.{is_choice, choices_of, choice_of, edge_for, seed_past, filled, IsFilled}
+use Rattle.demo_tests.proofs.ChoiceLaws.{some_choices}
+
+-- what is picked is a choice
+choice_is_one : (arch : ArchName) (n : ℕ) (link : Edge) → is_choice arch (source_of link) (target_of link) (choice_of arch n link) ≡ true
+unfolding choice_of choices_of
+choice_is_one arch n link =
+    let p = is_choice arch (source_of link) (target_of link) in
+    let some = some_choices arch (source_of link) (target_of link) in
+    filter_passes p _ (n % length (choices_of arch (source_of link) (target_of link))) link (grind (arith, some))
+
+-- what is filled in stands for the edges of the family's cycle
+pub is_filled : (arch : ArchName) (seed : ℕ) (slots : List Edge) → IsFilled arch slots (filled arch seed slots)
+is_filled arch seed [] = tt
+is_filled arch seed (slot ∷ slots) = (one, is_filled arch (seed_past seed slot) slots)
+  where
+    one : MatchBool (is_external slot) (edge_for arch seed slot ≡ slot) (is_choice arch (source_of slot) (target_of slot) (edge_for arch seed slot) ≡ true)
+    one = by_test (is_external slot)
+        (λ t. rw t refl)
+        (λ f. rw f (choice_is_one arch (drawn (next_seed seed)) slot))
+
+-- edges from and to the same accesses
+abbrev AreAlike : List Edge → List Edge → Type 0
+AreAlike [] [] = Unit {0}
+AreAlike (e ∷ u) (f ∷ v) = (source_of e ≡ source_of f) × (target_of e ≡ target_of f) × AreAlike u v
+AreAlike _ _ = ⊥
+
+dir_is : (a b : Dir) → same_dir a b ≡ true → a ≡ b
+dir_is dirs.R dirs.R h = refl
+dir_is dirs.W dirs.W h = refl
+dir_is dirs.R dirs.W h = cc
+dir_is dirs.W dirs.R h = cc
+
+-- a choice for a link joins what the link joins
+choice_alike : (arch : ArchName) (from to : Dir) (e : Edge) → is_choice arch from to e ≡ true → (source_of e ≡ from) × (target_of e ≡ to)
+unfolding is_choice
+choice_alike arch from to e h =
+    let last = and_parts _ (same_dir (target_of e) to) h in
+    (dir_is (source_of e) from (and_parts _ (same_dir (source_of e) from) last.0).1, dir_is (target_of e) to last.1)
+
+filled_alike : (arch : ArchName) (slots edges : List Edge) → IsFilled arch slots edges → AreAlike edges slots
+filled_alike arch [] [] h = tt
+filled_alike arch [] (e ∷ edges) h = absurd h
+filled_alike arch (s ∷ slots) [] h = absurd h
+filled_alike arch (s ∷ slots) (e ∷ edges) h = by_test (is_external s)
+    (λ t. let same : e ≡ s = rw t at h.0 in (ap source_of same, ap target_of same, filled_alike arch slots edges h.1))
+    (λ f. let passed : is_choice arch (source_of s) (target_of s) e ≡ true = rw f at h.0 in
+    let ends = choice_alike arch (source_of s) (target_of s) e passed in
+    (ends.0, ends.1, filled_alike arch slots edges h.1))
+
+alike_joined : (u v : List Edge) → AreAlike u v → is_joined u ≡ is_joined v
+alike_joined [] [] h = refl
+alike_joined [] (f ∷ v) h = absurd h
+alike_joined (e ∷ u) [] h = absurd h
+alike_joined (e ∷ []) (f ∷ []) h = refl
+alike_joined (e ∷ []) (f ∷ g ∷ v) h = absurd h.2
+alike_joined (e ∷ d ∷ u) (f ∷ []) h = absurd h.2
+alike_joined (e ∷ d ∷ u) (f ∷ g ∷ v) h =
+    rw (h.1, h.2.0, alike_joined (d ∷ u) (g ∷ v) h.2) refl
+
+alike_push : (u v : List Edge) (e f : Edge) → AreAlike u v → source_of e ≡ source_of f → target_of e ≡ target_of f → AreAlike (u ++ e ∷ []) (v ++ f ∷ [])
+alike_push [] [] e f h s t = (s, t, tt)
+alike_push [] (b ∷ v) e f h s t = absurd h
+alike_push (a ∷ u) [] e f h s t = absurd h
+alike_push (a ∷ u) (b ∷ v) e f h s t = (h.0, h.1, alike_push u v e f h.2 s t)
+
+alike_closed : (u v : List Edge) → AreAlike u v → is_closed u ≡ is_closed v
+alike_closed [] [] h = refl
+alike_closed [] (f ∷ v) h = absurd h
+alike_closed (e ∷ u) [] h = absurd h
+alike_closed (e ∷ u) (f ∷ v) h = alike_joined (e ∷ u ++ e ∷ []) (f ∷ v ++ f ∷ []) (h.0, h.1, alike_push u v e f h.2 h.0 h.1)
+
+alike_length : (u v : List Edge) → AreAlike u v → length u ≡ length v
+alike_length [] [] h = refl
+alike_length [] (f ∷ v) h = absurd h
+alike_length (e ∷ u) [] h = absurd h
+alike_length (e ∷ u) (f ∷ v) h = ap suc (alike_length u v h.2)
+
+-- the cycle of a family is one, and short
+cycle_test : Family → Bool
+cycle_test family = nat_lt 0 (length (family_edges family)) && nat_le (length (family_edges family)) 6 && is_closed (family_edges family)
+
+all_cycles : list_all cycle_test all_families ≡ true
+unfolding cycle_test
+all_cycles = refl
+
+record IsShortCycle (u : List Edge) : Type 0 where
+  some : 0 < length u
+  short : length u ≤ 6
+  closed : is_closed u ≡ true
+
+family_cycle : (family : Family) → IsAmong all_families family → IsShortCycle (family_edges family)
+unfolding cycle_test
+family_cycle family h =
+    let passes : All (λ f. cycle_test f ≡ true) all_families = AllPass-from_list_all cycle_test all_families all_cycles in
+    let passed : cycle_test family ≡ true = subst (λ f. cycle_test f ≡ true) (sym h.1.1) (passes h.0 family h.1.0) in
+    let last = and_parts _ (is_closed (family_edges family)) passed in
+    let first = and_parts (nat_lt 0 (length (family_edges family))) _ last.0 in
+    record { some = grind (arith, nat_tests, first.0); short = grind (arith, nat_tests, first.1); closed = last.1 }
+
+-- what is filled in for it is a cycle
+pub filled_cycle : (arch : ArchName) (seed : ℕ) (family : Family) → IsAmong all_families family → IsCycle (filled arch seed (family_edges family))
+filled_cycle arch seed family h =
+    let slots = family_edges family in
+    let edges = filled arch seed slots in
+    let own = family_cycle family h in
+    let alike = filled_alike arch slots edges (is_filled arch seed slots) in
+    let same = alike_length edges slots alike in
+    record { some = omega (arith, same, own.some); few = omega (arith, same, own.short); closed = alike_closed edges slots alike ∙ own.closed }
+
+-- so that it is composed
+pub never_refused : (arch : ArchName) (seed : ℕ) (family : Family) (edges : List Edge) (error : CycleError) → IsAmong all_families family
+    → edges ≡ filled arch seed (family_edges family) → Err error ≡ composed edges → ⊥
+never_refused arch seed family edges error h e refused =
+    let made : composed edges ≡ Ok edges = (composes_exactly.cycle edges).1 (rw e (filled_cycle arch seed family h)) in
+    not_both (refused ∙ made)
+  where
+    not_both : {v : List Edge} {x : CycleError} → ◌≡◌ {A = Result (List Edge) CycleError} (Err x) (Ok v) → ⊥
+    not_both z = cc
+
+-- what is filled in, step by step
+pub filled_from : (arch : ArchName) (seed : ℕ) (family : Family) (slots shown start edges whole : List Edge) → slots ≡ family_edges family → shown ≡ slots → start ≡ []
+    → edges ≡ start ++ filled arch seed shown → whole ≡ edges → whole ≡ filled arch seed (family_edges family)
+filled_from arch seed family slots shown start edges whole s t n e w =
+    w ∙ e ∙ ap (λ u. u ++ filled arch seed shown) n ∙ ap (filled arch seed) (t ∙ s)

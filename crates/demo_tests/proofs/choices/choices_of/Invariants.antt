@@ -1,0 +1,9 @@
+use Rattle.std.proofs.Common.{◌≡◌, take}
+use Rattle.std.specs.Prelude.{filter}
+use Rattle.relax_edges.specs.AllEdges.{edges_in_order}
+use Rattle.demo_tests.specs.Filled.{is_choice}
+use Rattle.demo_tests.proofs.choices.choices_of.Given as goal
+
+-- the choices among the edges so far are there
+abbrev pub invariant-loop-rank : goal.invariant-loop-rank
+invariant-loop-rank l = l.choices.items ≡ filter (is_choice l.arch l.from l.to) (take l.rank edges_in_order)

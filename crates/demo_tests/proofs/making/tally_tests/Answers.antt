@@ -1,0 +1,64 @@
+use Rattle.std.proofs.Common.{◌≡◌, ◌<◌, ◌%◌, refl, sym, arith}
+use Rattle.demo_tests.specs.Tallies.{numbered_text}
+use Rattle.demo_tests.proofs.TallyLaws.{family_among, next_seed_of, numbered_so, text_so, accepted, texts_short, all_fits, families_fit, all_more, families_more, no_families_counted, none_counted, place_within}
+use Rattle.demo_tests.proofs.making.tally_tests.Goals as goal
+
+pub loop-number-init : goal.loop-number-init
+loop-number-init g c = record {
+  seed = c.new-draws.ensures;
+  families = no_families_counted (numbered_text g.A.Arch.puts g.A.Arch.writing) c.new-summary.result.families c.new-summary.ensures.families;
+  all = none_counted (numbered_text g.A.Arch.puts g.A.Arch.writing) c.new-summary.result.all c.new-summary.ensures.all;
+}
+
+pub draw_cycle-cycle-requires : goal.draw_cycle-cycle-requires
+draw_cycle-cycle-requires g c = family_among (c.loop-number.number % 14) _ (omega arith)
+
+pub measure-text-requires : goal.measure-text-requires
+measure-text-requires g c =
+    let puts = g.A.Arch.puts in
+    let named : c.new-choices.result.arch ≡ puts.name = cc (c.new-choices.ensures, c.NAME.ensures, g.met.A.Arch.same_name) in
+    accepted puts c.new-choices.result.arch c.requires _ c.loop-number.draws.seed c.draw_cycle-cycle.result (family_among (c.loop-number.number % 14) _ (omega arith)) named c.draw_cycle-cycle.ensures.cycle
+
+pub count-requires-clause-place : goal.count-requires-clause-place
+count-requires-clause-place g c = place_within (numbered_text g.A.Arch.puts g.A.Arch.writing) c.loop-number.summary.families c.loop-number.number c.loop-number.invariant.families
+
+pub count-requires-clause-families : goal.count-requires-clause-families
+count-requires-clause-families g c =
+    let puts = g.A.Arch.puts in
+    let w = g.A.Arch.writing in
+    let number = c.loop-number.number in
+    let named : c.new-choices.result.arch ≡ puts.name = cc (c.new-choices.ensures, c.NAME.ensures, g.met.A.Arch.same_name) in
+    let text = text_so puts w number c.draw_cycle-cycle.result c.measure-text.result
+    (numbered_so puts c.new-choices.result.arch number c.loop-number.draws.seed _ c.draw_cycle-cycle.result named c.loop-number.invariant.seed c.draw_cycle-cycle.ensures.cycle)
+    c.measure-text.ensures in
+    let short = texts_short puts w g.met.A.Arch.laws g.met.A.Arch.reads_back g.met.A.Arch.writes_cells g.met.A.Arch.makes_one_access c.requires in
+    let small : number < 4294967296 = omega (arith, c.loop-number-test.true, c.ranges.count.fits) in
+    families_fit (numbered_text puts w) c.measure-text.result c.loop-number.summary.families number short small text c.loop-number.invariant.families
+
+pub count-requires-clause-all : goal.count-requires-clause-all
+count-requires-clause-all g c =
+    let puts = g.A.Arch.puts in
+    let w = g.A.Arch.writing in
+    let number = c.loop-number.number in
+    let named : c.new-choices.result.arch ≡ puts.name = cc (c.new-choices.ensures, c.NAME.ensures, g.met.A.Arch.same_name) in
+    let text = text_so puts w number c.draw_cycle-cycle.result c.measure-text.result
+    (numbered_so puts c.new-choices.result.arch number c.loop-number.draws.seed _ c.draw_cycle-cycle.result named c.loop-number.invariant.seed c.draw_cycle-cycle.ensures.cycle)
+    c.measure-text.ensures in
+    let short = texts_short puts w g.met.A.Arch.laws g.met.A.Arch.reads_back g.met.A.Arch.writes_cells g.met.A.Arch.makes_one_access c.requires in
+    let small : number < 4294967296 = omega (arith, c.loop-number-test.true, c.ranges.count.fits) in
+    all_fits (numbered_text puts w) c.measure-text.result c.loop-number.summary.all number short small text c.loop-number.invariant.all
+
+pub loop-number-preserved : goal.loop-number-preserved
+loop-number-preserved g c =
+    let puts = g.A.Arch.puts in
+    let w = g.A.Arch.writing in
+    let number = c.loop-number.number in
+    let named : c.new-choices.result.arch ≡ puts.name = cc (c.new-choices.ensures, c.NAME.ensures, g.met.A.Arch.same_name) in
+    let text = text_so puts w number c.draw_cycle-cycle.result c.measure-text.result
+    (numbered_so puts c.new-choices.result.arch number c.loop-number.draws.seed _ c.draw_cycle-cycle.result named c.loop-number.invariant.seed c.draw_cycle-cycle.ensures.cycle)
+    c.measure-text.ensures in
+    record {
+      seed = next_seed_of number c.draw_cycle-cycle.new.draws.seed c.loop-number.draws.seed _ c.loop-number.invariant.seed c.draw_cycle-cycle.ensures.seed;
+      families = families_more (numbered_text puts w) c.measure-text.result c.loop-number.summary.families c.count.new.self.families number (number % 14) text c.loop-number.invariant.families refl c.count.ensures.families;
+      all = all_more (numbered_text puts w) c.measure-text.result c.loop-number.summary.all c.count.new.self.all number text c.loop-number.invariant.all c.count.ensures.all;
+    }

@@ -1,0 +1,12 @@
+use Rattle.std.proofs.Common.{◌≡◌, length}
+use Rattle.list_laws.specs.Numbers.{upto}
+use Rattle.demo_tests.specs.Tallies.{family_tallies, numbered_text, seed_of, tally_of}
+use Rattle.demo_tests.proofs.making.tally_tests.Given as goal
+
+-- the tests so far are counted, and this is the seed for the next one
+abbrev pub invariant-loop-number : goal.invariant-loop-number
+invariant-loop-number g l = record {
+  seed : l.draws.seed ≡ seed_of l.number;
+  families : l.summary.families ≡ family_tallies (numbered_text g.A.Arch.puts g.A.Arch.writing) l.number;
+  all : l.summary.all ≡ tally_of (numbered_text g.A.Arch.puts g.A.Arch.writing) (upto l.number);
+}

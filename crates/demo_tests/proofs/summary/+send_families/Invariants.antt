@@ -1,0 +1,5 @@
+use Rattle.std.proofs.Common.{length}
+use Rattle.demo_tests.proofs.summary.+send_families.Given as goal
+
+abbrev pub decreases-send_families : goal.decreases-send_families
+decreases-send_families g l = length l.families.now

@@ -1,0 +1,31 @@
+-- The summary that the demonstration writes.
+-- Source: own.
+use Rattle.std.specs.Prelude.{ℕ, ◌==◌, if◌then◌else◌, List, [], ◌∷◌, ◌++◌, codes}
+use Rattle.std.specs.Fmt.{decimal}
+use Rattle.cycle_names.specs.declared.family.Family.{Family}
+use Rattle.cycle_names.specs.Families.{all_families, family_word}
+use Rattle.list_laws.specs.Numbers.{upto}
+use Rattle.arch_trait.specs.Threads.{Puts}
+use Rattle.arch_trait.specs.Writing.{Writing}
+use Rattle.demo_tests.specs.declared.tally.TestTally.{TestTally}
+use Rattle.demo_tests.specs.Tallies.{numbered_text, tally_of, family_tallies}
+
+-- a line of the summary: a word, and what is counted under it
+unfoldable pub tally_line : List ℕ → TestTally → List ℕ
+tally_line word tally =
+    word ++ codes " tests " ++ decimal tally.tests ++ codes " lines " ++ decimal tally.lines ++ codes " bytes " ++ decimal tally.bytes ++ codes "\n"
+
+-- the line of a family, where it had a test
+unfoldable pub family_line : Family → TestTally → List ℕ
+family_line family tally = if tally.tests == 0 then [] else tally_line (family_word family) tally
+
+-- the lines of families
+abbrev pub family_lines : List Family → List TestTally → List ℕ
+family_lines (family ∷ families) (tally ∷ tallies) = family_line family tally ++ family_lines families tallies
+family_lines _ _ = []
+
+-- the summary of so many tests: a line for each family that had one, in the order of the table, and one for all
+unfoldable pub demo_text : Puts → Writing → ℕ → List ℕ
+demo_text puts writing count =
+    let text = numbered_text puts writing in
+    family_lines all_families (family_tallies text count) ++ tally_line (codes "total") (tally_of text (upto count))

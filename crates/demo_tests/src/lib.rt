@@ -1,0 +1,15 @@
+//! The tests of the demonstration, made one after another of the families in turn, and their summary.
+#![tactic(auto)]
+
+mod choices;
+mod draws;
+mod filling;
+mod making;
+mod measure;
+mod summary;
+mod tally;
+
+pub use making::demo;
+
+#[cfg(test)]
+mod tests;

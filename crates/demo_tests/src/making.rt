@@ -1,0 +1,52 @@
+ghost use Rattle.std.specs.Prelude.{◌≡◌};
+ghost use Rattle.diy_io.specs.Wrote.{Wrote};
+ghost use Rattle.demo_tests.specs.DemoText.{demo_text};
+ghost use Rattle.demo_tests.specs.Filled.{MakesAll};
+ghost use Rattle.list_laws.specs.Numbers.{upto};
+ghost use Rattle.demo_tests.specs.Tallies.{family_tallies, numbered_text, tally_of};
+
+use crate::choices::Choices;
+use crate::draws::Draws;
+use crate::filling::draw_cycle;
+use crate::measure::Desk;
+use crate::summary::Summary;
+use arch_trait::Arch;
+use cycle_names::FAMILIES;
+use diy_io::{Failed, Sink};
+
+/// Makes so many tests and writes a summary of them: for each family that had one, in the order of
+/// the table of families, and then for all, a line on how many tests there are, and how many lines
+/// and bytes are in their texts. It takes no memory.
+///
+/// The families take turns. The cycle of a test is that of its family, but for each link: a draw
+/// picks it among the edges of the architecture that lead from the same access to the same access
+/// at another location. The sequence of draws begins anew with each call. A test is made in mode
+/// `Accept`, under the name of its cycle.
+///
+/// `Failed` comes only where the count of `out` rose. Then `out` has a prefix of the summary.
+pub fn demo<A: Arch, O: Sink>(count: u32, out: &mut O) -> Result<(), Failed>
+    requires tests { MakesAll A.puts }
+    ensures { Wrote (O.seen out.old) (O.seen out.new) (demo_text A.puts A.writing count) result }
+{
+    let summary = tally_tests::<A>(count);
+    summary.write(out)
+}
+
+/// Makes so many tests, and counts them.
+fn tally_tests<A: Arch>(count: u32) -> Summary
+    requires { MakesAll A.puts }
+    ensures families { result.families ≡ family_tallies (numbered_text A.puts A.writing) count }
+    ensures all { result.all ≡ tally_of (numbered_text A.puts A.writing) (upto count) }
+{
+    let choices = Choices::new(A::NAME);
+    let mut draws = Draws::new();
+    let mut desk = Desk::new();
+    let mut summary = Summary::new();
+    for number in 0..count {
+        let place = number as usize % FAMILIES.len();
+        let cycle = draw_cycle(FAMILIES[place], &choices, &mut draws);
+        let text = desk.measure::<A>(&cycle);
+        summary.count(place, &text);
+    }
+    summary
+}

@@ -1,0 +1,57 @@
+ghost use Rattle.std.specs.Prelude.{◌≡◌, ◌≤◌, None, length};
+ghost use Rattle.relax_edges.specs.declared.kinds.ObsMode.TheVariants.{Accept};
+ghost use Rattle.cycle_names.specs.Names.{name_of};
+ghost use Rattle.diy_io.specs.Sink.{line_feed_count, tally_of};
+ghost use Rattle.test_maker.specs.CycleText.{cycle_text};
+ghost use Rattle.test_maker.specs.Refusals.{refusal_of};
+
+use arch_trait::Arch;
+use arrayvec::ArrayString;
+use cycle_names::{MAX_NAME, name_of};
+use diy_io::{Failed, Page, TallySink};
+use edge_algebra::Cycle;
+use litmus_text::{Test, print_test_by};
+use relax_edges::ObsMode;
+use test_maker::make_into;
+
+/// Where tests are made, one after another: a test, its name, and the page that it is printed to.
+#[derive(Drop)]
+pub(crate) struct Desk {
+    test: Test,
+    name: ArrayString<MAX_NAME>,
+    page: Page,
+}
+
+impl Desk {
+    pub(crate) fn new() -> Desk {
+        Desk {
+            test: Test::new(),
+            name: ArrayString::new(),
+            page: Page::new(),
+        }
+    }
+
+    /// The bytes and line feeds of the text of the test of a cycle that has one, under its name.
+    pub(crate) fn measure<A: Arch>(&mut self, cycle: &Cycle) -> TallySink
+        requires { refusal_of A.puts cycle.now Accept ≡ None }
+        ensures { result ≡ tally_of (length (cycle_text A.puts A.writing Accept (name_of cycle.now) cycle.now)) (line_feed_count (cycle_text A.puts A.writing Accept (name_of cycle.now) cycle.now)) }
+    {
+        let _edges = cycle.edges();
+        match make_into::<A>(cycle, ObsMode::Accept, &mut self.test) {
+            Ok(()) => {}
+            Err(_) => unreachable!(),
+        }
+        name_of(cycle, &mut self.name);
+        self.page.clear();
+        let mut tally = TallySink::new();
+        match print_test_by::<A, TallySink>(
+            &self.test,
+            self.name.as_str(),
+            &mut self.page,
+            &mut tally,
+        ) {
+            Ok(()) => tally,
+            Err(Failed) => unreachable!(),
+        }
+    }
+}

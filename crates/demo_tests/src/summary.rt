@@ -1,0 +1,122 @@
+ghost use Rattle.std.specs.Prelude.{◌≡◌, ◌<◌, ◌++◌, codes, length, replicate, slice_index_or, slice_set};
+ghost use Rattle.std.specs.List.{All};
+ghost use Rattle.cycle_names.specs.Families.{all_families};
+ghost use Rattle.diy_io.specs.Page.{Sends};
+ghost use Rattle.diy_io.specs.Wrote.{Wrote};
+ghost use Rattle.demo_tests.specs.declared.tally.TestTally.{TestTally as Tallied};
+ghost use Rattle.demo_tests.specs.Counting.{Fits, counted, nothing_counted};
+ghost use Rattle.demo_tests.specs.DemoText.{family_line, family_lines, tally_line};
+
+use crate::tally::TestTally;
+use cycle_names::{FAMILIES, Family};
+use diy_io::{Failed, Page, Sink, TallySink};
+use itoa::Buffer;
+
+/// How many families have a cycle.
+pub(crate) const FAMILY_COUNT: usize = 14;
+
+/// What is counted of the tests of each family, and of all.
+#[derive(Drop)]
+pub(crate) struct Summary {
+    pub(crate) families: [TestTally; FAMILY_COUNT],
+    pub(crate) all: TestTally,
+}
+
+impl Summary {
+    /// The summary of no tests.
+    pub(crate) fn new() -> Summary
+        ensures families { result.families ≡ replicate 14 nothing_counted }
+        ensures all { result.all ≡ nothing_counted }
+    {
+        Summary {
+            families: [TestTally::new(); FAMILY_COUNT],
+            all: TestTally::new(),
+        }
+    }
+
+    /// Counts a test more, of the family at a place of the table, by the tally of its text.
+    pub(crate) fn count(&mut self, place: usize, text: &TallySink)
+        requires place { place < length self.old.families }
+        requires families { All (Fits text.now) self.old.families }
+        requires all { Fits text.now self.old.all }
+        ensures families { (d : Tallied) → self.new.families ≡ slice_set self.old.families place (counted text.now (slice_index_or self.old.families place d)) }
+        ensures all { self.new.all ≡ counted text.now self.old.all }
+    {
+        self.families[place].count(text);
+        self.all.count(text);
+    }
+
+    /// Writes a line for each family that had a test, and then one for all. Where the sink fails, it
+    /// has taken a prefix of them.
+    pub(crate) fn write<O: Sink>(&self, out: &mut O) -> Result<(), Failed>
+        ensures { Wrote (O.seen out.old) (O.seen out.new) (family_lines all_families self.now.families ++ tally_line (codes "total") self.now.all) result }
+    {
+        let mut page = Page::new();
+        self.send(&mut page, out)?;
+        page.flush(out)
+    }
+
+    fn send<O: Sink>(&self, page: &mut Page, out: &mut O) -> Result<(), Failed>
+        ensures { Sends (O.seen out.old) page.old (O.seen out.new) page.new (family_lines all_families self.now.families ++ tally_line (codes "total") self.now.all) result }
+    {
+        send_families(&FAMILIES, &self.families, page, out)?;
+        send_line(b"total", &self.all, page, out)
+    }
+}
+
+fn send_families<O: Sink>(
+    families: &[Family],
+    tallies: &[TestTally],
+    page: &mut Page,
+    out: &mut O,
+) -> Result<(), Failed>
+    ensures { Sends (O.seen out.old) page.old (O.seen out.new) page.new (family_lines families.now tallies.now) result }
+{
+    match families {
+        [] => Ok(()),
+        [family, families_left @ ..] => match tallies {
+            [] => Ok(()),
+            [tally, tallies_left @ ..] => {
+                send_family(*family, tally, page, out)?;
+                send_families(families_left, tallies_left, page, out)
+            }
+        },
+    }
+}
+
+#[tactic(auto, using(diy_io::specs::PageLaws::sent_nothing), unfolding(crate::specs::DemoText::family_line))]
+fn send_family<O: Sink>(
+    family: Family,
+    tally: &TestTally,
+    page: &mut Page,
+    out: &mut O,
+) -> Result<(), Failed>
+    ensures { Sends (O.seen out.old) page.old (O.seen out.new) page.new (family_line family tally.now) result }
+{
+    if tally.tests == 0 {
+        return Ok(());
+    }
+    send_line(family.word().as_bytes(), tally, page, out)
+}
+
+fn send_line<O: Sink>(
+    word: &[u8],
+    tally: &TestTally,
+    page: &mut Page,
+    out: &mut O,
+) -> Result<(), Failed>
+    ensures { Sends (O.seen out.old) page.old (O.seen out.new) page.new (tally_line word.now tally.now) result }
+{
+    let mut tests = Buffer::new();
+    let tests = tests.format(tally.tests).as_bytes();
+    let mut lines = Buffer::new();
+    let lines = lines.format(tally.lines).as_bytes();
+    let mut bytes = Buffer::new();
+    let bytes = bytes.format(tally.bytes).as_bytes();
+    page.send_pieces(
+        &[
+            word, b" tests ", tests, b" lines ", lines, b" bytes ", bytes, b"\n",
+        ],
+        out,
+    )
+}
