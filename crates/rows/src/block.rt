@@ -78,6 +78,19 @@ impl Keyword {
         }
     }
 
+    /// Whether a row may have more than one line with it.
+    pub fn may_repeat(self) -> bool {
+        matches!(
+            self,
+            Keyword::Text
+                | Keyword::Words
+                | Keyword::Word
+                | Keyword::File
+                | Keyword::Wanted
+                | Keyword::Absent
+        )
+    }
+
     /// Whether lines of bytes may stand below it.
     pub fn takes_bytes(self) -> bool {
         matches!(
@@ -100,6 +113,16 @@ pub struct Block {
     pub keyword: Keyword,
     pub argument: String,
     pub bytes: Vec<u8>,
+}
+
+/// Whether no keyword stands twice that a row may have once.
+pub fn stand_once(blocks: &[Block]) -> bool {
+    match blocks {
+        [] => true,
+        [block, rest @ ..] => {
+            (block.keyword.may_repeat() || first(rest, block.keyword).is_none()) && stand_once(rest)
+        }
+    }
 }
 
 /// The first block with a keyword.

@@ -16,7 +16,7 @@ mod reading;
 mod report;
 mod table;
 
-use crate::block::{Block, Keyword};
+use crate::block::{Block, Keyword, stand_once};
 use crate::errors::TableError;
 use crate::read_all::read_all;
 use crate::report::{name_of, try_row};
@@ -68,7 +68,12 @@ fn try_rows(alloc: Global, blocks: &[Block], page: &mut Vec<u8>) -> Result<Count
 
 /// Tries a row. The page names one that is faulty.
 fn try_named(alloc: Global, row: &[Block], page: &mut Vec<u8>) -> Result<bool, TableError> {
-    match try_row(alloc, row, page) {
+    let answer = if stand_once(row) {
+        try_row(alloc, row, page)
+    } else {
+        Err(TableError::BadRow)
+    };
+    match answer {
         Err(TableError::BadRow) => {
             page.extend_from_slice(b"faulty ")?;
             page.extend_from_slice(name_of(row).as_bytes())?;
