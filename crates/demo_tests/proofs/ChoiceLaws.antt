@@ -15,7 +15,8 @@ use Rattle.relax_edges.specs.declared.edge.Edge.{Edge}
 use Rattle.relax_edges.specs.AllEdges.{edges_in_order}
 use Rattle.relax_edges.specs.Order.{rank_of}
 use Rattle.relax_edges.proofs.Ranks.{placed, edges-length}
-use Rattle.demo_tests.specs.Filled.{is_choice, choices_of}
+use Rattle.family_laws.specs.Filled.{is_choice}
+use Rattle.demo_tests.specs.Filled.{choices_of}
 
 some_of : (arch : ArchName) (from to : Dir) → nat_lt 0 (length (choices_of arch from to)) ≡ true
 unfolding choices_of is_choice edges_in_order

@@ -20,7 +20,8 @@ use Rattle.edge_algebra.proofs.Composed.{composes_exactly}
 use Rattle.cycle_names.specs.declared.family.Family.{Family}
 use Rattle.cycle_names.specs.Families.{all_families, family_edges}
 use Rattle.demo_tests.specs.Draws.{drawn, next_seed}
-use Rattle.demo_tests.specs.Filled.{is_choice, choices_of, choice_of, edge_for, seed_past, filled, IsFilled}
+use Rattle.family_laws.specs.Filled.{is_choice, IsFilled}
+use Rattle.demo_tests.specs.Filled.{choices_of, choice_of, edge_for, seed_past, filled}
 use Rattle.demo_tests.proofs.ChoiceLaws.{some_choices}
 
 -- what is picked is a choice

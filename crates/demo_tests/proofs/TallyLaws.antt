@@ -27,7 +27,8 @@ use Rattle.test_maker.specs.Refusals.{refusal_of}
 use Rattle.demo_tests.specs.declared.tally.TestTally.{TestTally}
 use Rattle.demo_tests.specs.Counting.{nothing_counted, counted, Fits}
 use Rattle.demo_tests.specs.Draws.{first_seed}
-use Rattle.demo_tests.specs.Filled.{filled, seed_after, MakesAll}
+use Rattle.family_laws.specs.Filled.{MakesAll}
+use Rattle.demo_tests.specs.Filled.{filled, seed_after}
 use Rattle.demo_tests.specs.DemoText.{demo_text, family_lines, tally_line}
 use Rattle.demo_tests.specs.Tallies.{place_of, slots_of, seed_of, numbered_cycle, numbered_text, family_numbers, tally_of, family_tallies}
 use Rattle.demo_tests.proofs.FilledLaws.{is_filled, filled_cycle}

@@ -1,10 +1,11 @@
-ghost use Rattle.demo_tests.specs.Filled.{MakesAll};
+ghost use Rattle.family_laws.specs.Filled.{MakesAll};
 
 use crate::demo;
 use arch_riscv::Riscv;
 use arch_trait::Arch;
 use arch_x86::X86;
 use diy_io::MemSink;
+use family_laws::families_have_tests;
 use std::alloc::Global;
 use std::process::Abort;
 use std::test::Fail;
@@ -21,6 +22,7 @@ fn writes<A: Arch>(rt: &impl Abort, alloc: Global, count: u32, summary: &str) ->
 
 #[test]
 fn families_take_turns(rt: HostRuntime) -> Result<(), Fail> {
+    families_have_tests();
     writes::<X86>(
         &rt,
         rt.alloc(),
@@ -37,6 +39,7 @@ fn families_take_turns(rt: HostRuntime) -> Result<(), Fail> {
 
 #[test]
 fn a_family_has_another_turn(rt: HostRuntime) -> Result<(), Fail> {
+    families_have_tests();
     writes::<Riscv>(
         &rt,
         rt.alloc(),
