@@ -1,19 +1,18 @@
 -- What is filled in for a family's cycle is a cycle, whose edges are choices.
-use Rattle.std.proofs.Common.{◌≡◌, ◌<◌, ◌≤◌, ℕ, zero, suc, ◌%◌, Bool, true, false, List, [], ◌∷◌, ◌++◌, length, take, get_or, Some, None, Ok, Err, refl, sym, ap, ◌∙◌, arith, subst}
-use Rattle.std.specs.Prelude.{◌&&◌, MatchBool, Result, filter, nat_lt, nat_le}
+use Rattle.std.proofs.Common.{◌≡◌, ◌<◌, ◌≤◌, ℕ, suc, ◌%◌, Bool, true, List, [], ◌∷◌, ◌++◌, length, Ok, Err, refl, sym, ap, ◌∙◌, arith, subst}
+use Rattle.std.specs.Prelude.{◌&&◌, MatchBool, Result, nat_lt, nat_le}
 use Rattle.std.specs.List.{All, IsAmong, list_all}
-use Rattle.std.proofs.lemmas.Bool.{and_parts, cond-true, cond-false}
+use Rattle.std.proofs.lemmas.Bool.{and_parts}
 use Rattle.std.proofs.lemmas.Bool.Decides.{nat_tests}
 use Rattle.std.proofs.lemmas.List.Elements.{filter_passes}
 use Rattle.std.proofs.lemmas.List.Sums.{AllPass-from_list_all}
 use Rattle.list_laws.proofs.Cases.{by_test}
-use Rattle.relax_edges.specs.declared.TheConstants.{MAX_EDGES}
 use Rattle.relax_edges.specs.declared.kinds.ArchName.{ArchName}
 use Rattle.relax_edges.specs.declared.kinds.Dir.{Dir}
 use Rattle.relax_edges.specs.declared.kinds.Dir.TheVariants as dirs
 use Rattle.relax_edges.specs.declared.edge.Edge.{Edge}
-use Rattle.relax_edges.specs.EdgeTable.{source_of, target_of, is_of_arch, same_dir, is_external, is_diff, joins_to}
-use Rattle.walk_laws.specs.Composable.{IsCycle, is_joined, is_closed, joins_first}
+use Rattle.relax_edges.specs.EdgeTable.{source_of, target_of, same_dir, is_external}
+use Rattle.walk_laws.specs.Composable.{IsCycle, is_joined, is_closed}
 use Rattle.edge_algebra.specs.declared.errors.CycleError.{CycleError}
 use Rattle.edge_algebra.specs.Compose.{composed}
 use Rattle.edge_algebra.proofs.Composed.{composes_exactly}

@@ -1,10 +1,10 @@
 -- The lines of the summary, piece by piece.
-use Rattle.std.proofs.Common.{◌≡◌, ◌≤◌, ◌<◌, ℕ, ◌-◌, List, [], ◌∷◌, ◌++◌, length, get_or, take, drop, Ok, Err, refl, sym, subst, arith}
+use Rattle.std.proofs.Common.{◌≡◌, ◌≤◌, ◌<◌, ℕ, ◌-◌, List, [], ◌∷◌, ◌++◌, length, get_or, take, drop, Ok, refl, subst, arith}
 use Rattle.std.specs.Prelude.{codes, Result}
 use Rattle.std.specs.Fmt.{decimal}
 use Rattle.std.proofs.lemmas.List.{take_all}
 use Rattle.diy_io.specs.declared.errors.Failed.{Failed}
-use Rattle.diy_io.specs.Page.{SentAll, Sends}
+use Rattle.diy_io.specs.Page.{Sends}
 use Rattle.diy_io.specs.PageLaws.{sends_then, sent_nothing}
 use Rattle.diy_io.specs.Wrote.{SinkSeen}
 use Rattle.cycle_names.specs.declared.family.Family.{Family}

@@ -1,8 +1,8 @@
 -- What is counted of tests grows by a test after another, and stays small.
-use Rattle.std.proofs.Common.{◌≡◌, ◌<◌, ◌≤◌, ◌+◌, ◌*◌, ◌%◌, ◌^◌, ℕ, zero, suc, Bool, true, false, List, [], ◌∷◌, ◌++◌, length, get_or, map, refl, sym, ap, ◌∙◌, arith, subst, add-one, length-append, append-nil}
+use Rattle.std.proofs.Common.{◌≡◌, ◌<◌, ◌≤◌, ◌+◌, ◌*◌, ◌%◌, ℕ, zero, suc, List, [], ◌∷◌, ◌++◌, length, get_or, map, refl, sym, ap, ◌∙◌, arith, add-one, length-append, append-nil}
 use Rattle.std.specs.Prelude.{cond, filter, replicate, codes, ◌==◌, slice_set, slice_index_or, None}
 use Rattle.std.specs.List.{All, sum_by, IsAmong}
-use Rattle.std.proofs.lemmas.Bool.{eqb-true, eqb-false, eq-eqb, cond-true, cond-false}
+use Rattle.std.proofs.lemmas.Bool.{eqb-true, cond-true, cond-false}
 use Rattle.std.proofs.lemmas.List.{get_or_default}
 use Rattle.std.proofs.lemmas.List.Elements.{filter-append, All-map}
 use Rattle.std.proofs.lemmas.List.Sums.{sum_by_push, sum_by-le, length-filter, count_by-le-length}
@@ -26,7 +26,6 @@ use Rattle.test_maker.specs.CycleText.{cycle_text}
 use Rattle.test_maker.specs.Refusals.{refusal_of}
 use Rattle.demo_tests.specs.declared.tally.TestTally.{TestTally}
 use Rattle.demo_tests.specs.Counting.{nothing_counted, counted, Fits}
-use Rattle.demo_tests.specs.Draws.{first_seed}
 use Rattle.family_laws.specs.Filled.{MakesAll}
 use Rattle.demo_tests.specs.Filled.{filled, seed_after}
 use Rattle.demo_tests.specs.DemoText.{demo_text, family_lines, tally_line}

@@ -1,7 +1,7 @@
 -- The text of the test of a cycle is short, and is tallied whole.
-use Rattle.std.proofs.Common.{◌≡◌, ◌<◌, ◌≤◌, ℕ, Bool, true, false, List, [], length, Some, None, refl, sym, ◌∙◌, ap, arith}
+use Rattle.std.proofs.Common.{◌≡◌, ◌≤◌, ℕ, Bool, true, false, List, length, Some, None, refl, sym, ◌∙◌, ap, arith}
 use Rattle.std.specs.Char.{is_ascii_alphanumeric}
-use Rattle.std.specs.Prelude.{◌==◌, ◌||◌, Option}
+use Rattle.std.specs.Prelude.{◌==◌, ◌||◌}
 use Rattle.std.proofs.lemmas.Bool.Decides.{nat_tests}
 use Rattle.std.proofs.lemmas.List.Sums.{count_by-le-length}
 use Rattle.relax_edges.specs.declared.kinds.ArchName.{ArchName}
@@ -16,7 +16,6 @@ use Rattle.arch_trait.specs.Cells.{WritesCells, MakesOneAccess}
 use Rattle.arch_trait.specs.Laws.{IsArch}
 use Rattle.arch_trait.specs.Threads.{Puts}
 use Rattle.arch_trait.specs.Writing.{Writing, WritesBack, name_in}
-use Rattle.diy_io.specs.Count.{count_of}
 use Rattle.diy_io.specs.Sink.{Tally, tally_of, tally_kept, tally_after, line_feed_count, told_kept, told_after}
 use Rattle.diy_io.specs.Wrote.{WroteAll, tally_seen}
 use Rattle.litmus_text.specs.declared.test.Test.{Test}

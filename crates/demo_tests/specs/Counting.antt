@@ -1,6 +1,6 @@
 -- How the summary is counted, a test after another.
 -- Source: own.
-use Rattle.std.specs.Prelude.{ℕ, ◌+◌, ◌^◌, ◌<◌}
+use Rattle.std.specs.Prelude.{◌+◌, ◌^◌, ◌<◌}
 use Rattle.diy_io.specs.Sink.{Tally}
 use Rattle.demo_tests.specs.declared.tally.TestTally.{TestTally}
 

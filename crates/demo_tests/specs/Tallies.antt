@@ -5,7 +5,6 @@ use Rattle.std.specs.List.{sum_by}
 use Rattle.relax_edges.specs.declared.kinds.ArchName.{ArchName}
 use Rattle.relax_edges.specs.declared.kinds.ObsMode.TheVariants.{Accept}
 use Rattle.relax_edges.specs.declared.edge.Edge.{Edge}
-use Rattle.cycle_names.specs.declared.family.Family.{Family}
 use Rattle.cycle_names.specs.declared.family.Family.TheVariants.{Other}
 use Rattle.cycle_names.specs.Families.{all_families, family_edges}
 use Rattle.cycle_names.specs.Names.{name_of}

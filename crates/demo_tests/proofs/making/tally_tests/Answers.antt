@@ -1,4 +1,4 @@
-use Rattle.std.proofs.Common.{◌≡◌, ◌<◌, ◌%◌, refl, sym, arith}
+use Rattle.std.proofs.Common.{◌≡◌, ◌<◌, ◌%◌, refl, arith}
 use Rattle.demo_tests.specs.Tallies.{numbered_text}
 use Rattle.demo_tests.proofs.TallyLaws.{family_among, next_seed_of, numbered_so, text_so, accepted, texts_short, all_fits, families_fit, all_more, families_more, no_families_counted, none_counted, place_within}
 use Rattle.demo_tests.proofs.making.tally_tests.Goals as goal

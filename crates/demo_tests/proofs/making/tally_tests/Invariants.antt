@@ -1,4 +1,4 @@
-use Rattle.std.proofs.Common.{◌≡◌, length}
+use Rattle.std.proofs.Common.{◌≡◌}
 use Rattle.list_laws.specs.Numbers.{upto}
 use Rattle.demo_tests.specs.Tallies.{family_tallies, numbered_text, seed_of, tally_of}
 use Rattle.demo_tests.proofs.making.tally_tests.Given as goal
