@@ -117,12 +117,13 @@ pub struct Block {
 
 /// Whether no keyword stands twice that a row may have once.
 pub fn stand_once(blocks: &[Block]) -> bool {
-    match blocks {
-        [] => true,
-        [block, rest @ ..] => {
-            (block.keyword.may_repeat() || first(rest, block.keyword).is_none()) && stand_once(rest)
+    for at in 0..blocks.len() {
+        let keyword = blocks[at].keyword;
+        if !keyword.may_repeat() && first(&blocks[at + 1..], keyword).is_some() {
+            return false;
         }
     }
+    true
 }
 
 /// The first block with a keyword.
