@@ -1,5 +1,5 @@
 -- How a test grows thread by thread.
-use Rattle.std.specs.Prelude.{ℕ, ◌≡◌, true, false, List, [], ◌∷◌, ◌++◌, map, Some, None, Result, Ok, Err}
+use Rattle.std.specs.Prelude.{ℕ, ◌≡◌, true, false, ◌+◌, List, [], ◌∷◌, ◌++◌, map, take, Some, None, Result, Ok, Err}
 use Rattle.arrayvec.specs.ArrayVec.{ArrayVec}
 use Rattle.relax_edges.specs.declared.kinds.ObsMode.{ObsMode}
 use Rattle.relax_edges.specs.declared.edge.Edge.{Edge}
@@ -15,10 +15,19 @@ use Rattle.test_maker.specs.declared.refusal.MakeRefusal.{MakeRefusal}
 use Rattle.test_maker.specs.declared.refusal.MakeRefusal.TheVariants.{TooManyRegisters}
 use Rattle.test_maker.specs.Refusals.{crowded_thread, is_crowded}
 
--- a call appends the code of a thread and the terms of its loads, or refuses the thread for its registers
+-- a call makes the code of a thread and appends the terms of its loads, or refuses the thread for its registers
+abbrev pub PutsCode : Puts → (ℕ → List ℕ) → ℕ → List Step → Code → Cond → Cond → Result (Unit {0}) MakeRefusal → Type 0
+PutsCode a register_name thread steps code cond cond' (Ok _) =
+    (is_crowded a steps ≡ false) × (thread_of code ≡ compiled a steps) ×
+    (cond'.quantifier ≡ cond.quantifier) × (map term_view cond'.terms.items ≡ map term_view cond.terms.items ++ thread_terms a register_name thread steps)
+PutsCode a register_name thread steps code cond cond' (Err refusal) =
+    (is_crowded a steps ≡ true) × (refusal ≡ TooManyRegisters thread)
+
+-- a call makes the code of a thread after those before it and appends the terms of its loads, or refuses the thread for its registers
 abbrev pub PutsThread : Puts → (ℕ → List ℕ) → ℕ → List Step → ArrayVec Code → ArrayVec Code → Cond → Cond → Result (Unit {0}) MakeRefusal → Type 0
 PutsThread a register_name thread steps threads threads' cond cond' (Ok _) =
-    (is_crowded a steps ≡ false) × (map thread_of threads'.items ≡ map thread_of threads.items ++ compiled a steps ∷ []) ×
+    (is_crowded a steps ≡ false) ×
+    (map thread_of (take (thread + 1) threads'.items) ≡ map thread_of (take thread threads.items) ++ compiled a steps ∷ []) ×
     (cond'.quantifier ≡ cond.quantifier) × (map term_view cond'.terms.items ≡ map term_view cond.terms.items ++ thread_terms a register_name thread steps)
 PutsThread a register_name thread steps threads threads' cond cond' (Err refusal) =
     (is_crowded a steps ≡ true) × (refusal ≡ TooManyRegisters thread)
