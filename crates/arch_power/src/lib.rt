@@ -11,8 +11,6 @@ ghost use Rattle.std.specs.Prelude.{◌≡◌};
 ghost use Rattle.arch_power.specs.Text.{writing as power_writing};
 
 mod put;
-#[cfg(test)]
-mod tests;
 mod text;
 
 use arch_trait::{Arch, Instrs, Link, MAX_TEXT, Operands, Places, Raw, Regs, Shape};

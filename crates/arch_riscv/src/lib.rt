@@ -11,8 +11,6 @@ ghost use Rattle.arch_riscv.specs.InCells.{writes_cells as riscv_writes_cells, m
 
 mod put;
 mod read;
-#[cfg(test)]
-mod tests;
 mod write;
 
 use arch_trait::{Arch, Instrs, Link, MAX_TEXT, Operands, Places, Raw, Regs, Shape};

@@ -23,9 +23,6 @@ use itoa::Buffer;
 use micro_ops::{Barrier, Micro};
 use relax_edges::{ArchName, FenceKind};
 
-#[cfg(test)]
-mod tests;
-
 /// The architecture X86.
 pub struct X86;
 

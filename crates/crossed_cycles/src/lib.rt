@@ -8,6 +8,3 @@ mod normal_form;
 
 pub use choose::crossed_cycles;
 pub use laws::crosses_all;
-
-#[cfg(test)]
-mod tests;

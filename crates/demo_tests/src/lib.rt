@@ -10,6 +10,3 @@ mod summary;
 mod tally;
 
 pub use making::demo;
-
-#[cfg(test)]
-mod tests;

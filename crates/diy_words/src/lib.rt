@@ -8,8 +8,6 @@ mod places;
 mod read;
 mod request;
 mod said;
-#[cfg(test)]
-mod tests;
 mod usage;
 
 pub use places::read_places;

@@ -15,6 +15,3 @@ pub use ending::ListingEnd;
 pub use files::MAX_FOLDER;
 pub use given::put_cycles;
 pub use listing::{Listing, list_tests};
-
-#[cfg(test)]
-mod tests;

@@ -135,6 +135,3 @@ fn put_behind<H: Shelf, K: Fn(&[Edge]) -> bool, P: Fn(&Cycle) -> bool>(
     shelf.append(lines.as_slice())?;
     shelf.finish()
 }
-
-#[cfg(test)]
-mod tests;

@@ -9,6 +9,3 @@ mod sum_end;
 pub use files::sum_files;
 pub use input::sum_input;
 pub use sum_end::SumEnd;
-
-#[cfg(test)]
-mod tests;

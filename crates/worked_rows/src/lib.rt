@@ -2,4 +2,6 @@
 #![tactic(auto)]
 
 #[cfg(test)]
+mod architectures;
+#[cfg(test)]
 mod machine;
