@@ -10,9 +10,10 @@ ghost use Rattle.arch_power.specs.InCells.{writes_cells as power_writes_cells, m
 ghost use Rattle.std.specs.Prelude.{◌≡◌};
 ghost use Rattle.arch_power.specs.Text.{writing as power_writing};
 
-mod put;
+mod own;
 mod text;
 
+use addressed_code::{put_link, put_load, put_store, registers_needed};
 use arch_trait::{Arch, Instrs, Link, MAX_TEXT, Operands, Places, Raw, Regs, Shape};
 use arrayvec::ArrayString;
 use final_cond::RegName;
@@ -50,18 +51,15 @@ impl Arch for Power {
     }
 
     fn need(shape: &Shape) -> u32 {
-        u32::from(shape.loads)
-            + u32::from(shape.stores)
-            + u32::from(shape.addr)
-            + u32::from(shape.places)
+        registers_needed(shape)
     }
 
     fn put_link(link: Link, from: Option<u8>, label: u8, out: &mut Instrs) {
-        put::link(link, from, label, out);
+        put_link::<Power>(link, from, label, out);
     }
 
     fn put_load(regs: &mut Regs, link: Link, from: Option<u8>, place: u8, out: &mut Instrs) -> u8 {
-        put::load(regs, link, from, place, out)
+        put_load::<Power>(regs, link, from, place, out)
     }
 
     fn put_store(
@@ -72,7 +70,7 @@ impl Arch for Power {
         value: u8,
         out: &mut Instrs,
     ) {
-        put::store(regs, link, from, place, value, out);
+        put_store::<Power>(regs, link, from, place, value, out);
     }
 
     fn print(op: &Micro, _places: &Places, out: &mut ArrayString<MAX_TEXT>) {

@@ -9,10 +9,11 @@ ghost use Rattle.arch_riscv.specs.Laws.{laws as riscv_laws};
 ghost use Rattle.arch_riscv.specs.ReadsBack.{reads_back as riscv_reads_back};
 ghost use Rattle.arch_riscv.specs.InCells.{writes_cells as riscv_writes_cells, makes_one_access as riscv_makes_one_access};
 
-mod put;
+mod own;
 mod read;
 mod write;
 
+use addressed_code::{put_link, put_load, put_store, registers_needed};
 use arch_trait::{Arch, Instrs, Link, MAX_TEXT, Operands, Places, Raw, Regs, Shape};
 use arrayvec::ArrayString;
 use final_cond::RegName;
@@ -50,18 +51,15 @@ impl Arch for Riscv {
     }
 
     fn need(shape: &Shape) -> u32 {
-        u32::from(shape.loads)
-            + u32::from(shape.stores)
-            + u32::from(shape.addr)
-            + u32::from(shape.places)
+        registers_needed(shape)
     }
 
     fn put_link(link: Link, from: Option<u8>, label: u8, out: &mut Instrs) {
-        put::link(link, from, label, out);
+        put_link::<Riscv>(link, from, label, out);
     }
 
     fn put_load(regs: &mut Regs, link: Link, from: Option<u8>, place: u8, out: &mut Instrs) -> u8 {
-        put::load(regs, link, from, place, out)
+        put_load::<Riscv>(regs, link, from, place, out)
     }
 
     fn put_store(
@@ -72,7 +70,7 @@ impl Arch for Riscv {
         value: u8,
         out: &mut Instrs,
     ) {
-        put::store(regs, link, from, place, value, out);
+        put_store::<Riscv>(regs, link, from, place, value, out);
     }
 
     fn print(op: &Micro, _places: &Places, out: &mut ArrayString<MAX_TEXT>) {

@@ -62,10 +62,10 @@ placed a name thread steps threads room codes code cond0 cond1 (Err _) within be
 placed a name thread steps threads room codes code cond0 cond1 (Ok _) within before same put = (
   put.0,
   ap (λ cs. map thread_of (take (thread + 1) cs))
-  (written_over room.items (slice_set codes thread code) (length-set codes thread code ∙ ap length same) ∙ ap (λ cs. slice_set cs thread code) same)
-  ∙ ap (map thread_of) (take_more_set room.items thread code within ∙ ap (λ cs. cs ++ code ∷ []) before)
-  ∙ map-append thread_of (take thread threads.items) (code ∷ [])
-  ∙ ap (λ c. map thread_of (take thread threads.items) ++ c ∷ []) put.1,
+      (written_over room.items (slice_set codes thread code) (length-set codes thread code ∙ ap length same) ∙ ap (λ cs. slice_set cs thread code) same)
+      ∙ ap (map thread_of) (take_more_set room.items thread code within ∙ ap (λ cs. cs ++ code ∷ []) before)
+      ∙ map-append thread_of (take thread threads.items) (code ∷ [])
+      ∙ ap (λ c. map thread_of (take thread threads.items) ++ c ∷ []) put.1,
   put.2,
   put.3,
 )

@@ -1,0 +1,177 @@
+ghost use Rattle.std.specs.Prelude.{◌≡◌, ◌≤◌, ◌+◌, ◌++◌, ◌∷◌, [], Some, None, cond, is_some, false};
+ghost use Rattle.arrayvec.specs.ArrayVec.{array_vec_len};
+ghost use Rattle.micro_ops.specs.declared.operation.Micro.TheVariants as ops;
+ghost use Rattle.arch_trait.specs.Addressed.{link_code, puts_of, store_on};
+ghost use Rattle.arch_trait.specs.Laws.{link_room, access_room};
+ghost use Rattle.arch_trait.specs.Links.{is_data};
+ghost use Rattle.arch_trait.specs.Taking.{took, with_address};
+
+use crate::own::OwnInstructions;
+use arch_trait::{Instrs, Link, MAX_INSTRS, Regs, Shape, address_source, data_source};
+use micro_ops::{Barrier, Micro};
+use relax_edges::FenceKind;
+
+/// How many registers a thread of this shape takes.
+pub fn registers_needed(shape: &Shape) -> u32
+    ensures { result ≡ shape.now.loads + shape.now.stores + shape.now.addr + shape.now.places }
+{
+    u32::from(shape.loads)
+        + u32::from(shape.stores)
+        + u32::from(shape.addr)
+        + u32::from(shape.places)
+}
+
+/// Appends the code of a link: its fence, or a branch on the register to the label right after it,
+/// and the barrier that the link asks for after that.
+pub fn put_link<I: OwnInstructions>(link: Link, from: Option<u8>, label: u8, out: &mut Instrs)
+    requires { array_vec_len out.old + link_room link ≤ MAX_INSTRS }
+    ensures { out.new.items ≡ out.old.items ++ link_code I.own link from label }
+{
+    match (link, from) {
+        (Link::Fence(kind), _) => out.push(fence(kind)),
+        (Link::Ctrl, Some(source)) => put_branch_code::<I>(source, label, out),
+        (Link::CtrlIsync, Some(source)) => {
+            put_branch_code::<I>(source, label, out);
+            out.push(fence(FenceKind::ISync));
+        }
+        (Link::CtrlIsb, Some(source)) => {
+            put_branch_code::<I>(source, label, out);
+            out.push(Micro::Barrier { kind: Barrier::Isb });
+        }
+        _ => {}
+    }
+}
+
+fn fence(kind: FenceKind) -> Micro
+    ensures { result ≡ ops.Barrier (Barrier.Fence kind) }
+{
+    Micro::Barrier {
+        kind: Barrier::Fence(kind),
+    }
+}
+
+/// Appends a branch on a register, and the label that it goes to.
+fn put_branch_code<I: OwnInstructions>(source: u8, label: u8, out: &mut Instrs)
+    requires { array_vec_len out.old + 3 ≤ MAX_INSTRS }
+    ensures code { out.new.items ≡ out.old.items ++ (I.own.branch source label ++ ops.Label label ∷ []) }
+    ensures few { array_vec_len out.new ≤ array_vec_len out.old + 3 }
+{
+    I::put_branch(source, label, out);
+    out.push(Micro::Label { label });
+}
+
+/// Appends the code of a load, and gives the register that it loads to.
+pub fn put_load<I: OwnInstructions>(
+    regs: &mut Regs,
+    link: Link,
+    from: Option<u8>,
+    place: u8,
+    out: &mut Instrs,
+) -> u8
+    requires to_load { is_data link ≡ false }
+    requires left { ((puts_of I.own).load regs.old link from place).regs.next ≤ regs.old.count }
+    requires room { array_vec_len out.old + access_room link ≤ MAX_INSTRS }
+    ensures register { result ≡ (puts_of I.own).filled regs.old link from place }
+    ensures taken { regs.new ≡ ((puts_of I.own).load regs.old link from place).regs }
+    ensures code { out.new.items ≡ out.old.items ++ ((puts_of I.own).load regs.old link from place).code }
+{
+    match address_source(link, from) {
+        Some(source) => {
+            let taken = regs.take_dependent(place);
+            out.push(zero_from(source, taken.dependency));
+            I::put_dependent_load(taken.dependency, taken.value, taken.address, out);
+            taken.value
+        }
+        None => {
+            let taken = regs.take_plain(place);
+            out.push(Micro::Load {
+                dst: taken.value,
+                base: taken.address,
+                index: None,
+            });
+            taken.value
+        }
+    }
+}
+
+/// Appends the code of a store of the value.
+pub fn put_store<I: OwnInstructions>(
+    regs: &mut Regs,
+    link: Link,
+    from: Option<u8>,
+    place: u8,
+    value: u8,
+    out: &mut Instrs,
+)
+    requires left { ((puts_of I.own).store regs.old link from place value).regs.next ≤ regs.old.count }
+    requires room { array_vec_len out.old + access_room link ≤ MAX_INSTRS }
+    ensures taken { regs.new ≡ ((puts_of I.own).store regs.old link from place value).regs }
+    ensures code { out.new.items ≡ out.old.items ++ ((puts_of I.own).store regs.old link from place value).code }
+{
+    match address_source(link, from) {
+        Some(source) => put_store_dependent::<I>(regs, source, place, value, out),
+        None => put_store_plain::<I>(regs, data_source(link, from), place, value, out),
+    }
+}
+
+fn put_store_dependent<I: OwnInstructions>(
+    regs: &mut Regs,
+    source: u8,
+    place: u8,
+    value: u8,
+    out: &mut Instrs,
+)
+    requires left { (with_address (took regs.old 2) place).next ≤ regs.old.count }
+    requires room { array_vec_len out.old + 4 ≤ MAX_INSTRS }
+    ensures taken { regs.new ≡ (store_on I.own regs.old (Some source) None place value).regs }
+    ensures code { out.new.items ≡ out.old.items ++ (store_on I.own regs.old (Some source) None place value).code }
+{
+    let taken = regs.take_dependent(place);
+    out.push(zero_from(source, taken.dependency));
+    out.push(Micro::Imm {
+        dst: taken.value,
+        n: u32::from(value),
+    });
+    I::put_dependent_store(taken.dependency, taken.value, taken.address, out);
+}
+
+fn put_store_plain<I: OwnInstructions>(
+    regs: &mut Regs,
+    source: Option<u8>,
+    place: u8,
+    value: u8,
+    out: &mut Instrs,
+)
+    requires left { (with_address (took regs.old 1) place).next ≤ regs.old.count }
+    requires room { array_vec_len out.old + cond (is_some source) 3 2 ≤ MAX_INSTRS }
+    ensures taken { regs.new ≡ (store_on I.own regs.old None source place value).regs }
+    ensures code { out.new.items ≡ out.old.items ++ (store_on I.own regs.old None source place value).code }
+{
+    let taken = regs.take_plain(place);
+    match source {
+        Some(source) => {
+            out.push(zero_from(source, taken.value));
+            out.push(I::joining(taken.value, value));
+        }
+        None => out.push(Micro::Imm {
+            dst: taken.value,
+            n: u32::from(value),
+        }),
+    }
+    out.push(Micro::Store {
+        src: taken.value,
+        base: taken.address,
+        index: None,
+    });
+}
+
+/// The number 0 in `dst`, which depends on `source`.
+fn zero_from(source: u8, dst: u8) -> Micro
+    ensures { result ≡ ops.Xor dst source source }
+{
+    Micro::Xor {
+        dst,
+        a: source,
+        b: source,
+    }
+}

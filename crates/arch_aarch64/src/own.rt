@@ -1,0 +1,39 @@
+ghost use Rattle.arch_aarch64.specs.Puts.{instructions};
+
+use crate::A64;
+use addressed_code::OwnInstructions;
+use arch_trait::Instrs;
+use micro_ops::Micro;
+
+/// `CBNZ`, accesses with an index register, and `ADD` of an immediate.
+impl OwnInstructions for A64 {
+    ghost own = { instructions };
+
+    fn put_branch(source: u8, label: u8, out: &mut Instrs) {
+        out.push(Micro::BranchNz { a: source, label });
+    }
+
+    fn put_dependent_load(dependency: u8, value: u8, address: u8, out: &mut Instrs) {
+        out.push(Micro::Load {
+            dst: value,
+            base: address,
+            index: Some(dependency),
+        });
+    }
+
+    fn put_dependent_store(dependency: u8, value: u8, address: u8, out: &mut Instrs) {
+        out.push(Micro::Store {
+            src: value,
+            base: address,
+            index: Some(dependency),
+        });
+    }
+
+    fn joining(dependency: u8, number: u8) -> Micro {
+        Micro::AddImm {
+            dst: dependency,
+            a: dependency,
+            n: u32::from(number),
+        }
+    }
+}
