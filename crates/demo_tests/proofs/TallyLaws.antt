@@ -24,6 +24,7 @@ use Rattle.diy_io.specs.Sink.{Tally, line_feed_count}
 use Rattle.diy_io.specs.Sink as sinks
 use Rattle.test_maker.specs.CycleText.{cycle_text}
 use Rattle.test_maker.specs.Refusals.{refusal_of}
+use Rattle.printed_tests.proofs.Cycles.{cycle_text_short}
 use Rattle.demo_tests.specs.declared.tally.TestTally.{TestTally}
 use Rattle.demo_tests.specs.Counting.{nothing_counted, counted, Fits}
 use Rattle.family_laws.specs.Filled.{MakesAll}
@@ -31,7 +32,7 @@ use Rattle.demo_tests.specs.Filled.{filled, seed_after}
 use Rattle.demo_tests.specs.DemoText.{demo_text, family_lines, tally_line}
 use Rattle.demo_tests.specs.Tallies.{place_of, slots_of, seed_of, numbered_cycle, numbered_text, family_numbers, tally_of, family_tallies}
 use Rattle.demo_tests.proofs.FilledLaws.{is_filled, filled_cycle}
-use Rattle.demo_tests.proofs.Texts.{text_short, line_feeds_few}
+use Rattle.demo_tests.proofs.Texts.{line_feeds_few}
 
 -- a family of the table by its place
 pub family_among : (place : ℕ) (d : Family) → place < 14 → IsAmong all_families (slice_index_or all_families place d)
@@ -77,7 +78,7 @@ unfolding numbered_text numbered_cycle
 texts_short puts w laws back cells one all number =
     let family = slice_index_or all_families (number % 14) Other in
     let among = family_among (number % 14) Other (omega arith) in
-    text_short puts w Accept (filled puts.name (seed_of number) (family_edges family)) laws back cells one (filled_cycle puts.name (seed_of number) family among)
+    cycle_text_short puts w Accept (filled puts.name (seed_of number) (family_edges family)) laws back cells one (filled_cycle puts.name (seed_of number) family among)
     (accepted puts puts.name all family (seed_of number) (filled puts.name (seed_of number) (family_edges family)) among refl refl)
 
 -- so that there is room for one more
