@@ -52,7 +52,7 @@ abbrev pub text_tally : List ℕ → Tally
 text_tally text = sinks.tally_of (length text) (line_feed_count text)
 
 -- a cycle is that of a test
-pub numbered_so : (puts : Puts) (arch : ArchName) (number old : ℕ) (d : Family) (cycle : List Edge) → arch ≡ puts.name → old ≡ seed_of number
+numbered_so : (puts : Puts) (arch : ArchName) (number old : ℕ) (d : Family) (cycle : List Edge) → arch ≡ puts.name → old ≡ seed_of number
     → cycle ≡ filled arch old (family_edges (slice_index_or all_families (number % 14) d)) → cycle ≡ numbered_cycle puts.name number
 unfolding numbered_cycle
 numbered_so puts arch number old d cycle same o h =
@@ -61,10 +61,12 @@ numbered_so puts arch number old d cycle same o h =
     ∙ ap (λ s. filled puts.name s (family_edges (slice_index_or all_families (number % 14) d))) o ∙ ap (filled puts.name (seed_of number)) slots
 
 -- its text is the test's
-pub text_so : (puts : Puts) (w : Writing) (number : ℕ) (cycle : List Edge) (text : Tally) → cycle ≡ numbered_cycle puts.name number → text ≡ text_tally (cycle_text puts w Accept (name_of cycle) cycle)
+pub text_so : (puts : Puts) (w : Writing) (arch : ArchName) (number old : ℕ) (d : Family) (cycle : List Edge) (text : Tally) → arch ≡ puts.name → old ≡ seed_of number
+    → cycle ≡ filled arch old (family_edges (slice_index_or all_families (number % 14) d)) → text ≡ text_tally (cycle_text puts w Accept (name_of cycle) cycle)
     → text ≡ text_tally (numbered_text puts w number)
 unfolding numbered_text
-text_so puts w number cycle text h e = e ∙ ap (λ u. text_tally (cycle_text puts w Accept (name_of u) u)) h
+text_so puts w arch number old d cycle text same o h e =
+    e ∙ ap (λ u. text_tally (cycle_text puts w Accept (name_of u) u)) (numbered_so puts arch number old d cycle same o h)
 
 -- what is filled in for a family of the table has a test
 pub accepted : (puts : Puts) (arch : ArchName) → MakesAll puts → (family : Family) (seed : ℕ) (cycle : List Edge) → IsAmong all_families family → arch ≡ puts.name → cycle ≡ filled arch seed (family_edges family)

@@ -1,6 +1,6 @@
 use Rattle.std.proofs.Common.{◌≡◌, ◌<◌, ◌%◌, refl, arith}
 use Rattle.demo_tests.specs.Tallies.{numbered_text}
-use Rattle.demo_tests.proofs.TallyLaws.{family_among, next_seed_of, numbered_so, text_so, accepted, texts_short, all_fits, families_fit, all_more, families_more, no_families_counted, none_counted, place_within}
+use Rattle.demo_tests.proofs.TallyLaws.{family_among, next_seed_of, text_so, accepted, texts_short, all_fits, families_fit, all_more, families_more, no_families_counted, none_counted, place_within}
 use Rattle.demo_tests.proofs.making.tally_tests.Goals as goal
 
 pub loop-number-init : goal.loop-number-init
@@ -27,10 +27,8 @@ count-requires-clause-families g c =
     let puts = g.A.Arch.puts in
     let w = g.A.Arch.writing in
     let number = c.loop-number.number in
-    let named : c.new-choices.result.arch ≡ puts.name = cc (c.new-choices.ensures, c.NAME.ensures, g.met.A.Arch.same_name) in
-    let text = text_so puts w number c.draw_cycle-cycle.result c.measure-text.result
-    (numbered_so puts c.new-choices.result.arch number c.loop-number.draws.seed _ c.draw_cycle-cycle.result named c.loop-number.invariant.seed c.draw_cycle-cycle.ensures.cycle)
-    c.measure-text.ensures in
+    let text = text_so puts w c.new-choices.result.arch number c.loop-number.draws.seed _ c.draw_cycle-cycle.result c.measure-text.result
+    (cc (c.new-choices.ensures, c.NAME.ensures, g.met.A.Arch.same_name)) c.loop-number.invariant.seed c.draw_cycle-cycle.ensures.cycle c.measure-text.ensures in
     let short = texts_short puts w g.met.A.Arch.laws g.met.A.Arch.reads_back g.met.A.Arch.writes_cells g.met.A.Arch.makes_one_access c.requires in
     let small : number < 4294967296 = omega (arith, c.loop-number-test.true, c.ranges.count.fits) in
     families_fit (numbered_text puts w) c.measure-text.result c.loop-number.summary.families number short small text c.loop-number.invariant.families
@@ -40,10 +38,8 @@ count-requires-clause-all g c =
     let puts = g.A.Arch.puts in
     let w = g.A.Arch.writing in
     let number = c.loop-number.number in
-    let named : c.new-choices.result.arch ≡ puts.name = cc (c.new-choices.ensures, c.NAME.ensures, g.met.A.Arch.same_name) in
-    let text = text_so puts w number c.draw_cycle-cycle.result c.measure-text.result
-    (numbered_so puts c.new-choices.result.arch number c.loop-number.draws.seed _ c.draw_cycle-cycle.result named c.loop-number.invariant.seed c.draw_cycle-cycle.ensures.cycle)
-    c.measure-text.ensures in
+    let text = text_so puts w c.new-choices.result.arch number c.loop-number.draws.seed _ c.draw_cycle-cycle.result c.measure-text.result
+    (cc (c.new-choices.ensures, c.NAME.ensures, g.met.A.Arch.same_name)) c.loop-number.invariant.seed c.draw_cycle-cycle.ensures.cycle c.measure-text.ensures in
     let short = texts_short puts w g.met.A.Arch.laws g.met.A.Arch.reads_back g.met.A.Arch.writes_cells g.met.A.Arch.makes_one_access c.requires in
     let small : number < 4294967296 = omega (arith, c.loop-number-test.true, c.ranges.count.fits) in
     all_fits (numbered_text puts w) c.measure-text.result c.loop-number.summary.all number short small text c.loop-number.invariant.all
@@ -53,10 +49,8 @@ loop-number-preserved g c =
     let puts = g.A.Arch.puts in
     let w = g.A.Arch.writing in
     let number = c.loop-number.number in
-    let named : c.new-choices.result.arch ≡ puts.name = cc (c.new-choices.ensures, c.NAME.ensures, g.met.A.Arch.same_name) in
-    let text = text_so puts w number c.draw_cycle-cycle.result c.measure-text.result
-    (numbered_so puts c.new-choices.result.arch number c.loop-number.draws.seed _ c.draw_cycle-cycle.result named c.loop-number.invariant.seed c.draw_cycle-cycle.ensures.cycle)
-    c.measure-text.ensures in
+    let text = text_so puts w c.new-choices.result.arch number c.loop-number.draws.seed _ c.draw_cycle-cycle.result c.measure-text.result
+    (cc (c.new-choices.ensures, c.NAME.ensures, g.met.A.Arch.same_name)) c.loop-number.invariant.seed c.draw_cycle-cycle.ensures.cycle c.measure-text.ensures in
     record {
       seed = next_seed_of number c.draw_cycle-cycle.new.draws.seed c.loop-number.draws.seed _ c.loop-number.invariant.seed c.draw_cycle-cycle.ensures.seed;
       families = families_more (numbered_text puts w) c.measure-text.result c.loop-number.summary.families c.count.new.self.families number (number % 14) text c.loop-number.invariant.families refl c.count.ensures.families;
