@@ -1,5 +1,5 @@
 -- A text that is shorter than the room for it is kept whole.
-use Rattle.std.proofs.Common.{◌≡◌, ◌<◌, ◌≤◌, ℕ, List, [], length, Some, refl, ap, arith, length-append}
+use Rattle.std.proofs.Common.{◌≡◌, ◌<◌, ◌≤◌, ℕ, List, [], length, Some, ap, arith, length-append}
 use Rattle.diy_io.specs.Count.{Rose}
 use Rattle.diy_io.specs.Sink.{Grew, GrewByPrefix, told_kept, told_after, written_told}
 use Rattle.diy_io.specs.Wrote.{WroteAll, WrotePart}
