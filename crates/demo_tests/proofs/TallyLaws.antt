@@ -96,7 +96,7 @@ fits_of T numbers number n short few small =
       bytes = omega (arith, bytes, short number);
     }
 
-pub all_fits : (T : ℕ → List ℕ) (text : Tally) (all : TestTally) (number : ℕ) → ((k : ℕ) → length (T k) ≤ 262144) → number < 4294967296 → text ≡ text_tally (T number) → all ≡ tally_of T (upto number) → Fits text all
+all_fits : (T : ℕ → List ℕ) (text : Tally) (all : TestTally) (number : ℕ) → ((k : ℕ) → length (T k) ≤ 262144) → number < 4294967296 → text ≡ text_tally (T number) → all ≡ tally_of T (upto number) → Fits text all
 all_fits T text all number short small e a =
     rw (e, a) (fits_of T (upto number) number number short (omega (arith, length-upto number)) small)
 
@@ -105,12 +105,21 @@ few_numbers number place =
     let p = λ (n : ℕ). place_of n == place in
     omega (arith, length-filter p (upto number), count_by-le-length p (upto number), length-upto number)
 
-pub families_fit : (T : ℕ → List ℕ) (text : Tally) (families : List TestTally) (number : ℕ) → ((k : ℕ) → length (T k) ≤ 262144) → number < 4294967296 → text ≡ text_tally (T number) → families ≡ family_tallies T number
+families_fit : (T : ℕ → List ℕ) (text : Tally) (families : List TestTally) (number : ℕ) → ((k : ℕ) → length (T k) ≤ 262144) → number < 4294967296 → text ≡ text_tally (T number) → families ≡ family_tallies T number
     → All (Fits text) families
 unfolding family_tallies
 families_fit T text families number short small e f =
     rw (e, f) (All-map (Fits (text_tally (T number))) (λ place. tally_of T (family_numbers number place)) (upto 14)
     (λ k d h. fits_of T (family_numbers number (get_or (upto 14) k d)) number number short (few_numbers number (get_or (upto 14) k d)) small))
+
+-- there is room for one more in the tally of each family, and in that of all
+pub record HasRoom (text : Tally) (families : List TestTally) (all : TestTally) : Type 0 where
+  pub each : All (Fits text) families
+  pub whole : Fits text all
+
+pub has_room : (T : ℕ → List ℕ) (text : Tally) (families : List TestTally) (all : TestTally) (number : ℕ) → ((k : ℕ) → length (T k) ≤ 262144) → number < 4294967296
+    → text ≡ text_tally (T number) → families ≡ family_tallies T number → all ≡ tally_of T (upto number) → HasRoom text families all
+has_room T text families all number short small e f a = record { each = families_fit T text families number short small e f; whole = all_fits T text all number short small e a }
 
 -- a test more
 tally_more : (T : ℕ → List ℕ) (numbers : List ℕ) (number : ℕ) → tally_of T (numbers ++ number ∷ []) ≡ counted (text_tally (T number)) (tally_of T numbers)
