@@ -1,5 +1,5 @@
 -- What the writing of the tests of choices leaves, as the answers see it.
-use Rattle.std.proofs.Common.{◌≡◌, ℕ, List, Option, Ok, Err, refl, sym, ap, subst, inl, inr}
+use Rattle.std.proofs.Common.{◌≡◌, ℕ, List, Option, Ok, refl, sym, ap, subst, inl, inr}
 use Rattle.std.specs.Option.{option_map}
 use Rattle.std.specs.Prelude.{Result}
 use Rattle.relax_edges.specs.declared.edge.Edge.{Edge}
@@ -11,7 +11,7 @@ use Rattle.diy_words.specs.declared.request.Cross.{Cross}
 use Rattle.diy_words.specs.declared.request.Request.TheVariants as requests
 use Rattle.diy_words.specs.declared.usage.Usage.{Usage}
 use Rattle.diy_words.specs.Given.{Gives}
-use Rattle.diy_words.specs.Requests.{Asked, AsksTest, AsksName, AsksList, AsksFamilies, AsksSum, AsksCross, AsksDemo, IsCrossing, places_of}
+use Rattle.diy_words.specs.Requests.{Asked, AsksCross, IsCrossing, places_of}
 use Rattle.listed_tests.specs.declared.ending.ListingEnd.{ListingEnd}
 use Rattle.listed_tests.specs.declared.ending.ListingEnd.TheVariants as ends
 use Rattle.listed_tests.specs.Given.{EndsGiven}

@@ -1,8 +1,7 @@
 -- Where a test is printed, its bytes force the cycle.
 use Rattle.std.proofs.Common.{◌≡◌, ℕ, Bool, true, false, cond, not, nat_lt, nat_le, List, [], ◌∷◌, ◌++◌, length, Option, Some, None, refl, sym, ap, subst, arith, Ok, Err, ◌∙◌}
-use Rattle.std.specs.Char.{is_ascii_alphanumeric}
 use Rattle.std.specs.Option.{option_or}
-use Rattle.std.specs.Prelude.{IfSome, Result, ◌==◌, ◌&&◌, ◌||◌, if◌then◌else◌}
+use Rattle.std.specs.Prelude.{IfSome, Result, ◌&&◌, if◌then◌else◌}
 use Rattle.std.specs.List.{list_all, position_from}
 use Rattle.std.proofs.lemmas.Bool.{and_parts, ltb-false}
 use Rattle.std.proofs.lemmas.Bool.Decides.{nat_tests}
@@ -39,9 +38,7 @@ use Rattle.litmus_text.proofs.CutBack.{weaker}
 use Rattle.diy_words.specs.declared.usage.Usage.{Usage}
 use Rattle.diy_words.specs.Names.{is_name, is_name_byte}
 use Rattle.diy_words.specs.Requests.{Asked, TestAsked, ListAsked, AsksTest, AsksName, AsksList, AsksFamilies, AsksSum, AsksCross, AsksDemo, CrossAsked, asked_of}
-use Rattle.cycle_names.specs.Names as cycles
 use Rattle.cycle_names.specs.Names.{name_of}
-use Rattle.cycle_names.proofs.NameLaws.{names_of_cycles}
 use Rattle.diy_words.proofs.RequestForm.{asked_form}
 use Rattle.test_maker.specs.declared.refusal.MakeRefusal.{MakeRefusal}
 use Rattle.test_maker.specs.Refusals.{refusal_of}
