@@ -1,7 +1,7 @@
 -- The choices for a link: there is one at least, there are few, and they are found among all edges in order.
 use Rattle.std.proofs.Common.{◌≡◌, ◌<◌, ◌≤◌, ◌+◌, ℕ, Bool, true, List, [], ◌∷◌, ◌++◌, length, take, drop, get_or, refl, sym, ap, ◌∙◌, arith, length-append}
-use Rattle.std.specs.Prelude.{cond, filter, nat_lt, nat_le}
-use Rattle.std.proofs.lemmas.Bool.{cond-true}
+use Rattle.std.specs.Prelude.{◌&&◌, cond, filter, nat_lt, nat_le}
+use Rattle.std.proofs.lemmas.Bool.{and_parts, cond-true}
 use Rattle.std.proofs.lemmas.Bool.Decides.{nat_tests}
 use Rattle.std.proofs.lemmas.List.{take-append-drop, take_all}
 use Rattle.std.proofs.lemmas.List.Elements.{filter-append, filter_more}
@@ -18,51 +18,35 @@ use Rattle.relax_edges.proofs.Ranks.{placed, edges-length}
 use Rattle.family_laws.specs.Filled.{is_choice}
 use Rattle.demo_tests.specs.Filled.{choices_of}
 
-some_of : (arch : ArchName) (from to : Dir) → nat_lt 0 (length (choices_of arch from to)) ≡ true
+-- there are 1 to 16 choices for each link
+one_to_16 : (arch : ArchName) (from to : Dir) → (nat_lt 0 (length (choices_of arch from to)) && nat_le (length (choices_of arch from to)) 16) ≡ true
 unfolding choices_of is_choice edges_in_order
-some_of X86 dirs.R dirs.R = refl
-some_of X86 dirs.R dirs.W = refl
-some_of X86 dirs.W dirs.R = refl
-some_of X86 dirs.W dirs.W = refl
-some_of PPC dirs.R dirs.R = refl
-some_of PPC dirs.R dirs.W = refl
-some_of PPC dirs.W dirs.R = refl
-some_of PPC dirs.W dirs.W = refl
-some_of AArch64 dirs.R dirs.R = refl
-some_of AArch64 dirs.R dirs.W = refl
-some_of AArch64 dirs.W dirs.R = refl
-some_of AArch64 dirs.W dirs.W = refl
-some_of RISCV dirs.R dirs.R = refl
-some_of RISCV dirs.R dirs.W = refl
-some_of RISCV dirs.W dirs.R = refl
-some_of RISCV dirs.W dirs.W = refl
+one_to_16 X86 dirs.R dirs.R = refl
+one_to_16 X86 dirs.R dirs.W = refl
+one_to_16 X86 dirs.W dirs.R = refl
+one_to_16 X86 dirs.W dirs.W = refl
+one_to_16 PPC dirs.R dirs.R = refl
+one_to_16 PPC dirs.R dirs.W = refl
+one_to_16 PPC dirs.W dirs.R = refl
+one_to_16 PPC dirs.W dirs.W = refl
+one_to_16 AArch64 dirs.R dirs.R = refl
+one_to_16 AArch64 dirs.R dirs.W = refl
+one_to_16 AArch64 dirs.W dirs.R = refl
+one_to_16 AArch64 dirs.W dirs.W = refl
+one_to_16 RISCV dirs.R dirs.R = refl
+one_to_16 RISCV dirs.R dirs.W = refl
+one_to_16 RISCV dirs.W dirs.R = refl
+one_to_16 RISCV dirs.W dirs.W = refl
 
-few_of : (arch : ArchName) (from to : Dir) → nat_le (length (choices_of arch from to)) 16 ≡ true
-unfolding choices_of is_choice edges_in_order
-few_of X86 dirs.R dirs.R = refl
-few_of X86 dirs.R dirs.W = refl
-few_of X86 dirs.W dirs.R = refl
-few_of X86 dirs.W dirs.W = refl
-few_of PPC dirs.R dirs.R = refl
-few_of PPC dirs.R dirs.W = refl
-few_of PPC dirs.W dirs.R = refl
-few_of PPC dirs.W dirs.W = refl
-few_of AArch64 dirs.R dirs.R = refl
-few_of AArch64 dirs.R dirs.W = refl
-few_of AArch64 dirs.W dirs.R = refl
-few_of AArch64 dirs.W dirs.W = refl
-few_of RISCV dirs.R dirs.R = refl
-few_of RISCV dirs.R dirs.W = refl
-few_of RISCV dirs.W dirs.R = refl
-few_of RISCV dirs.W dirs.W = refl
-
--- there is a choice for each link
 pub some_choices : (arch : ArchName) (from to : Dir) → 0 < length (choices_of arch from to)
-some_choices arch from to = grind (arith, nat_tests, some_of arch from to)
+some_choices arch from to =
+    let both = and_parts (nat_lt 0 (length (choices_of arch from to))) (nat_le (length (choices_of arch from to)) 16) (one_to_16 arch from to) in
+    grind (arith, nat_tests, both.0)
 
--- and there are at most 16
 few_choices : (arch : ArchName) (from to : Dir) → length (choices_of arch from to) ≤ 16
-few_choices arch from to = grind (arith, nat_tests, few_of arch from to)
+few_choices arch from to =
+    let both = and_parts (nat_lt 0 (length (choices_of arch from to))) (nat_le (length (choices_of arch from to)) 16) (one_to_16 arch from to) in
+    grind (arith, nat_tests, both.1)
 
 -- a filter keeps no more of a part
 length-filter-take : (p : Edge → Bool) (xs : List Edge) (k : ℕ) → length (filter p (take k xs)) ≤ length (filter p xs)

@@ -24,6 +24,7 @@ use Rattle.diy_io.specs.Sink.{Tally, line_feed_count}
 use Rattle.diy_io.specs.Sink as sinks
 use Rattle.test_maker.specs.CycleText.{cycle_text}
 use Rattle.test_maker.specs.Refusals.{refusal_of}
+use Rattle.printed_tests.proofs.Cycles.{cycle_text_short}
 use Rattle.demo_tests.specs.declared.tally.TestTally.{TestTally}
 use Rattle.demo_tests.specs.Counting.{nothing_counted, counted, Fits}
 use Rattle.family_laws.specs.Filled.{MakesAll}
@@ -31,7 +32,7 @@ use Rattle.demo_tests.specs.Filled.{filled, seed_after}
 use Rattle.demo_tests.specs.DemoText.{demo_text, family_lines, tally_line}
 use Rattle.demo_tests.specs.Tallies.{place_of, slots_of, seed_of, numbered_cycle, numbered_text, family_numbers, tally_of, family_tallies}
 use Rattle.demo_tests.proofs.FilledLaws.{is_filled, filled_cycle}
-use Rattle.demo_tests.proofs.Texts.{text_short, line_feeds_few}
+use Rattle.demo_tests.proofs.Texts.{line_feeds_few}
 
 -- a family of the table by its place
 pub family_among : (place : ℕ) (d : Family) → place < 14 → IsAmong all_families (slice_index_or all_families place d)
@@ -51,7 +52,7 @@ abbrev pub text_tally : List ℕ → Tally
 text_tally text = sinks.tally_of (length text) (line_feed_count text)
 
 -- a cycle is that of a test
-pub numbered_so : (puts : Puts) (arch : ArchName) (number old : ℕ) (d : Family) (cycle : List Edge) → arch ≡ puts.name → old ≡ seed_of number
+numbered_so : (puts : Puts) (arch : ArchName) (number old : ℕ) (d : Family) (cycle : List Edge) → arch ≡ puts.name → old ≡ seed_of number
     → cycle ≡ filled arch old (family_edges (slice_index_or all_families (number % 14) d)) → cycle ≡ numbered_cycle puts.name number
 unfolding numbered_cycle
 numbered_so puts arch number old d cycle same o h =
@@ -60,10 +61,12 @@ numbered_so puts arch number old d cycle same o h =
     ∙ ap (λ s. filled puts.name s (family_edges (slice_index_or all_families (number % 14) d))) o ∙ ap (filled puts.name (seed_of number)) slots
 
 -- its text is the test's
-pub text_so : (puts : Puts) (w : Writing) (number : ℕ) (cycle : List Edge) (text : Tally) → cycle ≡ numbered_cycle puts.name number → text ≡ text_tally (cycle_text puts w Accept (name_of cycle) cycle)
+pub text_so : (puts : Puts) (w : Writing) (arch : ArchName) (number old : ℕ) (d : Family) (cycle : List Edge) (text : Tally) → arch ≡ puts.name → old ≡ seed_of number
+    → cycle ≡ filled arch old (family_edges (slice_index_or all_families (number % 14) d)) → text ≡ text_tally (cycle_text puts w Accept (name_of cycle) cycle)
     → text ≡ text_tally (numbered_text puts w number)
 unfolding numbered_text
-text_so puts w number cycle text h e = e ∙ ap (λ u. text_tally (cycle_text puts w Accept (name_of u) u)) h
+text_so puts w arch number old d cycle text same o h e =
+    e ∙ ap (λ u. text_tally (cycle_text puts w Accept (name_of u) u)) (numbered_so puts arch number old d cycle same o h)
 
 -- what is filled in for a family of the table has a test
 pub accepted : (puts : Puts) (arch : ArchName) → MakesAll puts → (family : Family) (seed : ℕ) (cycle : List Edge) → IsAmong all_families family → arch ≡ puts.name → cycle ≡ filled arch seed (family_edges family)
@@ -77,7 +80,7 @@ unfolding numbered_text numbered_cycle
 texts_short puts w laws back cells one all number =
     let family = slice_index_or all_families (number % 14) Other in
     let among = family_among (number % 14) Other (omega arith) in
-    text_short puts w Accept (filled puts.name (seed_of number) (family_edges family)) laws back cells one (filled_cycle puts.name (seed_of number) family among)
+    cycle_text_short puts w Accept (filled puts.name (seed_of number) (family_edges family)) laws back cells one (filled_cycle puts.name (seed_of number) family among)
     (accepted puts puts.name all family (seed_of number) (filled puts.name (seed_of number) (family_edges family)) among refl refl)
 
 -- so that there is room for one more
@@ -93,7 +96,7 @@ fits_of T numbers number n short few small =
       bytes = omega (arith, bytes, short number);
     }
 
-pub all_fits : (T : ℕ → List ℕ) (text : Tally) (all : TestTally) (number : ℕ) → ((k : ℕ) → length (T k) ≤ 262144) → number < 4294967296 → text ≡ text_tally (T number) → all ≡ tally_of T (upto number) → Fits text all
+all_fits : (T : ℕ → List ℕ) (text : Tally) (all : TestTally) (number : ℕ) → ((k : ℕ) → length (T k) ≤ 262144) → number < 4294967296 → text ≡ text_tally (T number) → all ≡ tally_of T (upto number) → Fits text all
 all_fits T text all number short small e a =
     rw (e, a) (fits_of T (upto number) number number short (omega (arith, length-upto number)) small)
 
@@ -102,12 +105,21 @@ few_numbers number place =
     let p = λ (n : ℕ). place_of n == place in
     omega (arith, length-filter p (upto number), count_by-le-length p (upto number), length-upto number)
 
-pub families_fit : (T : ℕ → List ℕ) (text : Tally) (families : List TestTally) (number : ℕ) → ((k : ℕ) → length (T k) ≤ 262144) → number < 4294967296 → text ≡ text_tally (T number) → families ≡ family_tallies T number
+families_fit : (T : ℕ → List ℕ) (text : Tally) (families : List TestTally) (number : ℕ) → ((k : ℕ) → length (T k) ≤ 262144) → number < 4294967296 → text ≡ text_tally (T number) → families ≡ family_tallies T number
     → All (Fits text) families
 unfolding family_tallies
 families_fit T text families number short small e f =
     rw (e, f) (All-map (Fits (text_tally (T number))) (λ place. tally_of T (family_numbers number place)) (upto 14)
     (λ k d h. fits_of T (family_numbers number (get_or (upto 14) k d)) number number short (few_numbers number (get_or (upto 14) k d)) small))
+
+-- there is room for one more in the tally of each family, and in that of all
+pub record HasRoom (text : Tally) (families : List TestTally) (all : TestTally) : Type 0 where
+  pub each : All (Fits text) families
+  pub whole : Fits text all
+
+pub has_room : (T : ℕ → List ℕ) (text : Tally) (families : List TestTally) (all : TestTally) (number : ℕ) → ((k : ℕ) → length (T k) ≤ 262144) → number < 4294967296
+    → text ≡ text_tally (T number) → families ≡ family_tallies T number → all ≡ tally_of T (upto number) → HasRoom text families all
+has_room T text families all number short small e f a = record { each = families_fit T text families number short small e f; whole = all_fits T text all number short small e a }
 
 -- a test more
 tally_more : (T : ℕ → List ℕ) (numbers : List ℕ) (number : ℕ) → tally_of T (numbers ++ number ∷ []) ≡ counted (text_tally (T number)) (tally_of T numbers)

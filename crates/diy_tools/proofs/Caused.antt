@@ -59,14 +59,7 @@ pub by_print : (G : Status → Type 0) (text : List ℕ) (status : Status) (befo
     → (WroteAll before after text → G statuses.Done) → (WrotePart before after text → G (statuses.WriteFault Out)) → G status
 by_print G text statuses.Done before after h all part = all h
 by_print G text (statuses.WriteFault Out) before after h all part = part h
-by_print G text (statuses.WriteFault Input) before after h all part = absurd h
-by_print G text (statuses.WriteFault Shelf) before after h all part = absurd h
-by_print G text (statuses.ReadFault device) before after h all part = absurd h
-by_print G text (statuses.Refused refusal) before after h all part = absurd h
-by_print G text (statuses.Usage word kind) before after h all part = absurd h
-by_print G text (statuses.BadText file line kind) before after h all part = absurd h
-by_print G text (statuses.NoFile word) before after h all part = absurd h
-by_print G text statuses.NoMemory before after h all part = absurd h
+by_print G text status before after h all part = absurd h
 
 -- the shelf failed in a listing
 either_failed : (listed : List Edge → Type 0) (folder : Option (List ℕ)) (text : List Edge → List ℕ) (given : Option (List Edge)) (old new : ShelfSeen)

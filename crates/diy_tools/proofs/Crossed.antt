@@ -1,5 +1,5 @@
 -- What the writing of the tests of choices leaves, as the answers see it.
-use Rattle.std.proofs.Common.{◌≡◌, ℕ, List, Option, Ok, Err, refl, sym, ap, subst, inl, inr}
+use Rattle.std.proofs.Common.{◌≡◌, ℕ, List, Option, Ok, refl, sym, ap, subst, inl, inr}
 use Rattle.std.specs.Option.{option_map}
 use Rattle.std.specs.Prelude.{Result}
 use Rattle.relax_edges.specs.declared.edge.Edge.{Edge}
@@ -11,7 +11,7 @@ use Rattle.diy_words.specs.declared.request.Cross.{Cross}
 use Rattle.diy_words.specs.declared.request.Request.TheVariants as requests
 use Rattle.diy_words.specs.declared.usage.Usage.{Usage}
 use Rattle.diy_words.specs.Given.{Gives}
-use Rattle.diy_words.specs.Requests.{Asked, AsksTest, AsksName, AsksList, AsksFamilies, AsksSum, AsksCross, AsksDemo, IsCrossing, places_of}
+use Rattle.diy_words.specs.Requests.{Asked, AsksCross, IsCrossing, places_of}
 use Rattle.listed_tests.specs.declared.ending.ListingEnd.{ListingEnd}
 use Rattle.listed_tests.specs.declared.ending.ListingEnd.TheVariants as ends
 use Rattle.listed_tests.specs.Given.{EndsGiven}
@@ -50,41 +50,23 @@ choices_on arch named mode folder places status old new before after same h =
 
 -- words that make such a request ask for choices
 pub asks_choices : (asked : Result Asked Usage) (request : Cross) → Gives (Ok (requests.Cross request)) asked → IsCrossing asked
-asks_choices (Err usage) request g = absurd g
-asks_choices (Ok (AsksTest asked)) request g = absurd g
-asks_choices (Ok (AsksName asked)) request g = absurd g
-asks_choices (Ok (AsksList asked)) request g = absurd g
-asks_choices (Ok (AsksFamilies arch)) request g = absurd g
-asks_choices (Ok AsksSum) request g = absurd g
-asks_choices (Ok (AsksDemo asked)) request g = absurd g
 asks_choices (Ok (AsksCross asked)) request g = tt
+asks_choices asked request g = absurd g
 
 -- what is answered of the request is answered of them
 pub choices_answered : (asked : Result Asked Usage) (request : Cross) (places : List (List (List Edge))) (status : Status) (old new : ShelfSeen) (before after : SinkSeen)
     → Gives (Ok (requests.Cross request)) asked → places ≡ places_of asked
     → AnswersChoices (machine_of request.arch) request.mode (option_map (λ folder. folder.now) request.folder) places status old new before after
     → AnswersCrossing asked status old new before after
-choices_answered (Err usage) request places status old new before after g e h = absurd g
-choices_answered (Ok (AsksTest asked)) request places status old new before after g e h = absurd g
-choices_answered (Ok (AsksName asked)) request places status old new before after g e h = absurd g
-choices_answered (Ok (AsksList asked)) request places status old new before after g e h = absurd g
-choices_answered (Ok (AsksFamilies arch)) request places status old new before after g e h = absurd g
-choices_answered (Ok AsksSum) request places status old new before after g e h = absurd g
-choices_answered (Ok (AsksDemo asked)) request places status old new before after g e h = absurd g
 choices_answered (Ok (AsksCross asked)) request places status old new before after g e h =
     subst (λ (lists : List (List (List Edge))). AnswersChoices (machine_of asked.arch) asked.mode asked.folder lists status old new before after) e
     (subst (λ (f : Option (List ℕ)). AnswersChoices (machine_of asked.arch) asked.mode f places status old new before after) g.2
     (subst (λ (m : ObsMode). AnswersChoices (machine_of asked.arch) m (option_map (λ folder. folder.now) request.folder) places status old new before after) g.1
     (subst (λ (a : ArchName). AnswersChoices (machine_of a) request.mode (option_map (λ folder. folder.now) request.folder) places status old new before after) g.0 h)))
+choices_answered asked request places status old new before after g e h = absurd g
 
 -- there is no memory, and nothing changed
 pub choices_unread : (asked : Result Asked Usage) (request : Cross) (shelf : ShelfSeen) (sink : SinkSeen)
     → Gives (Ok (requests.Cross request)) asked → AnswersCrossing asked NoMemory shelf shelf sink sink
-choices_unread (Err usage) request shelf sink g = absurd g
-choices_unread (Ok (AsksTest asked)) request shelf sink g = absurd g
-choices_unread (Ok (AsksName asked)) request shelf sink g = absurd g
-choices_unread (Ok (AsksList asked)) request shelf sink g = absurd g
-choices_unread (Ok (AsksFamilies arch)) request shelf sink g = absurd g
-choices_unread (Ok AsksSum) request shelf sink g = absurd g
-choices_unread (Ok (AsksDemo asked)) request shelf sink g = absurd g
 choices_unread (Ok (AsksCross asked)) request shelf sink g = inl (refl, refl, refl)
+choices_unread asked request shelf sink g = absurd g

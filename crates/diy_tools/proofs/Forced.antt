@@ -1,8 +1,7 @@
 -- Where a test is printed, its bytes force the cycle.
 use Rattle.std.proofs.Common.{◌≡◌, ℕ, Bool, true, false, cond, not, nat_lt, nat_le, List, [], ◌∷◌, ◌++◌, length, Option, Some, None, refl, sym, ap, subst, arith, Ok, Err, ◌∙◌}
-use Rattle.std.specs.Char.{is_ascii_alphanumeric}
 use Rattle.std.specs.Option.{option_or}
-use Rattle.std.specs.Prelude.{IfSome, Result, ◌==◌, ◌&&◌, ◌||◌, if◌then◌else◌}
+use Rattle.std.specs.Prelude.{IfSome, Result, ◌&&◌, if◌then◌else◌}
 use Rattle.std.specs.List.{list_all, position_from}
 use Rattle.std.proofs.lemmas.Bool.{and_parts, ltb-false}
 use Rattle.std.proofs.lemmas.Bool.Decides.{nat_tests}
@@ -39,14 +38,13 @@ use Rattle.litmus_text.proofs.CutBack.{weaker}
 use Rattle.diy_words.specs.declared.usage.Usage.{Usage}
 use Rattle.diy_words.specs.Names.{is_name, is_name_byte}
 use Rattle.diy_words.specs.Requests.{Asked, TestAsked, ListAsked, AsksTest, AsksName, AsksList, AsksFamilies, AsksSum, AsksCross, AsksDemo, CrossAsked, asked_of}
-use Rattle.cycle_names.specs.Names as cycles
 use Rattle.cycle_names.specs.Names.{name_of}
-use Rattle.cycle_names.proofs.NameLaws.{names_of_cycles}
 use Rattle.diy_words.proofs.RequestForm.{asked_form}
 use Rattle.test_maker.specs.declared.refusal.MakeRefusal.{MakeRefusal}
 use Rattle.test_maker.specs.Refusals.{refusal_of}
 use Rattle.test_maker.proofs.HavingTests.{accepted_has_test}
 use Rattle.printed_tests.specs.Headline.{BytesForce}
+use Rattle.printed_tests.proofs.Cycles.{cycle_named, name_byte}
 use Rattle.printed_tests.proofs.Printed.{printed_force}
 use Rattle.diy_tools.specs.declared.status.Refusal.{Refusal}
 use Rattle.diy_tools.specs.declared.status.Refusal.TheVariants as refusals
@@ -133,17 +131,6 @@ accepted a mode es h =
     none_made None h = refl
     none_made (Some reason) h = cc h
 
--- a byte of a name as words give it
-name_byte : (b : ℕ) → is_name_byte b ≡ true → printable.is_name_byte b ≡ true
-name_byte b h = regrouped (is_ascii_alphanumeric b) (b == 43) (b == 45) (b == 46) (b == 95) h
-  where
-    regrouped : (p q r s t : Bool) → (p || q || r || s || t) ≡ true → (p || (q || (r || (s || t)))) ≡ true
-    regrouped true q r s t h = refl
-    regrouped false true r s t h = refl
-    regrouped false false true s t h = refl
-    regrouped false false false true t h = refl
-    regrouped false false false false t h = h
-
 -- a name as words give it has the form that a test's has
 named_so : (name : List ℕ) → is_name name ≡ true → IsTestName name
 named_so name h =
@@ -151,15 +138,9 @@ named_so name h =
     let inner = and_parts (nat_lt 0 (length name)) (nat_le (length name) 800) outer.0 in
     record { some = grind (arith, nat_tests, inner.0); short = inner.1; bytes = weaker is_name_byte printable.is_name_byte name_byte name outer.1 }
 
--- so has the name of a cycle
-cycle_named_so : (es : List Edge) → IsCycle es → IsTestName (name_of es)
-cycle_named_so es whole =
-    let name = names_of_cycles es whole in
-    record { some = grind (arith, nat_tests, name.some); short = grind (arith, nat_tests, name.short); bytes = weaker cycles.is_name_byte printable.is_name_byte name_byte (name_of es) name.bytes }
-
 test_named_so : (name : Option (List ℕ)) (es : List Edge) → IsCycle es → IfSome name (λ name. is_name name ≡ true) → IsTestName (test_name name es)
 test_named_so (Some name) es whole h = named_so name h
-test_named_so None es whole h = cycle_named_so es whole
+test_named_so None es whole h = cycle_named es whole
 
 -- the text of the test of a cycle that has one, under a name of its form, forces the cycle
 text_forces : (arch : ArchName) (mode : ObsMode) (name : List ℕ) (es : List Edge) → IsTestName name → IsCycle es → refusal_of (machine_of arch).puts es mode ≡ None
@@ -200,7 +181,7 @@ asked_force words status old new h = of_asked (asked_of words) refl h
     of_list asked h = record {
       lists = h;
       forces = λ cycle planned.
-          text_forces asked.arch asked.mode (name_of cycle) cycle (cycle_named_so cycle planned.cycle) planned.cycle
+          text_forces asked.arch asked.mode (name_of cycle) cycle (cycle_named cycle planned.cycle) planned.cycle
           (wanted_unrefused (machine_of asked.arch).puts asked.mode asked.threads cycle planned.taken);
     }
 
@@ -209,7 +190,7 @@ asked_force words status old new h = of_asked (asked_of words) refl h
       crosses = h;
       forces = λ cycle kept.
           let has : IsCrossed (machine_of asked.arch).puts asked.mode asked.places cycle = (crosses_all (machine_of asked.arch).puts asked.mode asked.places).each cycle kept in
-          text_forces asked.arch asked.mode (name_of cycle) cycle (cycle_named_so cycle has.cycle) has.cycle has.has_test;
+          text_forces asked.arch asked.mode (name_of cycle) cycle (cycle_named cycle has.cycle) has.cycle has.has_test;
     }
 
     of_asked : (asked : Result Asked Usage) → asked_of words ≡ asked → AnswersAsked words asked status old new → HeadlineAsked asked status old new

@@ -121,15 +121,10 @@ pub sought_answered : (arch : ArchName) (cycle : Sought) (asked : words.Sought) 
     → IsSought cycle asked → AnswersKept arch cycle status old new before after → AnswersSought arch asked status old new before after
 sought_answered arch (sought.Edges list) (OfEdges es) status old new before after same h =
     (h.0, names_answered arch es status before after (subst (λ l. AnswersEdges (refused_edges arch l) (name_line (edges_kept l)) status before after) same h.1))
-sought_answered arch (sought.Edges list) (OfName at name) status old new before after same h = absurd same
-sought_answered arch (sought.Edges list) OfLines status old new before after same h = absurd same
-sought_answered arch (sought.Named named) (OfEdges es) status old new before after same h = absurd same
-sought_answered arch (sought.Named named) OfLines status old new before after same h = absurd same
 sought_answered arch (sought.Named named) (OfName at name) status old new before after same h =
     (h.0, subst (λ n. AnswersName arch at n status before after) same.1 (subst (λ a. AnswersName arch a named.name.now status before after) same.0 h.1))
-sought_answered arch sought.Lines (OfEdges es) status old new before after same h = absurd same
-sought_answered arch sought.Lines (OfName at name) status old new before after same h = absurd same
 sought_answered arch sought.Lines OfLines status old new before after same h = h
+sought_answered arch cycle asked status old new before after same h = absurd same
 
 -- an architecture by its two names
 pub named_refused : (a b : ArchName) (list : EdgeList) (result : Result (List Edge) Refusal) → a ≡ b
@@ -191,15 +186,9 @@ pub test_answered : (words : List (List ℕ)) (request : DiyOne) (status : Statu
 test_answered words request status input shelf old new given h = of_asked (asked_of words) given
   where
     of_asked : (asked : Result Asked Usage) → Gives (Ok (requests.Test request)) asked → AnswersAsked words asked status (devices (input, old, shelf)) (devices (input, new, shelf))
-    of_asked (Err usage) g = absurd g
-    of_asked (Ok (AsksCross asked)) g = absurd g
-    of_asked (Ok (AsksDemo asked)) g = absurd g
-    of_asked (Ok (AsksName asked)) g = absurd g
-    of_asked (Ok (AsksList asked)) g = absurd g
-    of_asked (Ok (AsksFamilies arch)) g = absurd g
-    of_asked (Ok AsksSum) g = absurd g
     of_asked (Ok (AsksTest asked)) g =
         record { input = refl; shelf = refl; out = test_asked request.arch asked.arch request.mode asked.mode (name_kept request.name) asked.name request.edges asked.edges status old new g.0 g.1 g.2 g.3 h }
+    of_asked asked g = absurd g
 
 -- what is answered of a request for names
 pub name_answered : (words : List (List ℕ)) (request : Norm) (status : Status) (shelf : ShelfSeen) (old new : SourceSeen) (before after : SinkSeen)
@@ -208,19 +197,13 @@ pub name_answered : (words : List (List ℕ)) (request : Norm) (status : Status)
 name_answered words request status shelf old new before after given h = of_asked (asked_of words) given
   where
     of_asked : (asked : Result Asked Usage) → Gives (Ok (requests.Name request)) asked → AnswersAsked words asked status (devices (old, before, shelf)) (devices (new, after, shelf))
-    of_asked (Err usage) g = absurd g
-    of_asked (Ok (AsksCross asked)) g = absurd g
-    of_asked (Ok (AsksDemo asked)) g = absurd g
-    of_asked (Ok (AsksTest asked)) g = absurd g
-    of_asked (Ok (AsksList asked)) g = absurd g
-    of_asked (Ok (AsksFamilies arch)) g = absurd g
-    of_asked (Ok AsksSum) g = absurd g
     of_asked (Ok (AsksName asked)) g =
         record {
           shelf = refl;
           both = sought_answered asked.arch request.cycle asked.cycle status old new before after g.1
               (subst (λ a. AnswersKept a request.cycle status old new before after) g.0 h);
         }
+    of_asked asked g = absurd g
 
 -- what is answered of a request for a listing
 pub list_answered : (words : List (List ℕ)) (request : Diy) (status : Status) (input : SourceSeen) (old new : ShelfSeen) (before after : SinkSeen)
@@ -229,14 +212,8 @@ pub list_answered : (words : List (List ℕ)) (request : Diy) (status : Status) 
 list_answered words request status input old new before after given h = of_asked (asked_of words) given
   where
     of_asked : (asked : Result Asked Usage) → Gives (Ok (requests.List request)) asked → AnswersAsked words asked status (devices (input, before, old)) (devices (input, after, new))
-    of_asked (Err usage) g = absurd g
-    of_asked (Ok (AsksCross asked)) g = absurd g
-    of_asked (Ok (AsksDemo asked)) g = absurd g
-    of_asked (Ok (AsksTest asked)) g = absurd g
-    of_asked (Ok (AsksName asked)) g = absurd g
-    of_asked (Ok (AsksFamilies arch)) g = absurd g
-    of_asked (Ok AsksSum) g = absurd g
     of_asked (Ok (AsksList asked)) g = record { input = refl; both = subst (λ (l : ListAsked). AnswersList l status old new before after) g h }
+    of_asked asked g = absurd g
 
 -- what is answered of a request for families
 pub families_answered : (words : List (List ℕ)) (arch : ArchName) (status : Status) (shelf : ShelfSeen) (old new : SourceSeen) (before after : SinkSeen)
@@ -245,14 +222,8 @@ pub families_answered : (words : List (List ℕ)) (arch : ArchName) (status : St
 families_answered words arch status shelf old new before after given h = of_asked (asked_of words) given
   where
     of_asked : (asked : Result Asked Usage) → Gives (Ok (requests.Families arch)) asked → AnswersAsked words asked status (devices (old, before, shelf)) (devices (new, after, shelf))
-    of_asked (Err usage) g = absurd g
-    of_asked (Ok (AsksCross asked)) g = absurd g
-    of_asked (Ok (AsksDemo asked)) g = absurd g
-    of_asked (Ok (AsksTest asked)) g = absurd g
-    of_asked (Ok (AsksName asked)) g = absurd g
-    of_asked (Ok (AsksList asked)) g = absurd g
-    of_asked (Ok AsksSum) g = absurd g
     of_asked (Ok (AsksFamilies asked)) g = record { shelf = refl; both = subst (λ (a : ArchName). AnswersFamilies a status old new before after) g h }
+    of_asked asked g = absurd g
 
 -- what is answered of a request for a sum
 pub sum_answered : (words : List (List ℕ)) (status : Status) (old new : Seen)
@@ -260,14 +231,8 @@ pub sum_answered : (words : List (List ℕ)) (status : Status) (old new : Seen)
 sum_answered words status old new given h = of_asked (asked_of words) given
   where
     of_asked : (asked : Result Asked Usage) → Gives (Ok requests.Sum) asked → AnswersAsked words asked status (devices old) (devices new)
-    of_asked (Err usage) g = absurd g
-    of_asked (Ok (AsksCross asked)) g = absurd g
-    of_asked (Ok (AsksDemo asked)) g = absurd g
-    of_asked (Ok (AsksTest asked)) g = absurd g
-    of_asked (Ok (AsksName asked)) g = absurd g
-    of_asked (Ok (AsksList asked)) g = absurd g
-    of_asked (Ok (AsksFamilies asked)) g = absurd g
     of_asked (Ok AsksSum) g = h
+    of_asked asked g = absurd g
 
 -- what is answered of a request for the tests of choices
 pub cross_answered : (words : List (List ℕ)) (status : Status) (input : SourceSeen) (old new : ShelfSeen) (before after : SinkSeen)
@@ -275,14 +240,8 @@ pub cross_answered : (words : List (List ℕ)) (status : Status) (input : Source
 cross_answered words status input old new before after h = of_asked (asked_of words) h
   where
     of_asked : (asked : Result Asked Usage) → AnswersCrossing asked status old new before after → AnswersAsked words asked status (devices (input, before, old)) (devices (input, after, new))
-    of_asked (Err usage) g = absurd g
-    of_asked (Ok (AsksTest asked)) g = absurd g
-    of_asked (Ok (AsksName asked)) g = absurd g
-    of_asked (Ok (AsksList asked)) g = absurd g
-    of_asked (Ok (AsksFamilies arch)) g = absurd g
-    of_asked (Ok AsksSum) g = absurd g
-    of_asked (Ok (AsksDemo asked)) g = absurd g
     of_asked (Ok (AsksCross asked)) g = record { input = refl; both = g }
+    of_asked asked g = absurd g
 
 -- what is answered of a request for a number of tests
 pub demo_answered : (words : List (List ℕ)) (request : Demo) (status : Status) (input : SourceSeen) (shelf : ShelfSeen) (old new : SinkSeen)
@@ -292,16 +251,10 @@ pub demo_answered : (words : List (List ℕ)) (request : Demo) (status : Status)
 demo_answered words request status input shelf old new given h = of_asked (asked_of words) given
   where
     of_asked : (asked : Result Asked Usage) → Gives (Ok (requests.Demo request)) asked → AnswersAsked words asked status (devices (input, old, shelf)) (devices (input, new, shelf))
-    of_asked (Err usage) g = absurd g
-    of_asked (Ok (AsksTest asked)) g = absurd g
-    of_asked (Ok (AsksName asked)) g = absurd g
-    of_asked (Ok (AsksList asked)) g = absurd g
-    of_asked (Ok (AsksFamilies arch)) g = absurd g
-    of_asked (Ok AsksSum) g = absurd g
-    of_asked (Ok (AsksCross asked)) g = absurd g
     of_asked (Ok (AsksDemo asked)) g = record {
       input = refl;
       shelf = refl;
       out = subst (λ (n : ℕ). Prints (demo_text (machine_of asked.arch).puts (machine_of asked.arch).writing n) status old new) g.1
           (subst (λ (a : ArchName). Prints (demo_text (machine_of a).puts (machine_of a).writing request.count) status old new) g.0 h);
     }
+    of_asked asked g = absurd g

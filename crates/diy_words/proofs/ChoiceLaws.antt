@@ -9,11 +9,11 @@ use Rattle.diy_words.specs.Given.{more_choices}
 use Rattle.diy_words.specs.Requests.{choice_count}
 
 -- the number of ways that is kept after places more
-abbrev pub choices_behind : ℕ → List (List (List Edge)) → ℕ
-choices_behind choices [] = choices
-choices_behind choices (place ∷ places) = choices_behind (more_choices choices (length place)) places
+abbrev pub choices_after : ℕ → List (List (List Edge)) → ℕ
+choices_after choices [] = choices
+choices_after choices (place ∷ places) = choices_after (more_choices choices (length place)) places
 
-pub choices_more : (choices : ℕ) (xs ys : List (List (List Edge))) → choices_behind (choices_behind choices xs) ys ≡ choices_behind choices (xs ++ ys)
+pub choices_more : (choices : ℕ) (xs ys : List (List (List Edge))) → choices_after (choices_after choices xs) ys ≡ choices_after choices (xs ++ ys)
 choices_more choices [] ys = refl
 choices_more choices (x ∷ xs) ys = choices_more (more_choices choices (length x)) xs ys
 
@@ -30,7 +30,7 @@ cut_once a p limit = ⊎_elim (many p) (λ few. ap (λ n. min (n * p) limit) (mi
         let cut : min a limit ≡ limit = min-eq_right (omega arith) in
         ap (λ n. min (n * suc p) limit) cut ∙ min-eq_right least ∙ sym (min-eq_right whole)
 
-kept_choices : (choices : ℕ) (places : List (List (List Edge))) → choices ≤ MAX_CHOICES + 1 → choices_behind choices places ≡ min (choices * choice_count places) (MAX_CHOICES + 1)
+kept_choices : (choices : ℕ) (places : List (List (List Edge))) → choices ≤ MAX_CHOICES + 1 → choices_after choices places ≡ min (choices * choice_count places) (MAX_CHOICES + 1)
 kept_choices choices [] h = sym (ap (λ n. min n (MAX_CHOICES + 1)) (mul-one choices) ∙ min-eq_left h)
 kept_choices choices (place ∷ places) h =
     kept_choices (more_choices choices (length place)) places (min-le_right (choices * length place) (MAX_CHOICES + 1)) ∙
@@ -43,7 +43,7 @@ cut_told count limit =
     (λ few. ap (nat_lt limit) (min-eq_left few)) (cases_lt (limit + 1) count)
 
 -- where there are too many ways, so many are kept
-pub choices_told : (places : List (List (List Edge))) → nat_lt MAX_CHOICES (choices_behind 1 places) ≡ nat_lt MAX_CHOICES (choice_count places)
+pub choices_told : (places : List (List (List Edge))) → nat_lt MAX_CHOICES (choices_after 1 places) ≡ nat_lt MAX_CHOICES (choice_count places)
 choices_told places =
     ap (nat_lt MAX_CHOICES) (kept_choices 1 places (lit≤ tt) ∙ ap (λ n. min n (MAX_CHOICES + 1)) (one-mul (choice_count places))) ∙
     cut_told (choice_count places) MAX_CHOICES

@@ -16,13 +16,13 @@ use Rattle.diy_words.specs.declared.request.Sought.TheVariants as sought
 use Rattle.diy_words.specs.declared.usage.Usage.{Usage}
 use Rattle.diy_words.specs.declared.usage.UsageKind.TheVariants.{TooManyChoices}
 use Rattle.diy_words.specs.declared.request.TheConstants.{MAX_CHOICES}
-use Rattle.diy_words.proofs.ChoiceLaws.{choices_behind, choices_more, choices_told}
+use Rattle.diy_words.proofs.ChoiceLaws.{choices_after, choices_more, choices_told}
 use Rattle.diy_words.specs.declared.options.OptionName.{OptionName}
 use Rattle.diy_words.specs.Parts.{Alone, Valued, Unvalued, Waits, parts_from, parts_of, option_named, tool_named}
 use Rattle.diy_words.specs.declared.options.Tool.{Tool}
 use Rattle.diy_words.specs.declared.options.Tool.TheVariants as tools
 use Rattle.diy_words.specs.Requests.{Said, SaysArch, SaysName, SaysMode, SaysFrom, SaysEdges, SaysRelaxes, SaysSize, SaysExact, SaysThreads, SaysAfter, SaysFolder, SaysLog, SaysPlace, SaysCount, NameAsked, ListAsked, DemoAsked, Asked, AsksTest, AsksName, AsksList, AsksFamilies, AsksSum, AsksCross, AsksDemo, OfEdges, OfName, OfLines, said_by, saying, is_count, said_first, said_all, or_later, last_given, first_given, arch_in, name_in, mode_in, from_in, operand_in, edges_in, relaxes_in, size_in, is_exact, threads_in, after_in, folder_in, places_in, count_in, given_or, mode_or_accept, list_with, families_with, cross_with, places_given, choice_count, edges_given, asks, asked_with, named_with, asked_of, asked_for, tool_asked}
-use Rattle.diy_words.specs.Given.{Held, absorbed, all_absorbed, saying_from, finished, named, keeps, KeepsTest, KeepsName, KeepsList, KeepsFamilies, KeepsSum, KeepsCross, KeepsDemo, CrossHeld, crossed, held_at_end, tool_held, shown, shown_request, nothing_held, AskedHeld, NameHeld, SoughtHeld, HeldEdges, HeldName, HeldLines, sought_held, Gives, IsKept, IsSought}
+use Rattle.diy_words.specs.Given.{Held, absorbed, all_absorbed, saying_from, finished, named, Kept, keeps, KeepsTest, KeepsName, KeepsList, KeepsFamilies, KeepsSum, KeepsCross, KeepsDemo, CrossHeld, crossed, held_at_end, tool_held, shown, shown_request, nothing_held, AskedHeld, NameHeld, SoughtHeld, HeldEdges, HeldName, HeldLines, sought_held, Gives, IsKept, IsSought}
 use Rattle.diy_words.specs.Requests as req
 
 drop_get : {X : Type 0} (xs : List X) (i : ℕ) (x : X) → slice_get xs i ≡ Some x → drop i xs ≡ x ∷ drop (i + 1) xs
@@ -38,14 +38,14 @@ option_parts : (tool : Tool) (word : List ℕ) (at : ℕ) (rest : List (List ℕ
     parts_of tool at (word ∷ rest) ≡ parts_from tool (Waits option at) (at + 1) rest
 option_parts tool word at rest option e = rw e
 
--- a word that stands alone and what the words behind it say
+-- a word that stands alone and what the words after it say
 pub alone_first : (tool : Tool) (counted : Bool) (words : List (List ℕ)) (at : ℕ) (word : List ℕ) →
     slice_get words at ≡ Some word → option_named tool word ≡ None →
     saying_from tool counted words at ≡ said_by tool counted (Alone at word) ∷ saying_from tool (is_count (said_by tool counted (Alone at word)) || counted) words (at + 1)
 alone_first tool counted words at word got plain =
     ap (λ rest. saying tool counted (parts_of tool at rest)) (drop_get words at word got) ∙ ap (saying tool counted) (alone_parts tool word at (drop (at + 1) words) None plain refl)
 
--- an option with its value and what the words behind them say
+-- an option with its value and what the words after them say
 pub value_first : (tool : Tool) (counted : Bool) (words : List (List ℕ)) (at : ℕ) (word value : List ℕ) (option : OptionName) →
     slice_get words at ≡ Some word → option_named tool word ≡ Some option → slice_get words (at + 1) ≡ Some value →
     saying_from tool counted words at ≡ said_by tool counted (Valued option at value) ∷ saying_from tool (is_count (said_by tool counted (Valued option at value)) || counted) words (at + 2)
@@ -73,9 +73,9 @@ pub faulty : (old : Held) (usage : Usage) (said : Result Said Usage) (here rest 
     here ≡ said ∷ rest → Err usage ≡ absorbed old said → Err usage ≡ all_absorbed (Ok old) here
 faulty old usage said here rest e h = sym (fault_stays usage rest) ∙ ap (λ r. all_absorbed r rest) h ∙ ap (all_absorbed (Ok old)) (sym e)
 
--- what the definition takes from all words is what is held behind them
-abbrev held_behind : Held → List Said → Held
-held_behind h said = record {
+-- what the definition takes from all words is what is held after them
+abbrev held_after : Held → List Said → Held
+held_after h said = record {
   arch = or_later h.arch (last_given arch_in said);
   name = or_later h.name (last_given name_in said);
   mode = given_or h.mode (last_given mode_in said);
@@ -88,7 +88,7 @@ held_behind h said = record {
   threads = given_or h.threads (last_given threads_in said);
   after = or_later h.after (last_given after_in said);
   folder = or_later h.folder (last_given folder_in said);
-  choices = choices_behind h.choices (places_given said);
+  choices = choices_after h.choices (places_given said);
   count = or_later h.count (last_given count_in said);
 }
 
@@ -100,7 +100,7 @@ or_given_twice : {X : Type 0} (x : X) (b c : Option X) → given_or (given_or x 
 or_given_twice x b None = refl
 or_given_twice x b (Some y) = refl
 
--- what is held behind one thing more
+-- what is held after one thing more
 abbrev held_with : Held → Said → Held
 held_with h said = record {
   arch = or_later h.arch (arch_in said);
@@ -115,7 +115,7 @@ held_with h said = record {
   threads = given_or h.threads (threads_in said);
   after = or_later h.after (after_in said);
   folder = or_later h.folder (folder_in said);
-  choices = choices_behind h.choices (places_in said);
+  choices = choices_after h.choices (places_in said);
   count = or_later h.count (count_in said);
 }
 
@@ -140,20 +140,9 @@ exact_twice true b c = refl
 exact_twice false b c = refl
 
 absorbed_one : (h : Held) (said : Said) → absorbed h (Ok said) ≡ Ok (held_with h said)
-absorbed_one h (SaysArch arch) = rw (or_none h.operand, or_false h.exact) refl
-absorbed_one h (SaysName name) = rw (or_none h.operand, or_false h.exact) refl
-absorbed_one h (SaysMode mode) = rw (or_none h.operand, or_false h.exact) refl
-absorbed_one h (SaysFrom at name) = rw (or_none h.operand, or_false h.exact) refl
-absorbed_one h (SaysRelaxes relaxes) = rw (or_none h.operand, or_false h.exact) refl
-absorbed_one h (SaysSize size) = rw (or_none h.operand, or_false h.exact) refl
-absorbed_one h (SaysThreads threads) = rw (or_none h.operand, or_false h.exact) refl
-absorbed_one h (SaysAfter cycle) = rw (or_none h.operand, or_false h.exact) refl
-absorbed_one h (SaysFolder folder) = rw (or_none h.operand, or_false h.exact) refl
 absorbed_one h SaysExact = rw (or_none h.operand, or_true h.exact) refl
-absorbed_one h SaysLog = rw (or_none h.operand, or_false h.exact) refl
-absorbed_one h (SaysPlace relaxes) = rw (or_none h.operand, or_false h.exact) refl
-absorbed_one h (SaysCount count) = rw (or_none h.operand, or_false h.exact) refl
 absorbed_one h (SaysEdges at edges) = rw (or_false h.exact) refl
+absorbed_one h said = rw (or_none h.operand, or_false h.exact) refl
 
 ok_is : {X : Type 0} (x y : X) → (let left : Result X Usage = Ok x in left) ≡ Ok y → x ≡ y
 ok_is x y e = cc e
@@ -178,7 +167,7 @@ taken tool words at next old new said e h =
     ap (λ r. all_absorbed r (saying_from tool (is_count said || is_some old.count) words next)) h ∙
     ap (all_absorbed (Ok old)) (sym e)
 
-held_one : (h : Held) (said : Said) (rest : List Said) → held_behind (held_with h said) rest ≡ held_behind h (said ∷ rest)
+held_one : (h : Held) (said : Said) (rest : List Said) → held_after (held_with h said) rest ≡ held_after h (said ∷ rest)
 held_one h said rest =
     let arch = later_twice h.arch (arch_in said) (last_given arch_in rest) in
     let name = later_twice h.name (name_in said) (last_given name_in rest) in
@@ -196,17 +185,17 @@ held_one h said rest =
     let count = later_twice h.count (count_in said) (last_given count_in rest) in
     cc (arch, name, mode, from, operand, edges, relaxes, size, exact, threads, after, folder, choices, count)
 
-abbrev held_after : Held → Result (List Said) Usage → Result Held Usage
-held_after h (Ok said) = Ok (held_behind h said)
-held_after h (Err usage) = Err usage
+abbrev held_or_fault : Held → Result (List Said) Usage → Result Held Usage
+held_or_fault h (Ok said) = Ok (held_after h said)
+held_or_fault h (Err usage) = Err usage
 
 after_first : (h one : Held) (said : Said) (rest : Result (List Said) Usage) →
-    ((list : List Said) → held_behind one list ≡ held_behind h (said ∷ list)) →
-    held_after one rest ≡ held_after h (said_first said rest)
+    ((list : List Said) → held_after one list ≡ held_after h (said ∷ list)) →
+    held_or_fault one rest ≡ held_or_fault h (said_first said rest)
 after_first h one said (Ok list) same = ap Ok (same list)
 after_first h one said (Err usage) same = refl
 
-all_held : (h : Held) (said : List (Result Said Usage)) → all_absorbed (Ok h) said ≡ held_after h (said_all said)
+all_held : (h : Held) (said : List (Result Said Usage)) → all_absorbed (Ok h) said ≡ held_or_fault h (said_all said)
 all_held h [] = rw (or_none h.operand, or_false h.exact) refl
 all_held h (Err usage ∷ rest) = fault_stays usage rest
 all_held h (Ok said ∷ rest) =
@@ -215,17 +204,12 @@ all_held h (Ok said ∷ rest) =
 kept_test : (request : Request) (arch : ArchName) (name : Option (List ℕ)) (mode : ObsMode) (edges : List Edge) →
     shown_request request ≡ KeepsTest (record { arch = arch; name = name; mode = mode; edges = added (kept []) edges }) →
     IsKept request (AsksTest (record { arch = arch; name = name; mode = mode; edges = edges }))
-kept_test (requests.Name request) arch name mode edges h = cc h
-kept_test (requests.List request) arch name mode edges h = cc h
-kept_test (requests.Families a) arch name mode edges h = cc h
-kept_test requests.Sum arch name mode edges h = cc h
-kept_test (requests.Cross own) arch name mode edges h = cc h
-kept_test (requests.Demo own) arch name mode edges h = cc h
 kept_test (requests.Test request) arch name mode edges h =
     let f = fields _ _ h in (f.0, f.1, f.2, f.3 ∙ added_whole [] edges (lit≤ tt))
   where
     fields : (a b : AskedHeld) → KeepsTest a ≡ KeepsTest b → (a.arch ≡ b.arch) × (a.name ≡ b.name) × (a.mode ≡ b.mode) × (a.edges ≡ b.edges)
     fields a b e = let same : a ≡ b = cc e in (ap (λ (o : AskedHeld). o.arch) same, ap (λ (o : AskedHeld). o.name) same, ap (λ (o : AskedHeld). o.mode) same, ap (λ (o : AskedHeld). o.edges) same)
+kept_test request arch name mode edges h = cc h
 
 -- what is held of a cycle that is sought is what is asked for
 abbrev IsHeld : SoughtHeld → req.Sought → Type 0
@@ -236,26 +220,16 @@ IsHeld _ _ = ⊥
 
 held_sought : (cycle : Sought) (asked : req.Sought) → IsHeld (sought_held cycle) asked → IsSought cycle asked
 held_sought (sought.Edges list) (OfEdges es) h = h
-held_sought (sought.Edges list) (OfName at name) h = h
-held_sought (sought.Edges list) OfLines h = h
-held_sought (sought.Named from) (OfEdges es) h = h
 held_sought (sought.Named from) (OfName at name) h = h
-held_sought (sought.Named from) OfLines h = h
-held_sought sought.Lines (OfEdges es) h = h
-held_sought sought.Lines (OfName at name) h = h
 held_sought sought.Lines OfLines h = h
+held_sought cycle asked h = h
 
 kept_name : (request : Request) (held : NameHeld) (asked : NameAsked) → shown_request request ≡ KeepsName held → held.arch ≡ asked.arch → IsHeld held.cycle asked.cycle →
     IsKept request (AsksName asked)
-kept_name (requests.Test request) held asked h a s = cc h
-kept_name (requests.List request) held asked h a s = cc h
-kept_name (requests.Families arch) held asked h a s = cc h
-kept_name requests.Sum held asked h a s = cc h
-kept_name (requests.Cross own) held asked h a s = cc h
-kept_name (requests.Demo own) held asked h a s = cc h
 kept_name (requests.Name request) held asked h a s =
     let same : held ≡ (let shown : NameHeld = record { arch = request.arch; cycle = sought_held request.cycle } in shown) = cc h in
     (sym (ap (λ (n : NameHeld). n.arch) same) ∙ a, held_sought request.cycle asked.cycle (subst (λ (n : NameHeld). IsHeld n.cycle asked.cycle) same s))
+kept_name request held asked h a s = cc h
 
 gives_test : (count : ℕ) (request : Result Request Usage) (arch : Option ArchName) (name : Option (List ℕ)) (mode : ObsMode) (edges : List Edge) →
     shown request ≡ keeps KeepsTest (finished count arch name mode (added (kept []) edges)) → Gives request (asks AsksTest (asked_with count arch name mode edges))
@@ -278,44 +252,25 @@ gives_name count (Err usage) (Some arch) None (Some operand) edges h = cc h
 gives_name count (Ok request) (Some arch) (Some from) (Some operand) edges h = cc h
 gives_name count (Err usage) (Some arch) (Some from) (Some operand) edges h = cc h
 
-kept_list : (request : Request) (asked : ListAsked) → shown_request request ≡ KeepsList asked → IsKept request (AsksList asked)
-kept_list (requests.Test request) asked h = cc h
-kept_list (requests.Name request) asked h = cc h
-kept_list (requests.List request) asked h = cc h
-kept_list (requests.Families arch) asked h = cc h
-kept_list requests.Sum asked h = cc h
-kept_list (requests.Cross own) asked h = cc h
-kept_list (requests.Demo own) asked h = cc h
+-- a call that gives a request as it is kept
+gives_kept : {X : Type 0} (kept_as : X → Kept) (asked_as : X → Asked) → ((request : Request) (x : X) → shown_request request ≡ kept_as x → IsKept request (asked_as x))
+    → (request : Result Request Usage) (x : Result X Usage) → shown request ≡ keeps kept_as x → Gives request (asks asked_as x)
+gives_kept kept_as asked_as same (Ok request) (Ok x) h = same request x (ok_is _ _ h)
+gives_kept kept_as asked_as same (Ok request) (Err usage) h = cc h
+gives_kept kept_as asked_as same (Err usage) (Ok x) h = cc h
+gives_kept kept_as asked_as same (Err usage) (Err fault) h = cc h
 
-gives_list : (request : Result Request Usage) (asked : Result ListAsked Usage) → shown request ≡ keeps KeepsList asked → Gives request (asks AsksList asked)
-gives_list (Ok request) (Ok asked) h = kept_list request asked (ok_is _ _ h)
-gives_list (Ok request) (Err usage) h = cc h
-gives_list (Err usage) (Ok asked) h = cc h
-gives_list (Err usage) (Err fault) h = cc h
+kept_list : (request : Request) (asked : ListAsked) → shown_request request ≡ KeepsList asked → IsKept request (AsksList asked)
+kept_list (requests.List request) asked h = cc h
+kept_list request asked h = cc h
 
 kept_families : (request : Request) (asked : ArchName) → shown_request request ≡ KeepsFamilies asked → IsKept request (AsksFamilies asked)
-kept_families (requests.Test request) asked h = cc h
-kept_families (requests.Name request) asked h = cc h
-kept_families (requests.List request) asked h = cc h
 kept_families (requests.Families arch) asked h = cc h
-kept_families requests.Sum asked h = cc h
-kept_families (requests.Cross own) asked h = cc h
-kept_families (requests.Demo own) asked h = cc h
-
-gives_families : (request : Result Request Usage) (asked : Result ArchName Usage) → shown request ≡ keeps KeepsFamilies asked → Gives request (asks AsksFamilies asked)
-gives_families (Ok request) (Ok asked) h = kept_families request asked (ok_is _ _ h)
-gives_families (Ok request) (Err usage) h = cc h
-gives_families (Err usage) (Ok asked) h = cc h
-gives_families (Err usage) (Err fault) h = cc h
+kept_families request asked h = cc h
 
 kept_sum : (request : Request) → shown_request request ≡ KeepsSum → IsKept request AsksSum
-kept_sum (requests.Test request) h = cc h
-kept_sum (requests.Name request) h = cc h
-kept_sum (requests.List request) h = cc h
-kept_sum (requests.Families arch) h = cc h
-kept_sum (requests.Cross own) h = cc h
-kept_sum (requests.Demo own) h = cc h
 kept_sum requests.Sum h = tt
+kept_sum request h = cc h
 
 gives_sum : (request : Result Request Usage) → shown request ≡ Ok KeepsSum → Gives request (Ok AsksSum)
 gives_sum (Ok request) h = kept_sum request (ok_is _ _ h)
@@ -323,19 +278,14 @@ gives_sum (Err usage) h = cc h
 
 kept_cross : (request : Request) (held : CrossHeld) (places : List (List (List Edge))) → shown_request request ≡ KeepsCross held →
     IsKept request (AsksCross (record { arch = held.arch; mode = held.mode; folder = held.folder; places = places }))
-kept_cross (requests.Test request) held places h = cc h
-kept_cross (requests.Name request) held places h = cc h
-kept_cross (requests.List request) held places h = cc h
-kept_cross (requests.Families arch) held places h = cc h
-kept_cross requests.Sum held places h = cc h
-kept_cross (requests.Demo request) held places h = cc h
 kept_cross (requests.Cross request) held places h = fields _ _ h
   where
     fields : (a b : CrossHeld) → KeepsCross a ≡ KeepsCross b → (a.arch ≡ b.arch) × (a.mode ≡ b.mode) × (a.folder ≡ b.folder)
     fields a b e = let same : a ≡ b = cc e in (ap (λ (o : CrossHeld). o.arch) same, ap (λ (o : CrossHeld). o.mode) same, ap (λ (o : CrossHeld). o.folder) same)
+kept_cross request held places h = cc h
 
 gives_cross : (count : ℕ) (request : Result Request Usage) (arch : Option ArchName) (mode : ObsMode) (folder : Option (List ℕ)) (places : List (List (List Edge))) →
-    shown request ≡ keeps KeepsCross (crossed count arch mode folder (choices_behind 1 places)) → Gives request (asks AsksCross (cross_with count arch mode folder places))
+    shown request ≡ keeps KeepsCross (crossed count arch mode folder (choices_after 1 places)) → Gives request (asks AsksCross (cross_with count arch mode folder places))
 gives_cross count (Ok request) None mode folder places h = cc h
 gives_cross count (Err usage) None mode folder places h = cc h
 gives_cross count request (Some arch) mode folder places h =
@@ -351,22 +301,11 @@ gives_cross count request (Some arch) mode folder places h =
     of_test false (Err usage) h = cc h
 
 kept_demo : (request : Request) (asked : DemoAsked) → shown_request request ≡ KeepsDemo asked → IsKept request (AsksDemo asked)
-kept_demo (requests.Test request) asked h = cc h
-kept_demo (requests.Name request) asked h = cc h
-kept_demo (requests.List request) asked h = cc h
-kept_demo (requests.Families arch) asked h = cc h
-kept_demo requests.Sum asked h = cc h
-kept_demo (requests.Cross request) asked h = cc h
 kept_demo (requests.Demo request) asked h = fields _ _ h
   where
     fields : (a b : DemoAsked) → KeepsDemo a ≡ KeepsDemo b → (a.arch ≡ b.arch) × (a.count ≡ b.count)
     fields a b e = let same : a ≡ b = cc e in (ap (λ (o : DemoAsked). o.arch) same, ap (λ (o : DemoAsked). o.count) same)
-
-gives_demo : (request : Result Request Usage) (asked : Result DemoAsked Usage) → shown request ≡ keeps KeepsDemo asked → Gives request (asks AsksDemo asked)
-gives_demo (Ok request) (Ok asked) h = kept_demo request asked (ok_is _ _ h)
-gives_demo (Ok request) (Err usage) h = cc h
-gives_demo (Err usage) (Ok asked) h = cc h
-gives_demo (Err usage) (Err fault) h = cc h
+kept_demo request asked h = cc h
 
 gives_fault : (request : Result Request Usage) (usage : Usage) → shown request ≡ Err usage → Gives request (Err usage)
 gives_fault (Ok request) usage h = cc h
@@ -378,25 +317,25 @@ later_none (Some x) = refl
 
 -- a request from what is held is the request of the definition, as it is kept
 gives_held : (tool : Tool) (count : ℕ) (request : Result Request Usage) (said : Result (List Said) Usage) →
-    shown request ≡ tool_held tool count (held_after nothing_held said) → Gives request (tool_asked tool count said)
+    shown request ≡ tool_held tool count (held_or_fault nothing_held said) → Gives request (tool_asked tool count said)
 gives_held tool count request (Err usage) h = gives_fault request usage h
 gives_held tools.DiyOne count request (Ok said) h =
     gives_test count request _ _ _ (edges_given said)
     (rw (sym (later_none (last_given arch_in said)), sym (later_none (last_given name_in said))) h)
 gives_held tools.Diy count request (Ok said) h =
-    gives_list request _
+    gives_kept KeepsList AsksList kept_list request _
     (rw (sym (later_none (last_given arch_in said)), sym (later_none (last_given relaxes_in said)), sym (later_none (last_given after_in said)), sym (later_none (last_given folder_in said))) h)
 gives_held tools.Norm count request (Ok said) h =
     gives_name count request _ _ _ (edges_given said)
     (rw (sym (later_none (last_given arch_in said)), sym (later_none (last_given from_in said))) h)
 gives_held tools.Classify count request (Ok said) h =
-    gives_families request _ (rw (sym (later_none (last_given arch_in said))) h)
+    gives_kept KeepsFamilies AsksFamilies kept_families request _ (rw (sym (later_none (last_given arch_in said))) h)
 gives_held tools.Msum count request (Ok said) h = gives_sum request h
 gives_held tools.Cross count request (Ok said) h =
     gives_cross count request _ _ _ (places_given said)
     (rw (sym (later_none (last_given arch_in said)), sym (later_none (last_given folder_in said))) h)
 gives_held tools.Demo count request (Ok said) h =
-    gives_demo request _ (rw (sym (later_none (last_given arch_in said)), sym (later_none (last_given count_in said))) h)
+    gives_kept KeepsDemo AsksDemo kept_demo request _ (rw (sym (later_none (last_given arch_in said)), sym (later_none (last_given count_in said))) h)
 
 -- the request of a tool, where the first word names it
 pub gives_named : (words : List (List ℕ)) (word : List ℕ) (tool : Tool) (request : Result Request Usage) →

@@ -193,7 +193,7 @@ no_cross tools.Classify count (Ok said) other h = other_tool AsksFamilies (famil
 no_cross tools.Msum count (Ok said) other h = h
 no_cross tools.Demo count (Ok said) other h = other_tool AsksDemo (demo_with count (last_given arch_in said) (last_given count_in said)) (λ x k. k) h
 
--- the words of diycross7 behind the tool's name, and what they ask for
+-- the words of diycross7 after the tool's name, and what they ask for
 record CrossAsks (words : List (List ℕ)) (asked : Result Asked Usage) : Type 0 where
   faultless : AllByRecursion IsOk (saying tools.Cross false (parts_of tools.Cross 1 words))
   first : places_said (saying tools.Cross false (parts_of tools.Cross 1 words)) ≡ places_of asked

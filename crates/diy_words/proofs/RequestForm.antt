@@ -30,7 +30,7 @@ use Rattle.diy_words.specs.declared.options.OptionName.TheVariants as opts
 use Rattle.diy_words.specs.Names.{is_name}
 use Rattle.diy_words.specs.Edges.{operand_edges}
 use Rattle.diy_words.specs.Parts.{Part, Alone, Valued, Unvalued, parts_of, tool_named, arch_named, mode_named}
-use Rattle.diy_words.specs.Requests.{Said, SaysArch, SaysName, SaysMode, SaysFrom, SaysEdges, SaysRelaxes, SaysSize, SaysExact, SaysThreads, SaysAfter, SaysFolder, SaysLog, SaysPlace, SaysCount, Asked, AsksTest, AsksName, AsksList, AsksFamilies, AsksCross, AsksDemo, NameAsked, ListAsked, fault, dashed_said, operand_said, relaxes_said, size_said, threads_said, after_said, cycle_said, size_in, given_or, list_with, families_with, cross_with, demo_with, choice_count, places_given, place_said, count_said, count_in, saying, is_count, said_by, said_first, said_all, arch_said, mode_said, edges_said, begins_option, or_later, last_given, arch_in, name_in, mode_in, relaxes_in, is_exact, threads_in, after_in, folder_in, mode_or_accept, edges_given, asks, asked_with, asked_for, norm_asked, tool_asked, asked_of}
+use Rattle.diy_words.specs.Requests.{Said, SaysName, SaysSize, SaysExact, SaysFolder, SaysCount, Asked, AsksTest, AsksName, AsksList, AsksFamilies, AsksCross, AsksDemo, NameAsked, ListAsked, fault, dashed_said, operand_said, relaxes_said, size_said, threads_said, after_said, cycle_said, size_in, given_or, list_with, families_with, cross_with, demo_with, choice_count, places_given, place_said, count_said, count_in, saying, is_count, said_by, said_first, said_all, arch_said, mode_said, edges_said, begins_option, or_later, last_given, arch_in, name_in, mode_in, relaxes_in, is_exact, threads_in, after_in, folder_in, mode_or_accept, edges_given, asks, asked_with, asked_for, norm_asked, tool_asked, asked_of}
 use Rattle.arrayvec.specs.ArrayString.{ArrayString}
 use Rattle.diy_words.specs.Given.{Gives, HasForm, list_kept}
 use Rattle.diy_words.specs.Numbers.{is_number, number_to}
@@ -165,92 +165,37 @@ parts_form tool counted [] = tt
 parts_form tool counted (part ∷ parts) = (said_form tool counted part, parts_form tool (is_count (said_by tool counted part) || counted) parts)
 
 -- and the last of each thing among them
-given_fit : {X : Type 0} (P : X → Type 0) (given : Said → Option X) → ((said : Said) (x : X) → IsFit said → given said ≡ Some x → P x)
-    → (said : List Said) (x : X) → AllByRecursion IsFit said → last_given given said ≡ Some x → P x
-given_fit P given own [] x h e = cc
-given_fit {X = X} P given own (said ∷ rest) x h e = of_later (last_given given rest) (given_fit P given own rest x h.1) e
+given_fit : {X : Type 0} (P : X → Type 0) (given : Said → Option X) → ((said : Said) → IsFit said → IfSome (given said) P)
+    → (said : List Said) → AllByRecursion IsFit said → IfSome (last_given given said) P
+given_fit P given own [] h = tt
+given_fit {X = X} P given own (said ∷ rest) h = of_later (given said) (last_given given rest) (own said h.0) (given_fit P given own rest h.1)
   where
-    of_later : (later : Option X) → (later ≡ Some x → P x) → or_later (given said) later ≡ Some x → P x
-    of_later (Some last) further e = further e
-    of_later None further e = own said x h.0 e
+    of_later : (here later : Option X) → IfSome here P → IfSome later P → IfSome (or_later here later) P
+    of_later here (Some last) h k = k
+    of_later here None h k = h
 
-name_fit : (said : Said) (x : List ℕ) → IsFit said → name_in said ≡ Some x → is_name x ≡ true
-name_fit (SaysArch _) x h e = cc
-name_fit (SaysName own) x h e = let same : own ≡ x = cc in subst (λ y. is_name y ≡ true) same h
-name_fit (SaysMode _) x h e = cc
-name_fit (SaysFrom _ _) x h e = cc
-name_fit (SaysEdges _ _) x h e = cc
-name_fit (SaysRelaxes _) x h e = cc
-name_fit (SaysSize _) x h e = cc
-name_fit SaysExact x h e = cc
-name_fit (SaysThreads _) x h e = cc
-name_fit (SaysAfter _) x h e = cc
-name_fit (SaysFolder _) x h e = cc
-name_fit SaysLog x h e = cc
-name_fit (SaysPlace _) x h e = cc
-name_fit (SaysCount _) x h e = cc
+name_fit : (said : Said) → IsFit said → IfSome (name_in said) (λ name. is_name name ≡ true)
+name_fit (SaysName name) h = h
+name_fit said h = tt
 
-size_fit : (said : Said) (x : ℕ) → IsFit said → size_in said ≡ Some x → x ≤ MAX_EDGES
-size_fit (SaysArch _) x h e = cc
-size_fit (SaysName _) x h e = cc
-size_fit (SaysMode _) x h e = cc
-size_fit (SaysFrom _ _) x h e = cc
-size_fit (SaysEdges _ _) x h e = cc
-size_fit (SaysRelaxes _) x h e = cc
-size_fit (SaysSize own) x h e = let same : own ≡ x = cc in subst (λ y. y ≤ MAX_EDGES) same h
-size_fit SaysExact x h e = cc
-size_fit (SaysThreads _) x h e = cc
-size_fit (SaysAfter _) x h e = cc
-size_fit (SaysFolder _) x h e = cc
-size_fit SaysLog x h e = cc
-size_fit (SaysPlace _) x h e = cc
-size_fit (SaysCount _) x h e = cc
+size_fit : (said : Said) → IsFit said → IfSome (size_in said) (λ size. size ≤ MAX_EDGES)
+size_fit (SaysSize size) h = h
+size_fit said h = tt
 
-folder_fit : (said : Said) (x : List ℕ) → IsFit said → folder_in said ≡ Some x → length x ≤ MAX_FOLDER
-folder_fit (SaysArch _) x h e = cc
-folder_fit (SaysName _) x h e = cc
-folder_fit (SaysMode _) x h e = cc
-folder_fit (SaysFrom _ _) x h e = cc
-folder_fit (SaysEdges _ _) x h e = cc
-folder_fit (SaysRelaxes _) x h e = cc
-folder_fit (SaysSize _) x h e = cc
-folder_fit SaysExact x h e = cc
-folder_fit (SaysThreads _) x h e = cc
-folder_fit (SaysAfter _) x h e = cc
-folder_fit (SaysFolder own) x h e = let same : own ≡ x = cc in subst (λ y. length y ≤ MAX_FOLDER) same h
-folder_fit SaysLog x h e = cc
-folder_fit (SaysPlace _) x h e = cc
-folder_fit (SaysCount _) x h e = cc
+folder_fit : (said : Said) → IsFit said → IfSome (folder_in said) (λ folder. length folder ≤ MAX_FOLDER)
+folder_fit (SaysFolder folder) h = h
+folder_fit said h = tt
 
-count_fit : (said : Said) (x : ℕ) → IsFit said → count_in said ≡ Some x → (1 ≤ x) × (x ≤ MAX_TESTS)
-count_fit (SaysArch _) x h e = cc
-count_fit (SaysName _) x h e = cc
-count_fit (SaysMode _) x h e = cc
-count_fit (SaysFrom _ _) x h e = cc
-count_fit (SaysEdges _ _) x h e = cc
-count_fit (SaysRelaxes _) x h e = cc
-count_fit (SaysSize _) x h e = cc
-count_fit SaysExact x h e = cc
-count_fit (SaysThreads _) x h e = cc
-count_fit (SaysAfter _) x h e = cc
-count_fit (SaysFolder _) x h e = cc
-count_fit SaysLog x h e = cc
-count_fit (SaysPlace _) x h e = cc
-count_fit (SaysCount own) x h e = let same : own ≡ x = cc in subst (λ y. (1 ≤ y) × (y ≤ MAX_TESTS)) same h
+count_fit : (said : Said) → IsFit said → IfSome (count_in said) (λ count. (1 ≤ count) × (count ≤ MAX_TESTS))
+count_fit (SaysCount count) h = h
+count_fit said h = tt
 
-given_form : (said : List Said) (name : List ℕ) → AllByRecursion IsFit said → last_given name_in said ≡ Some name → is_name name ≡ true
-given_form said name h e = given_fit (λ name. is_name name ≡ true) name_in name_fit said name h e
+given_folder : (said : List Said) → AllByRecursion IsFit said → IfSome (last_given folder_in said) (λ folder. length folder ≤ MAX_FOLDER)
+given_folder said h = given_fit (λ folder. length folder ≤ MAX_FOLDER) folder_in folder_fit said h
 
-given_size : (said : List Said) (size : ℕ) → AllByRecursion IsFit said → last_given size_in said ≡ Some size → size ≤ MAX_EDGES
-given_size said size h e = given_fit (λ size. size ≤ MAX_EDGES) size_in size_fit said size h e
-
-given_folder : (said : List Said) (folder : Option (List ℕ)) → AllByRecursion IsFit said → last_given folder_in said ≡ folder → IfSome folder (λ folder. length folder ≤ MAX_FOLDER)
-given_folder said None h e = tt
-given_folder said (Some folder) h e = given_fit (λ folder. length folder ≤ MAX_FOLDER) folder_in folder_fit said folder h e
-
-size_few : (said : List Said) (size : Option ℕ) → AllByRecursion IsFit said → last_given size_in said ≡ size → given_or 6 size ≤ MAX_EDGES
-size_few said None h e = lit≤ tt
-size_few said (Some size) h e = given_size said size h e
+size_few : (size : Option ℕ) → IfSome size (λ size. size ≤ MAX_EDGES) → given_or 6 size ≤ MAX_EDGES
+size_few None h = lit≤ tt
+size_few (Some size) h = h
 
 -- the name of a test that words ask for has its form, and so have the size and the folder of a listing, the folder of
 -- diycross7 and the number of demo
@@ -265,11 +210,10 @@ abbrev AskedSo : Result Asked Usage → Type 0
 AskedSo (Ok asked) = IsNamedSo asked
 AskedSo (Err usage) = Unit {0}
 
-test_form : (count : ℕ) (said : List Said) (arch : Option ArchName) (name : Option (List ℕ)) (mode : ObsMode) → AllByRecursion IsFit said → last_given name_in said ≡ name
-    → AskedSo (asks AsksTest (asked_with count arch name mode (edges_given said)))
-test_form count said None name mode h n = tt
-test_form count said (Some arch) None mode h n = tt
-test_form count said (Some arch) (Some name) mode h n = given_form said name h n
+test_form : (count : ℕ) (arch : Option ArchName) (name : Option (List ℕ)) (mode : ObsMode) (edges : List Edge) → IfSome name (λ name. is_name name ≡ true)
+    → AskedSo (asks AsksTest (asked_with count arch name mode edges))
+test_form count None name mode edges h = tt
+test_form count (Some arch) name mode edges h = h
 
 norm_form : (asked : Result NameAsked Usage) → AskedSo (asks AsksName asked)
 norm_form (Ok asked) = tt
@@ -294,24 +238,26 @@ cross_form count (Some arch) mode folder places h = of_test (nat_lt MAX_CHOICES 
     of_test true = tt
     of_test false = h
 
-demo_form : (count : ℕ) (arch : Option ArchName) (tests : Option ℕ) → ((n : ℕ) → tests ≡ Some n → (1 ≤ n) × (n ≤ MAX_TESTS)) → AskedSo (asks AsksDemo (demo_with count arch tests))
+demo_form : (count : ℕ) (arch : Option ArchName) (tests : Option ℕ) → IfSome tests (λ tests. (1 ≤ tests) × (tests ≤ MAX_TESTS)) → AskedSo (asks AsksDemo (demo_with count arch tests))
 demo_form count None tests h = tt
 demo_form count (Some arch) None h = tt
-demo_form count (Some arch) (Some tests) h = h tests refl
+demo_form count (Some arch) (Some tests) h = h
 
 tool_form : (tool : Tool) (count : ℕ) (said : Result (List Said) Usage) → AllForm said → AskedSo (tool_asked tool count said)
 tool_form tool count (Err usage) h = tt
-tool_form tools.DiyOne count (Ok said) h = test_form count said (last_given arch_in said) (last_given name_in said) (mode_or_accept (last_given mode_in said)) h refl
+tool_form tools.DiyOne count (Ok said) h =
+    test_form count (last_given arch_in said) (last_given name_in said) (mode_or_accept (last_given mode_in said)) (edges_given said)
+    (given_fit (λ name. is_name name ≡ true) name_in name_fit said h)
 tool_form tools.Diy count (Ok said) h =
     list_form count (last_given arch_in said) (last_given relaxes_in said) _ (list_any is_exact said) (given_or 4 (last_given threads_in said)) (mode_or_accept (last_given mode_in said)) (last_given after_in said) (last_given folder_in said)
-    (size_few said (last_given size_in said) h refl) (given_folder said (last_given folder_in said) h refl)
+    (size_few (last_given size_in said) (given_fit (λ size. size ≤ MAX_EDGES) size_in size_fit said h)) (given_folder said h)
 tool_form tools.Norm count (Ok said) h = norm_form (norm_asked count said)
 tool_form tools.Classify count (Ok said) h = families_form (families_with count (last_given arch_in said))
 tool_form tools.Msum count (Ok said) h = tt
 tool_form tools.Cross count (Ok said) h =
-    cross_form count (last_given arch_in said) (mode_or_accept (last_given mode_in said)) (last_given folder_in said) (places_given said) (given_folder said (last_given folder_in said) h refl)
+    cross_form count (last_given arch_in said) (mode_or_accept (last_given mode_in said)) (last_given folder_in said) (places_given said) (given_folder said h)
 tool_form tools.Demo count (Ok said) h =
-    demo_form count (last_given arch_in said) (last_given count_in said) (λ n e. given_fit (λ n. (1 ≤ n) × (n ≤ MAX_TESTS)) count_in count_fit said n h e)
+    demo_form count (last_given arch_in said) (last_given count_in said) (given_fit (λ count. (1 ≤ count) × (count ≤ MAX_TESTS)) count_in count_fit said h)
 
 found_form : (found : Option Tool) (count : ℕ) (words : List (List ℕ)) → AskedSo (asked_for found count words)
 found_form None count words = tt

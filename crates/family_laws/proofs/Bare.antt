@@ -27,26 +27,18 @@ bare (edges.Data place) = edges.Po place dirs.R dirs.W
 abbrev pub bare_edges : List Edge → List Edge
 bare_edges es = map bare es
 
-external_bare : (e : Edge) → is_external (bare e) ≡ is_external e
-external_bare (edges.Com kind reach) = refl
-external_bare (edges.Po place from to) = refl
-external_bare (edges.Fenced kind place from to) = refl
-external_bare (edges.Dep kind place to) = refl
-external_bare (edges.Data place) = refl
+-- it goes outside, moves and begins as the edge does
+record IsAlike (e : Edge) : Type 0 where
+  external : is_external (bare e) ≡ is_external e
+  diff : is_diff (bare e) ≡ is_diff e
+  source : source_of (bare e) ≡ source_of e
 
-diff_bare : (e : Edge) → is_diff (bare e) ≡ is_diff e
-diff_bare (edges.Com kind reach) = refl
-diff_bare (edges.Po place from to) = refl
-diff_bare (edges.Fenced kind place from to) = refl
-diff_bare (edges.Dep kind place to) = refl
-diff_bare (edges.Data place) = refl
-
-source_bare : (e : Edge) → source_of (bare e) ≡ source_of e
-source_bare (edges.Com kind reach) = refl
-source_bare (edges.Po place from to) = refl
-source_bare (edges.Fenced kind place from to) = refl
-source_bare (edges.Dep kind place to) = refl
-source_bare (edges.Data place) = refl
+alike : (e : Edge) → IsAlike e
+alike (edges.Com kind reach) = record { external = refl; diff = refl; source = refl }
+alike (edges.Po place from to) = record { external = refl; diff = refl; source = refl }
+alike (edges.Fenced kind place from to) = record { external = refl; diff = refl; source = refl }
+alike (edges.Dep kind place to) = record { external = refl; diff = refl; source = refl }
+alike (edges.Data place) = record { external = refl; diff = refl; source = refl }
 
 count_bare : (t : Edge → Bool) → ((e : Edge) → t (bare e) ≡ t e) → (es : List Edge) → count_by t (bare_edges es) ≡ count_by t es
 count_bare t same [] = refl
@@ -60,10 +52,10 @@ count_bare t same (e ∷ es) =
     )
 
 pub externals_bare : (es : List Edge) → external_count (bare_edges es) ≡ external_count es
-externals_bare es = count_bare is_external external_bare es
+externals_bare es = count_bare is_external (λ e. (alike e).external) es
 
 pub moves_bare : (es : List Edge) → move_count (bare_edges es) ≡ move_count es
-moves_bare es = count_bare is_diff diff_bare es
+moves_bare es = count_bare is_diff (λ e. (alike e).diff) es
 
 length_bare : (es : List Edge) → length (bare_edges es) ≡ length es
 length_bare es = length-map es bare
@@ -100,12 +92,12 @@ moves_in_bare es = fun_ext (λ k.
   where
     diff_at : (k i : ℕ) → (is_diff (edge_at (bare_edges es) i) && (thread_of (bare_edges es) i == k)) ≡ (is_diff (edge_at es i) && (thread_of es i == k))
     diff_at k i =
-        ap (λ b. b && (thread_of (bare_edges es) i == k)) (ap is_diff (edge_bare es i) ∙ diff_bare (edge_at es i))
+        ap (λ b. b && (thread_of (bare_edges es) i == k)) (ap is_diff (edge_bare es i) ∙ (alike (edge_at es i)).diff)
         ∙ ap (λ (thread : ℕ → ℕ). is_diff (edge_at es i) && (thread i == k)) (thread_bare es)
 
 write_bare : (es : List Edge) (location i : ℕ) → is_write_at (bare_edges es) location i ≡ is_write_at es location i
 write_bare es location i =
-    ap (λ d. same_dir d dirs.W && (location_of (bare_edges es) i == location)) (ap source_of (edge_bare es i) ∙ source_bare (edge_at es i))
+    ap (λ d. same_dir d dirs.W && (location_of (bare_edges es) i == location)) (ap source_of (edge_bare es i) ∙ (alike (edge_at es i)).source)
     ∙ ap (λ l. same_dir (source_of (edge_at es i)) dirs.W && (l == location)) (location_bare es i)
 
 pub writes_bare : (es : List Edge) → write_count (bare_edges es) ≡ write_count es
@@ -124,7 +116,7 @@ coherence_bare es =
 -- the list in which threads are counted
 ends_bare : (es : List Edge) → ends_outside (bare_edges es) ≡ ends_outside es
 ends_bare [] = refl
-ends_bare (e ∷ []) = external_bare e
+ends_bare (e ∷ []) = (alike e).external
 ends_bare (e ∷ f ∷ es) = ends_bare (f ∷ es)
 
 rotated_bare : (k : ℕ) (es : List Edge) → rotated k (bare_edges es) ≡ bare_edges (rotated k es)

@@ -1,26 +1,18 @@
 -- The steps of writing the files of cycles that are given, and what they come to.
-use Rattle.std.proofs.Common.{◌≡◌, ◌≤◌, ◌<◌, ℕ, ◌+◌, get_or, drop, List, [], ◌∷◌, ◌++◌, length, Option, refl, sym, ◌∙◌, ap, subst, arith, append-nil, append_assoc, length-append}
-use Rattle.std.proofs.Math.ListN.{drop_of_length-le}
+use Rattle.std.proofs.Common.{◌≡◌, ◌<◌, ℕ, ◌+◌, get_or, drop, List, [], ◌∷◌, ◌++◌, length, Option, refl, sym, ◌∙◌, ap, subst, append-nil, append_assoc}
 use Rattle.std.proofs.lemmas.List.{drop_more}
 use Rattle.std.specs.Prelude.{codes}
 use Rattle.relax_edges.specs.declared.edge.Edge.{Edge}
-use Rattle.diy_io.specs.Shelf.{ShelfSeen, Idle}
+use Rattle.diy_io.specs.Shelf.{ShelfSeen, Idle, Appended, name_written}
 use Rattle.listed_tests.specs.Files.{number_of, file_of, path_of, all_path, file_lines, test_files}
 use Rattle.listed_tests.specs.Given.{PutUpTo, given_files}
 use Rattle.listed_tests.specs.Putting.{Put, PutPart, Filling}
-use Rattle.listed_tests.proofs.Lines.{file_lines-append, file_lines_none, file_lines_one, test_files_none, test_files_more, files_from, files_parts, counted_next, counted_once, file_counted}
-use Rattle.listed_tests.proofs.Shelves.{put_nothing, put_both, put_then_part, part_more}
-
-length_more : (us : List (List Edge)) (u : List Edge) → length (us ++ u ∷ []) ≡ length us + 1
-length_more us u = omega (arith, length-append us (u ∷ []))
+use Rattle.listed_tests.proofs.Lines.{length_more, lines_so_far, waits_more, file_lines-append, file_lines_none, test_files_none, test_files_more, files_from, files_parts, counted_next, counted_once, file_counted}
+use Rattle.listed_tests.proofs.Shelves.{put_nothing, put_both, put_then_part, part_more, filling_more}
 
 -- the cycle at a place is the first of those that are left there
 pub left_at : (cycles : List (List Edge)) (i : ℕ) (u : List Edge) → i < length cycles → u ≡ get_or cycles i u → drop i cycles ≡ u ∷ drop (i + 1) cycles
 left_at cycles i u h e = drop_more cycles i u h ∙ ap (λ v. v ∷ drop (i + 1) cycles) (sym e)
-
--- at the end none is left
-pub drop_all : (cycles : List (List Edge)) (i : ℕ) → length cycles ≤ i → drop i cycles ≡ []
-drop_all cycles i h = drop_of_length-le cycles h
 
 -- the files of the first cycles are there, and these are left
 pub record Puts (folder : Option (List ℕ)) (text : List Edge → List ℕ) (cycles rest : List (List Edge)) (old new : ShelfSeen) (number : ℕ) : Type 0 where
@@ -133,23 +125,21 @@ module _ (path : List ℕ) (cycles : List (List Edge)) where
       → Lists path cycles rest a b number waiting → rest ≡ u ∷ more → next ≡ number_of (number + 1) → new ≡ waiting ++ (file_of number u ++ codes "\n")
       → Lists path cycles more a b next new
   lists_more rest more u a b number next waiting new l left e f =
-      let plus : 0 + length l.done ≡ length l.done = omega arith in
       record {
         done = l.done ++ u ∷ [];
         parts = l.parts ∙ ap (λ r. l.done ++ r) left ∙ sym (append_assoc l.done (u ∷ []) more);
         written = l.written;
         file = l.file;
-        text = ap (λ t. l.written ++ t) f ∙ sym (append_assoc l.written waiting (file_of number u ++ codes "\n"))
-            ∙ ap (λ t. t ++ (file_of number u ++ codes "\n")) l.text
-            ∙ sym (file_lines-append 0 l.done (u ∷ []) ∙ ap (λ k. file_lines 0 l.done ++ file_lines k (u ∷ [])) plus
-            ∙ ap (λ t. file_lines 0 l.done ++ t) (file_lines_one (length l.done) u ∙ ap (λ t. t ++ codes "\n") (file_counted (length l.done) number _ (sym l.counted))));
+        text = waits_more l.written waiting new _ (file_of number u ++ codes "\n") l.text f ∙ lines_so_far l.done u number l.counted;
         counted = ap number_of e ∙ counted_once (number + 1) ∙ counted_next number (length l.done) l.counted ∙ ap number_of (sym (length_more l.done u));
       }
 
-  -- the whole text of the file, where no cycle is left
-  pub lists_end : (rest : List (List Edge)) (a b : ShelfSeen) (number : ℕ) (waiting : List ℕ) (l : Lists path cycles rest a b number waiting)
-      → rest ≡ [] → l.written ++ waiting ≡ file_lines 0 cycles
-  lists_end rest a b number waiting l left = l.text ∙ ap (file_lines 0) (sym (l.parts ∙ ap (λ r. l.done ++ r) left ∙ append-nil l.done))
+  -- the whole text of the file is written with what waits, where no cycle is left
+  pub lists_end : (rest : List (List Edge)) (a b c : ShelfSeen) (number : ℕ) (waiting : List ℕ)
+      → Lists path cycles rest a b number waiting → rest ≡ [] → Appended b c (name_written b.mode) waiting → Filling a c path (file_lines 0 cycles)
+  lists_end rest a b c number waiting l left x =
+      subst (Filling a c path) (l.text ∙ ap (file_lines 0) (sym (l.parts ∙ ap (λ r. l.done ++ r) left ∙ append-nil l.done)))
+      (filling_more a b c path l.written waiting l.file x)
 
   -- the shelf fails at what is written of it so far
   pub lists_stop : (rest : List (List Edge)) (a b c : ShelfSeen) (number : ℕ) (waiting : List ℕ) (l : Lists path cycles rest a b number waiting)

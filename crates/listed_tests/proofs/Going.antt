@@ -1,5 +1,5 @@
 -- The steps of writing the files of listed cycles, and what they come to.
-use Rattle.std.proofs.Common.{◌≡◌, ℕ, ◌+◌, List, [], ◌∷◌, ◌++◌, length, Option, Some, None, sym, ◌∙◌, ap, subst, arith, append-nil, append_assoc, length-append}
+use Rattle.std.proofs.Common.{◌≡◌, ℕ, ◌+◌, List, [], ◌∷◌, ◌++◌, length, Option, Some, None, sym, ◌∙◌, ap, subst, arith, append-nil, append_assoc}
 use Rattle.std.specs.Prelude.{codes, MatchOption}
 use Rattle.std.specs.Fmt.{decimal}
 use Rattle.relax_edges.specs.declared.edge.Edge.{Edge}
@@ -12,19 +12,9 @@ use Rattle.listed_tests.specs.Files.{number_of, file_of, path_of, all_path, file
 use Rattle.listed_tests.specs.Putting.{Put, PutPart, Filling}
 use Rattle.listed_tests.specs.Keeping.{Keeps, KeepsLine, Goes, HasGone, NamesBehind, StopsBehind, NamesAll, StopsNaming, Naming}
 use Rattle.listed_tests.specs.Ends.{WritesAll, StopsAtTest, StopsAtAll}
-use Rattle.listed_tests.proofs.Lines.{file_lines-append, file_lines_none, file_lines_one, test_files_none, test_files_more, counted_next, counted_once, file_counted, lines_counted}
+use Rattle.listed_tests.proofs.Lines.{length_more, file_lines-append, file_lines_none, test_files_none, test_files_more, counted_next, counted_once, file_counted, lines_counted, lines_more, lines_so_far, waits_more}
 use Rattle.listed_tests.proofs.Shelves.{put_nothing, put_both, put_then_part, part_more, part_not_begun}
 use Rattle.listed_tests.proofs.Behind.{GoesOn, begins_all, all_behind, listed_behind}
-
-length_more : (us : List (List Edge)) (u : List Edge) → length (us ++ u ∷ []) ≡ length us + 1
-length_more us u = omega (arith, length-append us (u ∷ []))
-
--- the lines up to one cycle more
-lines_more : (us : List (List Edge)) (u : List Edge) (n : ℕ) → number_of n ≡ number_of (length us) → file_lines 0 us ++ (file_of n u ++ codes "\n") ≡ file_lines 0 (us ++ u ∷ [])
-lines_more us u n h =
-    let plus : 0 + length us ≡ length us = omega arith in
-    sym (file_lines-append 0 us (u ∷ []) ∙ ap (λ k. file_lines 0 us ++ file_lines k (u ∷ [])) plus
-    ∙ ap (λ t. file_lines 0 us ++ t) (file_lines_one (length us) u ∙ ap (λ t. t ++ codes "\n") (file_counted (length us) n _ (sym h))))
 
 module _ (listed : List Edge → Type 0) (folder : Option (List ℕ)) (text : List Edge → List ℕ) (given : Option (List Edge)) where
   -- before the first cycle
@@ -45,12 +35,12 @@ module _ (listed : List Edge → Type 0) (folder : Option (List ℕ)) (text : Li
   kept_more last cycles u lines new (Some closed) after number next so normal c d kept k =
       rw (k.0, k.1) kept
   kept_more last cycles u lines new None None number next so normal c d kept k =
-      (k.lines_are ∙ ap (λ t. t ++ (file_of number u ++ codes "\n")) kept.0 ∙ lines_more cycles u number c, k.room)
+      (k.lines_are ∙ ap (λ t. t ++ (file_of number u ++ codes "\n")) kept.0 ∙ lines_so_far cycles u number c, k.room)
   kept_more last cycles u lines new None (Some closed) number next so normal c d kept k = record {
     cycles = cycles ++ u ∷ [];
     so_far = subst (λ x. AreListedTo listed given (Some x) (cycles ++ u ∷ [])) (sym k.room.0) so;
     normal = subst IsNormal (sym k.room.0) normal;
-    lines_are = k.lines_are ∙ ap (λ t. t ++ (file_of number u ++ codes "\n")) kept.0 ∙ lines_more cycles u number c;
+    lines_are = k.lines_are ∙ ap (λ t. t ++ (file_of number u ++ codes "\n")) kept.0 ∙ lines_so_far cycles u number c;
     counted = k.room.1 ∙ d ∙ ap number_of (sym (length_more cycles u));
   }
 
@@ -190,9 +180,8 @@ module _ (listed : List Edge → Type 0) (path lines : List ℕ) (closed : Close
         so_far = listed_next listed (Some closed.cycle) last n.cycles u n.so_far is;
         written = n.written;
         file = n.file;
-        text = ap (λ t. n.written ++ t) f ∙ sym (append_assoc n.written waiting (file_of number u ++ codes "\n"))
-            ∙ ap (λ t. t ++ (file_of number u ++ codes "\n")) n.text ∙ append_assoc lines (file_lines closed.number n.cycles) (file_of number u ++ codes "\n")
-            ∙ ap (λ t. lines ++ t) (sym (file_lines-append closed.number n.cycles (u ∷ []) ∙ ap (λ t. file_lines closed.number n.cycles ++ t) (file_lines_one place u ∙ ap (λ t. t ++ codes "\n") (file_counted place number _ (sym counted)))));
+        text = waits_more n.written waiting new _ (file_of number u ++ codes "\n") n.text f ∙ append_assoc lines (file_lines closed.number n.cycles) (file_of number u ++ codes "\n")
+            ∙ ap (λ t. lines ++ t) (lines_more closed.number n.cycles u number counted);
         counted = ap number_of e ∙ counted_once (number + 1) ∙ counted_next number place counted ∙ ap number_of (sym long);
       }
 

@@ -1,5 +1,5 @@
 -- Laws of the files of tests and of the lines that name them.
-use Rattle.std.proofs.Common.{◌≡◌, ◌<◌, ◌^◌, ℕ, suc, ◌+◌, List, [], ◌∷◌, ◌++◌, length, Option, refl, sym, ◌∙◌, ap, arith, append-nil, add-zero, map}
+use Rattle.std.proofs.Common.{◌≡◌, ◌<◌, ◌^◌, ℕ, suc, ◌+◌, List, [], ◌∷◌, ◌++◌, length, Option, refl, sym, ◌∙◌, ap, arith, append-nil, append_assoc, length-append, add-zero, map}
 use Rattle.std.proofs.lemmas.List.{map-append}
 use Rattle.std.proofs.lemmas.List.Concat.{flat_map-append}
 use Rattle.std.specs.Prelude.{codes}
@@ -7,6 +7,12 @@ use Rattle.std.specs.Fmt.{decimal}
 use Rattle.std.specs.List.{enumerate_from, flat_map}
 use Rattle.relax_edges.specs.declared.edge.Edge.{Edge}
 use Rattle.listed_tests.specs.Files.{number_of, file_named, file_of, path_of, file_lines, test_files, count_line}
+
+pub length_more : (us : List (List Edge)) (u : List Edge) → length (us ++ u ∷ []) ≡ length us + 1
+length_more us u = omega (arith, length-append us (u ∷ []))
+
+zero_plus : (k : ℕ) → 0 + k ≡ k
+zero_plus k = omega arith
 
 enumerate_from-append : {X : Type 0} (n : ℕ) (xs ys : List X) → enumerate_from n (xs ++ ys) ≡ enumerate_from n xs ++ enumerate_from (n + length xs) ys
 enumerate_from-append n [] ys = ap (λ k. enumerate_from k ys) (sym (add-zero n))
@@ -45,9 +51,6 @@ test_files_more folder text us u =
     ap (map (λ test. (path_of folder (file_of test.0 test.1), text test.1))) (enumerate_from-append 0 us (u ∷ []))
     ∙ map-append (λ test. (path_of folder (file_of test.0 test.1), text test.1)) (enumerate_from 0 us) (enumerate_from (0 + length us) (u ∷ []))
     ∙ ap (λ k. map (λ test. (path_of folder (file_of test.0 test.1), text test.1)) (enumerate_from 0 us) ++ (path_of folder (file_of k u), text u) ∷ []) (zero_plus (length us))
-  where
-    zero_plus : (k : ℕ) → 0 + k ≡ k
-    zero_plus k = omega arith
 
 -- a number is counted once
 pub counted_once : (n : ℕ) → number_of (number_of n) ≡ number_of n
@@ -68,6 +71,21 @@ lines_counted m n (u ∷ us) h =
 
 pub counted_itself : (n : ℕ) → n < 2 ^ 128 → number_of n ≡ n
 counted_itself n h = omega arith
+
+-- the lines up to one cycle more
+pub lines_more : (first : ℕ) (us : List (List Edge)) (u : List Edge) (n : ℕ) → number_of n ≡ number_of (first + length us)
+    → file_lines first us ++ (file_of n u ++ codes "\n") ≡ file_lines first (us ++ u ∷ [])
+lines_more first us u n h =
+    sym (file_lines-append first us (u ∷ [])
+    ∙ ap (λ t. file_lines first us ++ t) (file_lines_one (first + length us) u ∙ ap (λ t. t ++ codes "\n") (file_counted (first + length us) n _ (sym h))))
+
+-- the same of those that are numbered from 0
+pub lines_so_far : (us : List (List Edge)) (u : List Edge) (n : ℕ) → number_of n ≡ number_of (length us) → file_lines 0 us ++ (file_of n u ++ codes "\n") ≡ file_lines 0 (us ++ u ∷ [])
+lines_so_far us u n h = lines_more 0 us u n (h ∙ ap number_of (sym (zero_plus (length us))))
+
+-- a text is written but for what waits, and a line more waits
+pub waits_more : (written waiting new text line : List ℕ) → written ++ waiting ≡ text → new ≡ waiting ++ line → written ++ new ≡ text ++ line
+waits_more written waiting new text line h e = ap (λ t. written ++ t) e ∙ sym (append_assoc written waiting line) ∙ ap (λ t. t ++ line) h
 
 -- the line on how many tests there are, built of its parts
 pub count_built : (n : ℕ) (a b c d digits : List ℕ) → n < 2 ^ 128 → a ≡ [] → b ≡ a ++ codes "Generator produced " → digits ≡ decimal n → c ≡ b ++ digits
@@ -91,6 +109,3 @@ files_parts folder text us u rest =
     ap (map (λ test. (path_of folder (file_of test.0 test.1), text test.1))) (enumerate_from-append 0 us (u ∷ rest))
     ∙ map-append (λ test. (path_of folder (file_of test.0 test.1), text test.1)) (enumerate_from 0 us) (enumerate_from (0 + length us) (u ∷ rest))
     ∙ ap (λ k. map (λ test. (path_of folder (file_of test.0 test.1), text test.1)) (enumerate_from 0 us) ++ (path_of folder (file_of k u), text u) ∷ files_from folder text (k + 1) rest) (zero_plus (length us))
-  where
-    zero_plus : (k : ℕ) → 0 + k ≡ k
-    zero_plus k = omega arith

@@ -1,12 +1,24 @@
--- A walk, and what its answers are where it only went on.
-use Rattle.std.proofs.Common.{◌≡◌, Bool, List, Option, Some, None, sym, ◌∙◌, ap, subst}
-use Rattle.std.specs.Prelude.{MatchOption}
+-- A walk, what its answers are where it only went on, and what it leaves.
+use Rattle.std.proofs.Common.{◌≡◌, ℕ, Bool, true, List, Option, Some, None, sym, ◌∙◌, ap, subst}
+use Rattle.std.specs.Prelude.{◌↔◌, MatchOption}
 use denote.Ref.{Bor}
 use Rattle.relax_edges.specs.declared.edge.Edge.{Edge}
+use Rattle.walk_laws.specs.Composable.{IsCycle}
 use Rattle.walk_laws.specs.Order.{IsNormal, IsLeast}
 use Rattle.walk_laws.proofs.Laws.{same_cycle_is_equivalence, normal_forms_decide}
 use Rattle.listing_laws.specs.Listing.{IsAnswer}
-use Rattle.cycle_enum.specs.Walking.{Walking, Lists}
+use Rattle.cycle_enum.specs.Walking.{Walking, Lists, Says}
+use Rattle.arch_trait.specs.Threads.{Puts}
+use Rattle.arch_trait.specs.Writing.{Writing}
+use Rattle.diy_io.specs.Shelf.{ShelfSeen}
+use Rattle.listed_tests.specs.declared.names.Closed.{Closed}
+use Rattle.listed_tests.specs.declared.wanted.Wanted.{Wanted}
+use Rattle.listed_tests.specs.Ends.{WritesAll, StopsAtAll}
+use Rattle.listed_tests.specs.Files.{all_path, count_line}
+use Rattle.listed_tests.specs.Keeping.{HasGone, NamesAll, StopsNaming}
+use Rattle.listed_tests.specs.Plans.{plan_of, is_wanted, IsPlanned}
+use Rattle.listed_tests.proofs.Going.{names_put, names_stop}
+use Rattle.listed_tests.proofs.Wanting.{listed_alike, writes_too, stops_all_too}
 
 -- the normal form of a normal form is itself
 pub least_again : (u : List Edge) (last : Option (List Edge)) → IsNormal u → MatchOption last ⊥ (λ v. IsLeast u v) → last ≡ Some u
@@ -21,7 +33,7 @@ module _ {K P : Type 0} where
   answers_as post v w last answer e h = subst (λ x. IsAnswer (Lists post x) last answer) e h
 
   -- it lists what it listed
-  pub lists_as : (post : P → (Bor (List Edge) × Unit {0}) → Bool → Type 0) (v w : Walking K P) (Said : (List Edge → Type 0) → Type 0) → w ≡ record v { last = w.last } → Said (Lists post w) → Said (Lists post v)
+  lists_as : (post : P → (Bor (List Edge) × Unit {0}) → Bool → Type 0) (v w : Walking K P) (Said : (List Edge → Type 0) → Type 0) → w ≡ record v { last = w.last } → Said (Lists post w) → Said (Lists post v)
   lists_as post v w Said e h = subst (λ x. Said (Lists post x)) e h
 
   -- it went on
@@ -29,3 +41,28 @@ module _ {K P : Type 0} where
   went_on v w x u e f =
       let behind : Walking K P → Walking K P = λ y. record y { last = Some u } in
       subst (λ l. x ≡ record v { last = l }) (sym (ap (λ y. y.last) f)) (f ∙ ap behind e)
+
+  -- it lists what a plan lists
+  pub planned : (post : P → (Bor (List Edge) × Unit {0}) → Bool → Type 0) (v : Walking K P) (puts : Puts) (writing : Writing) (wanted : Wanted)
+      → ((u : List Edge) → IsCycle u → Says post v.take u true ↔ (is_wanted puts wanted.mode wanted.threads u ≡ true))
+      → (u : List Edge) → Lists post v u ↔ IsPlanned (plan_of puts writing wanted v.relaxes v.limits) u
+  planned post v puts writing wanted same =
+      listed_alike (λ u. Says post v.take u true) (λ u. is_wanted puts wanted.mode wanted.threads u ≡ true) v.relaxes v.limits.size v.limits.exact same
+
+  -- what it leaves, by another word for the cycles that it lists: all files and the line on their number
+  pub all_written : (post : P → (Bor (List Edge) × Unit {0}) → Bool → Type 0) (v w : Walking K P) (other : List Edge → Type 0) (folder : Option (List ℕ)) (text : List Edge → List ℕ) (given : Option (List Edge))
+      (a b c : ShelfSeen) (number : ℕ) (lines : List ℕ) (closed : Option Closed) (SaysLine : List ℕ → Type 0)
+      → ((u : List Edge) → Lists post v u ↔ other u) → w ≡ record v { last = w.last } → HasGone (Lists post v) folder text given a b number lines closed
+      → NamesAll (Lists post w) (all_path folder) lines closed b c → SaysLine (count_line number) → WritesAll other folder text given a c SaysLine
+  all_written post v w other folder text given a b c number lines closed SaysLine same e gone named line =
+      writes_too (Lists post v) other same folder text given a c SaysLine
+      (names_put (Lists post v) folder text given a b c number lines closed SaysLine gone (lists_as post v w (λ listed. NamesAll listed (all_path folder) lines closed b c) e named) line)
+
+  -- or all but the file that names them
+  pub naming_stopped : (post : P → (Bor (List Edge) × Unit {0}) → Bool → Type 0) (v w : Walking K P) (other : List Edge → Type 0) (folder : Option (List ℕ)) (text : List Edge → List ℕ) (given : Option (List Edge))
+      (a b c : ShelfSeen) (number : ℕ) (lines : List ℕ) (closed : Option Closed)
+      → ((u : List Edge) → Lists post v u ↔ other u) → w ≡ record v { last = w.last } → HasGone (Lists post v) folder text given a b number lines closed
+      → StopsNaming (Lists post w) (all_path folder) lines closed b c → StopsAtAll other folder text given a c
+  naming_stopped post v w other folder text given a b c number lines closed same e gone stops =
+      stops_all_too (Lists post v) other same folder text given a c
+      (names_stop (Lists post v) folder text given a b c number lines closed gone (lists_as post v w (λ listed. StopsNaming listed (all_path folder) lines closed b c) e stops))

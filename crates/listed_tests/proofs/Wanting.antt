@@ -1,6 +1,6 @@
 -- Which cycles a listing wants, and what its walk is told of that.
 use Rattle.std.proofs.Common.{◌≡◌, ◌≤◌, ◌+◌, ℕ, Bool, true, false, cond, not, List, ◌++◌, Option, Some, None, refl, sym, ◌∙◌, arith}
-use Rattle.std.specs.Prelude.{is_none}
+use Rattle.std.specs.Prelude.{◌↔◌, is_none}
 use Rattle.std.specs.List.{list_all, position_from}
 use Rattle.std.specs.Option.{option_map}
 use Rattle.std.proofs.lemmas.Bool.{and_parts, leb-true, le-leb}
@@ -65,8 +65,7 @@ pub refused_leads_none : (puts : Puts) (mode : ObsMode) (threads : ℕ) (u r : L
 refused_leads_none puts mode threads u r none h =
     let yes : may_lead puts.name threads u ≡ true = wanted_leads puts mode threads u r h in cc
 
--- a cycle is listed by one test where it is by another with the same answers
-pub listed_by : (takes others : List Edge → Type 0) (relaxes : List (List Edge)) (size : ℕ) (exact : Bool) → ((u : List Edge) → IsCycle u → takes u → others u)
+listed_by : (takes others : List Edge → Type 0) (relaxes : List (List Edge)) (size : ℕ) (exact : Bool) → ((u : List Edge) → IsCycle u → takes u → others u)
     → (u : List Edge) → IsListed takes relaxes size exact u → IsListed others relaxes size exact u
 listed_by takes others relaxes size exact to u l = record {
   cycle = l.cycle;
@@ -76,21 +75,26 @@ listed_by takes others relaxes size exact to u l = record {
   taken = to u l.cycle l.taken;
 }
 
+-- a cycle is listed by one test where it is by another with the same answers
+pub listed_alike : (takes others : List Edge → Type 0) (relaxes : List (List Edge)) (size : ℕ) (exact : Bool) → ((u : List Edge) → IsCycle u → takes u ↔ others u)
+    → (u : List Edge) → IsListed takes relaxes size exact u ↔ IsListed others relaxes size exact u
+listed_alike takes others relaxes size exact same u =
+    (listed_by takes others relaxes size exact (λ u cycle. (same u cycle).0) u, listed_by others takes relaxes size exact (λ u cycle. (same u cycle).1) u)
+
 -- what a listing leaves, by another word for the listed cycles
-module _ (listed other : List Edge → Type 0) (to : (u : List Edge) → listed u → other u) (from : (u : List Edge) → other u → listed u)
-    (folder : Option (List ℕ)) (text : List Edge → List ℕ) (given : Option (List Edge)) (a b : ShelfSeen) where
+module _ (listed other : List Edge → Type 0) (same : (u : List Edge) → listed u ↔ other u) (folder : Option (List ℕ)) (text : List Edge → List ℕ) (given : Option (List Edge)) (a b : ShelfSeen) where
   pub writes_too : (SaysLine : List ℕ → Type 0) → WritesAll listed folder text given a b SaysLine → WritesAll other folder text given a b SaysLine
-  writes_too SaysLine w = record { cycles = w.cycles; all = all_too listed other to from given w.cycles w.all; files = w.files; line = w.line }
+  writes_too SaysLine w = record { cycles = w.cycles; all = all_too listed other (λ u. (same u).0) (λ u. (same u).1) given w.cycles w.all; files = w.files; line = w.line }
 
   pub stops_test_too : StopsAtTest listed folder text given a b → StopsAtTest other folder text given a b
   stops_test_too s = record {
     last = s.last;
     cycles = s.cycles;
     next = s.next;
-    so_far = listed_too listed other to from given s.last s.cycles s.so_far;
-    is_next = next_too listed other to from s.last s.next s.is_next;
+    so_far = listed_too listed other (λ u. (same u).0) (λ u. (same u).1) given s.last s.cycles s.so_far;
+    is_next = next_too listed other (λ u. (same u).0) (λ u. (same u).1) s.last s.next s.is_next;
     part = s.part;
   }
 
   pub stops_all_too : StopsAtAll listed folder text given a b → StopsAtAll other folder text given a b
-  stops_all_too s = record { cycles = s.cycles; all = all_too listed other to from given s.cycles s.all; part = s.part }
+  stops_all_too s = record { cycles = s.cycles; all = all_too listed other (λ u. (same u).0) (λ u. (same u).1) given s.cycles s.all; part = s.part }

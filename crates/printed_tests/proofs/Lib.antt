@@ -6,3 +6,4 @@ pub mod Lengths
 pub mod SomeTerm
 pub mod Readable
 pub mod Printed
+pub mod Cycles

@@ -1,6 +1,7 @@
 use Rattle.std.proofs.Common.{◌≡◌, ◌<◌, ◌%◌, refl, arith}
 use Rattle.demo_tests.specs.Tallies.{numbered_text}
-use Rattle.demo_tests.proofs.TallyLaws.{family_among, next_seed_of, numbered_so, text_so, accepted, texts_short, all_fits, families_fit, all_more, families_more, no_families_counted, none_counted, place_within}
+use Rattle.demo_tests.proofs.TallyLaws.{family_among, next_seed_of, text_so, accepted, text_tally, texts_short, HasRoom, has_room, all_more, families_more, no_families_counted, none_counted, place_within}
+use Rattle.demo_tests.proofs.making.tally_tests.Given.{Over}
 use Rattle.demo_tests.proofs.making.tally_tests.Goals as goal
 
 pub loop-number-init : goal.loop-number-init
@@ -22,41 +23,32 @@ measure-text-requires g c =
 pub count-requires-clause-place : goal.count-requires-clause-place
 count-requires-clause-place g c = place_within (numbered_text g.A.Arch.puts g.A.Arch.writing) c.loop-number.summary.families c.loop-number.number c.loop-number.invariant.families
 
+-- the text that was measured is the one of its number
+text_of : (g : Over) (c : goal.After-text-1 g) → c.measure-text.result ≡ text_tally (numbered_text g.A.Arch.puts g.A.Arch.writing c.loop-number.number)
+text_of g c =
+    text_so g.A.Arch.puts g.A.Arch.writing c.new-choices.result.arch c.loop-number.number c.loop-number.draws.seed _ c.draw_cycle-cycle.result c.measure-text.result
+    (cc (c.new-choices.ensures, c.NAME.ensures, g.met.A.Arch.same_name)) c.loop-number.invariant.seed c.draw_cycle-cycle.ensures.cycle c.measure-text.ensures
+
+-- there is room to count it
+room_for : (g : Over) (c : goal.After-text-1 g) → HasRoom c.measure-text.result c.loop-number.summary.families c.loop-number.summary.all
+room_for g c =
+    let small : c.loop-number.number < 4294967296 = omega (arith, c.loop-number-test.true, c.ranges.count.fits) in
+    has_room (numbered_text g.A.Arch.puts g.A.Arch.writing) c.measure-text.result c.loop-number.summary.families c.loop-number.summary.all c.loop-number.number
+    (texts_short g.A.Arch.puts g.A.Arch.writing g.met.A.Arch.laws g.met.A.Arch.reads_back g.met.A.Arch.writes_cells g.met.A.Arch.makes_one_access c.requires)
+    small (text_of g c) c.loop-number.invariant.families c.loop-number.invariant.all
+
 pub count-requires-clause-families : goal.count-requires-clause-families
-count-requires-clause-families g c =
-    let puts = g.A.Arch.puts in
-    let w = g.A.Arch.writing in
-    let number = c.loop-number.number in
-    let named : c.new-choices.result.arch ≡ puts.name = cc (c.new-choices.ensures, c.NAME.ensures, g.met.A.Arch.same_name) in
-    let text = text_so puts w number c.draw_cycle-cycle.result c.measure-text.result
-    (numbered_so puts c.new-choices.result.arch number c.loop-number.draws.seed _ c.draw_cycle-cycle.result named c.loop-number.invariant.seed c.draw_cycle-cycle.ensures.cycle)
-    c.measure-text.ensures in
-    let short = texts_short puts w g.met.A.Arch.laws g.met.A.Arch.reads_back g.met.A.Arch.writes_cells g.met.A.Arch.makes_one_access c.requires in
-    let small : number < 4294967296 = omega (arith, c.loop-number-test.true, c.ranges.count.fits) in
-    families_fit (numbered_text puts w) c.measure-text.result c.loop-number.summary.families number short small text c.loop-number.invariant.families
+count-requires-clause-families g c = (room_for g c).each
 
 pub count-requires-clause-all : goal.count-requires-clause-all
-count-requires-clause-all g c =
-    let puts = g.A.Arch.puts in
-    let w = g.A.Arch.writing in
-    let number = c.loop-number.number in
-    let named : c.new-choices.result.arch ≡ puts.name = cc (c.new-choices.ensures, c.NAME.ensures, g.met.A.Arch.same_name) in
-    let text = text_so puts w number c.draw_cycle-cycle.result c.measure-text.result
-    (numbered_so puts c.new-choices.result.arch number c.loop-number.draws.seed _ c.draw_cycle-cycle.result named c.loop-number.invariant.seed c.draw_cycle-cycle.ensures.cycle)
-    c.measure-text.ensures in
-    let short = texts_short puts w g.met.A.Arch.laws g.met.A.Arch.reads_back g.met.A.Arch.writes_cells g.met.A.Arch.makes_one_access c.requires in
-    let small : number < 4294967296 = omega (arith, c.loop-number-test.true, c.ranges.count.fits) in
-    all_fits (numbered_text puts w) c.measure-text.result c.loop-number.summary.all number short small text c.loop-number.invariant.all
+count-requires-clause-all g c = (room_for g c).whole
 
 pub loop-number-preserved : goal.loop-number-preserved
 loop-number-preserved g c =
     let puts = g.A.Arch.puts in
     let w = g.A.Arch.writing in
     let number = c.loop-number.number in
-    let named : c.new-choices.result.arch ≡ puts.name = cc (c.new-choices.ensures, c.NAME.ensures, g.met.A.Arch.same_name) in
-    let text = text_so puts w number c.draw_cycle-cycle.result c.measure-text.result
-    (numbered_so puts c.new-choices.result.arch number c.loop-number.draws.seed _ c.draw_cycle-cycle.result named c.loop-number.invariant.seed c.draw_cycle-cycle.ensures.cycle)
-    c.measure-text.ensures in
+    let text = text_of g c.before in
     record {
       seed = next_seed_of number c.draw_cycle-cycle.new.draws.seed c.loop-number.draws.seed _ c.loop-number.invariant.seed c.draw_cycle-cycle.ensures.seed;
       families = families_more (numbered_text puts w) c.measure-text.result c.loop-number.summary.families c.count.new.self.families number (number % 14) text c.loop-number.invariant.families refl c.count.ensures.families;

@@ -1,8 +1,8 @@
-use Rattle.std.proofs.Common.{◌≡◌, ◌++◌, [], drop, rules}
+use Rattle.std.proofs.Common.{drop, rules}
+use Rattle.std.proofs.lemmas.List.{drop_all}
 use Rattle.diy_io.specs.SinkLaws.{on_err}
 use Rattle.listed_tests.specs.Files.{file_lines}
-use Rattle.listed_tests.specs.Putting.{Filling}
-use Rattle.listed_tests.proofs.GivenLaws.{Lists, drop_all, left_at, lists_first, lists_written, lists_more, lists_end, lists_stop}
+use Rattle.listed_tests.proofs.GivenLaws.{Lists, left_at, lists_first, lists_written, lists_more, lists_end, lists_stop}
 use Rattle.listed_tests.proofs.Shelves.{filling_begun, filling_more, filling_part, closed_ok, closed_err}
 use Rattle.listed_tests.proofs.given.put_names_of.Goals as goal
 use Rattle.listed_tests.proofs.given.put_names_of.Goals.{then-remaining_capacity-lt-MAX_LINE+in_ok-append, else-remaining_capacity-lt-MAX_LINE}
@@ -38,18 +38,12 @@ returns-in_err-append-2-clause-failed g c =
 
 pub returns-clause-ok : goal.returns-clause-ok
 returns-clause-ok g c =
-    let l = c.loop-cycle.invariant.lists in
-    let left : drop c.loop-cycle.cycle-index c.args.cycles.now ≡ [] = drop_all c.args.cycles.now c.loop-cycle.cycle-index c.loop-cycle-test.false in
-    let whole : l.written ++ c.loop-cycle.lines.items ≡ file_lines 0 c.args.cycles.now = lists_end _ _ _ _ _ _ _ l left in
-    let f : Filling (g.H.Shelf.seen c.args.shelf.now) (g.H.Shelf.seen c.append-2.new.self) c.args.path.now (file_lines 0 c.args.cycles.now) =
-    rw whole at (filling_more _ _ _ c.args.path.now l.written c.loop-cycle.lines.items l.file (rw c.as_slice-2.ensures.value at c.in_ok-append-2.ensures.ok)) in
-    closed_ok _ _ _ c.args.path.now (file_lines 0 c.args.cycles.now) c.finish.result f c.finish.ensures.ok
+    closed_ok _ _ _ c.args.path.now (file_lines 0 c.args.cycles.now) c.finish.result
+    (lists_end _ _ _ _ _ _ _ _ c.loop-cycle.invariant.lists (drop_all c.loop-cycle.cycle-index c.args.cycles.now c.loop-cycle-test.false) (rw c.as_slice-2.ensures.value at c.in_ok-append-2.ensures.ok))
+    c.finish.ensures.ok
 
 pub returns-clause-failed : goal.returns-clause-failed
 returns-clause-failed g c =
-    let l = c.loop-cycle.invariant.lists in
-    let left : drop c.loop-cycle.cycle-index c.args.cycles.now ≡ [] = drop_all c.args.cycles.now c.loop-cycle.cycle-index c.loop-cycle-test.false in
-    let whole : l.written ++ c.loop-cycle.lines.items ≡ file_lines 0 c.args.cycles.now = lists_end _ _ _ _ _ _ _ l left in
-    let f : Filling (g.H.Shelf.seen c.args.shelf.now) (g.H.Shelf.seen c.append-2.new.self) c.args.path.now (file_lines 0 c.args.cycles.now) =
-    rw whole at (filling_more _ _ _ c.args.path.now l.written c.loop-cycle.lines.items l.file (rw c.as_slice-2.ensures.value at c.in_ok-append-2.ensures.ok)) in
-    closed_err _ _ _ c.args.path.now (file_lines 0 c.args.cycles.now) c.finish.result f c.finish.ensures.failed
+    closed_err _ _ _ c.args.path.now (file_lines 0 c.args.cycles.now) c.finish.result
+    (lists_end _ _ _ _ _ _ _ _ c.loop-cycle.invariant.lists (drop_all c.loop-cycle.cycle-index c.args.cycles.now c.loop-cycle-test.false) (rw c.as_slice-2.ensures.value at c.in_ok-append-2.ensures.ok))
+    c.finish.ensures.failed

@@ -4,7 +4,8 @@ use Rattle.cycle_names.specs.Names.{name_of}
 use Rattle.litmus_text.specs.Tests.{test_seen}
 use Rattle.litmus_text.specs.TestText.{test_text}
 use Rattle.test_maker.specs.CycleText.{cycle_text}
-use Rattle.demo_tests.proofs.Texts.{tallied, text_made, text_short}
+use Rattle.printed_tests.proofs.Cycles.{cycle_text_short, made_text}
+use Rattle.demo_tests.proofs.Texts.{tallied}
 use Rattle.demo_tests.proofs.measure.Desk.measure.Goals as goal
 
 pub returns : goal.returns
@@ -13,8 +14,8 @@ returns g c =
     let w = g.A.Arch.writing in
     let u = c.args.cycle.now in
     let made : test_text g.A.Arch.NAME w c.as_str.result.now (test_seen c.make_into.new.test) ≡ cycle_text a w Accept c.as_str.result.now u =
-    text_made a w Accept c.as_str.result.now u g.A.Arch.NAME c.make_into.new.test g.met.A.Arch.same_name c.in-Ok.ensures.made.1 in
+    made_text a w Accept c.as_str.result.now u g.A.Arch.NAME c.make_into.new.test g.met.A.Arch.same_name c.in-Ok.ensures.made.1 in
     let named = c.as_str.ensures.value ∙ c.name_of.ensures.name in
     tallied c.new-tally.result c.print_test_by.new.out _ (cycle_text a w Accept (name_of u) u) c.new-tally.ensures c.in-Ok-print_test_by.ensures.wrote.ok
     (made ∙ ap (λ name. cycle_text a w Accept name u) named)
-    (text_short a w Accept u g.met.A.Arch.laws g.met.A.Arch.reads_back g.met.A.Arch.writes_cells g.met.A.Arch.makes_one_access c.edges-edges.ensures.composable c.requires)
+    (cycle_text_short a w Accept u g.met.A.Arch.laws g.met.A.Arch.reads_back g.met.A.Arch.writes_cells g.met.A.Arch.makes_one_access c.edges-edges.ensures.composable c.requires)
