@@ -1,7 +1,7 @@
 ghost use Rattle.arch_aarch64.specs.Puts.{instructions};
 
 use crate::A64;
-use addressed_code::OwnInstructions;
+use addressed_code::{OwnInstructions, adding_number, indexed_load, indexed_store};
 use arch_trait::Instrs;
 use micro_ops::Micro;
 
@@ -14,26 +14,14 @@ impl OwnInstructions for A64 {
     }
 
     fn put_dependent_load(dependency: u8, value: u8, address: u8, out: &mut Instrs) {
-        out.push(Micro::Load {
-            dst: value,
-            base: address,
-            index: Some(dependency),
-        });
+        out.push(indexed_load(dependency, value, address));
     }
 
     fn put_dependent_store(dependency: u8, value: u8, address: u8, out: &mut Instrs) {
-        out.push(Micro::Store {
-            src: value,
-            base: address,
-            index: Some(dependency),
-        });
+        out.push(indexed_store(dependency, value, address));
     }
 
     fn joining(dependency: u8, number: u8) -> Micro {
-        Micro::AddImm {
-            dst: dependency,
-            a: dependency,
-            n: u32::from(number),
-        }
+        adding_number(dependency, number)
     }
 }
