@@ -1,0 +1,191 @@
+-- How instructions are written and read by a table of forms.
+-- Source: own; the litmus format of the herdtools, whose cells hold one instruction each.
+use Rattle.std.specs.Prelude.{ℕ, ◌+◌, ◌-◌, ◌==◌, Bool, true, false, cond, ◌&&◌, nat_lt, nat_le, List, [], ◌∷◌, ◌++◌, Option, Some, None, option_map, option_and_then, map, take, drop, length}
+use Rattle.std.specs.List.{list_any}
+use Rattle.std.specs.Str.{bytes_eq}
+use Rattle.std.specs.Fmt.{decimal}
+use Rattle.final_cond.specs.Numbers.{number_of}
+use Rattle.micro_ops.specs.declared.operation.Micro.{Micro}
+use Rattle.micro_ops.specs.declared.operation.Micro.TheVariants as ops
+use Rattle.arch_trait.specs.Forms.{label_alone}
+use Rattle.arch_trait.specs.Reading.{few}
+use Rattle.arch_trait.specs.Writing.{OperandTexts, none, one, two, three, four, more, Written, Writing, RawInstr, immediate, register_at, label_name, label_word}
+use Rattle.instruction_forms.specs.declared.form.Hole.{Hole}
+use Rattle.instruction_forms.specs.declared.form.Hole.TheVariants as holes
+use Rattle.instruction_forms.specs.declared.form.Piece.{Piece}
+use Rattle.instruction_forms.specs.declared.form.Form.{Form}
+use Rattle.instruction_forms.specs.declared.form.Labels.{Labels}
+use Rattle.instruction_forms.specs.declared.form.Labels.TheVariants as labels
+use Rattle.instruction_forms.specs.declared.form.Table.{Table}
+use Rattle.instruction_forms.specs.declared.kind.Kind.{Kind}
+use Rattle.instruction_forms.specs.declared.kind.Operand.{Operand}
+use Rattle.instruction_forms.specs.declared.kind.Operand.TheVariants as operands
+use Rattle.instruction_forms.specs.Kinds.{FoundOperand, found_register, found_number, found_place, found_label, operands_of, raw_with}
+
+-- the form of an operand: a fixed text, what stands in the hole, a fixed text
+pub record PieceText : Type 0 where
+  pub before : List ℕ
+  pub hole : Hole
+  pub after : List ℕ
+
+-- the form of an instruction: its first word, its operands in order, what it does
+pub record FormText : Type 0 where
+  pub word : List ℕ
+  pub pieces : List PieceText
+  pub kind : Kind
+
+-- the instructions of an architecture: their forms, and whether a label is one too
+pub record TableText : Type 0 where
+  pub forms : List FormText
+  pub labels : Labels
+
+-- what the code sees of a table
+abbrev pub piece_seen : Piece → PieceText
+piece_seen p = record { before = p.before.now; hole = p.hole; after = p.after.now }
+
+abbrev pub form_seen : Form → FormText
+form_seen f = record { word = f.word.now; pieces = map piece_seen f.pieces.now; kind = f.kind }
+
+abbrev pub table_seen : Table → TableText
+table_seen t = record { forms = map form_seen t.forms.now; labels = t.labels }
+
+-- a hole can hold the first of these operands
+abbrev pub fits_first : Hole → List Operand → Bool
+fits_first holes.Empty vs = true
+fits_first (holes.Register first count) (operands.Register r ∷ vs) = nat_lt r count
+fits_first holes.Number (operands.Number n ∷ vs) = nat_le n 2047
+fits_first holes.Place (operands.Place p ∷ vs) = true
+fits_first holes.Label (operands.Label l ∷ vs) = true
+fits_first _ _ = false
+
+-- the operands that are left after a hole
+abbrev pub after_hole : Hole → List Operand → List Operand
+after_hole holes.Empty vs = vs
+after_hole _ [] = []
+after_hole _ (v ∷ vs) = vs
+
+-- the holes can hold these operands, in order, and all of them
+unfoldable pub fits : List PieceText → List Operand → Bool
+fits [] [] = true
+fits [] (v ∷ vs) = false
+fits (p ∷ ps) vs = fits_first p.hole vs && fits ps (after_hole p.hole vs)
+
+abbrev pub fits_if : List PieceText → Option (List Operand) → Bool
+fits_if ps (Some vs) = fits ps vs
+fits_if ps None = false
+
+-- an instruction of this form does the operation
+abbrev pub does : Micro → FormText → Bool
+does op f = fits_if f.pieces (operands_of f.kind op)
+
+-- a label is an instruction of its own
+abbrev pub are_known : Labels → Bool
+are_known labels.Known = true
+are_known labels.Unknown = false
+
+-- an instruction of the table does the operation
+abbrev pub table_has : TableText → Micro → Bool
+table_has t (ops.Label l) = are_known t.labels
+table_has t op = list_any (does op) t.forms
+
+-- what stands in a hole
+abbrev pub filled : (ℕ → List ℕ) → Hole → List Operand → List ℕ
+filled names (holes.Register first count) (operands.Register r ∷ vs) = decimal (first + r)
+filled names holes.Number (operands.Number n ∷ vs) = decimal n
+filled names holes.Place (operands.Place p ∷ vs) = names p
+filled names holes.Label (operands.Label l ∷ vs) = label_name l
+filled names _ _ = []
+
+-- the texts of an instruction's operands
+unfoldable pub piece_texts : (ℕ → List ℕ) → List PieceText → List Operand → List (List ℕ)
+piece_texts names [] vs = []
+piece_texts names (p ∷ ps) vs = (p.before ++ (filled names p.hole vs ++ p.after)) ∷ piece_texts names ps (after_hole p.hole vs)
+
+abbrev pub given : Option (List Operand) → List Operand
+given (Some vs) = vs
+given None = []
+
+-- an operation as an instruction of this form
+abbrev pub form_written : (ℕ → List ℕ) → Micro → FormText → Written
+form_written names op f = record { word = f.word; operands = few (piece_texts names f.pieces (given (operands_of f.kind op))) }
+
+-- an operation as the first instruction that does it
+unfoldable pub first_written : (ℕ → List ℕ) → Micro → List FormText → Written
+first_written names op [] = record { word = []; operands = none }
+first_written names op (f ∷ fs) = cond (does op f) (form_written names op f) (first_written names op fs)
+
+abbrev pub table_written : TableText → (ℕ → List ℕ) → Micro → Written
+table_written t names (ops.Label l) = record { word = label_word l; operands = none }
+table_written t names op = first_written names op t.forms
+
+-- what is left of a text after a fixed text at its beginning, and before one at its end
+unfoldable pub after_prefix : List ℕ → List ℕ → Option (List ℕ)
+after_prefix [] text = Some text
+after_prefix (b ∷ prefix) [] = None
+after_prefix (b ∷ prefix) (c ∷ text) = cond (b == c) (after_prefix prefix text) None
+
+unfoldable pub before_suffix : List ℕ → List ℕ → Option (List ℕ)
+before_suffix suffix text = cond (nat_le (length suffix) (length text) && bytes_eq (drop (length text - length suffix) text) suffix)
+    (Some (take (length text - length suffix) text)) None
+
+-- the operand that a text in a hole is: none where the hole is empty
+abbrev pub hole_found : Hole → List ℕ → Option (List FoundOperand)
+hole_found holes.Empty [] = Some []
+hole_found holes.Empty (b ∷ text) = None
+hole_found (holes.Register first count) text = option_map (λ r. found_register r ∷ []) (register_at first count (number_of text))
+hole_found holes.Number text = option_map (λ n. found_number n ∷ []) (immediate text)
+hole_found holes.Place text = Some (found_place text ∷ [])
+hole_found holes.Label text = Some (found_label text ∷ [])
+
+-- the operand that a text is by its form
+unfoldable pub piece_found : PieceText → List ℕ → Option (List FoundOperand)
+piece_found p text = option_and_then (hole_found p.hole) (option_and_then (before_suffix p.after) (after_prefix p.before text))
+
+abbrev pub joined : Option (List FoundOperand) → Option (List FoundOperand) → Option (List FoundOperand)
+joined (Some xs) (Some ys) = Some (xs ++ ys)
+joined _ _ = None
+
+-- the operands that texts are by their forms, where there are as many
+unfoldable pub pieces_found : List PieceText → List (List ℕ) → Option (List FoundOperand)
+pieces_found [] [] = Some []
+pieces_found [] (t ∷ ts) = None
+pieces_found (p ∷ ps) [] = None
+pieces_found (p ∷ ps) (t ∷ ts) = joined (piece_found p t) (pieces_found ps ts)
+
+-- the operands of an instruction of this form
+abbrev pub form_found : FormText → List ℕ → List (List ℕ) → Option (List FoundOperand)
+form_found f word ts = cond (bytes_eq word f.word) (pieces_found f.pieces ts) None
+
+abbrev pub raw_or : Kind → Option (List FoundOperand) → Option RawInstr → Option RawInstr
+raw_or kind (Some vs) other = raw_with kind vs
+raw_or kind None other = other
+
+-- the instruction of the first form that fits, else another
+unfoldable pub first_read : List FormText → List ℕ → List (List ℕ) → Option RawInstr → Option RawInstr
+first_read [] word ts other = other
+first_read (f ∷ fs) word ts other = raw_or f.kind (form_found f word ts) (first_read fs word ts other)
+
+-- the texts of operands, of at most four
+abbrev pub texts_in : OperandTexts → Option (List (List ℕ))
+texts_in none = Some []
+texts_in (one a) = Some (a ∷ [])
+texts_in (two a b) = Some (a ∷ b ∷ [])
+texts_in (three a b c) = Some (a ∷ b ∷ c ∷ [])
+texts_in (four a b c d) = Some (a ∷ b ∷ c ∷ d ∷ [])
+texts_in more = None
+
+abbrev pub label_read : Labels → Written → Option RawInstr
+label_read labels.Known w = label_alone w.word w.operands
+label_read labels.Unknown w = None
+
+abbrev pub raw_if : TableText → Written → Option (List (List ℕ)) → Option RawInstr
+raw_if t w (Some ts) = first_read t.forms w.word ts (label_read t.labels w)
+raw_if t w None = None
+
+-- the instruction that is written so
+abbrev pub table_raw : TableText → Written → Option RawInstr
+table_raw t w = raw_if t w (texts_in w.operands)
+
+-- how an architecture writes and reads by its table, with these names of its registers
+abbrev pub table_writing : TableText → List (List ℕ) → Writing
+table_writing t registers = record { written = table_written t; raw = table_raw t; registers = registers }

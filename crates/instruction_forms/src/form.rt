@@ -1,0 +1,49 @@
+use crate::kind::Kind;
+
+/// What stands in an operand between its two fixed texts.
+#[derive(Clone, Copy, Debug)]
+pub enum Hole {
+    /// Nothing: the operand is a fixed text.
+    Empty,
+    /// The number of a register, in decimal: `first` for register 0, and so on for `count` registers.
+    Register {
+        first: u8,
+        count: u8,
+    },
+    /// A number of at most `MAX_IMMEDIATE`, in decimal.
+    Number,
+    /// The name of a place.
+    Place,
+    /// The name of a label.
+    Label,
+}
+
+/// The form of one operand: a fixed text, what stands in the hole, and a fixed text.
+#[derive(Clone, Copy, Debug)]
+pub struct Piece {
+    pub before: &'static str,
+    pub hole: Hole,
+    pub after: &'static str,
+}
+
+/// The form of an instruction: its first word, its operands in order, and what it does.
+#[derive(Clone, Copy, Debug)]
+pub struct Form {
+    pub word: &'static str,
+    pub pieces: &'static [Piece],
+    pub kind: Kind,
+}
+
+/// Whether a label is an instruction of its own.
+#[derive(Clone, Copy, Debug)]
+pub enum Labels {
+    Known,
+    Unknown,
+}
+
+/// The instructions of an architecture.
+#[derive(Clone, Copy, Debug)]
+pub struct Table {
+    pub forms: &'static [Form],
+    pub labels: Labels,
+}
