@@ -1,4 +1,6 @@
 pub mod Puts
+pub mod Table
+pub mod Covers
 pub mod Laws
 pub mod Text
 pub mod ReadsBack

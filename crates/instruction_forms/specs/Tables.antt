@@ -39,6 +39,16 @@ pub record TableText : Type 0 where
   pub forms : List FormText
   pub labels : Labels
 
+-- an operand with a hole, one that is a fixed text, and an instruction, as a table lists them
+abbrev pub piece : List ℕ → Hole → List ℕ → PieceText
+piece before hole after = record { before = before; hole = hole; after = after }
+
+abbrev pub fixed : List ℕ → PieceText
+fixed text = piece text holes.Empty []
+
+abbrev pub form : List ℕ → List PieceText → Kind → FormText
+form word pieces kind = record { word = word; pieces = pieces; kind = kind }
+
 -- what the code sees of a table
 abbrev pub piece_seen : Piece → PieceText
 piece_seen p = record { before = p.before.now; hole = p.hole; after = p.after.now }

@@ -1,0 +1,47 @@
+-- AArch64's instructions, as a table of forms: the word, the operands, what it does.
+-- Source: the A64 instruction set in the Arm architecture reference manual, and the litmus format of the herdtools.
+use Rattle.std.specs.Prelude.{List, [], ◌∷◌, codes}
+use Rattle.relax_edges.specs.declared.kinds.FenceKind.TheVariants as fences
+use Rattle.micro_ops.specs.declared.operation.Barrier.TheVariants as barriers
+use Rattle.instruction_forms.specs.declared.form.Hole.TheVariants as holes
+use Rattle.instruction_forms.specs.declared.form.Labels.TheVariants as labels
+use Rattle.instruction_forms.specs.declared.kind.Kind.TheVariants as kinds
+use Rattle.instruction_forms.specs.Tables.{PieceText, FormText, TableText, piece, fixed, form}
+
+-- a register by its lower 32 bits: W0 to W27
+abbrev pub w : PieceText
+w = piece (codes "W") (holes.Register 0 28) []
+
+-- the address in a register: [X0] to [X27]; and the first part of one with an index: [X0,W1,SXTW]
+abbrev pub address : PieceText
+address = piece (codes "[X") (holes.Register 0 28) (codes "]")
+
+abbrev pub base : PieceText
+base = piece (codes "[X") (holes.Register 0 28) []
+
+-- an immediate
+abbrev pub immediate : PieceText
+immediate = piece (codes "#") holes.Number []
+
+abbrev pub label : PieceText
+label = piece [] holes.Label []
+
+-- the instructions
+unfoldable pub forms : List FormText
+forms =
+  form (codes "MOV") (w ∷ immediate ∷ []) kinds.SetNumber ∷
+  form (codes "EOR") (w ∷ w ∷ w ∷ []) kinds.ExclusiveOr ∷
+  form (codes "ADD") (w ∷ w ∷ immediate ∷ []) kinds.AddNumber ∷
+  form (codes "LDR") (w ∷ address ∷ []) kinds.Load ∷
+  form (codes "LDR") (w ∷ base ∷ w ∷ fixed (codes "SXTW]") ∷ []) kinds.LoadIndexed ∷
+  form (codes "STR") (w ∷ address ∷ []) kinds.Store ∷
+  form (codes "STR") (w ∷ base ∷ w ∷ fixed (codes "SXTW]") ∷ []) kinds.StoreIndexed ∷
+  form (codes "CBNZ") (w ∷ label ∷ []) kinds.BranchNotZero ∷
+  form (codes "DMB") (fixed (codes "SY") ∷ []) (kinds.Order (barriers.Fence fences.DmbSy)) ∷
+  form (codes "DMB") (fixed (codes "LD") ∷ []) (kinds.Order (barriers.Fence fences.DmbLd)) ∷
+  form (codes "DMB") (fixed (codes "ST") ∷ []) (kinds.Order (barriers.Fence fences.DmbSt)) ∷
+  form (codes "ISB") [] (kinds.Order barriers.Isb) ∷ []
+
+-- the table, in which labels stand too
+abbrev pub table : TableText
+table = record { forms = forms; labels = labels.Known }

@@ -1,0 +1,51 @@
+-- RISC-V's instructions, as a table of forms: the word, the operands, what it does.
+-- Source: the unprivileged part of the RISC-V manual, and the litmus format of the herdtools.
+use Rattle.std.specs.Prelude.{List, [], ◌∷◌, codes}
+use Rattle.relax_edges.specs.declared.kinds.Pick.TheVariants as picks
+use Rattle.relax_edges.specs.declared.kinds.FenceKind.TheVariants as fences
+use Rattle.micro_ops.specs.declared.operation.Barrier.TheVariants as barriers
+use Rattle.instruction_forms.specs.declared.form.Hole.TheVariants as holes
+use Rattle.instruction_forms.specs.declared.form.Labels.TheVariants as labels
+use Rattle.instruction_forms.specs.declared.kind.Kind.TheVariants as kinds
+use Rattle.instruction_forms.specs.Tables.{PieceText, FormText, TableText, piece, fixed, form}
+
+-- a register: x5 to x31; and the one that holds 0
+abbrev pub register : PieceText
+register = piece (codes "x") (holes.Register 5 27) []
+
+abbrev pub zero : PieceText
+zero = fixed (codes "x0")
+
+-- the address in a register: 0(x5) to 0(x31)
+abbrev pub address : PieceText
+address = piece (codes "0(x") (holes.Register 5 27) (codes ")")
+
+abbrev pub immediate : PieceText
+immediate = piece [] holes.Number []
+
+abbrev pub label : PieceText
+label = piece [] holes.Label []
+
+-- the instructions; of a fence the accesses before it and after it that it orders
+unfoldable pub forms : List FormText
+forms =
+  form (codes "ori") (register ∷ zero ∷ immediate ∷ []) kinds.SetNumber ∷
+  form (codes "ori") (register ∷ register ∷ immediate ∷ []) kinds.OrNumber ∷
+  form (codes "xor") (register ∷ register ∷ register ∷ []) kinds.ExclusiveOr ∷
+  form (codes "add") (register ∷ register ∷ register ∷ []) kinds.Sum ∷
+  form (codes "lw") (register ∷ address ∷ []) kinds.Load ∷
+  form (codes "sw") (register ∷ address ∷ []) kinds.Store ∷
+  form (codes "bne") (register ∷ zero ∷ label ∷ []) kinds.BranchNotZero ∷
+  form (codes "fence") (fixed (codes "r") ∷ fixed (codes "r") ∷ []) (kinds.Order (barriers.Fence (fences.Fence picks.R picks.R))) ∷
+  form (codes "fence") (fixed (codes "r") ∷ fixed (codes "w") ∷ []) (kinds.Order (barriers.Fence (fences.Fence picks.R picks.W))) ∷
+  form (codes "fence") (fixed (codes "r") ∷ fixed (codes "rw") ∷ []) (kinds.Order (barriers.Fence (fences.Fence picks.R picks.RW))) ∷
+  form (codes "fence") (fixed (codes "w") ∷ fixed (codes "r") ∷ []) (kinds.Order (barriers.Fence (fences.Fence picks.W picks.R))) ∷
+  form (codes "fence") (fixed (codes "w") ∷ fixed (codes "w") ∷ []) (kinds.Order (barriers.Fence (fences.Fence picks.W picks.W))) ∷
+  form (codes "fence") (fixed (codes "w") ∷ fixed (codes "rw") ∷ []) (kinds.Order (barriers.Fence (fences.Fence picks.W picks.RW))) ∷
+  form (codes "fence") (fixed (codes "rw") ∷ fixed (codes "r") ∷ []) (kinds.Order (barriers.Fence (fences.Fence picks.RW picks.R))) ∷
+  form (codes "fence") (fixed (codes "rw") ∷ fixed (codes "w") ∷ []) (kinds.Order (barriers.Fence (fences.Fence picks.RW picks.W))) ∷
+  form (codes "fence") (fixed (codes "rw") ∷ fixed (codes "rw") ∷ []) (kinds.Order (barriers.Fence (fences.Fence picks.RW picks.RW))) ∷ []
+
+-- the table, in which labels stand too
+abbrev pub table : TableText
+table = record { forms = forms; labels = labels.Known }

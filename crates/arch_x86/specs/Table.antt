@@ -1,0 +1,32 @@
+-- X86's instructions, as a table of forms: the word, the operands, what it does.
+-- Source: the instruction manuals of x86, and the litmus format of the herdtools.
+use Rattle.std.specs.Prelude.{List, [], ◌∷◌, codes}
+use Rattle.relax_edges.specs.declared.kinds.FenceKind.TheVariants as fences
+use Rattle.micro_ops.specs.declared.operation.Barrier.TheVariants as barriers
+use Rattle.instruction_forms.specs.declared.form.Hole.TheVariants as holes
+use Rattle.instruction_forms.specs.declared.form.Labels.TheVariants as labels
+use Rattle.instruction_forms.specs.declared.kind.Kind.TheVariants as kinds
+use Rattle.instruction_forms.specs.Tables.{PieceText, FormText, TableText, piece, fixed, form}
+
+-- the place in brackets, and a number after a dollar
+abbrev pub address : PieceText
+address = piece (codes "[") holes.Place (codes "]")
+
+abbrev pub immediate : PieceText
+immediate = piece (codes "$") holes.Number []
+
+-- the instructions
+unfoldable pub forms : List FormText
+forms =
+  form (codes "MOV") (fixed (codes "EAX") ∷ address ∷ []) (kinds.LoadInto 0) ∷
+  form (codes "MOV") (fixed (codes "EBX") ∷ address ∷ []) (kinds.LoadInto 1) ∷
+  form (codes "MOV") (fixed (codes "ECX") ∷ address ∷ []) (kinds.LoadInto 2) ∷
+  form (codes "MOV") (fixed (codes "EDX") ∷ address ∷ []) (kinds.LoadInto 3) ∷
+  form (codes "MOV") (fixed (codes "ESI") ∷ address ∷ []) (kinds.LoadInto 4) ∷
+  form (codes "MOV") (fixed (codes "EDI") ∷ address ∷ []) (kinds.LoadInto 5) ∷
+  form (codes "MOV") (address ∷ immediate ∷ []) kinds.StoreNumber ∷
+  form (codes "MFENCE") [] (kinds.Order (barriers.Fence fences.MFence)) ∷ []
+
+-- the table, in which no labels stand
+abbrev pub table : TableText
+table = record { forms = forms; labels = labels.Unknown }
