@@ -11,6 +11,7 @@ ghost use Rattle.arch_aarch64.specs.InCells.{writes_cells as a64_writes_cells, m
 
 mod own;
 mod read;
+mod table;
 mod write;
 
 use addressed_code::{put_link, put_load, put_store, registers_needed};

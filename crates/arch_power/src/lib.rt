@@ -11,6 +11,7 @@ ghost use Rattle.std.specs.Prelude.{◌≡◌};
 ghost use Rattle.arch_power.specs.Text.{writing as power_writing};
 
 mod own;
+mod table;
 mod text;
 
 use addressed_code::{put_link, put_load, put_store, registers_needed};

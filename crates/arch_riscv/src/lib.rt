@@ -11,6 +11,7 @@ ghost use Rattle.arch_riscv.specs.InCells.{writes_cells as riscv_writes_cells, m
 
 mod own;
 mod read;
+mod table;
 mod write;
 
 use addressed_code::{put_link, put_load, put_store, registers_needed};

@@ -13,6 +13,8 @@ ghost use Rattle.arch_trait.specs.Names.{number_in};
 ghost use Rattle.arch_trait.specs.Pieces.{raw_seen, texts_of};
 ghost use Rattle.std.specs.Prelude.{◌≡◌};
 
+mod table;
+
 use arch_trait::{
     Arch, Instrs, Link, MAX_TEXT, Named, Operands, Places, Raw, Regs, Shape, immediate,
     inside_brackets,

@@ -47,3 +47,22 @@ pub struct Table {
     pub forms: &'static [Form],
     pub labels: Labels,
 }
+
+/// The form of an operand: `piece!("[X", hole, "]")`; of one that is a fixed text, `piece!("SY")`.
+#[macro_export]
+macro_rules! piece {
+    ($text:literal) => {
+        $crate::Piece { before: $text, hole: $crate::Hole::Empty, after: "" }
+    };
+    ($before:literal, $hole:expr, $after:literal) => {
+        $crate::Piece { before: $before, hole: $hole, after: $after }
+    };
+}
+
+/// The form of an instruction: `form!("ADD", [W, W, IMMEDIATE], Kind::AddNumber)`.
+#[macro_export]
+macro_rules! form {
+    ($word:literal, [$($piece:expr),*], $kind:expr $(,)?) => {
+        $crate::Form { word: $word, pieces: &[$($piece),*], kind: $kind }
+    };
+}

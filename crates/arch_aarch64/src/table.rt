@@ -1,0 +1,54 @@
+ghost use Rattle.std.specs.Prelude.{◌≡◌};
+ghost use Rattle.instruction_forms.specs.Tables.{table_seen};
+ghost use Rattle.arch_aarch64.specs.Table.{table};
+
+use instruction_forms::{Form, Hole, Kind, Labels, Piece, Table, form, piece};
+use micro_ops::Barrier;
+use relax_edges::FenceKind;
+
+macro_rules! fence {
+    ($kind:ident) => {
+        Kind::Order(Barrier::Fence(FenceKind::$kind))
+    };
+}
+
+const REGISTERS: Hole = Hole::Register {
+    first: 0,
+    count: 28,
+};
+
+const W: Piece = piece!("W", REGISTERS, "");
+
+const ADDRESS: Piece = piece!("[X", REGISTERS, "]");
+
+const BASE: Piece = piece!("[X", REGISTERS, "");
+
+const IMMEDIATE: Piece = piece!("#", Hole::Number, "");
+
+const LABEL: Piece = piece!("", Hole::Label, "");
+
+const FORMS: &[Form] = &[
+    form!("MOV", [W, IMMEDIATE], Kind::SetNumber),
+    form!("EOR", [W, W, W], Kind::ExclusiveOr),
+    form!("ADD", [W, W, IMMEDIATE], Kind::AddNumber),
+    form!("LDR", [W, ADDRESS], Kind::Load),
+    form!("LDR", [W, BASE, W, piece!("SXTW]")], Kind::LoadIndexed),
+    form!("STR", [W, ADDRESS], Kind::Store),
+    form!("STR", [W, BASE, W, piece!("SXTW]")], Kind::StoreIndexed),
+    form!("CBNZ", [W, LABEL], Kind::BranchNotZero),
+    form!("DMB", [piece!("SY")], fence!(DmbSy)),
+    form!("DMB", [piece!("LD")], fence!(DmbLd)),
+    form!("DMB", [piece!("ST")], fence!(DmbSt)),
+    form!("ISB", [], Kind::Order(Barrier::Isb)),
+];
+
+/// AArch64's instructions, in the order in which the forms are tried.
+#[tactic(auto, unfolding(crate::specs::Table::forms))]
+pub fn table() -> Table
+    ensures { table_seen result ≡ table }
+{
+    Table {
+        forms: FORMS,
+        labels: Labels::Known,
+    }
+}
