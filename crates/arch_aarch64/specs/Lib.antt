@@ -1,5 +1,4 @@
 pub mod Puts
-pub mod Text
 pub mod Table
 pub mod Covers
 pub mod Laws

@@ -4,20 +4,20 @@
 ghost use Rattle.std.specs.Prelude.{refl, ◌≡◌};
 ghost use Rattle.relax_edges.specs.declared.kinds.ArchName.TheVariants as archs;
 ghost use Rattle.arch_aarch64.specs.Puts.{puts as a64, is_index, is_barrier};
-ghost use Rattle.arch_aarch64.specs.Text.{writing as a64_writing};
+ghost use Rattle.arch_aarch64.specs.Table.{writing as a64_writing};
 ghost use Rattle.arch_aarch64.specs.Laws.{laws as a64_laws};
 ghost use Rattle.arch_aarch64.specs.ReadsBack.{reads_back as a64_reads_back};
 ghost use Rattle.arch_aarch64.specs.InCells.{writes_cells as a64_writes_cells, makes_one_access as a64_makes_one_access};
 
 mod own;
-mod read;
 mod table;
-mod write;
 
+use crate::table::{NAMES, table};
 use addressed_code::{put_link, put_load, put_store, registers_needed};
 use arch_trait::{Arch, Instrs, Link, MAX_TEXT, Operands, Places, Raw, Regs, Shape};
 use arrayvec::ArrayString;
 use final_cond::RegName;
+use instruction_forms::{print_by, read_by};
 use micro_ops::{Barrier, Micro};
 use relax_edges::{ArchName, FenceKind};
 
@@ -74,17 +74,17 @@ impl Arch for A64 {
         put_store::<A64>(regs, link, from, place, value, out);
     }
 
-    fn print(op: &Micro, _places: &Places, out: &mut ArrayString<MAX_TEXT>) {
-        write::print(*op, out);
+    fn print(op: &Micro, places: &Places, out: &mut ArrayString<MAX_TEXT>) {
+        print_by(&table(), op, places, out);
     }
 
     fn read_raw<'a>(word: &'a [u8], operands: Operands<'a>) -> Option<Raw<'a>> {
-        read::read(word, operands)
+        read_by(&table(), word, operands)
     }
 
     fn register_name(r: u8, out: &mut RegName) {
         out.clear();
-        write::X.push(r, out);
+        NAMES.push(r, out);
     }
 
     ghost same_name = { refl };

@@ -2,6 +2,7 @@ ghost use Rattle.std.specs.Prelude.{◌≡◌};
 ghost use Rattle.instruction_forms.specs.Tables.{table_seen};
 ghost use Rattle.arch_aarch64.specs.Table.{table};
 
+use arch_trait::Numbered;
 use instruction_forms::{Form, Hole, Kind, Labels, Piece, Table, form, piece};
 use micro_ops::Barrier;
 use relax_edges::FenceKind;
@@ -12,9 +13,20 @@ macro_rules! fence {
     };
 }
 
+/// The number in the name of register 0, and how many registers tests use.
+const FIRST: u8 = 0;
+const COUNT: u8 = 28;
+
+/// The names of registers in conditions.
+pub const NAMES: Numbered = Numbered {
+    letter: b'X',
+    first: FIRST,
+    count: COUNT,
+};
+
 const REGISTERS: Hole = Hole::Register {
-    first: 0,
-    count: 28,
+    first: FIRST,
+    count: COUNT,
 };
 
 const W: Piece = piece!("W", REGISTERS, "");

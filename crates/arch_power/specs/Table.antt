@@ -3,10 +3,13 @@
 use Rattle.std.specs.Prelude.{List, [], ◌∷◌, codes}
 use Rattle.relax_edges.specs.declared.kinds.FenceKind.TheVariants as fences
 use Rattle.micro_ops.specs.declared.operation.Barrier.TheVariants as barriers
+use Rattle.arch_trait.specs.declared.numbered.Numbered.{Numbered}
+use Rattle.arch_trait.specs.Forms.{register_names}
+use Rattle.arch_trait.specs.Writing.{Writing}
 use Rattle.instruction_forms.specs.declared.form.Hole.TheVariants as holes
 use Rattle.instruction_forms.specs.declared.form.Labels.TheVariants as labels
 use Rattle.instruction_forms.specs.declared.kind.Kind.TheVariants as kinds
-use Rattle.instruction_forms.specs.Tables.{PieceText, FormText, TableText, piece, fixed, form}
+use Rattle.instruction_forms.specs.Tables.{PieceText, FormText, TableText, piece, form, table_writing}
 
 -- a register: r1 to r28
 abbrev pub register : PieceText
@@ -42,3 +45,11 @@ forms =
 -- the table, in which labels stand too
 abbrev pub table : TableText
 table = record { forms = forms; labels = labels.Known }
+
+-- the names of registers as they stand in conditions: r1 to r28
+abbrev pub numbered : Numbered
+numbered = record { letter = 114; first = 1; count = 28 }
+
+-- how Power writes and reads
+abbrev pub writing : Writing
+writing = table_writing table (register_names numbered)

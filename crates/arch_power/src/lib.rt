@@ -8,16 +8,17 @@ ghost use Rattle.arch_power.specs.Laws.{laws as power_laws};
 ghost use Rattle.arch_power.specs.ReadsBack.{reads_back as power_reads_back};
 ghost use Rattle.arch_power.specs.InCells.{writes_cells as power_writes_cells, makes_one_access as power_makes_one_access};
 ghost use Rattle.std.specs.Prelude.{◌≡◌};
-ghost use Rattle.arch_power.specs.Text.{writing as power_writing};
+ghost use Rattle.arch_power.specs.Table.{writing as power_writing};
 
 mod own;
 mod table;
-mod text;
 
+use crate::table::{NAMES, table};
 use addressed_code::{put_link, put_load, put_store, registers_needed};
 use arch_trait::{Arch, Instrs, Link, MAX_TEXT, Operands, Places, Raw, Regs, Shape};
 use arrayvec::ArrayString;
 use final_cond::RegName;
+use instruction_forms::{print_by, read_by};
 use micro_ops::{Barrier, Micro};
 use relax_edges::{ArchName, FenceKind};
 
@@ -74,16 +75,17 @@ impl Arch for Power {
         put_store::<Power>(regs, link, from, place, value, out);
     }
 
-    fn print(op: &Micro, _places: &Places, out: &mut ArrayString<MAX_TEXT>) {
-        text::print(*op, out);
+    fn print(op: &Micro, places: &Places, out: &mut ArrayString<MAX_TEXT>) {
+        print_by(&table(), op, places, out);
     }
 
     fn read_raw<'a>(word: &'a [u8], operands: Operands<'a>) -> Option<Raw<'a>> {
-        text::read(word, operands)
+        read_by(&table(), word, operands)
     }
 
     fn register_name(r: u8, out: &mut RegName) {
-        text::register_name(r, out);
+        out.clear();
+        NAMES.push(r, out);
     }
 
     ghost same_name = { refl };

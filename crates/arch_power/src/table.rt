@@ -2,6 +2,7 @@ ghost use Rattle.std.specs.Prelude.{◌≡◌};
 ghost use Rattle.instruction_forms.specs.Tables.{table_seen};
 ghost use Rattle.arch_power.specs.Table.{table};
 
+use arch_trait::Numbered;
 use instruction_forms::{Form, Hole, Kind, Labels, Piece, Table, form, piece};
 use micro_ops::Barrier;
 use relax_edges::FenceKind;
@@ -12,9 +13,20 @@ macro_rules! fence {
     };
 }
 
+/// The number in the name of register 0, and how many registers tests use.
+const FIRST: u8 = 1;
+const COUNT: u8 = 28;
+
+/// The names of registers in conditions.
+pub const NAMES: Numbered = Numbered {
+    letter: b'r',
+    first: FIRST,
+    count: COUNT,
+};
+
 const REGISTERS: Hole = Hole::Register {
-    first: 1,
-    count: 28,
+    first: FIRST,
+    count: COUNT,
 };
 
 const R: Piece = piece!("r", REGISTERS, "");

@@ -4,20 +4,20 @@
 ghost use Rattle.std.specs.Prelude.{refl, ◌≡◌};
 ghost use Rattle.relax_edges.specs.declared.kinds.ArchName.TheVariants as archs;
 ghost use Rattle.arch_riscv.specs.Puts.{puts as riscv, is_barrier};
-ghost use Rattle.arch_riscv.specs.Text.{writing as riscv_writing};
+ghost use Rattle.arch_riscv.specs.Table.{writing as riscv_writing};
 ghost use Rattle.arch_riscv.specs.Laws.{laws as riscv_laws};
 ghost use Rattle.arch_riscv.specs.ReadsBack.{reads_back as riscv_reads_back};
 ghost use Rattle.arch_riscv.specs.InCells.{writes_cells as riscv_writes_cells, makes_one_access as riscv_makes_one_access};
 
 mod own;
-mod read;
 mod table;
-mod write;
 
+use crate::table::{NAMES, table};
 use addressed_code::{put_link, put_load, put_store, registers_needed};
 use arch_trait::{Arch, Instrs, Link, MAX_TEXT, Operands, Places, Raw, Regs, Shape};
 use arrayvec::ArrayString;
 use final_cond::RegName;
+use instruction_forms::{print_by, read_by};
 use micro_ops::{Barrier, Micro};
 use relax_edges::{ArchName, FenceKind};
 
@@ -74,17 +74,17 @@ impl Arch for Riscv {
         put_store::<Riscv>(regs, link, from, place, value, out);
     }
 
-    fn print(op: &Micro, _places: &Places, out: &mut ArrayString<MAX_TEXT>) {
-        write::print(*op, out);
+    fn print(op: &Micro, places: &Places, out: &mut ArrayString<MAX_TEXT>) {
+        print_by(&table(), op, places, out);
     }
 
     fn read_raw<'a>(word: &'a [u8], operands: Operands<'a>) -> Option<Raw<'a>> {
-        read::read(word, operands)
+        read_by(&table(), word, operands)
     }
 
     fn register_name(r: u8, out: &mut RegName) {
         out.clear();
-        write::GENERAL.push(r, out);
+        NAMES.push(r, out);
     }
 
     ghost same_name = { refl };

@@ -2,6 +2,7 @@ ghost use Rattle.std.specs.Prelude.{◌≡◌};
 ghost use Rattle.instruction_forms.specs.Tables.{table_seen};
 ghost use Rattle.arch_riscv.specs.Table.{table};
 
+use arch_trait::Numbered;
 use instruction_forms::{Form, Hole, Kind, Labels, Piece, Table, form, piece};
 use micro_ops::Barrier;
 use relax_edges::{FenceKind, Pick};
@@ -15,9 +16,20 @@ macro_rules! fence {
     };
 }
 
+/// The number in the name of register 0, and how many registers tests use.
+const FIRST: u8 = 5;
+const COUNT: u8 = 27;
+
+/// The names of registers in conditions.
+pub const NAMES: Numbered = Numbered {
+    letter: b'x',
+    first: FIRST,
+    count: COUNT,
+};
+
 const REGISTERS: Hole = Hole::Register {
-    first: 5,
-    count: 27,
+    first: FIRST,
+    count: COUNT,
 };
 
 const X: Piece = piece!("x", REGISTERS, "");

@@ -2,6 +2,5 @@ pub mod Puts
 pub mod Table
 pub mod Covers
 pub mod Laws
-pub mod Text
 pub mod ReadsBack
 pub mod InCells

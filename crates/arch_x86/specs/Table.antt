@@ -1,12 +1,13 @@
 -- X86's instructions, as a table of forms: the word, the operands, what it does.
 -- Source: the instruction manuals of x86, and the litmus format of the herdtools.
-use Rattle.std.specs.Prelude.{List, [], ◌∷◌, codes}
+use Rattle.std.specs.Prelude.{ℕ, List, [], ◌∷◌, codes}
 use Rattle.relax_edges.specs.declared.kinds.FenceKind.TheVariants as fences
 use Rattle.micro_ops.specs.declared.operation.Barrier.TheVariants as barriers
+use Rattle.arch_trait.specs.Writing.{Writing}
 use Rattle.instruction_forms.specs.declared.form.Hole.TheVariants as holes
 use Rattle.instruction_forms.specs.declared.form.Labels.TheVariants as labels
 use Rattle.instruction_forms.specs.declared.kind.Kind.TheVariants as kinds
-use Rattle.instruction_forms.specs.Tables.{PieceText, FormText, TableText, piece, fixed, form}
+use Rattle.instruction_forms.specs.Tables.{PieceText, FormText, TableText, piece, fixed, form, table_writing}
 
 -- the place in brackets, and a number after a dollar
 abbrev pub address : PieceText
@@ -30,3 +31,11 @@ forms =
 -- the table, in which no labels stand
 abbrev pub table : TableText
 table = record { forms = forms; labels = labels.Unknown }
+
+-- the registers that tests use, in the order of taking
+abbrev pub register_names : List (List ℕ)
+register_names = codes "EAX" ∷ codes "EBX" ∷ codes "ECX" ∷ codes "EDX" ∷ codes "ESI" ∷ codes "EDI" ∷ []
+
+-- how X86 writes and reads
+abbrev pub writing : Writing
+writing = table_writing table register_names

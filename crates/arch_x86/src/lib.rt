@@ -5,23 +5,18 @@ ghost use Rattle.std.specs.Prelude.{refl};
 ghost use Rattle.relax_edges.specs.declared.kinds.ArchName.TheVariants as archs;
 ghost use Rattle.arch_x86.specs.Puts.{puts as x86};
 ghost use Rattle.arch_x86.specs.Laws.{laws as x86_laws};
-ghost use Rattle.arch_x86.specs.Text.{writing as x86_writing, register_names, fence_raw, mov_raw, load_raw, store_raw, dollar};
+ghost use Rattle.arch_x86.specs.Table.{writing as x86_writing};
 ghost use Rattle.arch_x86.specs.ReadsBack.{reads_back as x86_reads_back};
 ghost use Rattle.arch_x86.specs.InCells.{writes_cells as x86_writes_cells, makes_one_access as x86_makes_one_access};
-ghost use Rattle.arch_trait.specs.Writing.{inside_brackets};
-ghost use Rattle.arch_trait.specs.Names.{number_in};
-ghost use Rattle.arch_trait.specs.Pieces.{raw_seen, texts_of};
 ghost use Rattle.std.specs.Prelude.{◌≡◌};
 
 mod table;
 
-use arch_trait::{
-    Arch, Instrs, Link, MAX_TEXT, Named, Operands, Places, Raw, Regs, Shape, immediate,
-    inside_brackets,
-};
+use crate::table::table;
+use arch_trait::{Arch, Instrs, Link, MAX_TEXT, Operands, Places, Raw, Regs, Shape};
 use arrayvec::ArrayString;
 use final_cond::RegName;
-use itoa::Buffer;
+use instruction_forms::{print_by, read_by};
 use micro_ops::{Barrier, Micro};
 use relax_edges::{ArchName, FenceKind};
 
@@ -91,33 +86,11 @@ impl Arch for X86 {
     }
 
     fn print(op: &Micro, places: &Places, out: &mut ArrayString<MAX_TEXT>) {
-        out.clear();
-        match *op {
-            Micro::LoadAt { dst, place } => {
-                out.push_str("MOV ");
-                out.push_str(REGISTER_NAMES[usize::from(dst)]);
-                out.push_str(",[");
-                out.push_str(places.get(place).as_str());
-                out.push_str("]");
-            }
-            Micro::StoreAt { place, n } => {
-                out.push_str("MOV [");
-                out.push_str(places.get(place).as_str());
-                out.push_str("],$");
-                out.push_str(Buffer::new().format(n));
-            }
-            _ => out.push_str("MFENCE"),
-        }
+        print_by(&table(), op, places, out);
     }
 
     fn read_raw<'a>(word: &'a [u8], operands: Operands<'a>) -> Option<Raw<'a>> {
-        if word == b"MOV".as_slice() {
-            read_mov(operands)
-        } else if word == b"MFENCE".as_slice() {
-            read_fence(operands)
-        } else {
-            None
-        }
+        read_by(&table(), word, operands)
     }
 
     fn register_name(r: u8, out: &mut RegName) {
@@ -136,77 +109,4 @@ impl Arch for X86 {
     ghost writes_cells = { x86_writes_cells };
 
     ghost makes_one_access = { x86_makes_one_access };
-}
-
-fn read_fence(operands: Operands<'_>) -> Option<Raw<'_>>
-    ensures { raw_seen result ≡ fence_raw (texts_of operands.entry) }
-{
-    match operands {
-        Operands::None => Some(Raw {
-            op: Micro::Barrier {
-                kind: Barrier::Fence(FenceKind::MFence),
-            },
-            name: Named::Nothing,
-        }),
-        _ => None,
-    }
-}
-
-fn read_mov(operands: Operands<'_>) -> Option<Raw<'_>>
-    ensures { raw_seen result ≡ mov_raw (texts_of operands.entry) }
-{
-    match operands {
-        Operands::Two(to, from) => match read_register(to) {
-            Some(dst) => read_load(dst, from),
-            None => read_store(to, from),
-        },
-        _ => None,
-    }
-}
-
-fn read_load(dst: u8, from: &[u8]) -> Option<Raw<'_>>
-    ensures { raw_seen result ≡ load_raw dst (inside_brackets from.now) }
-{
-    match inside_brackets(from) {
-        Some(name) => Some(Raw {
-            op: Micro::LoadAt { dst, place: 0 },
-            name: Named::Place(name),
-        }),
-        None => None,
-    }
-}
-
-fn read_store<'a>(to: &'a [u8], from: &[u8]) -> Option<Raw<'a>>
-    ensures { raw_seen result ≡ store_raw (inside_brackets to.now) (dollar from.now) }
-{
-    match (inside_brackets(to), read_dollar(from)) {
-        (Some(name), Some(n)) => Some(Raw {
-            op: Micro::StoreAt { place: 0, n },
-            name: Named::Place(name),
-        }),
-        _ => None,
-    }
-}
-
-fn read_dollar(text: &[u8]) -> Option<u32>
-    ensures { result ≡ dollar text.now }
-{
-    match text {
-        [b'$', digits @ ..] => immediate(digits),
-        _ => None,
-    }
-}
-
-fn read_register(name: &[u8]) -> Option<u8>
-    ensures { result ≡ number_in register_names name.now }
-{
-    match name {
-        b"EAX" => Some(0),
-        b"EBX" => Some(1),
-        b"ECX" => Some(2),
-        b"EDX" => Some(3),
-        b"ESI" => Some(4),
-        b"EDI" => Some(5),
-        _ => None,
-    }
 }

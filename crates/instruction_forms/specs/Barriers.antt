@@ -1,0 +1,51 @@
+-- Every barrier, and what a test of all of them tells of each.
+-- Source: own.
+use Rattle.std.proofs.Common.{ℕ, zero, suc, ◌≡◌, refl, true, Bool, List, [], ◌∷◌, Some, arith}
+use Rattle.std.specs.List.{list_all, slice_get}
+use Rattle.std.proofs.lemmas.Bool.{and_parts}
+use Rattle.relax_edges.specs.declared.kinds.FenceKind.TheVariants as fences
+use Rattle.relax_edges.specs.declared.kinds.Pick.TheVariants as picks
+use Rattle.micro_ops.specs.declared.operation.Barrier.{Barrier}
+use Rattle.micro_ops.specs.declared.operation.Barrier.TheVariants as barriers
+
+-- a fence of RISC-V
+abbrev picked : List Barrier → List Barrier
+picked rest =
+    barriers.Fence (fences.Fence picks.R picks.R) ∷ barriers.Fence (fences.Fence picks.R picks.W) ∷
+    barriers.Fence (fences.Fence picks.R picks.RW) ∷ barriers.Fence (fences.Fence picks.W picks.R) ∷
+    barriers.Fence (fences.Fence picks.W picks.W) ∷ barriers.Fence (fences.Fence picks.W picks.RW) ∷
+    barriers.Fence (fences.Fence picks.RW picks.R) ∷ barriers.Fence (fences.Fence picks.RW picks.W) ∷
+    barriers.Fence (fences.Fence picks.RW picks.RW) ∷ rest
+
+-- all barriers
+abbrev pub all_barriers : List Barrier
+all_barriers =
+    barriers.Isb ∷ barriers.Fence fences.MFence ∷ barriers.Fence fences.Sync ∷ barriers.Fence fences.LwSync ∷
+    barriers.Fence fences.Eieio ∷ barriers.Fence fences.ISync ∷ barriers.Fence fences.DmbSy ∷ barriers.Fence fences.DmbLd ∷
+    barriers.Fence fences.DmbSt ∷ picked []
+
+found : {X : Type 0} (p : X → Bool) (xs : List X) (i : ℕ) (x : X) → list_all p xs ≡ true → slice_get xs i ≡ Some x → p x ≡ true
+found p [] i x h e = cc
+found p (y ∷ xs) zero x h e = let q = and_parts (p y) (list_all p xs) h in grind (arith, q.0, e)
+found p (y ∷ xs) (suc i) x h e = found p xs i x (and_parts (p y) (list_all p xs) h).1 e
+
+-- what holds of all barriers holds of each
+pub each_barrier : (p : Barrier → Bool) → list_all p all_barriers ≡ true → (b : Barrier) → p b ≡ true
+each_barrier p h barriers.Isb = found p all_barriers 0 barriers.Isb h refl
+each_barrier p h (barriers.Fence fences.MFence) = found p all_barriers 1 (barriers.Fence fences.MFence) h refl
+each_barrier p h (barriers.Fence fences.Sync) = found p all_barriers 2 (barriers.Fence fences.Sync) h refl
+each_barrier p h (barriers.Fence fences.LwSync) = found p all_barriers 3 (barriers.Fence fences.LwSync) h refl
+each_barrier p h (barriers.Fence fences.Eieio) = found p all_barriers 4 (barriers.Fence fences.Eieio) h refl
+each_barrier p h (barriers.Fence fences.ISync) = found p all_barriers 5 (barriers.Fence fences.ISync) h refl
+each_barrier p h (barriers.Fence fences.DmbSy) = found p all_barriers 6 (barriers.Fence fences.DmbSy) h refl
+each_barrier p h (barriers.Fence fences.DmbLd) = found p all_barriers 7 (barriers.Fence fences.DmbLd) h refl
+each_barrier p h (barriers.Fence fences.DmbSt) = found p all_barriers 8 (barriers.Fence fences.DmbSt) h refl
+each_barrier p h (barriers.Fence (fences.Fence picks.R picks.R)) = found p all_barriers 9 (barriers.Fence (fences.Fence picks.R picks.R)) h refl
+each_barrier p h (barriers.Fence (fences.Fence picks.R picks.W)) = found p all_barriers 10 (barriers.Fence (fences.Fence picks.R picks.W)) h refl
+each_barrier p h (barriers.Fence (fences.Fence picks.R picks.RW)) = found p all_barriers 11 (barriers.Fence (fences.Fence picks.R picks.RW)) h refl
+each_barrier p h (barriers.Fence (fences.Fence picks.W picks.R)) = found p all_barriers 12 (barriers.Fence (fences.Fence picks.W picks.R)) h refl
+each_barrier p h (barriers.Fence (fences.Fence picks.W picks.W)) = found p all_barriers 13 (barriers.Fence (fences.Fence picks.W picks.W)) h refl
+each_barrier p h (barriers.Fence (fences.Fence picks.W picks.RW)) = found p all_barriers 14 (barriers.Fence (fences.Fence picks.W picks.RW)) h refl
+each_barrier p h (barriers.Fence (fences.Fence picks.RW picks.R)) = found p all_barriers 15 (barriers.Fence (fences.Fence picks.RW picks.R)) h refl
+each_barrier p h (barriers.Fence (fences.Fence picks.RW picks.W)) = found p all_barriers 16 (barriers.Fence (fences.Fence picks.RW picks.W)) h refl
+each_barrier p h (barriers.Fence (fences.Fence picks.RW picks.RW)) = found p all_barriers 17 (barriers.Fence (fences.Fence picks.RW picks.RW)) h refl
