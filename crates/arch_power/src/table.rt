@@ -1,9 +1,9 @@
 ghost use Rattle.std.specs.Prelude.{◌≡◌};
-ghost use Rattle.instruction_forms.specs.Tables.{table_seen};
+ghost use Rattle.form_laws.specs.Tables.{table_seen};
 ghost use Rattle.arch_power.specs.Table.{table};
 
 use arch_trait::Numbered;
-use instruction_forms::{Form, Hole, Kind, Labels, Piece, Table, form, piece};
+use form_laws::{Form, Hole, Kind, Labels, Piece, Table, form, piece};
 use micro_ops::Barrier;
 use relax_edges::FenceKind;
 

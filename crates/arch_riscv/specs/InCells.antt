@@ -3,7 +3,7 @@ use Rattle.std.proofs.Common.{refl}
 use Rattle.arch_trait.specs.Cells.{WritesCells, MakesOneAccess}
 use Rattle.arch_trait.specs.Forms.{register_names}
 use Rattle.arch_trait.proofs.Addressed.{accesses_once}
-use Rattle.instruction_forms.specs.InCells as tables
+use Rattle.form_laws.proofs.InCells as tables
 use Rattle.arch_riscv.specs.Puts.{puts, instructions}
 use Rattle.arch_riscv.specs.Table.{table, numbered, writing}
 use Rattle.arch_riscv.specs.Covers.{is_clear_table, covers}

@@ -6,9 +6,9 @@ use Rattle.micro_ops.specs.declared.operation.Micro.TheVariants as ops
 use Rattle.micro_ops.specs.declared.operation.Barrier.{Barrier}
 use Rattle.final_cond.specs.Numbers.{number_of}
 use Rattle.arch_trait.specs.Writing.{immediate}
-use Rattle.instruction_forms.specs.Tables.{table_has, fits, piece_found, after_prefix, before_suffix}
-use Rattle.instruction_forms.specs.Barriers.{each_barrier}
-use Rattle.instruction_forms.specs.Clear.{is_clear, differ, piece_apart, pieces_apart, forms_apart, is_piece_good, most_of, is_form_good}
+use Rattle.form_laws.specs.Tables.{table_has, fits, piece_found, after_prefix, before_suffix}
+use Rattle.form_laws.proofs.Barriers.{each_barrier}
+use Rattle.form_laws.specs.Clear.{is_clear, differ, piece_apart, pieces_apart, forms_apart, is_piece_good, most_of, is_form_good}
 use Rattle.arch_x86.specs.Puts.{has}
 use Rattle.arch_x86.specs.Table.{table, forms}
 

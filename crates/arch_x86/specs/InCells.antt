@@ -3,7 +3,7 @@ use Rattle.std.proofs.Common.{ℕ, ◌≡◌, refl, Option}
 use Rattle.arch_trait.specs.declared.link.Link.{Link}
 use Rattle.arch_trait.specs.declared.link.Link.TheVariants as links
 use Rattle.arch_trait.specs.Cells.{WritesCells, MakesOneAccess, accesses_in}
-use Rattle.instruction_forms.specs.InCells as tables
+use Rattle.form_laws.proofs.InCells as tables
 use Rattle.arch_x86.specs.Puts.{puts, link_code}
 use Rattle.arch_x86.specs.Table.{table, register_names, writing}
 use Rattle.arch_x86.specs.Covers.{is_clear_table, covers}

@@ -4,7 +4,7 @@ use Rattle.std.specs.List.{list_all, IsDistinct}
 use Rattle.std.specs.Str.{bytes_eq}
 use Rattle.final_cond.specs.Names.{is_register_name}
 use Rattle.arch_trait.specs.Writing.{WritesBack}
-use Rattle.instruction_forms.specs.ReadsBack.{AreNames, writes_back}
+use Rattle.form_laws.proofs.ReadsBack.{AreNames, writes_back}
 use Rattle.arch_x86.specs.Puts.{puts}
 use Rattle.arch_x86.specs.Table.{table, register_names, writing}
 use Rattle.arch_x86.specs.Covers.{is_clear_table, covers}

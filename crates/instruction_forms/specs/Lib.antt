@@ -1,4 +1,0 @@
-pub mod Kinds
-pub mod Tables
-pub mod Clear
-pub mod Barriers

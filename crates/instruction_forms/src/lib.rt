@@ -1,8 +1,4 @@
-//! An architecture's instructions as a table of forms: how each is written, and how it is read.
+//! Instructions are printed and read by a table of forms.
 #![tactic(auto)]
 
-mod form;
-mod kind;
-
-pub use form::{Form, Hole, Labels, Piece, Table};
-pub use kind::{Kind, Operand};
+pub use form_laws::{Form, Hole, Kind, Labels, Piece, Table};

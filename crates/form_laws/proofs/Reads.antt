@@ -13,16 +13,16 @@ use Rattle.micro_ops.specs.declared.operation.Barrier.{Barrier}
 use Rattle.arch_trait.specs.Writing.{OperandTexts, none, one, two, three, four, more, RawInstr, Written, immediate, at_most, register_at, label_raw}
 use Rattle.arch_trait.specs.Forms.{label_alone}
 use Rattle.arch_trait.proofs.Taking.{by_test}
-use Rattle.instruction_forms.specs.declared.form.Hole.{Hole}
-use Rattle.instruction_forms.specs.declared.form.Hole.TheVariants as holes
-use Rattle.instruction_forms.specs.declared.form.Labels.{Labels}
-use Rattle.instruction_forms.specs.declared.form.Labels.TheVariants as labels
-use Rattle.instruction_forms.specs.declared.kind.Kind.{Kind}
-use Rattle.instruction_forms.specs.declared.kind.Kind.TheVariants as kinds
-use Rattle.instruction_forms.specs.declared.kind.Operand.{Operand}
-use Rattle.instruction_forms.specs.declared.kind.Operand.TheVariants as operands
-use Rattle.instruction_forms.specs.Kinds.{FoundOperand, found_register, found_number, found_place, found_label, operands_of, raw_with, same_barrier, barrier_number}
-use Rattle.instruction_forms.specs.Tables.{PieceText, FormText, TableText, fits_first, after_hole, fits, fits_if, does, table_has, hole_found, piece_found, pieces_found, joined, form_found, raw_or, first_read, texts_in, are_known, label_read, raw_if, table_raw}
+use Rattle.form_laws.specs.declared.form.Hole.{Hole}
+use Rattle.form_laws.specs.declared.form.Hole.TheVariants as holes
+use Rattle.form_laws.specs.declared.form.Labels.{Labels}
+use Rattle.form_laws.specs.declared.form.Labels.TheVariants as labels
+use Rattle.form_laws.specs.declared.kind.Kind.{Kind}
+use Rattle.form_laws.specs.declared.kind.Kind.TheVariants as kinds
+use Rattle.form_laws.specs.declared.kind.Operand.{Operand}
+use Rattle.form_laws.specs.declared.kind.Operand.TheVariants as operands
+use Rattle.form_laws.specs.Kinds.{FoundOperand, found_register, found_number, found_place, found_label, operands_of, raw_with, same_barrier, barrier_number}
+use Rattle.form_laws.specs.Tables.{PieceText, FormText, TableText, fits_first, after_hole, fits, fits_if, does, table_has, hole_found, piece_found, pieces_found, joined, form_found, raw_or, first_read, texts_in, are_known, label_read, raw_if, table_raw}
 
 -- an operand that was read, with the number 0 for a name
 abbrev zeroed : FoundOperand → Operand

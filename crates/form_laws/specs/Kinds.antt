@@ -8,10 +8,10 @@ use Rattle.micro_ops.specs.declared.operation.Micro.{Micro}
 use Rattle.micro_ops.specs.declared.operation.Micro.TheVariants as ops
 use Rattle.micro_ops.specs.declared.operation.Barrier.{Barrier}
 use Rattle.micro_ops.specs.declared.operation.Barrier.TheVariants as barriers
-use Rattle.instruction_forms.specs.declared.kind.Kind.{Kind}
-use Rattle.instruction_forms.specs.declared.kind.Kind.TheVariants as kinds
-use Rattle.instruction_forms.specs.declared.kind.Operand.{Operand}
-use Rattle.instruction_forms.specs.declared.kind.Operand.TheVariants as operands
+use Rattle.form_laws.specs.declared.kind.Kind.{Kind}
+use Rattle.form_laws.specs.declared.kind.Kind.TheVariants as kinds
+use Rattle.form_laws.specs.declared.kind.Operand.{Operand}
+use Rattle.form_laws.specs.declared.kind.Operand.TheVariants as operands
 use Rattle.arch_trait.specs.Writing.{RawInstr, nothing, place, label}
 
 -- an operand as it is read: the name of a place or a label has no number yet

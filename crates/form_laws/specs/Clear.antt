@@ -5,9 +5,9 @@ use Rattle.std.specs.List.{list_all, list_any}
 use Rattle.std.specs.Str.{bytes_eq}
 use Rattle.final_cond.specs.Runs.{is_blank}
 use Rattle.arch_trait.specs.Cells.{is_cell_byte}
-use Rattle.instruction_forms.specs.declared.form.Hole.{Hole}
-use Rattle.instruction_forms.specs.declared.form.Hole.TheVariants as holes
-use Rattle.instruction_forms.specs.Tables.{PieceText, FormText, TableText, piece_found}
+use Rattle.form_laws.specs.declared.form.Hole.{Hole}
+use Rattle.form_laws.specs.declared.form.Hole.TheVariants as holes
+use Rattle.form_laws.specs.Tables.{PieceText, FormText, TableText, piece_found}
 
 -- two texts differ at a place that both have
 unfoldable pub differ : List ℕ → List ℕ → Bool

@@ -10,17 +10,17 @@ use Rattle.micro_ops.specs.declared.operation.Micro.TheVariants as ops
 use Rattle.arch_trait.specs.Forms.{label_alone}
 use Rattle.arch_trait.specs.Reading.{few}
 use Rattle.arch_trait.specs.Writing.{OperandTexts, none, one, two, three, four, more, Written, Writing, RawInstr, immediate, register_at, label_name, label_word}
-use Rattle.instruction_forms.specs.declared.form.Hole.{Hole}
-use Rattle.instruction_forms.specs.declared.form.Hole.TheVariants as holes
-use Rattle.instruction_forms.specs.declared.form.Piece.{Piece}
-use Rattle.instruction_forms.specs.declared.form.Form.{Form}
-use Rattle.instruction_forms.specs.declared.form.Labels.{Labels}
-use Rattle.instruction_forms.specs.declared.form.Labels.TheVariants as labels
-use Rattle.instruction_forms.specs.declared.form.Table.{Table}
-use Rattle.instruction_forms.specs.declared.kind.Kind.{Kind}
-use Rattle.instruction_forms.specs.declared.kind.Operand.{Operand}
-use Rattle.instruction_forms.specs.declared.kind.Operand.TheVariants as operands
-use Rattle.instruction_forms.specs.Kinds.{FoundOperand, found_register, found_number, found_place, found_label, operands_of, raw_with}
+use Rattle.form_laws.specs.declared.form.Hole.{Hole}
+use Rattle.form_laws.specs.declared.form.Hole.TheVariants as holes
+use Rattle.form_laws.specs.declared.form.Piece.{Piece}
+use Rattle.form_laws.specs.declared.form.Form.{Form}
+use Rattle.form_laws.specs.declared.form.Labels.{Labels}
+use Rattle.form_laws.specs.declared.form.Labels.TheVariants as labels
+use Rattle.form_laws.specs.declared.form.Table.{Table}
+use Rattle.form_laws.specs.declared.kind.Kind.{Kind}
+use Rattle.form_laws.specs.declared.kind.Operand.{Operand}
+use Rattle.form_laws.specs.declared.kind.Operand.TheVariants as operands
+use Rattle.form_laws.specs.Kinds.{FoundOperand, found_register, found_number, found_place, found_label, operands_of, raw_with}
 
 -- the form of an operand: a fixed text, what stands in the hole, a fixed text
 pub record PieceText : Type 0 where

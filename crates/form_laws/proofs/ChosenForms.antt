@@ -1,0 +1,107 @@
+-- In a clear table, the first form that does an operation is the one that reads it back.
+use Rattle.std.proofs.Common.{ℕ, ◌+◌, ◌≡◌, refl, Bool, true, false, cond, not, ◌&&◌, ◌||◌, nat_le, List, [], ◌∷◌, Some, None, map, length, ◌∙◌, sym, ap}
+use Rattle.std.specs.Prelude.{Option, is_some}
+use Rattle.std.specs.List.{list_all, list_any}
+use Rattle.std.specs.Str.{bytes_eq}
+use Rattle.std.proofs.lemmas.Bool.{and_parts, not-true}
+use Rattle.std.proofs.lemmas.Slice.Eq.{bytes_eq-Decides}
+use Rattle.micro_ops.specs.declared.operation.Micro.{Micro}
+use Rattle.arch_trait.specs.Writing.{RawInstr}
+use Rattle.arch_trait.proofs.Taking.{by_test}
+use Rattle.form_laws.specs.declared.kind.Operand.{Operand}
+use Rattle.form_laws.specs.Kinds.{operands_of, raw_with}
+use Rattle.form_laws.specs.Tables.{PieceText, FormText, fits, fits_if, does, piece_texts, given, form_written, first_written, pieces_found, form_found, raw_or, first_read}
+use Rattle.form_laws.specs.Clear.{forms_apart, is_fixed_byte, ending_words, is_piece_good, most_of, is_form_good, is_clear}
+use Rattle.form_laws.proofs.PieceBacks.{named, pieces_back}
+use Rattle.form_laws.proofs.FormsApart.{form_none}
+
+-- what the test of a form says
+pub record GoodForm (f : FormText) : Type 0 where
+  pub some : nat_le 1 (length f.word) ≡ true
+  pub word : list_all is_fixed_byte f.word ≡ true
+  pub unending : list_any (bytes_eq f.word) ending_words ≡ false
+  pub pieces : list_all is_piece_good f.pieces ≡ true
+  pub few : nat_le (length f.pieces) 4 ≡ true
+  pub short : nat_le (length f.word + most_of f.pieces) 40 ≡ true
+
+-- a form that passes its test has those parts
+pub form_is_good : (f : FormText) → is_form_good f ≡ true → GoodForm f
+unfolding is_form_good
+form_is_good f h =
+    let a = and_parts (nat_le 1 (length f.word) && list_all is_fixed_byte f.word) (not (list_any (bytes_eq f.word) ending_words) && (list_all is_piece_good f.pieces && (nat_le (length f.pieces) 4 && nat_le (length f.word + most_of f.pieces) 40))) h in
+    let b = and_parts (nat_le 1 (length f.word)) (list_all is_fixed_byte f.word) a.0 in
+    let c = and_parts (not (list_any (bytes_eq f.word) ending_words)) (list_all is_piece_good f.pieces && (nat_le (length f.pieces) 4 && nat_le (length f.word + most_of f.pieces) 40)) a.1 in
+    let d = and_parts (list_all is_piece_good f.pieces) (nat_le (length f.pieces) 4 && nat_le (length f.word + most_of f.pieces) 40) c.1 in
+    let e = and_parts (nat_le (length f.pieces) 4) (nat_le (length f.word + most_of f.pieces) 40) d.1 in
+    record { some = b.0; word = b.1; unending = not-true (list_any (bytes_eq f.word) ending_words) c.0; pieces = d.0; few = e.0; short = e.1 }
+
+-- a form that does an operation has its operands, and they fit
+pub record Done (op : Micro) (f : FormText) : Type 0 where
+  pub some : is_some (operands_of f.kind op) ≡ true
+  pub fit : fits f.pieces (given (operands_of f.kind op)) ≡ true
+
+-- what a form does by its test, in those parts
+pub done : (op : Micro) (f : FormText) → does op f ≡ true → Done op f
+done op f h = let p = by_operands f.pieces (operands_of f.kind op) h in record { some = p.0; fit = p.1 }
+  where
+    by_operands : (ps : List PieceText) (o : Option (List Operand)) → fits_if ps o ≡ true → (is_some o ≡ true) × (fits ps (given o) ≡ true)
+    by_operands ps None h = cc
+    by_operands ps (Some vs) h = (refl, h)
+
+-- the texts of an operation's operands by a form
+abbrev pub op_texts : (ℕ → List ℕ) → Micro → FormText → List (List ℕ)
+op_texts names op f = piece_texts names f.pieces (given (operands_of f.kind op))
+
+-- what a form finds in its own text
+abbrev pub op_found : (ℕ → List ℕ) → Micro → FormText → Option RawInstr
+op_found names op f = raw_with f.kind (map (named names) (given (operands_of f.kind op)))
+
+-- the form by which an operation is written: it is good, and the first that reads what it writes
+pub record Chosen (op : Micro) (fs : List FormText) : Type 0 where
+  pub form : FormText
+  pub does : does op form ≡ true
+  pub good : is_form_good form ≡ true
+  pub among : (P : FormText → Bool) → list_all P fs ≡ true → P form ≡ true
+  pub written : (names : ℕ → List ℕ) → first_written names op fs ≡ form_written names op form
+  pub reads : (names : ℕ → List ℕ) (other : Option RawInstr) →
+      first_read fs form.word (op_texts names op form) other ≡ op_found names op form
+
+own_read : (names : ℕ → List ℕ) (op : Micro) (f : FormText) (other : Option RawInstr) → is_form_good f ≡ true → does op f ≡ true →
+    raw_or f.kind (form_found f f.word (op_texts names op f)) other ≡ op_found names op f
+own_read names op f other good h =
+    let e : bytes_eq f.word f.word ≡ true = (bytes_eq-Decides f.word f.word).1 refl in
+    ap (λ b. raw_or f.kind (cond b (pieces_found f.pieces (op_texts names op f)) None) other) e ∙
+    ap (λ o. raw_or f.kind o other) (pieces_back names f.pieces (given (operands_of f.kind op)) (form_is_good f good).pieces (done op f h).fit)
+
+other_read : (names : ℕ → List ℕ) (op : Micro) (f g : FormText) (other : Option RawInstr) → forms_apart f g ≡ true → is_form_good g ≡ true → does op g ≡ true →
+    raw_or f.kind (form_found f g.word (op_texts names op g)) other ≡ other
+other_read names op f g other apart good h =
+    ap (λ o. raw_or f.kind o other) (form_none names f g (given (operands_of g.kind op)) apart (form_is_good g good).pieces (done op g h).fit)
+
+-- a clear table has such a form for each operation that one of its forms does
+pub chosen : (op : Micro) (fs : List FormText) → is_clear fs ≡ true → list_any (does op) fs ≡ true → Chosen op fs
+unfolding is_clear first_written first_read
+chosen op [] clear some = cc
+chosen op (f ∷ fs) clear some =
+    let c = and_parts (is_form_good f) (list_all (forms_apart f) fs && is_clear fs) clear in
+    let d = and_parts (list_all (forms_apart f) fs) (is_clear fs) c.1 in
+    by_test (does op f)
+    (λ e. record {
+      form = f;
+      does = e;
+      good = c.0;
+      among = λ P h. (and_parts (P f) (list_all P fs) h).0;
+      written = λ names. ap (λ b. cond b (form_written names op f) (first_written names op fs)) e;
+      reads = λ names other. own_read names op f (first_read fs f.word (op_texts names op f) other) c.0 e;
+    })
+    (λ e. let k : list_any (does op) fs ≡ true = ap (λ b. b || list_any (does op) fs) (sym e) ∙ some in
+    let r : Chosen op fs = chosen op fs d.1 k in
+    record {
+      form = r.form;
+      does = r.does;
+      good = r.good;
+      among = λ P h. r.among P (and_parts (P f) (list_all P fs) h).1;
+      written = λ names. ap (λ b. cond b (form_written names op f) (first_written names op fs)) e ∙ r.written names;
+      reads = λ names other.
+          other_read names op f r.form (first_read fs r.form.word (op_texts names op r.form) other) (r.among (forms_apart f) d.0) r.good r.does ∙ r.reads names other;
+    })

@@ -1,0 +1,113 @@
+-- What a clear table writes reads back.
+-- Source: own.
+use Rattle.std.specs.Prelude.{ℕ, ◌≡◌, ◌≤◌, true, cond, ◌&&◌, List, [], ◌∷◌, Option, Some, None, length}
+use Rattle.std.specs.List.{list_all, list_any, IsDistinct}
+use Rattle.std.specs.Str.{bytes_eq}
+use Rattle.std.proofs.Common.{refl, ◌∙◌, ap, arith}
+use Rattle.std.proofs.lemmas.Bool.{and_parts, leb-true}
+use Rattle.final_cond.specs.Names.{is_register_name}
+use Rattle.micro_ops.specs.declared.operation.Micro.{Micro}
+use Rattle.micro_ops.specs.declared.operation.Micro.TheVariants as ops
+use Rattle.arch_trait.specs.Forms.{label_alone}
+use Rattle.arch_trait.specs.Threads.{Puts}
+use Rattle.arch_trait.specs.Writing.{WritesBack, Written, none, RawInstr, name_of, is_named, raw_of, is_plain, all_plain, label_word}
+use Rattle.arch_trait.proofs.FormBacks.{label_word_plain}
+use Rattle.arch_trait.proofs.PlainTexts.{label_back}
+use Rattle.form_laws.specs.declared.form.Labels.{Labels}
+use Rattle.form_laws.specs.declared.form.Labels.TheVariants as labels
+use Rattle.form_laws.specs.Kinds.{operands_of}
+use Rattle.form_laws.specs.Tables.{FormText, TableText, does, are_known, table_has, given, form_written, first_written, table_written, pieces_found, raw_or, first_read, label_read, raw_if, table_raw, table_writing}
+use Rattle.form_laws.specs.Clear.{forms_apart, is_form_good, is_clear}
+use Rattle.form_laws.proofs.PieceBacks.{length-piece_texts}
+use Rattle.form_laws.proofs.OperationBacks.{op_back, operands_named}
+use Rattle.form_laws.proofs.ChosenForms.{form_is_good, done, op_texts, Chosen, chosen}
+use Rattle.form_laws.proofs.PlainForms.{word_plain, pieces_plain, few_back, few_plain, no_label}
+
+-- the names of an architecture's registers: as many as it has, each of the form of a register's name and once
+pub record AreNames (a : Puts) (registers : List (List ℕ)) : Type 0 where
+  pub count : length registers ≡ a.registers
+  pub formed : list_all is_register_name registers ≡ true
+  pub once : IsDistinct bytes_eq registers
+
+-- a good form has at most four operands
+at_most_four : (names : ℕ → List ℕ) (op : Micro) (f : FormText) → is_form_good f ≡ true → length (op_texts names op f) ≤ 4
+at_most_four names op f good =
+    let h : length f.pieces ≤ 4 = leb-true (length f.pieces) 4 (form_is_good f good).few in
+    omega (arith, length-piece_texts names f.pieces (given (operands_of f.kind op)))
+
+-- an operation that a form of the table does reads back, and its word and its operands are plain
+form_back : (t : TableText) (names : ℕ → List ℕ) (op : Micro) → is_clear t.forms ≡ true → list_any (does op) t.forms ≡ true →
+    table_raw t (first_written names op t.forms) ≡ Some (raw_of names op)
+form_back t names op clear some =
+    let c : Chosen op t.forms = chosen op t.forms clear some in
+    let w : Written = form_written names op c.form in
+    ap (table_raw t) (c.written names) ∙
+    (ap (raw_if t w) (few_back (op_texts names op c.form) (at_most_four names op c.form c.good)) ∙
+    (c.reads names (label_read t.labels w) ∙ op_back names c.form.kind op (done op c.form c.does).some))
+
+form_word : (t : TableText) (names : ℕ → List ℕ) (op : Micro) → is_clear t.forms ≡ true → list_any (does op) t.forms ≡ true →
+    is_plain (first_written names op t.forms).word ≡ true
+form_word t names op clear some =
+    let c : Chosen op t.forms = chosen op t.forms clear some in
+    let g = form_is_good c.form c.good in
+    ap (λ (w : Written). is_plain w.word) (c.written names) ∙ word_plain c.form.word g.some g.word
+
+form_operands : (t : TableText) (names : ℕ → List ℕ) (op : Micro) → is_clear t.forms ≡ true → list_any (does op) t.forms ≡ true →
+    is_named (name_of names op) ≡ true → all_plain (first_written names op t.forms).operands ≡ true
+form_operands t names op clear some named =
+    let c : Chosen op t.forms = chosen op t.forms clear some in
+    ap (λ (w : Written). all_plain w.operands) (c.written names) ∙
+    few_plain (op_texts names op c.form) (at_most_four names op c.form c.good)
+    (pieces_plain names c.form.pieces (given (operands_of c.form.kind op)) (form_is_good c.form c.good).pieces (done op c.form c.does).fit
+    (operands_named names c.form.kind op named))
+
+-- no form reads a label
+label_passed : (fs : List FormText) (l : ℕ) (texts : List (List ℕ)) (other : Option RawInstr) → is_clear fs ≡ true →
+    first_read fs (label_word l) texts other ≡ other
+unfolding is_clear first_read
+label_passed [] l texts other clear = refl
+label_passed (f ∷ fs) l texts other clear =
+    let c = and_parts (is_form_good f) (list_all (forms_apart f) fs && is_clear fs) clear in
+    let d = and_parts (list_all (forms_apart f) fs) (is_clear fs) c.1 in
+    ap (λ b. raw_or f.kind (cond b (pieces_found f.pieces texts) None) (first_read fs (label_word l) texts other))
+    (no_label l f.word (form_is_good f c.0).word) ∙
+    label_passed fs l texts other d.1
+
+known_read : (k : Labels) (w : Written) → are_known k ≡ true → label_read k w ≡ label_alone w.word w.operands
+known_read labels.Known w h = refl
+known_read labels.Unknown w h = cc
+
+label_table_back : (t : TableText) (names : ℕ → List ℕ) (l : ℕ) → is_clear t.forms ≡ true → are_known t.labels ≡ true →
+    table_raw t (record { word = label_word l; operands = none }) ≡ Some (raw_of names (ops.Label l))
+label_table_back t names l clear known =
+    let w : Written = record { word = label_word l; operands = none } in
+    label_passed t.forms l [] (label_read t.labels w) clear ∙ (known_read t.labels w known ∙ label_back l)
+
+-- so each operation that the table has
+back : (t : TableText) (names : ℕ → List ℕ) (op : Micro) → is_clear t.forms ≡ true → table_has t op ≡ true →
+    table_raw t (table_written t names op) ≡ Some (raw_of names op)
+back t names (ops.Label l) clear h = label_table_back t names l clear h
+back t names op clear h = form_back t names op clear h
+
+word : (t : TableText) (names : ℕ → List ℕ) (op : Micro) → is_clear t.forms ≡ true → table_has t op ≡ true →
+    is_named (name_of names op) ≡ true → is_plain (table_written t names op).word ≡ true
+word t names (ops.Label l) clear h named = label_word_plain l named
+word t names op clear h named = form_word t names op clear h
+
+operands : (t : TableText) (names : ℕ → List ℕ) (op : Micro) → is_clear t.forms ≡ true → table_has t op ≡ true →
+    is_named (name_of names op) ≡ true → all_plain (table_written t names op).operands ≡ true
+operands t names (ops.Label l) clear h named = refl
+operands t names op clear h named = form_operands t names op clear h named
+
+-- what a clear table writes reads back
+pub writes_back : (a : Puts) (t : TableText) (registers : List (List ℕ)) → is_clear t.forms ≡ true →
+    ((op : Micro) → a.has op ≡ true → table_has t op ≡ true) → AreNames a registers →
+    WritesBack a (table_writing t registers)
+writes_back a t registers clear covers names = record {
+  back = λ place_names op has named. back t place_names op clear (covers op has);
+  word = λ place_names op has named. word t place_names op clear (covers op has) named;
+  operands = λ place_names op has named. operands t place_names op clear (covers op has) named;
+  count = names.count;
+  formed = names.formed;
+  once = names.once;
+}
