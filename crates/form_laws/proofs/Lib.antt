@@ -5,4 +5,4 @@ pub mod FormsApart
 pub mod ChosenForms
 pub mod PlainForms
 pub mod ReadsBack
-pub mod Reads
+pub mod ReadsHad

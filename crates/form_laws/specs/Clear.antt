@@ -7,7 +7,7 @@ use Rattle.final_cond.specs.Runs.{is_blank}
 use Rattle.arch_trait.specs.Cells.{is_cell_byte}
 use Rattle.form_laws.specs.declared.form.Hole.{Hole}
 use Rattle.form_laws.specs.declared.form.Hole.TheVariants as holes
-use Rattle.form_laws.specs.Tables.{PieceText, FormText, TableText, piece_found}
+use Rattle.form_laws.specs.Tables.{PieceText, FormText, piece_found}
 
 -- two texts differ at a place that both have
 unfoldable pub differ : List ℕ → List ℕ → Bool

@@ -1,6 +1,6 @@
 -- Which operands an operation has, in the order of an instruction that does it, and which operation they make.
 -- Source: own.
-use Rattle.std.specs.Prelude.{ℕ, ◌+◌, ◌==◌, Bool, true, false, cond, List, [], ◌∷◌, Option, Some, None}
+use Rattle.std.specs.Prelude.{ℕ, ◌+◌, ◌==◌, Bool, cond, List, [], ◌∷◌, Option, Some, None}
 use Rattle.relax_edges.specs.declared.kinds.Pick.{Pick}
 use Rattle.relax_edges.specs.declared.kinds.Pick.TheVariants as picks
 use Rattle.relax_edges.specs.declared.kinds.FenceKind.TheVariants as fences

@@ -1,5 +1,5 @@
 -- What a table reads is an operation that it has.
-use Rattle.std.proofs.Common.{ℕ, ◌≡◌, refl, true, false, Bool, ◌&&◌, ◌||◌, cond, List, [], ◌∷◌, ◌++◌, Option, Some, None, map, ◌∙◌, sym, ap, ◌-◌, arith}
+use Rattle.std.proofs.Common.{ℕ, ◌≡◌, refl, true, false, Bool, ◌&&◌, List, [], ◌∷◌, ◌++◌, Option, Some, None, map, ◌∙◌, ap, ◌-◌, arith}
 use Rattle.std.proofs.lemmas.Bool.Decides.{nat_tests}
 use Rattle.std.proofs.lemmas.List.{map-append}
 use Rattle.std.specs.Prelude.{nat_le, nat_lt, ◌==◌, length, get_or, option_map, option_and_then}
@@ -9,7 +9,6 @@ use Rattle.std.proofs.lemmas.Bool.{and_from, or_left, or_right, eq-eqb}
 use Rattle.final_cond.specs.Numbers.{number_of}
 use Rattle.micro_ops.specs.declared.operation.Micro.{Micro}
 use Rattle.micro_ops.specs.declared.operation.Micro.TheVariants as ops
-use Rattle.micro_ops.specs.declared.operation.Barrier.{Barrier}
 use Rattle.arch_trait.specs.Writing.{OperandTexts, none, one, two, three, four, more, RawInstr, Written, immediate, at_most, register_at, label_raw}
 use Rattle.arch_trait.specs.Forms.{label_alone}
 use Rattle.arch_trait.proofs.Taking.{by_test}
@@ -21,8 +20,8 @@ use Rattle.form_laws.specs.declared.kind.Kind.{Kind}
 use Rattle.form_laws.specs.declared.kind.Kind.TheVariants as kinds
 use Rattle.form_laws.specs.declared.kind.Operand.{Operand}
 use Rattle.form_laws.specs.declared.kind.Operand.TheVariants as operands
-use Rattle.form_laws.specs.Kinds.{FoundOperand, found_register, found_number, found_place, found_label, operands_of, raw_with, same_barrier, barrier_number}
-use Rattle.form_laws.specs.Tables.{PieceText, FormText, TableText, fits_first, after_hole, fits, fits_if, does, table_has, hole_found, piece_found, pieces_found, joined, form_found, raw_or, first_read, texts_in, are_known, label_read, raw_if, table_raw}
+use Rattle.form_laws.specs.Kinds.{FoundOperand, found_register, found_number, found_place, found_label, operands_of, raw_with, barrier_number}
+use Rattle.form_laws.specs.Tables.{PieceText, FormText, TableText, fits_first, after_hole, fits, does, table_has, hole_found, piece_found, pieces_found, joined, form_found, raw_or, first_read, texts_in, are_known, label_read, raw_if, table_raw}
 
 -- an operand that was read, with the number 0 for a name
 abbrev zeroed : FoundOperand → Operand
