@@ -11,14 +11,14 @@ use Rattle.arch_trait.proofs.Taking.{by_test}
 use Rattle.form_laws.specs.declared.kind.Operand.{Operand}
 use Rattle.form_laws.specs.Kinds.{operands_of, raw_with}
 use Rattle.form_laws.specs.Tables.{PieceText, FormText, fits, fits_if, does, piece_texts, given, form_written, first_written, pieces_found, form_found, raw_or, first_read}
-use Rattle.form_laws.specs.Clear.{forms_apart, is_fixed_byte, ending_words, is_piece_good, most_of, is_form_good, is_clear}
+use Rattle.form_laws.specs.Clear.{forms_apart, is_first_byte, ending_words, is_piece_good, most_of, is_form_good, is_clear}
 use Rattle.form_laws.proofs.PieceBacks.{named, pieces_back}
 use Rattle.form_laws.proofs.FormsApart.{form_none}
 
 -- what the test of a form says
 pub record GoodForm (f : FormText) : Type 0 where
   pub some : nat_le 1 (length f.word) ≡ true
-  pub word : list_all is_fixed_byte f.word ≡ true
+  pub word : list_all is_first_byte f.word ≡ true
   pub unending : list_any (bytes_eq f.word) ending_words ≡ false
   pub pieces : list_all is_piece_good f.pieces ≡ true
   pub few : nat_le (length f.pieces) 4 ≡ true
@@ -28,8 +28,8 @@ pub record GoodForm (f : FormText) : Type 0 where
 pub form_is_good : (f : FormText) → is_form_good f ≡ true → GoodForm f
 unfolding is_form_good
 form_is_good f h =
-    let a = and_parts (nat_le 1 (length f.word) && list_all is_fixed_byte f.word) (not (list_any (bytes_eq f.word) ending_words) && (list_all is_piece_good f.pieces && (nat_le (length f.pieces) 4 && nat_le (length f.word + most_of f.pieces) 40))) h in
-    let b = and_parts (nat_le 1 (length f.word)) (list_all is_fixed_byte f.word) a.0 in
+    let a = and_parts (nat_le 1 (length f.word) && list_all is_first_byte f.word) (not (list_any (bytes_eq f.word) ending_words) && (list_all is_piece_good f.pieces && (nat_le (length f.pieces) 4 && nat_le (length f.word + most_of f.pieces) 40))) h in
+    let b = and_parts (nat_le 1 (length f.word)) (list_all is_first_byte f.word) a.0 in
     let c = and_parts (not (list_any (bytes_eq f.word) ending_words)) (list_all is_piece_good f.pieces && (nat_le (length f.pieces) 4 && nat_le (length f.word + most_of f.pieces) 40)) a.1 in
     let d = and_parts (list_all is_piece_good f.pieces) (nat_le (length f.pieces) 4 && nat_le (length f.word + most_of f.pieces) 40) c.1 in
     let e = and_parts (nat_le (length f.pieces) 4) (nat_le (length f.word + most_of f.pieces) 40) d.1 in

@@ -6,3 +6,4 @@ pub mod ChosenForms
 pub mod PlainForms
 pub mod ReadsBack
 pub mod ReadsHad
+pub mod InCells

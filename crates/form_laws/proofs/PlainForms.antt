@@ -1,5 +1,5 @@
 -- The word and the operands of an instruction are plain.
-use Rattle.std.proofs.Common.{ℕ, ◌+◌, ◌<◌, ◌≤◌, ◌≡◌, refl, Bool, true, false, ◌&&◌, nat_le, List, [], ◌∷◌, ◌++◌, Some, length, ◌∙◌, sym, ap, length-append, arith}
+use Rattle.std.proofs.Common.{ℕ, ◌+◌, ◌<◌, ◌≤◌, ◌≡◌, refl, Bool, true, false, not, ◌==◌, ◌&&◌, nat_le, List, [], ◌∷◌, ◌++◌, Some, length, ◌∙◌, sym, ap, length-append, arith}
 use Rattle.std.specs.Fmt.{decimal}
 use Rattle.std.specs.List.{list_all}
 use Rattle.std.specs.Str.{bytes_eq}
@@ -22,7 +22,7 @@ use Rattle.form_laws.specs.declared.form.Hole.TheVariants as holes
 use Rattle.form_laws.specs.declared.kind.Operand.{Operand}
 use Rattle.form_laws.specs.declared.kind.Operand.TheVariants as operands
 use Rattle.form_laws.specs.Tables.{PieceText, fits_first, after_hole, fits, filled, piece_texts, texts_in}
-use Rattle.form_laws.specs.Clear.{is_hole_good, is_filled, is_fixed_byte, is_piece_good}
+use Rattle.form_laws.specs.Clear.{is_hole_good, is_filled, is_fixed_byte, is_first_byte, is_piece_good}
 use Rattle.form_laws.proofs.PieceBacks.{piece_text, piece_is_good}
 use Rattle.form_laws.proofs.OperationBacks.{is_named_operand}
 
@@ -38,9 +38,16 @@ fixed_word_byte b h = (and_parts (is_cell_byte b) (is_word_byte b) h).1
 fixed_word : (t : List ℕ) → list_all is_fixed_byte t ≡ true → list_all is_word_byte t ≡ true
 fixed_word t h = all_weaker is_fixed_byte is_word_byte fixed_word_byte t h
 
+-- the bytes of a first word are fixed bytes
+first_fixed : (b : ℕ) → is_first_byte b ≡ true → is_fixed_byte b ≡ true
+first_fixed b h = (and_parts (is_fixed_byte b) (not (b == 40)) h).0
+
+pub first_word_fixed : (t : List ℕ) → list_all is_first_byte t ≡ true → list_all is_fixed_byte t ≡ true
+first_word_fixed t h = all_weaker is_first_byte is_fixed_byte first_fixed t h
+
 -- the word of a form is plain
-pub word_plain : (t : List ℕ) → nat_le 1 (length t) ≡ true → list_all is_fixed_byte t ≡ true → is_plain t ≡ true
-word_plain t some h = some_plain t (leb-true 1 (length t) some) (fixed_word t h)
+pub word_plain : (t : List ℕ) → nat_le 1 (length t) ≡ true → list_all is_first_byte t ≡ true → is_plain t ≡ true
+word_plain t some h = some_plain t (leb-true 1 (length t) some) (fixed_word t (first_word_fixed t h))
 
 -- names: a plain one has plain bytes, and that of a place has a byte
 plain_bytes : (t : List ℕ) → is_plain t ≡ true → list_all is_word_byte t ≡ true

@@ -21,7 +21,7 @@ use Rattle.form_laws.specs.Clear.{forms_apart, is_form_good, is_clear}
 use Rattle.form_laws.proofs.PieceBacks.{length-piece_texts}
 use Rattle.form_laws.proofs.OperationBacks.{op_back, operands_named}
 use Rattle.form_laws.proofs.ChosenForms.{form_is_good, done, op_texts, Chosen, chosen}
-use Rattle.form_laws.proofs.PlainForms.{word_plain, pieces_plain, few_back, few_plain, no_label}
+use Rattle.form_laws.proofs.PlainForms.{word_plain, pieces_plain, few_back, few_plain, no_label, first_word_fixed}
 
 -- the names of an architecture's registers: as many as it has, each of the form of a register's name and once
 pub record AreNames (a : Puts) (registers : List (List ℕ)) : Type 0 where
@@ -70,7 +70,7 @@ label_passed (f ∷ fs) l texts other clear =
     let c = and_parts (is_form_good f) (list_all (forms_apart f) fs && is_clear fs) clear in
     let d = and_parts (list_all (forms_apart f) fs) (is_clear fs) c.1 in
     ap (λ b. raw_or f.kind (cond b (pieces_found f.pieces texts) None) (first_read fs (label_word l) texts other))
-    (no_label l f.word (form_is_good f c.0).word) ∙
+    (no_label l f.word (first_word_fixed f.word (form_is_good f c.0).word)) ∙
     label_passed fs l texts other d.1
 
 known_read : (k : Labels) (w : Written) → are_known k ≡ true → label_read k w ≡ label_alone w.word w.operands

@@ -78,9 +78,13 @@ most_of (p ∷ ps) = 1 + (length p.before + (most_in p.hole + length p.after)) +
 abbrev pub ending_words : List (List ℕ)
 ending_words = codes "exists" ∷ codes "~exists" ∷ codes "forall" ∷ codes "locations" ∷ []
 
+-- a byte of a first word: no parenthesis ends it
+abbrev pub is_first_byte : ℕ → Bool
+is_first_byte b = is_fixed_byte b && not (b == 40)
+
 -- an instruction of this form stands in a cell: a word of its own, at most four operands, at most 40 bytes
 unfoldable pub is_form_good : FormText → Bool
-is_form_good f = (nat_le 1 (length f.word) && list_all is_fixed_byte f.word) &&
+is_form_good f = (nat_le 1 (length f.word) && list_all is_first_byte f.word) &&
     (not (list_any (bytes_eq f.word) ending_words) &&
     (list_all is_piece_good f.pieces && (nat_le (length f.pieces) 4 && nat_le (length f.word + most_of f.pieces) 40)))
 

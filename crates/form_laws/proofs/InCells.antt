@@ -1,0 +1,225 @@
+-- What a clear table writes stands in the cells of a table.
+use Rattle.std.proofs.Common.{ℕ, ◌+◌, ◌<◌, ◌≤◌, ◌≡◌, ◌==◌, refl, Bool, true, false, not, cond, ◌&&◌, ◌||◌, nat_le, List, [], ◌∷◌, ◌++◌, length, ◌∙◌, sym, ap, length-append, arith}
+use Rattle.std.specs.Fmt.{decimal}
+use Rattle.std.specs.List.{list_all, list_any}
+use Rattle.std.specs.Str.{bytes_eq}
+use Rattle.std.proofs.lemmas.Bool.{and_parts, and_from, leb-true, ltb-true}
+use Rattle.std.proofs.lemmas.Bool.Decides.{nat_tests}
+use Rattle.std.proofs.lemmas.Fmt.{length-decimal-le}
+use Rattle.final_cond.specs.Names.{is_place_name}
+use Rattle.final_cond.specs.Reading.{is_word_byte}
+use Rattle.final_cond.specs.Runs.{is_blank, run_of, after_run, unblanked}
+use Rattle.final_cond.proofs.NameLaws.{all_weaker, place_name_short}
+use Rattle.micro_ops.specs.declared.operation.Micro.{Micro}
+use Rattle.micro_ops.specs.declared.operation.Micro.TheVariants as ops
+use Rattle.arch_trait.specs.Cells.{is_cell_byte, first_word, ends_rows, is_label_op, WritesCells}
+use Rattle.arch_trait.specs.Reading.{few}
+use Rattle.arch_trait.specs.Threads.{Puts}
+use Rattle.arch_trait.specs.Writing.{OperandTexts, none, one, two, three, four, more, Written, listed, text_of, op_text, name_of, is_named, is_label_name, label_name}
+use Rattle.arch_trait.proofs.CellTexts.{all_both, place_cell, decimal_cell}
+use Rattle.arch_trait.proofs.FormBacks.{label_cell}
+use Rattle.arch_trait.proofs.PlainTexts.{three_digits}
+use Rattle.form_laws.specs.declared.form.Hole.{Hole}
+use Rattle.form_laws.specs.declared.form.Hole.TheVariants as holes
+use Rattle.form_laws.specs.declared.kind.Operand.{Operand}
+use Rattle.form_laws.specs.declared.kind.Operand.TheVariants as operands
+use Rattle.form_laws.specs.Kinds.{operands_of}
+use Rattle.form_laws.specs.Tables.{PieceText, FormText, TableText, fits_first, after_hole, fits, does, table_has, filled, piece_texts, given, form_written, first_written, table_written, table_writing}
+use Rattle.form_laws.specs.Clear.{is_fixed_byte, is_first_byte, is_hole_good, is_piece_good, ending_words, most_in, most_of, is_clear}
+use Rattle.form_laws.proofs.PieceBacks.{piece_text, piece_is_good, length-piece_texts}
+use Rattle.form_laws.proofs.OperationBacks.{is_named_operand, operands_named}
+use Rattle.form_laws.proofs.ChosenForms.{form_is_good, done, op_texts, Chosen, chosen}
+use Rattle.form_laws.proofs.PlainForms.{left_named, first_word_fixed}
+
+-- fixed texts stand in cells
+fixed_cell_byte : (b : ℕ) → is_fixed_byte b ≡ true → is_cell_byte b ≡ true
+fixed_cell_byte b h = (and_parts (is_cell_byte b) (not (is_blank b) && not (b == 44)) h).0
+
+fixed_cell : (t : List ℕ) → list_all is_fixed_byte t ≡ true → list_all is_cell_byte t ≡ true
+fixed_cell t h = all_weaker is_fixed_byte is_cell_byte fixed_cell_byte t h
+
+-- what stands in a hole stands in a cell
+filled_cell : (names : ℕ → List ℕ) (h : Hole) (vs : List Operand) → is_hole_good h ≡ true → fits_first h vs ≡ true →
+    list_all (is_named_operand names) vs ≡ true → list_all is_cell_byte (filled names h vs) ≡ true
+filled_cell names holes.Empty vs good fit named = refl
+filled_cell names (holes.Register first count) (operands.Register r ∷ vs) good fit named =
+    let small : first + count ≤ 256 = leb-true (first + count) 256 good in
+    let below : r < count = ltb-true r count fit in
+    decimal_cell (first + r) (omega arith)
+filled_cell names holes.Number (operands.Number n ∷ vs) good fit named =
+    let small : n ≤ 2047 = leb-true n 2047 fit in decimal_cell n (omega arith)
+filled_cell names holes.Place (operands.Place p ∷ vs) good fit named =
+    place_cell (names p) (and_parts (is_place_name (names p)) (list_all (is_named_operand names) vs) named).0
+filled_cell names holes.Label (operands.Label l ∷ vs) good fit named =
+    label_cell l (and_parts (is_label_name (label_name l)) (list_all (is_named_operand names) vs) named).0
+filled_cell names h vs good fit named = cc
+
+-- and has at most so many bytes
+filled_short : (names : ℕ → List ℕ) (h : Hole) (vs : List Operand) → is_hole_good h ≡ true → fits_first h vs ≡ true →
+    list_all (is_named_operand names) vs ≡ true → length (filled names h vs) ≤ most_in h
+filled_short names holes.Empty vs good fit named = omega arith
+filled_short names (holes.Register first count) (operands.Register r ∷ vs) good fit named =
+    let small : first + count ≤ 256 = leb-true (first + count) 256 good in
+    let below : r < count = ltb-true r count fit in
+    three_digits (first + r) (omega arith)
+filled_short names holes.Number (operands.Number n ∷ vs) good fit named =
+    let small : n ≤ 2047 = leb-true n 2047 fit in length-decimal-le 4 n (omega arith) (omega arith) (omega arith)
+filled_short names holes.Place (operands.Place p ∷ vs) good fit named =
+    place_name_short (names p) (and_parts (is_place_name (names p)) (list_all (is_named_operand names) vs) named).0
+filled_short names holes.Label (operands.Label l ∷ vs) good fit named = omega arith
+filled_short names h vs good fit named = cc
+
+-- how long texts are, each with one byte before it
+abbrev total : List (List ℕ) → ℕ
+total [] = 0
+total (t ∷ ts) = 1 + length t + total ts
+
+-- the operands of one form stand in a cell, and are no longer than the most that they can be
+record InCell (ps : List PieceText) (ts : List (List ℕ)) : Type 0 where
+  pub cells : list_all (list_all is_cell_byte) ts ≡ true
+  pub short : total ts ≤ most_of ps
+
+pieces_cell : (names : ℕ → List ℕ) (ps : List PieceText) (vs : List Operand) → list_all is_piece_good ps ≡ true → fits ps vs ≡ true →
+    list_all (is_named_operand names) vs ≡ true → InCell ps (piece_texts names ps vs)
+unfolding piece_texts fits most_of
+pieces_cell names [] vs good fit named = record { cells = refl; short = omega arith }
+pieces_cell names (p ∷ ps) vs good fit named =
+    let g = and_parts (is_piece_good p) (list_all is_piece_good ps) good in
+    let f = and_parts (fits_first p.hole vs) (fits ps (after_hole p.hole vs)) fit in
+    let q = piece_is_good p g.0 in
+    let rest = pieces_cell names ps (after_hole p.hole vs) g.1 f.1 (left_named names p.hole vs named) in
+    let small : length (filled names p.hole vs) ≤ most_in p.hole = filled_short names p.hole vs q.hole f.0 named in
+    let tail : total (piece_texts names ps (after_hole p.hole vs)) ≤ most_of ps = rest.short in
+    record {
+      cells = and_from (list_all is_cell_byte (piece_text names p vs)) (list_all (list_all is_cell_byte) (piece_texts names ps (after_hole p.hole vs)))
+          (all_both is_cell_byte p.before (filled names p.hole vs ++ p.after) (fixed_cell p.before q.before)
+          (all_both is_cell_byte (filled names p.hole vs) p.after (filled_cell names p.hole vs q.hole f.0 named) (fixed_cell p.after q.after)))
+          rest.cells;
+      short = omega (arith, length-append p.before (filled names p.hole vs ++ p.after), length-append (filled names p.hole vs) p.after);
+    }
+
+-- the same behind a blank, with commas between
+comma_cell : (a b : List ℕ) → list_all is_cell_byte a ≡ true → list_all is_cell_byte b ≡ true → list_all is_cell_byte (a ++ 44 ∷ b) ≡ true
+comma_cell a b h k = all_both is_cell_byte a (44 ∷ b) h (and_from true (list_all is_cell_byte b) refl k)
+
+listed_cell : (ts : List (List ℕ)) → length ts ≤ 4 → list_all (list_all is_cell_byte) ts ≡ true → list_all is_cell_byte (listed (few ts)) ≡ true
+listed_cell [] l h = refl
+listed_cell (a ∷ []) l h = and_from true (list_all is_cell_byte a) refl (and_parts (list_all is_cell_byte a) true h).0
+listed_cell (a ∷ b ∷ []) l h =
+    let p = and_parts (list_all is_cell_byte a) (list_all (list_all is_cell_byte) (b ∷ [])) h in
+    let q = and_parts (list_all is_cell_byte b) true p.1 in
+    and_from true (list_all is_cell_byte (a ++ 44 ∷ b)) refl (comma_cell a b p.0 q.0)
+listed_cell (a ∷ b ∷ c ∷ []) l h =
+    let p = and_parts (list_all is_cell_byte a) (list_all (list_all is_cell_byte) (b ∷ c ∷ [])) h in
+    let q = and_parts (list_all is_cell_byte b) (list_all (list_all is_cell_byte) (c ∷ [])) p.1 in
+    let r = and_parts (list_all is_cell_byte c) true q.1 in
+    and_from true (list_all is_cell_byte (a ++ 44 ∷ (b ++ 44 ∷ c))) refl (comma_cell a (b ++ 44 ∷ c) p.0 (comma_cell b c q.0 r.0))
+listed_cell (a ∷ b ∷ c ∷ d ∷ []) l h =
+    let p = and_parts (list_all is_cell_byte a) (list_all (list_all is_cell_byte) (b ∷ c ∷ d ∷ [])) h in
+    let q = and_parts (list_all is_cell_byte b) (list_all (list_all is_cell_byte) (c ∷ d ∷ [])) p.1 in
+    let r = and_parts (list_all is_cell_byte c) (list_all (list_all is_cell_byte) (d ∷ [])) q.1 in
+    let s = and_parts (list_all is_cell_byte d) true r.1 in
+    and_from true (list_all is_cell_byte (a ++ 44 ∷ (b ++ 44 ∷ (c ++ 44 ∷ d)))) refl
+    (comma_cell a (b ++ 44 ∷ (c ++ 44 ∷ d)) p.0 (comma_cell b (c ++ 44 ∷ d) q.0 (comma_cell c d r.0 s.0)))
+listed_cell (a ∷ b ∷ c ∷ d ∷ e ∷ rest) l h = absurd (omega arith)
+
+length-listed : (ts : List (List ℕ)) → length (listed (few ts)) ≤ total ts
+length-listed [] = omega arith
+length-listed (a ∷ []) = omega arith
+length-listed (a ∷ b ∷ []) = omega (arith, length-append a (44 ∷ b))
+length-listed (a ∷ b ∷ c ∷ []) = omega (arith, length-append a (44 ∷ (b ++ 44 ∷ c)), length-append b (44 ∷ c))
+length-listed (a ∷ b ∷ c ∷ d ∷ []) =
+    omega (arith, length-append a (44 ∷ (b ++ 44 ∷ (c ++ 44 ∷ d))), length-append b (44 ∷ (c ++ 44 ∷ d)), length-append c (44 ∷ d))
+length-listed (a ∷ b ∷ c ∷ d ∷ e ∷ rest) = omega arith
+
+-- the first word of a text that begins with such a word, at its end or before a blank
+first_inked : (b : ℕ) → is_first_byte b ≡ true → is_blank b ≡ false
+first_inked b h = grind (arith, nat_tests, h)
+
+first_in_word : (b : ℕ) → is_first_byte b ≡ true → is_word_byte b ≡ true
+first_in_word b h = grind (arith, nat_tests, h)
+
+word_run : (word : List ℕ) (o : OperandTexts) → list_all is_first_byte word ≡ true → run_of is_word_byte (word ++ listed o) ≡ word
+unfolding run_of
+word_run [] none h = refl
+word_run [] (one a) h = refl
+word_run [] (two a b) h = refl
+word_run [] (three a b c) h = refl
+word_run [] (four a b c d) h = refl
+word_run [] more h = refl
+word_run (b ∷ word) o h =
+    let p = and_parts (is_first_byte b) (list_all is_first_byte word) h in
+    rw (first_in_word b p.0) (ap (λ (t : List ℕ). b ∷ t) (word_run word o p.1))
+
+word_first : (word : List ℕ) (o : OperandTexts) → nat_le 1 (length word) ≡ true → list_all is_first_byte word ≡ true → first_word (word ++ listed o) ≡ word
+unfolding after_run
+word_first [] o some h = cc
+word_first (b ∷ word) o some h =
+    let p = and_parts (is_first_byte b) (list_all is_first_byte word) h in
+    ap (run_of is_word_byte) (unblanked_is b (word ++ listed o) (first_inked b p.0)) ∙ word_run (b ∷ word) o h
+  where
+    unblanked_is : (b : ℕ) (t : List ℕ) → is_blank b ≡ false → unblanked (b ∷ t) ≡ b ∷ t
+    unblanked_is b t e = rw e refl
+
+-- an operation that isn't a label is done by a form of the table
+by_form : (t : TableText) (op : Micro) → is_label_op op ≡ false → table_has t op ≡ true → list_any (does op) t.forms ≡ true
+by_form t (ops.Label l) e h = cc
+by_form t op e h = h
+
+written_by : (t : TableText) (names : ℕ → List ℕ) (op : Micro) → is_label_op op ≡ false → table_written t names op ≡ first_written names op t.forms
+written_by t names (ops.Label l) e = cc
+written_by t names op e = refl
+
+-- the text of an operation that isn't a label
+record Stands (text : List ℕ) : Type 0 where
+  pub cells : list_all is_cell_byte text ≡ true
+  pub rows : ends_rows text ≡ false
+  pub short : length text ≤ 40
+
+stands : (t : TableText) (names : ℕ → List ℕ) (op : Micro) → is_clear t.forms ≡ true → table_has t op ≡ true →
+    is_named (name_of names op) ≡ true → is_label_op op ≡ false → Stands (text_of (table_written t names op))
+unfolding ends_rows
+stands t names op clear has named other =
+    let c = chosen op t.forms clear (by_form t op other has) in
+    let g = form_is_good c.form c.good in
+    let d = done op c.form c.does in
+    let e : table_written t names op ≡ form_written names op c.form = written_by t names op other ∙ c.written names in
+    let ts : List (List ℕ) = op_texts names op c.form in
+    let i = pieces_cell names c.form.pieces (given (operands_of c.form.kind op)) g.pieces d.fit (operands_named names c.form.kind op named) in
+    let few_are : length (op_texts names op c.form) ≤ 4 =
+        (let k = leb-true (length c.form.pieces) 4 g.few in omega (arith, k, length-piece_texts names c.form.pieces (given (operands_of c.form.kind op)))) in
+    rw e (record {
+      cells = all_both is_cell_byte c.form.word (listed (few (op_texts names op c.form))) (fixed_cell c.form.word (first_word_fixed c.form.word g.word))
+          (listed_cell (op_texts names op c.form) few_are i.cells);
+      rows = ap (λ (w : List ℕ). list_any (bytes_eq w) ending_words) (word_first c.form.word (few (op_texts names op c.form)) g.some g.word) ∙ g.unending;
+      short =
+          let k = leb-true (length c.form.word + most_of c.form.pieces) 40 g.short in
+          omega (arith, k, i.short, length-listed (op_texts names op c.form), length-append c.form.word (listed (few (op_texts names op c.form))));
+    })
+
+label_rows : (t : TableText) (names : ℕ → List ℕ) (l : ℕ) → ends_rows (text_of (table_written t names (ops.Label l))) ≡ false
+unfolding ends_rows run_of after_run
+label_rows t names l = refl
+
+label_short : (t : TableText) (names : ℕ → List ℕ) (l : ℕ) → length (text_of (table_written t names (ops.Label l))) ≤ 40
+label_short t names l = omega arith
+
+rows : (t : TableText) (names : ℕ → List ℕ) (op : Micro) → is_clear t.forms ≡ true → table_has t op ≡ true →
+    is_named (name_of names op) ≡ true → ends_rows (text_of (table_written t names op)) ≡ false
+rows t names (ops.Label l) clear has named = label_rows t names l
+rows t names op clear has named = (stands t names op clear has named refl).rows
+
+short : (t : TableText) (names : ℕ → List ℕ) (op : Micro) → is_clear t.forms ≡ true → table_has t op ≡ true →
+    is_named (name_of names op) ≡ true → length (text_of (table_written t names op)) ≤ 40
+short t names (ops.Label l) clear has named = label_short t names l
+short t names op clear has named = (stands t names op clear has named refl).short
+
+-- what a clear table writes stands in the cells of a table
+pub writes_cells : (a : Puts) (t : TableText) (registers : List (List ℕ)) → is_clear t.forms ≡ true →
+    ((op : Micro) → a.has op ≡ true → table_has t op ≡ true) → WritesCells a (table_writing t registers)
+writes_cells a t registers clear covers = record {
+  cells = λ names op h named other. (stands t names op clear (covers op h) named other).cells;
+  rows = λ names op h named. rows t names op clear (covers op h) named;
+  labels = λ names label h. refl;
+  short = λ names op h named. short t names op clear (covers op h) named;
+}
