@@ -37,12 +37,14 @@ abbrev pub piece_text : (ℕ → List ℕ) → PieceText → List Operand → Li
 piece_text names p vs = p.before ++ (filled names p.hole vs ++ p.after)
 
 -- a fixed text at the front, and one at the end, are taken off
-prefix_back : (prefix rest : List ℕ) → after_prefix prefix (prefix ++ rest) ≡ Some rest
+-- what is left of a text after its prefix
+pub prefix_back : (prefix rest : List ℕ) → after_prefix prefix (prefix ++ rest) ≡ Some rest
 unfolding after_prefix
 prefix_back [] rest = refl
 prefix_back (b ∷ prefix) rest = let e = eq-eqb b b refl in rw e (prefix_back prefix rest)
 
-suffix_back : (text suffix : List ℕ) → before_suffix suffix (text ++ suffix) ≡ Some text
+-- what is left of a text before its suffix
+pub suffix_back : (text suffix : List ℕ) → before_suffix suffix (text ++ suffix) ≡ Some text
 unfolding before_suffix
 suffix_back text suffix =
     let e : length (text ++ suffix) - length suffix ≡ length text = omega (arith, length-append text suffix) in

@@ -1,4 +1,9 @@
 //! Instructions are printed and read by a table of forms.
 #![tactic(auto)]
 
-pub use form_laws::{Form, Hole, Kind, Labels, Piece, Table};
+mod fixed;
+mod found;
+mod raw;
+mod read;
+
+pub use read::read_by;
