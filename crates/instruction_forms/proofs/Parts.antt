@@ -1,11 +1,11 @@
 -- A text that begins or ends with a fixed text.
-use Rattle.std.proofs.Common.{ℕ, ◌+◌, ◌-◌, ◌<◌, ◌≤◌, map, ◌≡◌, ◌≢◌, ◌==◌, refl, Bool, true, false, cond, ◌&&◌, nat_le, List, [], ◌∷◌, ◌++◌, Option, Some, None, take, drop, length, ◌∙◌, sym, ap, subst, arith}
+use Rattle.std.proofs.Common.{ℕ, ◌-◌, ◌<◌, ◌≤◌, map, ◌≡◌, ◌≢◌, ◌==◌, refl, ◌&&◌, nat_le, List, [], ◌∷◌, ◌++◌, Option, Some, None, take, drop, length, ◌∙◌, sym, ap, arith}
 use Rattle.std.specs.Prelude.{option_map, MatchOption}
 use Rattle.std.specs.Borrow.{Bor}
 use Rattle.std.specs.Str.{bytes_eq}
 use Rattle.std.proofs.lemmas.Bool.{and_parts, eqb-true}
 use Rattle.std.proofs.lemmas.List.{take-append-drop}
-use Rattle.std.proofs.lemmas.Slice.Eq.{bytes_eq-Decides, strip_prefix_is, strip_suffix_is}
+use Rattle.std.proofs.lemmas.Slice.Eq.{bytes_eq-Decides}
 use Rattle.arch_trait.proofs.Taking.{by_test}
 use Rattle.form_laws.specs.declared.form.Piece.{Piece}
 use Rattle.form_laws.specs.Tables.{piece_seen, pieces_found, after_prefix, before_suffix}

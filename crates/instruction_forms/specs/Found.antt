@@ -1,6 +1,6 @@
 -- What the code sees of the operands that it reads.
 -- Source: own.
-use Rattle.std.specs.Prelude.{ℕ, List, [], ◌∷◌, Option, Some, None}
+use Rattle.std.specs.Prelude.{List, [], ◌∷◌, Option, Some, None}
 use Rattle.instruction_forms.specs.declared.found.Found.{Found}
 use Rattle.instruction_forms.specs.declared.found.Found.TheVariants as found
 use Rattle.instruction_forms.specs.declared.found.Founds.{Founds}

@@ -1,9 +1,18 @@
 //! Instructions are printed and read by a table of forms.
 #![tactic(auto)]
 
+mod fits;
 mod fixed;
 mod found;
+mod has;
+mod operand_list;
+mod operands;
+mod print;
+mod push;
 mod raw;
 mod read;
+mod sorts;
 
+pub use has::has_by;
+pub use print::print_by;
 pub use read::read_by;

@@ -1,0 +1,115 @@
+-- Printing by the first form that does an operation.
+use Rattle.std.proofs.Common.{ℕ, ◌+◌, ◌-◌, ◌/◌, ◌%◌, ◌<◌, ◌≤◌, ◌≡◌, refl, true, false, cond, ◌&&◌, nat_le, List, [], ◌∷◌, ◌++◌, Option, Some, map, take, drop, get_or, length, append-nil, ◌∙◌, sym, ap, subst, arith}
+use Rattle.std.specs.List.{list_any, list_all}
+use Rattle.std.proofs.lemmas.Bool.{and_parts, leb-true}
+use Rattle.micro_ops.specs.declared.operation.Micro.{Micro}
+use Rattle.micro_ops.specs.declared.operation.Micro.TheVariants as ops
+use Rattle.arch_trait.specs.Reading.{few}
+use Rattle.arch_trait.specs.Writing.{listed, text_of}
+use Rattle.form_laws.specs.declared.kind.Operand.{Operand}
+use Rattle.form_laws.specs.Kinds.{operands_of}
+use Rattle.form_laws.specs.declared.form.Form.{Form}
+use Rattle.form_laws.specs.Tables.{PieceText, FormText, TableText, piece_seen, form_seen, table_has, fits, fits_if, does, given, piece_texts, form_written, first_written}
+use Rattle.form_laws.specs.Clear.{is_clear, forms_apart, is_piece_good, is_form_good}
+use Rattle.std.proofs.Math.Seq.{take-length}
+use Rattle.std.specs.Fmt.{decimal}
+use Rattle.std.proofs.lemmas.Fmt.{decimal_digit, decimal_step}
+use Rattle.instruction_forms.proofs.Room.{room_of}
+use Rattle.instruction_forms.specs.Printing.{byte_before, joined_texts, form_text, place_short}
+
+-- at most four operands stand behind a blank and commas
+commas_are : (names : ℕ → List ℕ) (ps : List PieceText) (vs : List Operand) → nat_le (length ps) 4 ≡ true →
+    listed (few (piece_texts names ps vs)) ≡ byte_before 32 ps ++ joined_texts names ps vs
+unfolding piece_texts
+commas_are names [] vs h = refl
+commas_are names (p ∷ []) vs h = simp append-nil
+commas_are names (p ∷ q ∷ []) vs h = simp append-nil
+commas_are names (p ∷ q ∷ r ∷ []) vs h = simp append-nil
+commas_are names (p ∷ q ∷ r ∷ s ∷ []) vs h = simp append-nil
+commas_are names (p ∷ q ∷ r ∷ s ∷ t ∷ ps) vs h = absurd (omega (arith, leb-true (length (p ∷ q ∷ r ∷ s ∷ t ∷ ps)) 4 h))
+
+few_pieces : (f : FormText) → is_form_good f ≡ true → nat_le (length f.pieces) 4 ≡ true
+unfolding is_form_good
+few_pieces f good = (and_parts _ _ (and_parts (list_all is_piece_good f.pieces) _ (and_parts _ _ (and_parts _ _ good).1).1).1).0
+
+pub good_here : (f : FormText) (fs : List FormText) → is_clear (f ∷ fs) ≡ true → is_form_good f ≡ true
+unfolding is_clear
+good_here f fs h = (and_parts (is_form_good f) (list_all (forms_apart f) fs && is_clear fs) h).0
+
+-- the first form does the operation, or doesn't
+pub first_here : (names : ℕ → List ℕ) (op : Micro) (f : FormText) (fs : List FormText) → does op f ≡ true → is_clear (f ∷ fs) ≡ true →
+    text_of (first_written names op (f ∷ fs)) ≡ form_text names f.word f.pieces (given (operands_of f.kind op))
+unfolding first_written is_clear
+first_here names op f fs h c =
+    ap (λ b. text_of (cond b (form_written names op f) (first_written names op fs))) h ∙
+    ap (λ t. f.word ++ t) (commas_are names f.pieces (given (operands_of f.kind op)) (few_pieces f (good_here f fs c)))
+
+pub first_behind : (names : ℕ → List ℕ) (op : Micro) (f : FormText) (fs : List FormText) → does op f ≡ false →
+    first_written names op (f ∷ fs) ≡ first_written names op fs
+unfolding first_written
+first_behind names op f fs h = ap (λ b. cond b (form_written names op f) (first_written names op fs)) h
+
+pub has_behind : (op : Micro) (f : FormText) (fs : List FormText) → does op f ≡ false →
+    list_any (does op) (f ∷ fs) ≡ true → list_any (does op) fs ≡ true
+has_behind op f fs h e = rw h at e
+
+pub clear_behind : (f : FormText) (fs : List FormText) → is_clear (f ∷ fs) ≡ true → is_clear fs ≡ true
+unfolding is_clear
+clear_behind f fs h = (and_parts _ _ (and_parts (is_form_good f) _ h).1).1
+
+-- the forms that are left have the first that does the operation
+pub record Walk (names : ℕ → List ℕ) (op : Micro) (whole left : List Form) : Type 0 where
+  pub clear : is_clear (map form_seen left) ≡ true
+  pub has : list_any (does op) (map form_seen left) ≡ true
+  pub same : first_written names op (map form_seen left) ≡ first_written names op (map form_seen whole)
+
+-- the first of the forms that are left is good; where it doesn't do the operation, the others have the form that does
+pub walk_good : (names : ℕ → List ℕ) (op : Micro) (whole left : List Form) (d : Form) → 1 ≤ length left → Walk names op whole left →
+    is_form_good (form_seen (get_or left 0 d)) ≡ true
+walk_good names op whole [] d l w = absurd (omega (arith, l))
+walk_good names op whole (f ∷ fs) d l w = good_here (form_seen f) (map form_seen fs) w.clear
+
+pub walk_on : (names : ℕ → List ℕ) (op : Micro) (whole left : List Form) (d : Form) → 1 ≤ length left → Walk names op whole left →
+    does op (form_seen (get_or left 0 d)) ≡ false → Walk names op whole (take (length left - 1) (drop 1 left))
+walk_on names op whole [] d l w h = absurd (omega (arith, l))
+walk_on names op whole (f ∷ fs) d l w h =
+    let e : length (f ∷ fs) - 1 ≡ length fs = omega arith in
+    let P : List Form → Type 0 = Walk names op whole in
+    subst P (sym (ap (λ n. take n fs) e ∙ take-length fs)) (record {
+      clear = clear_behind (form_seen f) (map form_seen fs) w.clear;
+      has = has_behind op (form_seen f) (map form_seen fs) h w.has;
+      same = sym (first_behind names op (form_seen f) (map form_seen fs) h) ∙ w.same;
+    })
+
+-- where it does, its text is that of the operation
+pub walk_found : (names : ℕ → List ℕ) (op : Micro) (whole left : List Form) (d : Form) → 1 ≤ length left → Walk names op whole left →
+    does op (form_seen (get_or left 0 d)) ≡ true → form_text names (get_or left 0 d).word.now (map piece_seen (get_or left 0 d).pieces.now)
+    (given (operands_of (get_or left 0 d).kind op)) ≡ text_of (first_written names op (map form_seen whole))
+walk_found names op whole [] d l w h = absurd (omega (arith, l))
+walk_found names op whole (f ∷ fs) d l w h =
+    sym (first_here names op (form_seen f) (map form_seen fs) h w.clear) ∙ ap text_of w.same
+
+-- there is room where the form does the operation
+pub if_room : (names : ℕ → List ℕ) (op : Micro) (f : FormText) (vs : List Operand) → place_short names op ≡ true → is_form_good f ≡ true →
+    Some vs ≡ operands_of f.kind op → fits f.pieces vs ≡ true → length (form_text names f.word f.pieces vs) ≤ 40
+if_room names op f vs short good e h =
+    let P : Option (List Operand) → Type 0 = (λ r. fits_if f.pieces r ≡ true) in
+    let done : does op f ≡ true = subst P e h in
+    rw (← e) at (room_of names op f short good done)
+
+pub walk_ends : (names : ℕ → List ℕ) (op : Micro) (whole left : List Form) → length left < 1 → Walk names op whole left → ⊥
+walk_ends names op whole [] l w = cc (w.has)
+walk_ends names op whole (f ∷ fs) l w = omega (arith, l)
+
+-- an operation that is no label is one of a form
+pub has_other : (t : TableText) (op : Micro) → ((l : ℕ) → op ≡ ops.Label l → ⊥) → table_has t op ≡ true → list_any (does op) t.forms ≡ true
+has_other t (ops.Label l) n h = absurd (n l refl)
+has_other t op n h = h
+
+-- the decimal of a small number
+pub one_digit : (n : ℕ) → n < 10 → decimal n ≡ (48 + n) ∷ []
+one_digit n h = decimal_digit n h
+
+pub two_digits : (n : ℕ) → 10 ≤ n → n < 100 → decimal n ≡ (48 + n / 10) ∷ (48 + n % 10) ∷ []
+two_digits n l h =
+    decimal_step n l (omega arith) ∙ ap (λ ds. ds ++ (48 + n % 10) ∷ []) (decimal_digit (n / 10) (omega arith))

@@ -1,0 +1,11 @@
+use Rattle.form_laws.specs.Tables.{table_seen}
+use Rattle.instruction_forms.proofs.Printed.{has_other}
+use Rattle.instruction_forms.proofs.print.print_by.Goals as goal
+
+pub print_first-requires : goal.print_first-requires
+print_first-requires c = record {
+  clear = c.requires.clear;
+  has = has_other (table_seen c.args.table.now) c.args.op.now c.in_default.not-Label c.requires.has;
+  place = c.see_place_short.ensures;
+  empty = c.clear.ensures;
+}

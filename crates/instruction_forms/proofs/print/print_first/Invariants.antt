@@ -1,0 +1,13 @@
+use Rattle.std.proofs.Common.{◌≡◌, [], length}
+use Rattle.arch_trait.specs.Writing.{name_in}
+use Rattle.instruction_forms.proofs.Printed.{Walk}
+use Rattle.instruction_forms.proofs.print.print_first.Given as goal
+
+abbrev pub invariant-loop-left : goal.invariant-loop-left
+invariant-loop-left l = record {
+  empty : l.out.bytes ≡ [];
+  walk : Walk (name_in l.places) l.op l.forms l.left;
+}
+
+abbrev pub decreases-loop-left : goal.decreases-loop-left
+decreases-loop-left l = length l.left

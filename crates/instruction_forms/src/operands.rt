@@ -1,0 +1,166 @@
+ghost use Rattle.std.specs.Prelude.{◌≡◌, ◌≤◌, ◌∷◌, [], Some, option_map};
+ghost use Rattle.form_laws.specs.Kinds.{barrier_number, pick_number, same_barrier, operands_of};
+ghost use Rattle.instruction_forms.specs.Printing.{operands_in};
+
+use crate::operand_list::OperandList;
+use form_laws::{Kind, Operand};
+use micro_ops::{Barrier, Micro};
+use relax_edges::{FenceKind, Pick};
+
+/// The operands of an operation in the order of a kind. None where it is not of that kind.
+#[inline(always)]
+pub fn operands_of(kind: &Kind, op: &Micro) -> Option<OperandList>
+    ensures { option_map operands_in result ≡ operands_of kind.now op.now }
+{
+    use Operand::{Label, Number, Place, Register};
+    match (*kind, *op) {
+        (Kind::SetNumber, Micro::Imm { dst, n }) => two(Register(dst), Number(n)),
+        (Kind::ExclusiveOr, Micro::Xor { dst, a, b }) => registers(dst, a, b),
+        (Kind::AddNumber, Micro::AddImm { dst, a, n }) => with_number(dst, a, n),
+        (Kind::OrNumber, Micro::OrImm { dst, a, n }) => with_number(dst, a, n),
+        (Kind::Sum, Micro::Add { dst, a, b }) => registers(dst, a, b),
+        (
+            Kind::Load,
+            Micro::Load {
+                dst,
+                base,
+                index: None,
+            },
+        ) => two(Register(dst), Register(base)),
+        (
+            Kind::LoadIndexed,
+            Micro::Load {
+                dst,
+                base,
+                index: Some(i),
+            },
+        ) => registers(dst, base, i),
+        (
+            Kind::LoadIndexFirst,
+            Micro::Load {
+                dst,
+                base,
+                index: Some(i),
+            },
+        ) => registers(dst, i, base),
+        (Kind::LoadInto(r), Micro::LoadAt { dst, place }) => load_into(r, dst, place),
+        (
+            Kind::Store,
+            Micro::Store {
+                src,
+                base,
+                index: None,
+            },
+        ) => two(Register(src), Register(base)),
+        (
+            Kind::StoreIndexed,
+            Micro::Store {
+                src,
+                base,
+                index: Some(i),
+            },
+        ) => registers(src, base, i),
+        (
+            Kind::StoreIndexFirst,
+            Micro::Store {
+                src,
+                base,
+                index: Some(i),
+            },
+        ) => registers(src, i, base),
+        (Kind::StoreNumber, Micro::StoreAt { place, n }) => two(Place(place), Number(n)),
+        (Kind::Compare, Micro::Cmp { a, b }) => two(Register(a), Register(b)),
+        (Kind::BranchEqual, Micro::BranchEq { label }) => Some(OperandList::one(Label(label))),
+        (Kind::BranchNotZero, Micro::BranchNz { a, label }) => two(Register(a), Label(label)),
+        (Kind::Order(barrier), Micro::Barrier { kind }) => order(barrier, kind),
+        _ => None,
+    }
+}
+
+#[inline]
+fn two(a: Operand, b: Operand) -> Option<OperandList>
+    ensures { option_map operands_in result ≡ Some (a ∷ b ∷ []) }
+{
+    Some(OperandList::two(a, b))
+}
+
+#[inline]
+fn registers(a: u8, b: u8, c: u8) -> Option<OperandList>
+    ensures { option_map operands_in result ≡ Some (Operand.Register a ∷ Operand.Register b ∷ Operand.Register c ∷ []) }
+{
+    Some(OperandList::three(
+        Operand::Register(a),
+        Operand::Register(b),
+        Operand::Register(c),
+    ))
+}
+
+#[inline]
+fn with_number(a: u8, b: u8, n: u32) -> Option<OperandList>
+    ensures { option_map operands_in result ≡ Some (Operand.Register a ∷ Operand.Register b ∷ Operand.Number n ∷ []) }
+{
+    Some(OperandList::three(
+        Operand::Register(a),
+        Operand::Register(b),
+        Operand::Number(n),
+    ))
+}
+
+#[inline]
+fn load_into(r: u8, dst: u8, place: u8) -> Option<OperandList>
+    ensures { option_map operands_in result ≡ operands_of (Kind.LoadInto r) (Micro.LoadAt dst place) }
+{
+    if dst == r {
+        Some(OperandList::one(Operand::Place(place)))
+    } else {
+        None
+    }
+}
+
+#[inline]
+fn order(barrier: Barrier, other: Barrier) -> Option<OperandList>
+    ensures { option_map operands_in result ≡ operands_of (Kind.Order barrier) (Micro.Barrier other) }
+{
+    if barrier_number(barrier) == barrier_number(other) {
+        Some(OperandList::none())
+    } else {
+        None
+    }
+}
+
+/// A number of each barrier's own.
+pub fn barrier_number(barrier: Barrier) -> u8
+    ensures { result ≡ barrier_number barrier }
+{
+    match barrier {
+        Barrier::Isb => 8,
+        Barrier::Fence(fence) => fence_number(fence),
+    }
+}
+
+fn fence_number(fence: FenceKind) -> u8
+    ensures { result ≡ barrier_number (Barrier.Fence fence) }
+{
+    match fence {
+        FenceKind::MFence => 0,
+        FenceKind::Sync => 1,
+        FenceKind::LwSync => 2,
+        FenceKind::Eieio => 3,
+        FenceKind::ISync => 4,
+        FenceKind::DmbSy => 5,
+        FenceKind::DmbLd => 6,
+        FenceKind::DmbSt => 7,
+        FenceKind::Fence { pred, succ } => 9 + 3 * pick_number(pred) + pick_number(succ),
+    }
+}
+
+fn pick_number(pick: Pick) -> u8
+    ensures number { result ≡ pick_number pick }
+    ensures few { result ≤ 2 }
+{
+    match pick {
+        Pick::R => 0,
+        Pick::W => 1,
+        Pick::RW => 2,
+    }
+}

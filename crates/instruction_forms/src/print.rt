@@ -1,0 +1,195 @@
+ghost use Rattle.std.specs.Prelude.{◌≡◌, ◌<◌, ◌≤◌, ◌++◌, [], true, false, map, length};
+ghost use Rattle.std.specs.List.{list_any};
+ghost use Rattle.arch_trait.specs.Writing.{text_of, name_in, place_below, label_below};
+ghost use Rattle.form_laws.specs.Kinds.{operands_of};
+ghost use Rattle.form_laws.specs.Tables.{piece_seen, form_seen, table_seen, does, given, table_has, filled, first_written, table_written};
+ghost use Rattle.form_laws.specs.Clear.{is_clear, is_form_good};
+ghost use Rattle.instruction_forms.specs.Printing.{piece_text, byte_before, joined_texts, form_text, place_short, op_sort};
+
+use crate::fits::{after_hole, fits};
+use crate::operands::operands_of;
+use crate::push::{Text, push_label, push_number, push_place, push_short, push_word};
+use crate::sorts::{kind_sort, op_sort};
+use arch_trait::{MAX_TEXT, Places};
+use arrayvec::ArrayString;
+use form_laws::{Form, Hole, Operand, Piece, Table};
+use micro_ops::Micro;
+
+/// Makes `out` the text of an operation, by the first form of the table that does it.
+pub fn print_by(table: &Table, op: &Micro, places: &Places, out: &mut ArrayString<MAX_TEXT>)
+    requires clear { is_clear (table_seen table.now).forms ≡ true }
+    requires has { table_has (table_seen table.now) op.now ≡ true }
+    requires place { place_below (length places.now) op.now ≡ true }
+    requires label { label_below 64 op.now ≡ true }
+    ensures { out.new.bytes ≡ text_of (table_written (table_seen table.now) (name_in places.now) op.now) }
+{
+    out.clear();
+    see_place_short(op, places);
+    match *op {
+        Micro::Label { label } => {
+            push_label(label, out);
+            out.push_str(":");
+        }
+        _ => print_first(table.forms, op, places, out),
+    }
+}
+
+/// Does nothing: the name of an operation's place has at most 16 bytes.
+#[inline]
+fn see_place_short(op: &Micro, places: &Places)
+    requires { place_below (length places.now) op.now ≡ true }
+    ensures { place_short (name_in places.now) op.now ≡ true }
+{
+    match *op {
+        Micro::LoadAt { place, .. } => see_short(place, places),
+        Micro::StoreAt { place, .. } => see_short(place, places),
+        _ => {}
+    }
+}
+
+/// Does nothing: the name of a place has at most 16 bytes.
+#[inline]
+fn see_short(place: u8, places: &Places)
+    requires { place < length places.now }
+    ensures { length (name_in places.now place) ≤ 16 }
+{
+    let _name = places.get(place).as_str();
+}
+
+/// Makes `out`, which is empty, the text of an operation by the first form that does it.
+fn print_first(forms: &[Form], op: &Micro, places: &Places, out: &mut Text)
+    requires clear { is_clear (map form_seen forms.now) ≡ true }
+    requires has { list_any (does op.now) (map form_seen forms.now) ≡ true }
+    requires place { place_short (name_in places.now) op.now ≡ true }
+    requires empty { out.old.bytes ≡ [] }
+    ensures { out.new.bytes ≡ text_of (first_written (name_in places.now) op.now (map form_seen forms.now)) }
+{
+    let sort = op_sort(op);
+    let mut left = forms;
+    while let [form, behind @ ..] = left {
+        if print_of_sort(form, op, sort, places, out) {
+            return;
+        }
+        left = behind;
+    }
+}
+
+/// The same as `print_if`. `sort` is the number of what the operation does.
+#[inline(always)]
+#[tactic(auto, using(crate::proofs::OtherSorts::other_sort))]
+fn print_of_sort(form: &Form, op: &Micro, sort: u8, places: &Places, out: &mut Text) -> bool
+    requires sort { sort ≡ op_sort op.now }
+    requires good { is_form_good (form_seen form.now) ≡ true }
+    requires place { place_short (name_in places.now) op.now ≡ true }
+    requires empty { out.old.bytes ≡ [] }
+    ensures does { result ≡ does op.now (form_seen form.now) }
+    ensures printed { result ≡ true → out.new.bytes ≡ form_text (name_in places.now) form.now.word.now (map piece_seen form.now.pieces.now) (given (operands_of form.now.kind op.now)) }
+    ensures kept { result ≡ false → out.new.bytes ≡ [] }
+{
+    if kind_sort(&form.kind) == sort {
+        print_if(form, op, places, out)
+    } else {
+        false
+    }
+}
+
+/// Makes `out`, which is empty, the operation as an instruction of a form, if the form does it.
+#[inline(always)]
+fn print_if(form: &Form, op: &Micro, places: &Places, out: &mut Text) -> bool
+    requires good { is_form_good (form_seen form.now) ≡ true }
+    requires place { place_short (name_in places.now) op.now ≡ true }
+    requires empty { out.old.bytes ≡ [] }
+    ensures does { result ≡ does op.now (form_seen form.now) }
+    ensures printed { result ≡ true → out.new.bytes ≡ form_text (name_in places.now) form.now.word.now (map piece_seen form.now.pieces.now) (given (operands_of form.now.kind op.now)) }
+    ensures kept { result ≡ false → out.new.bytes ≡ [] }
+{
+    let Some(operands) = operands_of(&form.kind, op) else {
+        return false;
+    };
+    let operands = operands.as_slice();
+    if !fits(form.pieces, operands) {
+        return false;
+    }
+    print_form(form, operands, places, out);
+    true
+}
+
+/// Makes `out`, which is empty, an instruction of a form with these operands.
+#[inline]
+fn print_form(form: &Form, operands: &[Operand], places: &Places, out: &mut Text)
+    requires empty { out.old.bytes ≡ [] }
+    requires room { length (form_text (name_in places.now) form.now.word.now (map piece_seen form.now.pieces.now) operands.now) ≤ MAX_TEXT }
+    ensures { out.new.bytes ≡ form_text (name_in places.now) form.now.word.now (map piece_seen form.now.pieces.now) operands.now }
+{
+    push_word(form.word, out);
+    push_blank(form.pieces, out);
+    push_pieces(form.pieces, operands, places, out);
+}
+
+/// Appends operands with commas between.
+#[inline]
+fn push_pieces(pieces: &[Piece], operands: &[Operand], places: &Places, out: &mut Text)
+    requires room { length (out.old.bytes ++ joined_texts (name_in places.now) (map piece_seen pieces.now) operands.now) ≤ MAX_TEXT }
+    ensures { out.new.bytes ≡ out.old.bytes ++ joined_texts (name_in places.now) (map piece_seen pieces.now) operands.now }
+{
+    let mut left = pieces;
+    let mut rest = operands;
+    while let [piece, behind @ ..] = left {
+        push_piece(piece, rest, places, out);
+        push_comma(behind, out);
+        rest = after_hole(piece.hole, rest);
+        left = behind;
+    }
+}
+
+/// Appends a blank before operands, if there are any.
+#[inline]
+fn push_blank(pieces: &[Piece], out: &mut Text)
+    requires room { length (out.old.bytes ++ byte_before 32 (map piece_seen pieces.now)) ≤ MAX_TEXT }
+    ensures { out.new.bytes ≡ out.old.bytes ++ byte_before 32 (map piece_seen pieces.now) }
+{
+    match pieces {
+        [] => {}
+        [_, ..] => out.push_str(" "),
+    }
+}
+
+/// Appends a comma before operands, if there are any.
+#[inline]
+fn push_comma(pieces: &[Piece], out: &mut Text)
+    requires room { length (out.old.bytes ++ byte_before 44 (map piece_seen pieces.now)) ≤ MAX_TEXT }
+    ensures { out.new.bytes ≡ out.old.bytes ++ byte_before 44 (map piece_seen pieces.now) }
+{
+    match pieces {
+        [] => {}
+        [_, ..] => out.push_str(","),
+    }
+}
+
+/// Appends an operand.
+#[inline]
+fn push_piece(piece: &Piece, operands: &[Operand], places: &Places, out: &mut Text)
+    requires room { length (out.old.bytes ++ piece_text (name_in places.now) (piece_seen piece.now) operands.now) ≤ MAX_TEXT }
+    ensures { out.new.bytes ≡ out.old.bytes ++ piece_text (name_in places.now) (piece_seen piece.now) operands.now }
+{
+    push_short(piece.before, out);
+    push_hole(piece.hole, operands, places, out);
+    push_short(piece.after, out);
+}
+
+/// Appends what stands in a hole.
+#[inline]
+fn push_hole(hole: Hole, operands: &[Operand], places: &Places, out: &mut Text)
+    requires room { length (out.old.bytes ++ filled (name_in places.now) hole operands.now) ≤ MAX_TEXT }
+    ensures { out.new.bytes ≡ out.old.bytes ++ filled (name_in places.now) hole operands.now }
+{
+    match (hole, operands) {
+        (Hole::Register { first, .. }, [Operand::Register(r), ..]) => {
+            push_number(u32::from(first) + u32::from(*r), out);
+        }
+        (Hole::Number, [Operand::Number(n), ..]) => push_number(*n, out),
+        (Hole::Place, [Operand::Place(place), ..]) => push_place(*place, places, out),
+        (Hole::Label, [Operand::Label(label), ..]) => push_label(*label, out),
+        _ => {}
+    }
+}
