@@ -74,6 +74,7 @@ impl Arch for A64 {
         put_store::<A64>(regs, link, from, place, value, out);
     }
 
+    #[tactic(auto, using(crate::specs::Covers::is_clear_table, crate::specs::Covers::covers))]
     fn print(op: &Micro, places: &Places, out: &mut ArrayString<MAX_TEXT>) {
         print_by(&table(), op, places, out);
     }
@@ -82,6 +83,7 @@ impl Arch for A64 {
         read_by(&table(), word, operands)
     }
 
+    #[tactic(auto, using(crate::specs::ReadsBack::name_is))]
     fn register_name(r: u8, out: &mut RegName) {
         out.clear();
         NAMES.push(r, out);

@@ -15,6 +15,7 @@ macro_rules! fence {
 
 /// The number in the name of register 0, and how many registers tests use.
 const FIRST: u8 = 0;
+
 const COUNT: u8 = 28;
 
 /// The names of registers in conditions.

@@ -18,6 +18,7 @@ macro_rules! fence {
 
 /// The number in the name of register 0, and how many registers tests use.
 const FIRST: u8 = 5;
+
 const COUNT: u8 = 27;
 
 /// The names of registers in conditions.

@@ -85,6 +85,7 @@ impl Arch for X86 {
         });
     }
 
+    #[tactic(auto, using(crate::specs::Covers::is_clear_table, crate::specs::Covers::covers))]
     fn print(op: &Micro, places: &Places, out: &mut ArrayString<MAX_TEXT>) {
         print_by(&table(), op, places, out);
     }
