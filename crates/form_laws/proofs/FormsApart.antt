@@ -48,11 +48,11 @@ suffix_nil : (suffix text : List ℕ) → before_suffix suffix text ≡ Some [] 
 unfolding before_suffix
 suffix_nil suffix text h = by_test (nat_le (length suffix) (length text) && bytes_eq (drop (length text - length suffix) text) suffix)
     (λ e. let k : Some (take (length text - length suffix) text) ≡ Some [] =
-        ap (λ t. cond t (Some (take (length text - length suffix) text)) None) (sym e) ∙ h in
+    ap (λ t. cond t (Some (take (length text - length suffix) text)) None) (sym e) ∙ h in
     let front : take (length text - length suffix) text ≡ [] = cc in
     let end : drop (length text - length suffix) text ≡ suffix =
-        (bytes_eq-Decides (drop (length text - length suffix) text) suffix).0
-        (and_parts (nat_le (length suffix) (length text)) (bytes_eq (drop (length text - length suffix) text) suffix) e).1 in
+    (bytes_eq-Decides (drop (length text - length suffix) text) suffix).0
+    (and_parts (nat_le (length suffix) (length text)) (bytes_eq (drop (length text - length suffix) text) suffix) e).1 in
     sym (take-append-drop (length text - length suffix) text) ∙ (ap (λ l. l ++ drop (length text - length suffix) text) front ∙ end))
     (λ e. let k : None ≡ Some [] = ap (λ t. cond t (Some (take (length text - length suffix) text)) None) (sym e) ∙ h in cc)
 

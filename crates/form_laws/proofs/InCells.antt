@@ -187,7 +187,7 @@ stands t names op clear has named other =
     let ts : List (List ℕ) = op_texts names op c.form in
     let i = pieces_cell names c.form.pieces (given (operands_of c.form.kind op)) g.pieces d.fit (operands_named names c.form.kind op named) in
     let few_are : length (op_texts names op c.form) ≤ 4 =
-        (let k = leb-true (length c.form.pieces) 4 g.few in omega (arith, k, length-piece_texts names c.form.pieces (given (operands_of c.form.kind op)))) in
+    (let k = leb-true (length c.form.pieces) 4 g.few in omega (arith, k, length-piece_texts names c.form.pieces (given (operands_of c.form.kind op)))) in
     rw e (record {
       cells = all_both is_cell_byte c.form.word (listed (few (op_texts names op c.form))) (fixed_cell c.form.word (first_word_fixed c.form.word g.word))
           (listed_cell (op_texts names op c.form) few_are i.cells);

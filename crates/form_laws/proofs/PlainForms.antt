@@ -164,6 +164,6 @@ pub no_label : (l : ℕ) (word : List ℕ) → list_all is_fixed_byte word ≡ t
 no_label l word h = by_test (bytes_eq (label_word l) word)
     (λ e. let same : label_word l ≡ word = (bytes_eq-Decides (label_word l) word).0 e in
     let k : list_all is_fixed_byte (label_name l ++ 58 ∷ []) ≡ false =
-        list_all-append is_fixed_byte (label_name l) (58 ∷ []) ∙ and_right (list_all is_fixed_byte (label_name l)) false refl in
+    list_all-append is_fixed_byte (label_name l) (58 ∷ []) ∙ and_right (list_all is_fixed_byte (label_name l)) false refl in
     let both : true ≡ false = sym h ∙ (ap (list_all is_fixed_byte) (sym same) ∙ k) in cc)
     (λ e. e)

@@ -6,10 +6,7 @@ pub enum Hole {
     /// Nothing: the operand is a fixed text.
     Empty,
     /// The number of a register, in decimal: `first` for register 0, and so on for `count` registers.
-    Register {
-        first: u8,
-        count: u8,
-    },
+    Register { first: u8, count: u8 },
     /// A number of at most `MAX_IMMEDIATE`, in decimal.
     Number,
     /// The name of a place.
