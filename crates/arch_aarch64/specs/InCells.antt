@@ -6,10 +6,10 @@ use Rattle.arch_trait.proofs.Addressed.{accesses_once}
 use Rattle.form_laws.proofs.InCells as tables
 use Rattle.arch_aarch64.specs.Puts.{puts, instructions}
 use Rattle.arch_aarch64.specs.Table.{table, numbered, writing}
-use Rattle.arch_aarch64.specs.Covers.{is_clear_table, covers}
+use Rattle.arch_aarch64.specs.Clear.{is_clear_table}
 
 pub writes_cells : WritesCells puts writing
-writes_cells = tables.writes_cells puts table (register_names numbered) is_clear_table covers
+writes_cells = tables.writes_cells puts table (register_names numbered) is_clear_table (λ op h. h)
 
 pub makes_one_access : MakesOneAccess puts
 makes_one_access = accesses_once instructions (record {

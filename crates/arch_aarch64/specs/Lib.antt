@@ -1,6 +1,6 @@
-pub mod Puts
 pub mod Table
-pub mod Covers
+pub mod Clear
+pub mod Puts
 pub mod Laws
 pub mod ReadsBack
 pub mod InCells

@@ -1,9 +1,9 @@
 //! AArch64: accesses by address registers, dependencies by `EOR`, branches by `CBNZ`.
 #![tactic(auto)]
 
-ghost use Rattle.std.specs.Prelude.{refl, ◌≡◌};
+ghost use Rattle.std.specs.Prelude.{refl};
 ghost use Rattle.relax_edges.specs.declared.kinds.ArchName.TheVariants as archs;
-ghost use Rattle.arch_aarch64.specs.Puts.{puts as a64, is_index, is_barrier};
+ghost use Rattle.arch_aarch64.specs.Puts.{puts as a64};
 ghost use Rattle.arch_aarch64.specs.Table.{writing as a64_writing};
 ghost use Rattle.arch_aarch64.specs.Laws.{laws as a64_laws};
 ghost use Rattle.arch_aarch64.specs.ReadsBack.{reads_back as a64_reads_back};
@@ -17,9 +17,9 @@ use addressed_code::{put_link, put_load, put_store, registers_needed};
 use arch_trait::{Arch, Instrs, Link, MAX_TEXT, Operands, Places, Raw, Regs, Shape};
 use arrayvec::ArrayString;
 use final_cond::RegName;
-use instruction_forms::{print_by, read_by};
-use micro_ops::{Barrier, Micro};
-use relax_edges::{ArchName, FenceKind};
+use instruction_forms::{has_by, print_by, read_by};
+use micro_ops::Micro;
+use relax_edges::ArchName;
 
 /// The architecture AArch64.
 pub struct A64;
@@ -38,17 +38,7 @@ impl Arch for A64 {
     const REGISTERS: u8 = 28;
 
     fn has(op: &Micro) -> bool {
-        match *op {
-            Micro::Imm { dst, n } => dst < 28 && n <= 2047,
-            Micro::Xor { dst, a, b } => dst < 28 && a < 28 && b < 28,
-            Micro::AddImm { dst, a, n } => dst < 28 && a < 28 && n <= 2047,
-            Micro::Load { dst, base, index } => dst < 28 && base < 28 && is_index(index),
-            Micro::Store { src, base, index } => src < 28 && base < 28 && is_index(index),
-            Micro::BranchNz { a, .. } => a < 28,
-            Micro::Label { .. } => true,
-            Micro::Barrier { kind } => is_barrier(kind),
-            _ => false,
-        }
+        has_by(&table(), op)
     }
 
     fn need(shape: &Shape) -> u32 {
@@ -74,7 +64,7 @@ impl Arch for A64 {
         put_store::<A64>(regs, link, from, place, value, out);
     }
 
-    #[tactic(auto, using(crate::specs::Covers::is_clear_table, crate::specs::Covers::covers))]
+    #[tactic(auto, using(crate::specs::Clear::is_clear_table))]
     fn print(op: &Micro, places: &Places, out: &mut ArrayString<MAX_TEXT>) {
         print_by(&table(), op, places, out);
     }
@@ -100,22 +90,4 @@ impl Arch for A64 {
     ghost writes_cells = { a64_writes_cells };
 
     ghost makes_one_access = { a64_makes_one_access };
-}
-
-fn is_index(index: Option<u8>) -> bool
-    ensures { result ≡ is_index index }
-{
-    match index {
-        Some(r) => r < 28,
-        None => true,
-    }
-}
-
-fn is_barrier(kind: Barrier) -> bool
-    ensures { result ≡ is_barrier kind }
-{
-    matches!(
-        kind,
-        Barrier::Fence(FenceKind::DmbSy | FenceKind::DmbLd | FenceKind::DmbSt) | Barrier::Isb
-    )
 }

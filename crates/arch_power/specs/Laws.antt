@@ -1,22 +1,19 @@
 -- Power obeys the laws of architectures.
 use Rattle.std.proofs.Common.{ℕ, ◌+◌, ◌<◌, ◌^◌, ◌≡◌, refl, true, bit_or, [], ◌∷◌, ◌++◌, ◌∙◌, sym, ap, append-nil, arith}
-use Rattle.std.proofs.lemmas.Bool.{and_from, or_left, eq-eqb, lt-ltb, le-leb}
-use Rattle.relax_edges.specs.EdgeTable.{fence_is_of}
+use Rattle.std.proofs.lemmas.Bool.Decides.{nat_tests}
+use Rattle.std.proofs.lemmas.Bool.{and_from, or_left, eq-eqb}
 use Rattle.relax_edges.specs.declared.kinds.ArchName.TheVariants as archs
-use Rattle.relax_edges.specs.declared.kinds.FenceKind.{FenceKind}
-use Rattle.relax_edges.specs.declared.kinds.FenceKind.TheVariants as fences
 use Rattle.micro_ops.specs.declared.held.Held.{Held}
 use Rattle.micro_ops.specs.declared.operation.Micro.TheVariants as ops
-use Rattle.micro_ops.specs.declared.operation.Barrier.TheVariants as barriers
 use Rattle.micro_ops.specs.Machine.{num, bit}
 use Rattle.micro_ops.specs.Running.{Run, At, go}
 use Rattle.micro_ops.proofs.Rules.{holding, after_cmp, after_branch, run_add_imm, run_load_index, run_load_index_wants, run_store_index, run_cmp_branch}
 use Rattle.arch_trait.specs.Laws.{DidLink, IsArch}
 use Rattle.arch_trait.proofs.Addressed.{KeepsInstructions, same_run, keeps_laws}
-use Rattle.arch_power.specs.Puts.{puts, instructions, has, is_register}
-
-usable : (r : ℕ) → r < 28 → is_register r ≡ true
-usable r h = lt-ltb r 28 h
+use Rattle.form_laws.specs.Tables.{fits}
+use Rattle.form_laws.proofs.Barriers.{fences_had}
+use Rattle.arch_power.specs.Table.{forms, table}
+use Rattle.arch_power.specs.Puts.{puts, instructions}
 
 branch_runs : (s n v k : ℕ) (r : Run) → r.state.regs s ≡ num v (bit k) →
     DidLink (instructions.branch s n ++ ops.Label n ∷ []) r [] (bit_or r.state.control (bit k))
@@ -32,18 +29,6 @@ branch_runs s n v k r e = record {
   regs_is = refl;
 }
 
-fence_has : (kind : FenceKind) → fence_is_of kind archs.PPC ≡ true →
-    has (ops.Barrier (barriers.Fence kind)) ≡ true
-fence_has fences.MFence e = cc
-fence_has fences.Sync e = refl
-fence_has fences.LwSync e = refl
-fence_has fences.Eieio e = refl
-fence_has fences.ISync e = refl
-fence_has fences.DmbSy e = cc
-fence_has fences.DmbLd e = cc
-fence_has fences.DmbSt e = cc
-fence_has (fences.Fence p s) e = cc
-
 joins_runs : (d n mask : ℕ) (r : Run) → n < 256 → r.state.regs d ≡ num 0 mask →
     go (instructions.joins d n) (At r) ≡ At (holding r d (num n mask))
 joins_runs d n mask r small e =
@@ -51,10 +36,8 @@ joins_runs d n mask r small e =
     let sum : 0 + n ≡ n = omega arith in
     run_add_imm d d n 0 mask r e fits ∙ ap (λ m. At (holding r d (num m mask))) sum
 
-small_has : (d n : ℕ) → d < 28 → n < 256 → has (ops.AddImm d d n) ≡ true
-small_has d n h small = and_from _ _ (usable d h) (and_from _ _ (usable d h) (le-leb n 2047 (omega arith)))
-
 keeps : KeepsInstructions instructions
+unfolding forms fits
 keeps = record {
   few = omega arith;
   branch_runs = branch_runs;
@@ -62,8 +45,8 @@ keeps = record {
   branch_labels = λ s n rest. refl;
   branch_lands = λ s n rest h. and_from _ _ (or_left _ _ (eq-eqb n n refl)) h;
   branch_no_place = λ s n p rest h. h;
-  branch_has = λ s n rest h k. and_from _ _ (and_from _ _ (usable s h) (usable s h)) k;
-  fence_has = fence_has;
+  branch_has = λ s n rest h k. and_from _ _ (grind (arith, nat_tests)) k;
+  fence_has = fences_had archs.PPC table refl;
   isync_has = λ e. refl;
   isb_has = λ e. cc;
   load_runs = λ d v a p n mask vs r e g reads. record {
@@ -76,23 +59,21 @@ keeps = record {
     is = run_load_index_wants v a d p mask r e g reads;
   };
   load_short = λ d v a. record { room = omega arith; labels = refl; lands = refl; no_place = λ p. refl };
-  load_has = λ d v a h k l.
-      and_from _ true (and_from _ _ (usable v k) (and_from _ _ (usable a l) (usable d h))) refl;
+  load_has = λ d v a h k l. grind (arith, nat_tests);
   store_runs = λ d v a p n mask r e g holds apart. record {
     before = r;
     ran = run_store_index v a d p n mask 0 r e g holds;
     same = same_run d r;
   };
   store_short = λ d v a. record { room = omega arith; labels = refl; lands = refl; no_place = λ p. refl };
-  store_has = λ d v a h k l.
-      and_from _ true (and_from _ _ (usable v k) (and_from _ _ (usable a l) (usable d h))) refl;
+  store_has = λ d v a h k l. grind (arith, nat_tests);
   joins_runs = joins_runs;
   joins_short = λ d n a. record { room = omega arith; labels = refl; lands = refl; no_place = λ p. refl };
-  joins_has = small_has;
-  xor_has = λ d s h k. and_from _ _ (usable d h) (and_from _ _ (usable s k) (usable s k));
-  imm_has = λ d n h small. and_from _ _ (usable d h) (le-leb n 2047 (omega arith));
-  plain_load_has = λ v a h k. and_from _ _ (usable v h) (and_from _ true (usable a k) refl);
-  plain_store_has = λ v a h k. and_from _ _ (usable v h) (and_from _ true (usable a k) refl);
+  joins_has = λ d n h small. grind (arith, nat_tests);
+  xor_has = λ d s h k. grind (arith, nat_tests);
+  imm_has = λ d n h small. grind (arith, nat_tests);
+  plain_load_has = λ v a h k. grind (arith, nat_tests);
+  plain_store_has = λ v a h k. grind (arith, nat_tests);
 }
 
 pub laws : IsArch puts

@@ -1,51 +1,19 @@
 -- The code of Power: accesses by address registers, dependencies by xor, control by cmpw and beq.
 -- Source: the Power ISA, and the diy tools' tests.
-use Rattle.std.specs.Prelude.{ℕ, Bool, true, false, ◌&&◌, [], ◌∷◌, Option, Some, None, nat_lt, nat_le}
+use Rattle.std.specs.Prelude.{[], ◌∷◌, Some}
 use Rattle.relax_edges.specs.declared.kinds.ArchName.TheVariants as archs
-use Rattle.relax_edges.specs.declared.kinds.FenceKind.TheVariants as fences
-use Rattle.micro_ops.specs.declared.operation.Micro.{Micro}
 use Rattle.micro_ops.specs.declared.operation.Micro.TheVariants as ops
-use Rattle.micro_ops.specs.declared.operation.Barrier.{Barrier}
-use Rattle.micro_ops.specs.declared.operation.Barrier.TheVariants as barriers
 use Rattle.arch_trait.specs.Threads.{Puts}
 use Rattle.arch_trait.specs.Addressed.{Instructions, puts_of}
-
--- a register that tests use
-abbrev pub is_register : ℕ → Bool
-is_register r = nat_lt r 28
-
--- a register, if there is one
-abbrev pub is_index : Option ℕ → Bool
-is_index (Some r) = is_register r
-is_index None = true
-
--- the barriers of Power
-abbrev pub is_barrier : Barrier → Bool
-is_barrier (barriers.Fence fences.Sync) = true
-is_barrier (barriers.Fence fences.LwSync) = true
-is_barrier (barriers.Fence fences.Eieio) = true
-is_barrier (barriers.Fence fences.ISync) = true
-is_barrier _ = false
-
--- the operations of Power's instructions, on registers that tests use and numbers up to 2,047
-abbrev pub has : Micro → Bool
-has (ops.Imm dst n) = is_register dst && nat_le n 2047
-has (ops.Xor dst a b) = is_register dst && (is_register a && is_register b)
-has (ops.AddImm dst a n) = is_register dst && (is_register a && nat_le n 2047)
-has (ops.Load dst base index) = is_register dst && (is_register base && is_index index)
-has (ops.Store src base index) = is_register src && (is_register base && is_index index)
-has (ops.Cmp a b) = is_register a && is_register b
-has (ops.BranchEq _) = true
-has (ops.Label _) = true
-has (ops.Barrier kind) = is_barrier kind
-has _ = false
+use Rattle.form_laws.specs.Tables.{table_has}
+use Rattle.arch_power.specs.Table.{table}
 
 -- Power's instructions: cmpw and beq, accesses with an index register, and addi
 abbrev pub instructions : Instructions
 instructions = record {
   name = archs.PPC;
   registers = 28;
-  has = has;
+  has = table_has table;
   branch = λ s n. ops.Cmp s s ∷ ops.BranchEq n ∷ [];
   load = λ d v a. ops.Load v a (Some d) ∷ [];
   store = λ d v a. ops.Store v a (Some d) ∷ [];

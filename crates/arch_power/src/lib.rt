@@ -3,11 +3,10 @@
 
 ghost use Rattle.std.specs.Prelude.{refl};
 ghost use Rattle.relax_edges.specs.declared.kinds.ArchName.TheVariants as archs;
-ghost use Rattle.arch_power.specs.Puts.{puts as power, is_index, is_barrier};
+ghost use Rattle.arch_power.specs.Puts.{puts as power};
 ghost use Rattle.arch_power.specs.Laws.{laws as power_laws};
 ghost use Rattle.arch_power.specs.ReadsBack.{reads_back as power_reads_back};
 ghost use Rattle.arch_power.specs.InCells.{writes_cells as power_writes_cells, makes_one_access as power_makes_one_access};
-ghost use Rattle.std.specs.Prelude.{◌≡◌};
 ghost use Rattle.arch_power.specs.Table.{writing as power_writing};
 
 mod own;
@@ -18,9 +17,9 @@ use addressed_code::{put_link, put_load, put_store, registers_needed};
 use arch_trait::{Arch, Instrs, Link, MAX_TEXT, Operands, Places, Raw, Regs, Shape};
 use arrayvec::ArrayString;
 use final_cond::RegName;
-use instruction_forms::{print_by, read_by};
-use micro_ops::{Barrier, Micro};
-use relax_edges::{ArchName, FenceKind};
+use instruction_forms::{has_by, print_by, read_by};
+use micro_ops::Micro;
+use relax_edges::ArchName;
 
 /// The architecture Power.
 pub struct Power;
@@ -39,17 +38,7 @@ impl Arch for Power {
     const REGISTERS: u8 = 28;
 
     fn has(op: &Micro) -> bool {
-        match *op {
-            Micro::Imm { dst, n } => dst < 28 && n <= 2047,
-            Micro::Xor { dst, a, b } => dst < 28 && a < 28 && b < 28,
-            Micro::AddImm { dst, a, n } => dst < 28 && a < 28 && n <= 2047,
-            Micro::Load { dst, base, index } => dst < 28 && base < 28 && is_index(index),
-            Micro::Store { src, base, index } => src < 28 && base < 28 && is_index(index),
-            Micro::Cmp { a, b } => a < 28 && b < 28,
-            Micro::BranchEq { .. } | Micro::Label { .. } => true,
-            Micro::Barrier { kind } => is_barrier(kind),
-            _ => false,
-        }
+        has_by(&table(), op)
     }
 
     fn need(shape: &Shape) -> u32 {
@@ -75,7 +64,7 @@ impl Arch for Power {
         put_store::<Power>(regs, link, from, place, value, out);
     }
 
-    #[tactic(auto, using(crate::specs::Covers::is_clear_table, crate::specs::Covers::covers))]
+    #[tactic(auto, using(crate::specs::Clear::is_clear_table))]
     fn print(op: &Micro, places: &Places, out: &mut ArrayString<MAX_TEXT>) {
         print_by(&table(), op, places, out);
     }
@@ -101,22 +90,4 @@ impl Arch for Power {
     ghost writes_cells = { power_writes_cells };
 
     ghost makes_one_access = { power_makes_one_access };
-}
-
-fn is_index(index: Option<u8>) -> bool
-    ensures { result ≡ is_index index }
-{
-    match index {
-        Some(register) => register < 28,
-        None => true,
-    }
-}
-
-fn is_barrier(kind: Barrier) -> bool
-    ensures { result ≡ is_barrier kind }
-{
-    matches!(
-        kind,
-        Barrier::Fence(FenceKind::Sync | FenceKind::LwSync | FenceKind::Eieio | FenceKind::ISync)
-    )
 }

@@ -1,12 +1,9 @@
 -- RISC-V obeys the laws of architectures.
-use Rattle.std.proofs.Common.{ℕ, ◌<◌, ◌≡◌, ◌==◌, refl, true, false, bit_or, List, [], ◌∷◌, ◌++◌, None, ◌∙◌, sym, ap, append-nil, arith}
-use Rattle.std.proofs.lemmas.Bool.{and_from, or_left, eq-eqb, lt-ltb, le-leb}
-use Rattle.relax_edges.specs.EdgeTable.{fence_is_of}
+use Rattle.std.proofs.Common.{ℕ, ◌<◌, ◌≡◌, ◌==◌, refl, false, bit_or, List, [], ◌∷◌, ◌++◌, None, ◌∙◌, sym, ap, append-nil, arith}
+use Rattle.std.proofs.lemmas.Bool.Decides.{nat_tests}
+use Rattle.std.proofs.lemmas.Bool.{and_from, or_left, eq-eqb}
 use Rattle.relax_edges.specs.declared.kinds.ArchName.TheVariants as archs
-use Rattle.relax_edges.specs.declared.kinds.FenceKind.{FenceKind}
-use Rattle.relax_edges.specs.declared.kinds.FenceKind.TheVariants as fences
 use Rattle.micro_ops.specs.declared.operation.Micro.TheVariants as ops
-use Rattle.micro_ops.specs.declared.operation.Barrier.TheVariants as barriers
 use Rattle.micro_ops.specs.Machine.{num, address, at_place, bit}
 use Rattle.micro_ops.specs.Running.{Run, At, go, exec}
 use Rattle.micro_ops.proofs.Masks.{zero_or}
@@ -14,10 +11,10 @@ use Rattle.micro_ops.proofs.Rules.{holding, after_branch, run_or_imm, run_add_ad
 use Rattle.arch_trait.specs.Laws.{DidLink, IsWanting, IsArch}
 use Rattle.arch_trait.proofs.Accesses.{written_same, written_other}
 use Rattle.arch_trait.proofs.Addressed.{IsBut, LoadsBy, StoresBy, KeepsInstructions, keeps_laws}
-use Rattle.arch_riscv.specs.Puts.{puts, instructions, has, is_register}
-
-usable : (r : ℕ) → r < 27 → is_register r ≡ true
-usable r h = lt-ltb r 27 h
+use Rattle.form_laws.specs.Tables.{fits}
+use Rattle.form_laws.proofs.Barriers.{fences_had}
+use Rattle.arch_riscv.specs.Table.{forms, table}
+use Rattle.arch_riscv.specs.Puts.{puts, instructions}
 
 branch_runs : (s n v k : ℕ) (r : Run) → r.state.regs s ≡ num v (bit k) →
     DidLink (instructions.branch s n ++ ops.Label n ∷ []) r [] (bit_or r.state.control (bit k))
@@ -30,18 +27,6 @@ branch_runs s n v k r e = record {
   reads_is = refl;
   regs_is = refl;
 }
-
-fence_has : (kind : FenceKind) → fence_is_of kind archs.RISCV ≡ true →
-    has (ops.Barrier (barriers.Fence kind)) ≡ true
-fence_has fences.MFence e = cc
-fence_has fences.Sync e = cc
-fence_has fences.LwSync e = cc
-fence_has fences.Eieio e = cc
-fence_has fences.ISync e = cc
-fence_has fences.DmbSy e = cc
-fence_has fences.DmbLd e = cc
-fence_has fences.DmbSt e = cc
-fence_has (fences.Fence p s) e = refl
 
 -- the dependency register holds the address, which depends on its loads, before the access
 added : (d p mask : ℕ) (r : Run) → IsBut d r (holding r d (address p mask))
@@ -96,6 +81,7 @@ joins_runs d n mask r small e =
     run_or_imm d d n 0 mask r e ∙ ap (λ m. At (holding r d (num m mask))) (zero_or n)
 
 keeps : KeepsInstructions instructions
+unfolding forms fits
 keeps = record {
   few = omega arith;
   branch_runs = branch_runs;
@@ -103,28 +89,24 @@ keeps = record {
   branch_labels = λ s n rest. refl;
   branch_lands = λ s n rest h. and_from _ _ (or_left _ _ (eq-eqb n n refl)) h;
   branch_no_place = λ s n p rest h. h;
-  branch_has = λ s n rest h k. and_from _ _ (usable s h) k;
-  fence_has = fence_has;
+  branch_has = λ s n rest h k. and_from _ _ (grind (arith, nat_tests)) k;
+  fence_has = fences_had archs.RISCV table refl;
   isync_has = λ e. cc;
   isb_has = λ e. cc;
   load_runs = load_runs;
   load_wants = load_wants;
   load_short = λ d v a. record { room = omega arith; labels = refl; lands = refl; no_place = λ p. refl };
-  load_has = λ d v a h k l.
-      and_from _ _ (and_from _ _ (usable d h) (and_from _ _ (usable d h) (usable a l)))
-      (and_from _ true (and_from _ _ (usable v k) (usable d h)) refl);
+  load_has = λ d v a h k l. grind (arith, nat_tests);
   store_runs = store_runs;
   store_short = λ d v a. record { room = omega arith; labels = refl; lands = refl; no_place = λ p. refl };
-  store_has = λ d v a h k l.
-      and_from _ _ (and_from _ _ (usable d h) (and_from _ _ (usable d h) (usable a l)))
-      (and_from _ true (and_from _ _ (usable v k) (usable d h)) refl);
+  store_has = λ d v a h k l. grind (arith, nat_tests);
   joins_runs = joins_runs;
   joins_short = λ d n a. record { room = omega arith; labels = refl; lands = refl; no_place = λ p. refl };
-  joins_has = λ d n h small. and_from _ _ (usable d h) (and_from _ _ (usable d h) (le-leb n 2047 (omega arith)));
-  xor_has = λ d s h k. and_from _ _ (usable d h) (and_from _ _ (usable s k) (usable s k));
-  imm_has = λ d n h small. and_from _ _ (usable d h) (le-leb n 2047 (omega arith));
-  plain_load_has = λ v a h k. and_from _ _ (usable v h) (usable a k);
-  plain_store_has = λ v a h k. and_from _ _ (usable v h) (usable a k);
+  joins_has = λ d n h small. grind (arith, nat_tests);
+  xor_has = λ d s h k. grind (arith, nat_tests);
+  imm_has = λ d n h small. grind (arith, nat_tests);
+  plain_load_has = λ v a h k. grind (arith, nat_tests);
+  plain_store_has = λ v a h k. grind (arith, nat_tests);
 }
 
 pub laws : IsArch puts

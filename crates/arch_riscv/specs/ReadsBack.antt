@@ -6,7 +6,7 @@ use Rattle.arch_trait.proofs.FormBacks.{IsNumbered, names_count, names_formed, n
 use Rattle.form_laws.proofs.ReadsBack.{AreNames, writes_back}
 use Rattle.arch_riscv.specs.Puts.{puts}
 use Rattle.arch_riscv.specs.Table.{table, numbered, writing}
-use Rattle.arch_riscv.specs.Covers.{is_clear_table, covers}
+use Rattle.arch_riscv.specs.Clear.{is_clear_table}
 
 are_numbered : IsNumbered numbered
 are_numbered = record { letter = refl; small = omega arith }
@@ -22,4 +22,4 @@ pub name_is : (r : ℕ) → r < 27 → name_in writing.registers r ≡ register_
 name_is r h = name_at numbered r h
 
 pub reads_back : WritesBack puts writing
-reads_back = writes_back puts table (register_names numbered) is_clear_table covers are_names
+reads_back = writes_back puts table (register_names numbered) is_clear_table (λ op h. h) are_names

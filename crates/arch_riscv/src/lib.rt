@@ -1,9 +1,9 @@
 //! RISC-V: accesses by address registers, dependencies by `xor`, branches by `bne`.
 #![tactic(auto)]
 
-ghost use Rattle.std.specs.Prelude.{refl, ◌≡◌};
+ghost use Rattle.std.specs.Prelude.{refl};
 ghost use Rattle.relax_edges.specs.declared.kinds.ArchName.TheVariants as archs;
-ghost use Rattle.arch_riscv.specs.Puts.{puts as riscv, is_barrier};
+ghost use Rattle.arch_riscv.specs.Puts.{puts as riscv};
 ghost use Rattle.arch_riscv.specs.Table.{writing as riscv_writing};
 ghost use Rattle.arch_riscv.specs.Laws.{laws as riscv_laws};
 ghost use Rattle.arch_riscv.specs.ReadsBack.{reads_back as riscv_reads_back};
@@ -17,9 +17,9 @@ use addressed_code::{put_link, put_load, put_store, registers_needed};
 use arch_trait::{Arch, Instrs, Link, MAX_TEXT, Operands, Places, Raw, Regs, Shape};
 use arrayvec::ArrayString;
 use final_cond::RegName;
-use instruction_forms::{print_by, read_by};
-use micro_ops::{Barrier, Micro};
-use relax_edges::{ArchName, FenceKind};
+use instruction_forms::{has_by, print_by, read_by};
+use micro_ops::Micro;
+use relax_edges::ArchName;
 
 /// The architecture RISC-V.
 pub struct Riscv;
@@ -38,17 +38,7 @@ impl Arch for Riscv {
     const REGISTERS: u8 = 27;
 
     fn has(op: &Micro) -> bool {
-        match *op {
-            Micro::Imm { dst, n } => dst < 27 && n <= 2047,
-            Micro::Xor { dst, a, b } | Micro::Add { dst, a, b } => dst < 27 && a < 27 && b < 27,
-            Micro::OrImm { dst, a, n } => dst < 27 && a < 27 && n <= 2047,
-            Micro::Load { dst, base, index } => dst < 27 && base < 27 && index.is_none(),
-            Micro::Store { src, base, index } => src < 27 && base < 27 && index.is_none(),
-            Micro::BranchNz { a, .. } => a < 27,
-            Micro::Label { .. } => true,
-            Micro::Barrier { kind } => is_barrier(kind),
-            _ => false,
-        }
+        has_by(&table(), op)
     }
 
     fn need(shape: &Shape) -> u32 {
@@ -74,7 +64,7 @@ impl Arch for Riscv {
         put_store::<Riscv>(regs, link, from, place, value, out);
     }
 
-    #[tactic(auto, using(crate::specs::Covers::is_clear_table, crate::specs::Covers::covers))]
+    #[tactic(auto, using(crate::specs::Clear::is_clear_table))]
     fn print(op: &Micro, places: &Places, out: &mut ArrayString<MAX_TEXT>) {
         print_by(&table(), op, places, out);
     }
@@ -100,10 +90,4 @@ impl Arch for Riscv {
     ghost writes_cells = { riscv_writes_cells };
 
     ghost makes_one_access = { riscv_makes_one_access };
-}
-
-fn is_barrier(kind: Barrier) -> bool
-    ensures { result ≡ is_barrier kind }
-{
-    matches!(kind, Barrier::Fence(FenceKind::Fence { .. }))
 }

@@ -6,10 +6,10 @@ use Rattle.arch_trait.specs.Cells.{WritesCells, MakesOneAccess, accesses_in}
 use Rattle.form_laws.proofs.InCells as tables
 use Rattle.arch_x86.specs.Puts.{puts, link_code}
 use Rattle.arch_x86.specs.Table.{table, register_names, writing}
-use Rattle.arch_x86.specs.Covers.{is_clear_table, covers}
+use Rattle.arch_x86.specs.Clear.{is_clear_table}
 
 pub writes_cells : WritesCells puts writing
-writes_cells = tables.writes_cells puts table register_names is_clear_table covers
+writes_cells = tables.writes_cells puts table register_names is_clear_table (λ op h. h)
 
 no_access : (link : Link) (from : Option ℕ) (n : ℕ) → accesses_in (link_code link from n) ≡ 0
 no_access (links.Fence kind) from n = refl

@@ -1,10 +1,11 @@
 -- X86 obeys the laws of architectures.
-use Rattle.std.proofs.Common.{ℕ, ◌<◌, ◌≤◌, ◌≡◌, inl, refl, true, false, Option, length, nat_lt, nat_le, ◌==◌, arith}
+use Rattle.std.proofs.Common.{ℕ, ◌<◌, ◌≤◌, ◌≡◌, inl, refl, true, false, Option, length, ◌==◌, arith}
 use Rattle.std.specs.List.{list_all}
-use Rattle.std.proofs.lemmas.Bool.{and_from, eq-eqb, lt-ltb, le-leb}
+use Rattle.std.proofs.lemmas.Bool.Decides.{nat_tests}
+use Rattle.std.proofs.lemmas.Bool.{and_from, eq-eqb}
 use Rattle.relax_edges.specs.declared.kinds.Dir.TheVariants as dirs
 use Rattle.relax_edges.specs.declared.kinds.ArchName.TheVariants as archs
-use Rattle.relax_edges.specs.declared.kinds.FenceKind.TheVariants as fences
+use Rattle.micro_ops.specs.declared.operation.Micro.TheVariants as ops
 use Rattle.micro_ops.specs.Running.{Run, labels_of, lands}
 use Rattle.micro_ops.proofs.Rules.{run_load_at, run_load_at_wants, run_store_at, run_barrier, after_barrier}
 use Rattle.micro_ops.specs.declared.operation.Barrier.TheVariants as barriers
@@ -14,7 +15,10 @@ use Rattle.arch_trait.specs.Links.{link_is_of, link_control, link_items, is_addr
 use Rattle.arch_trait.specs.Taking.{take_next}
 use Rattle.arch_trait.specs.Laws.{DidLink, MakesLinks, MakesAccess, MakesLoads, MakesStores, IsArch, link_room, link_labels, is_at}
 use Rattle.arch_trait.proofs.Accesses.{writes_none, spare_plain, did_load, did_store, did_nothing, two_fit}
-use Rattle.arch_x86.specs.Puts.{puts, has, link_code, load, store}
+use Rattle.form_laws.specs.Tables.{table_has, fits}
+use Rattle.form_laws.proofs.Barriers.{all_barriers, on_fence, has_or_not, fences_had}
+use Rattle.arch_x86.specs.Table.{forms, table}
+use Rattle.arch_x86.specs.Puts.{puts, link_code, load, store}
 
 -- X86 has no links but program order and its fence
 link_runs : (link : Link) (from : Option ℕ) (n : ℕ) (r : Run) (k : ℕ) →
@@ -92,18 +96,22 @@ link_no_place links.Ctrl from n p = refl
 link_no_place links.CtrlIsync from n p = refl
 link_no_place links.CtrlIsb from n p = refl
 
+fence_had : list_all (on_fence (has_or_not archs.X86 table)) all_barriers ≡ true
+unfolding forms fits
+fence_had = refl
+
+load_has : (r p : ℕ) → r < 6 → table_has table (ops.LoadAt r p) ≡ true
+unfolding forms fits
+load_has r p h = grind (arith, nat_tests)
+
+store_has : (p n : ℕ) → n < 256 → table_has table (ops.StoreAt p n) ≡ true
+unfolding forms fits
+store_has p n h = grind (arith, nat_tests)
+
 link_has : (link : Link) (from : Option ℕ) (n : ℕ) → link_is_of link archs.X86 ≡ true →
-    list_all has (link_code link from n) ≡ true
+    list_all (table_has table) (link_code link from n) ≡ true
+link_has (links.Fence kind) from n e = and_from _ true (fences_had archs.X86 table fence_had kind e) refl
 link_has links.Plain from n e = refl
-link_has (links.Fence fences.MFence) from n e = refl
-link_has (links.Fence fences.Sync) from n e = cc
-link_has (links.Fence fences.LwSync) from n e = cc
-link_has (links.Fence fences.Eieio) from n e = cc
-link_has (links.Fence fences.ISync) from n e = cc
-link_has (links.Fence fences.DmbSy) from n e = cc
-link_has (links.Fence fences.DmbLd) from n e = cc
-link_has (links.Fence fences.DmbSt) from n e = cc
-link_has (links.Fence (fences.Fence p s)) from n e = cc
 link_has links.Addr from n e = refl
 link_has links.Data from n e = refl
 link_has links.Ctrl from n e = refl
@@ -129,7 +137,7 @@ load_access = record {
   no_label = λ g link from p. refl;
   no_jump = λ g link from p. refl;
   at_place = λ g link from p. and_from (p == p) true (eq-eqb p p refl) refl;
-  has = λ g link from p given usable taken left. and_from (nat_lt g.next 6) true (lt-ltb g.next 6 (omega arith)) refl;
+  has = λ g link from p given usable taken left. and_from _ true (load_has g.next p (omega arith)) refl;
 }
 
 makes_loads : MakesLoads puts
@@ -154,7 +162,7 @@ store_access v h = record {
   no_label = λ g link from p. refl;
   no_jump = λ g link from p. refl;
   at_place = λ g link from p. and_from (p == p) true (eq-eqb p p refl) refl;
-  has = λ g link from p given usable taken left. and_from (nat_le v 2047) true (le-leb v 2047 (omega arith)) refl;
+  has = λ g link from p given usable taken left. and_from _ true (store_has p v (omega arith)) refl;
 }
 
 makes_stores : MakesStores puts

@@ -1,8 +1,7 @@
 -- The code of X86: loads and stores at places, and MFENCE.
 -- Source: the diy tools' tests for x86.
-use Rattle.std.specs.Prelude.{ℕ, Bool, true, false, List, [], ◌∷◌, Option, nat_lt, nat_le}
+use Rattle.std.specs.Prelude.{ℕ, false, List, [], ◌∷◌, Option}
 use Rattle.relax_edges.specs.declared.kinds.ArchName.TheVariants as archs
-use Rattle.relax_edges.specs.declared.kinds.FenceKind.TheVariants as fences
 use Rattle.micro_ops.specs.declared.operation.Micro.{Micro}
 use Rattle.micro_ops.specs.declared.operation.Micro.TheVariants as ops
 use Rattle.micro_ops.specs.declared.operation.Barrier.TheVariants as barriers
@@ -11,14 +10,8 @@ use Rattle.arch_trait.specs.declared.link.Link.TheVariants as links
 use Rattle.arch_trait.specs.declared.step.Shape.{Shape}
 use Rattle.arch_trait.specs.Taking.{Taken, take_next}
 use Rattle.arch_trait.specs.Threads.{Put, Puts}
-
--- the operations of X86's instructions: loads into its six registers, stores of numbers up to 2,047,
--- and MFENCE
-abbrev pub has : Micro → Bool
-has (ops.LoadAt dst _) = nat_lt dst 6
-has (ops.StoreAt _ n) = nat_le n 2047
-has (ops.Barrier (barriers.Fence fences.MFence)) = true
-has _ = false
+use Rattle.form_laws.specs.Tables.{table_has}
+use Rattle.arch_x86.specs.Table.{table}
 
 -- the code of a link: its fence, if it is one
 abbrev pub link_code : Link → Option ℕ → ℕ → List Micro
@@ -41,7 +34,7 @@ abbrev pub puts : Puts
 puts = record {
   name = archs.X86;
   registers = 6;
-  has = has;
+  has = table_has table;
   need = λ (shape : Shape). shape.loads;
   has_addresses = false;
   link = link_code;

@@ -7,7 +7,7 @@ use Rattle.arch_trait.specs.Writing.{WritesBack}
 use Rattle.form_laws.proofs.ReadsBack.{AreNames, writes_back}
 use Rattle.arch_x86.specs.Puts.{puts}
 use Rattle.arch_x86.specs.Table.{table, register_names, writing}
-use Rattle.arch_x86.specs.Covers.{is_clear_table, covers}
+use Rattle.arch_x86.specs.Clear.{is_clear_table}
 
 registers_formed : list_all is_register_name register_names ≡ true
 unfolding is_register_name
@@ -21,4 +21,4 @@ are_names : AreNames puts register_names
 are_names = record { count = refl; formed = registers_formed; once = registers_once }
 
 pub reads_back : WritesBack puts writing
-reads_back = writes_back puts table register_names is_clear_table covers are_names
+reads_back = writes_back puts table register_names is_clear_table (λ op h. h) are_names

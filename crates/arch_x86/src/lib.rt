@@ -8,7 +8,6 @@ ghost use Rattle.arch_x86.specs.Laws.{laws as x86_laws};
 ghost use Rattle.arch_x86.specs.Table.{writing as x86_writing};
 ghost use Rattle.arch_x86.specs.ReadsBack.{reads_back as x86_reads_back};
 ghost use Rattle.arch_x86.specs.InCells.{writes_cells as x86_writes_cells, makes_one_access as x86_makes_one_access};
-ghost use Rattle.std.specs.Prelude.{◌≡◌};
 
 mod table;
 
@@ -16,9 +15,9 @@ use crate::table::table;
 use arch_trait::{Arch, Instrs, Link, MAX_TEXT, Operands, Places, Raw, Regs, Shape};
 use arrayvec::ArrayString;
 use final_cond::RegName;
-use instruction_forms::{print_by, read_by};
+use instruction_forms::{has_by, print_by, read_by};
 use micro_ops::{Barrier, Micro};
-use relax_edges::{ArchName, FenceKind};
+use relax_edges::ArchName;
 
 /// The architecture X86.
 pub struct X86;
@@ -39,12 +38,7 @@ impl Arch for X86 {
     const REGISTERS: u8 = 6;
 
     fn has(op: &Micro) -> bool {
-        match *op {
-            Micro::LoadAt { dst, .. } => dst < 6,
-            Micro::StoreAt { n, .. } => n <= 2047,
-            Micro::Barrier { kind } => matches!(kind, Barrier::Fence(FenceKind::MFence)),
-            _ => false,
-        }
+        has_by(&table(), op)
     }
 
     fn need(shape: &Shape) -> u32 {
@@ -85,7 +79,7 @@ impl Arch for X86 {
         });
     }
 
-    #[tactic(auto, using(crate::specs::Covers::is_clear_table, crate::specs::Covers::covers))]
+    #[tactic(auto, using(crate::specs::Clear::is_clear_table))]
     fn print(op: &Micro, places: &Places, out: &mut ArrayString<MAX_TEXT>) {
         print_by(&table(), op, places, out);
     }

@@ -5,13 +5,13 @@ use Rattle.relax_edges.specs.declared.kinds.ArchName.TheVariants as archs
 use Rattle.arch_trait.specs.Threads.{Puts}
 use Rattle.arch_trait.specs.Writing.{Writing}
 use Rattle.arch_x86.specs.Puts as x86
-use Rattle.arch_x86.specs.Text as x86_text
+use Rattle.arch_x86.specs.Table as x86_table
 use Rattle.arch_power.specs.Puts as power
-use Rattle.arch_power.specs.Text as power_text
+use Rattle.arch_power.specs.Table as power_table
 use Rattle.arch_aarch64.specs.Puts as aarch64
-use Rattle.arch_aarch64.specs.Text as aarch64_text
+use Rattle.arch_aarch64.specs.Table as aarch64_table
 use Rattle.arch_riscv.specs.Puts as riscv
-use Rattle.arch_riscv.specs.Text as riscv_text
+use Rattle.arch_riscv.specs.Table as riscv_table
 
 pub record Machine : Type 0 where
   pub puts : Puts
@@ -22,7 +22,7 @@ machine puts writing = record { puts = puts; writing = writing }
 
 -- the architecture with a name
 abbrev pub machine_of : ArchName → Machine
-machine_of archs.X86 = machine x86.puts x86_text.writing
-machine_of archs.PPC = machine power.puts power_text.writing
-machine_of archs.AArch64 = machine aarch64.puts aarch64_text.writing
-machine_of archs.RISCV = machine riscv.puts riscv_text.writing
+machine_of archs.X86 = machine x86.puts x86_table.writing
+machine_of archs.PPC = machine power.puts power_table.writing
+machine_of archs.AArch64 = machine aarch64.puts aarch64_table.writing
+machine_of archs.RISCV = machine riscv.puts riscv_table.writing

@@ -1,6 +1,5 @@
 -- What a clear table writes stands in the cells of a table.
-use Rattle.std.proofs.Common.{ℕ, ◌+◌, ◌<◌, ◌≤◌, ◌≡◌, ◌==◌, refl, Bool, true, false, not, cond, ◌&&◌, ◌||◌, nat_le, List, [], ◌∷◌, ◌++◌, length, ◌∙◌, sym, ap, length-append, arith}
-use Rattle.std.specs.Fmt.{decimal}
+use Rattle.std.proofs.Common.{ℕ, ◌+◌, ◌<◌, ◌≤◌, ◌≡◌, ◌==◌, refl, true, false, not, ◌&&◌, nat_le, List, [], ◌∷◌, ◌++◌, length, ◌∙◌, ap, length-append, arith}
 use Rattle.std.specs.List.{list_all, list_any}
 use Rattle.std.specs.Str.{bytes_eq}
 use Rattle.std.proofs.lemmas.Bool.{and_parts, and_from, leb-true, ltb-true}
@@ -15,7 +14,7 @@ use Rattle.micro_ops.specs.declared.operation.Micro.TheVariants as ops
 use Rattle.arch_trait.specs.Cells.{is_cell_byte, first_word, ends_rows, is_label_op, WritesCells}
 use Rattle.arch_trait.specs.Reading.{few}
 use Rattle.arch_trait.specs.Threads.{Puts}
-use Rattle.arch_trait.specs.Writing.{OperandTexts, none, one, two, three, four, more, Written, listed, text_of, op_text, name_of, is_named, is_label_name, label_name}
+use Rattle.arch_trait.specs.Writing.{OperandTexts, none, one, two, three, four, more, listed, text_of, name_of, is_named, is_label_name, label_name}
 use Rattle.arch_trait.proofs.CellTexts.{all_both, place_cell, decimal_cell}
 use Rattle.arch_trait.proofs.FormBacks.{label_cell}
 use Rattle.arch_trait.proofs.PlainTexts.{three_digits}
@@ -24,11 +23,11 @@ use Rattle.form_laws.specs.declared.form.Hole.TheVariants as holes
 use Rattle.form_laws.specs.declared.kind.Operand.{Operand}
 use Rattle.form_laws.specs.declared.kind.Operand.TheVariants as operands
 use Rattle.form_laws.specs.Kinds.{operands_of}
-use Rattle.form_laws.specs.Tables.{PieceText, FormText, TableText, fits_first, after_hole, fits, does, table_has, filled, piece_texts, given, form_written, first_written, table_written, table_writing}
+use Rattle.form_laws.specs.Tables.{PieceText, TableText, fits_first, after_hole, fits, does, table_has, filled, piece_texts, given, form_written, first_written, table_written, table_writing}
 use Rattle.form_laws.specs.Clear.{is_fixed_byte, is_first_byte, is_hole_good, is_piece_good, ending_words, most_in, most_of, is_clear}
 use Rattle.form_laws.proofs.PieceBacks.{piece_text, piece_is_good, length-piece_texts}
 use Rattle.form_laws.proofs.OperationBacks.{is_named_operand, operands_named}
-use Rattle.form_laws.proofs.ChosenForms.{form_is_good, done, op_texts, Chosen, chosen}
+use Rattle.form_laws.proofs.ChosenForms.{form_is_good, done, op_texts, chosen}
 use Rattle.form_laws.proofs.PlainForms.{left_named, first_word_fixed}
 
 -- fixed texts stand in cells

@@ -1,5 +1,5 @@
 -- Printing by the first form that does an operation.
-use Rattle.std.proofs.Common.{ℕ, ◌+◌, ◌-◌, ◌/◌, ◌%◌, ◌<◌, ◌≤◌, ◌≡◌, refl, true, false, cond, ◌&&◌, nat_le, List, [], ◌∷◌, ◌++◌, Option, Some, map, take, drop, get_or, length, append-nil, ◌∙◌, sym, ap, subst, arith}
+use Rattle.std.proofs.Common.{ℕ, ◌-◌, ◌<◌, ◌≤◌, ◌≡◌, refl, true, false, cond, ◌&&◌, nat_le, List, [], ◌∷◌, ◌++◌, map, take, drop, get_or, length, append-nil, ◌∙◌, sym, ap, subst, arith}
 use Rattle.std.specs.List.{list_any, list_all}
 use Rattle.std.proofs.lemmas.Bool.{and_parts, leb-true}
 use Rattle.micro_ops.specs.declared.operation.Micro.{Micro}
@@ -9,13 +9,10 @@ use Rattle.arch_trait.specs.Writing.{listed, text_of}
 use Rattle.form_laws.specs.declared.kind.Operand.{Operand}
 use Rattle.form_laws.specs.Kinds.{operands_of}
 use Rattle.form_laws.specs.declared.form.Form.{Form}
-use Rattle.form_laws.specs.Tables.{PieceText, FormText, TableText, piece_seen, form_seen, table_has, fits, fits_if, does, given, piece_texts, form_written, first_written}
+use Rattle.form_laws.specs.Tables.{PieceText, FormText, TableText, piece_seen, form_seen, table_has, does, given, piece_texts, form_written, first_written}
 use Rattle.form_laws.specs.Clear.{is_clear, forms_apart, is_piece_good, is_form_good}
 use Rattle.std.proofs.Math.Seq.{take-length}
-use Rattle.std.specs.Fmt.{decimal}
-use Rattle.std.proofs.lemmas.Fmt.{decimal_digit, decimal_step}
-use Rattle.instruction_forms.proofs.Room.{room_of}
-use Rattle.instruction_forms.specs.Printing.{byte_before, joined_texts, form_text, place_short}
+use Rattle.instruction_forms.specs.Printing.{byte_before, joined_texts, form_text}
 
 -- at most four operands stand behind a blank and commas
 commas_are : (names : ℕ → List ℕ) (ps : List PieceText) (vs : List Operand) → nat_le (length ps) 4 ≡ true →
@@ -89,14 +86,6 @@ walk_found names op whole [] d l w h = absurd (omega (arith, l))
 walk_found names op whole (f ∷ fs) d l w h =
     sym (first_here names op (form_seen f) (map form_seen fs) h w.clear) ∙ ap text_of w.same
 
--- there is room where the form does the operation
-pub if_room : (names : ℕ → List ℕ) (op : Micro) (f : FormText) (vs : List Operand) → place_short names op ≡ true → is_form_good f ≡ true →
-    Some vs ≡ operands_of f.kind op → fits f.pieces vs ≡ true → length (form_text names f.word f.pieces vs) ≤ 40
-if_room names op f vs short good e h =
-    let P : Option (List Operand) → Type 0 = (λ r. fits_if f.pieces r ≡ true) in
-    let done : does op f ≡ true = subst P e h in
-    rw (← e) at (room_of names op f short good done)
-
 pub walk_ends : (names : ℕ → List ℕ) (op : Micro) (whole left : List Form) → length left < 1 → Walk names op whole left → ⊥
 walk_ends names op whole [] l w = cc (w.has)
 walk_ends names op whole (f ∷ fs) l w = omega (arith, l)
@@ -105,11 +94,3 @@ walk_ends names op whole (f ∷ fs) l w = omega (arith, l)
 pub has_other : (t : TableText) (op : Micro) → ((l : ℕ) → op ≡ ops.Label l → ⊥) → table_has t op ≡ true → list_any (does op) t.forms ≡ true
 has_other t (ops.Label l) n h = absurd (n l refl)
 has_other t op n h = h
-
--- the decimal of a small number
-pub one_digit : (n : ℕ) → n < 10 → decimal n ≡ (48 + n) ∷ []
-one_digit n h = decimal_digit n h
-
-pub two_digits : (n : ℕ) → 10 ≤ n → n < 100 → decimal n ≡ (48 + n / 10) ∷ (48 + n % 10) ∷ []
-two_digits n l h =
-    decimal_step n l (omega arith) ∙ ap (λ ds. ds ++ (48 + n % 10) ∷ []) (decimal_digit (n / 10) (omega arith))

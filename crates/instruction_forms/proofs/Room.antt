@@ -1,5 +1,5 @@
--- An instruction of a good form has at most 40 bytes.
-use Rattle.std.proofs.Common.{ℕ, ◌+◌, ◌<◌, ◌≤◌, ◌≡◌, ◌==◌, Bool, true, false, cond, ◌&&◌, nat_le, List, [], ◌∷◌, ◌++◌, Option, Some, None, length, arith, length-append}
+-- There is room for an instruction of a good form.
+use Rattle.std.proofs.Common.{ℕ, ◌+◌, ◌<◌, ◌≤◌, ◌≡◌, ◌==◌, Bool, true, false, cond, ◌&&◌, nat_le, List, [], ◌∷◌, ◌++◌, Option, Some, None, subst, length, arith, length-append, sym, ap}
 use Rattle.std.specs.List.{list_all}
 use Rattle.std.specs.Fmt.{decimal}
 use Rattle.std.proofs.lemmas.Bool.{and_parts, leb-true, ltb-true}
@@ -14,21 +14,13 @@ use Rattle.micro_ops.specs.declared.operation.Micro.TheVariants as ops
 use Rattle.form_laws.specs.declared.kind.Kind.{Kind}
 use Rattle.form_laws.specs.declared.kind.Kind.TheVariants as kinds
 use Rattle.form_laws.specs.Kinds.{operands_of, same_barrier}
-use Rattle.form_laws.specs.Tables.{PieceText, FormText, fits_first, after_hole, fits, fits_if, does, filled, given}
+use Rattle.form_laws.specs.Tables.{PieceText, FormText, fits_first, after_hole, filled, given}
 use Rattle.form_laws.specs.Clear.{is_fixed_byte, is_first_byte, is_hole_good, is_piece_good, is_form_good, most_in, most_of}
-use Rattle.instruction_forms.specs.Printing.{piece_text, byte_before, joined_texts, form_text, place_short}
+use Rattle.instruction_forms.specs.Printing.{byte_before, place_short, AllShort, Ready, ReadyPiece}
 
 -- what stands in a hole is short
 four_digits : (n : ℕ) → n < 10000 → length (decimal n) ≤ 4
 four_digits n h = length-decimal-le 4 n (omega arith) (omega arith) (omega arith)
-
--- each place of operands has a short name
-abbrev AllShort : (ℕ → List ℕ) → List Operand → Type 0
-AllShort names [] = Unit
-AllShort names (operands.Place p ∷ vs) = (length (names p) ≤ 16) × AllShort names vs
-AllShort names (operands.Register r ∷ vs) = AllShort names vs
-AllShort names (operands.Number n ∷ vs) = AllShort names vs
-AllShort names (operands.Label l ∷ vs) = AllShort names vs
 
 place_here : (names : ℕ → List ℕ) (p : ℕ) → nat_le (length (names p)) 16 ≡ true → (b : Bool) → AllShort names (given (cond b (Some (operands.Place p ∷ [])) None))
 place_here names p h true = (leb-true (length (names p)) 16 h, tt)
@@ -38,7 +30,7 @@ barrier_here : (names : ℕ → List ℕ) (b : Bool) → AllShort names (given (
 barrier_here names true = tt
 barrier_here names false = tt
 
-operands_short : (names : ℕ → List ℕ) (kind : Kind) (op : Micro) → place_short names op ≡ true → AllShort names (given (operands_of kind op))
+pub operands_short : (names : ℕ → List ℕ) (kind : Kind) (op : Micro) → place_short names op ≡ true → AllShort names (given (operands_of kind op))
 operands_short names kinds.SetNumber (ops.Imm d n) h = tt
 operands_short names kinds.ExclusiveOr (ops.Xor d a b) h = tt
 operands_short names kinds.AddNumber (ops.AddImm d a n) h = tt
@@ -65,7 +57,7 @@ short_tail names (operands.Register r ∷ vs) h = h
 short_tail names (operands.Number n ∷ vs) h = h
 short_tail names (operands.Label l ∷ vs) h = h
 
-short_after : (names : ℕ → List ℕ) (hole : Hole) (vs : List Operand) → AllShort names vs → AllShort names (after_hole hole vs)
+pub short_after : (names : ℕ → List ℕ) (hole : Hole) (vs : List Operand) → AllShort names vs → AllShort names (after_hole hole vs)
 short_after names holes.Empty vs h = h
 short_after names (holes.Register first count) [] h = tt
 short_after names (holes.Register first count) (v ∷ vs) h = short_tail names (v ∷ vs) h
@@ -76,7 +68,7 @@ short_after names holes.Place (v ∷ vs) h = short_tail names (v ∷ vs) h
 short_after names holes.Label [] h = tt
 short_after names holes.Label (v ∷ vs) h = short_tail names (v ∷ vs) h
 
-filled_short : (names : ℕ → List ℕ) (hole : Hole) (vs : List Operand) → AllShort names vs → is_hole_good hole ≡ true →
+pub filled_short : (names : ℕ → List ℕ) (hole : Hole) (vs : List Operand) → AllShort names vs → is_hole_good hole ≡ true →
     fits_first hole vs ≡ true → length (filled names hole vs) ≤ most_in hole
 filled_short names holes.Empty vs short g f = omega arith
 filled_short names (holes.Register first count) (operands.Register r ∷ vs) short g f =
@@ -89,39 +81,16 @@ filled_short names holes.Place (operands.Place p ∷ vs) short g f = short.0
 filled_short names holes.Label (operands.Label l ∷ vs) short g f = omega arith
 filled_short _ _ _ short g f = cc
 
-hole_good : (p : PieceText) → is_piece_good p ≡ true → is_hole_good p.hole ≡ true
+pub hole_good : (p : PieceText) → is_piece_good p ≡ true → is_hole_good p.hole ≡ true
 unfolding is_piece_good
 hole_good p g = (and_parts _ _ (and_parts (list_all is_fixed_byte p.after) _ (and_parts (list_all is_fixed_byte p.before) _ g).1).1).0
 
--- operands with their blank and commas are no longer than the most that they can be
-all_short : (names : ℕ → List ℕ) (b : ℕ) (ps : List PieceText) (vs : List Operand) → AllShort names vs → list_all is_piece_good ps ≡ true →
-    fits ps vs ≡ true → length (byte_before b ps ++ joined_texts names ps vs) ≤ most_of ps
-unfolding fits most_of
-all_short names b [] vs short g f = omega arith
-all_short names b (p ∷ ps) vs short g f =
-    let good = and_parts (is_piece_good p) (list_all is_piece_good ps) g in
-    let fit = and_parts (fits_first p.hole vs) (fits ps (after_hole p.hole vs)) f in
-    let here = filled_short names p.hole vs short (hole_good p good.0) fit.0 in
-    let there = all_short names 44 ps (after_hole p.hole vs) (short_after names p.hole vs short) good.1 fit.1 in
-    omega (
-      arith,
-      here,
-      there,
-      length-append p.before (filled names p.hole vs ++ p.after),
-      length-append (filled names p.hole vs) p.after,
-      length-append (piece_text names p vs) (byte_before 44 ps ++ joined_texts names ps (after_hole p.hole vs)),
-    )
+-- what a good form has
+pub record Parts (f : FormText) : Type 0 where
+  pub pieces : list_all is_piece_good f.pieces ≡ true
+  pub most : length f.word + most_of f.pieces ≤ 40
 
-given_short : (names : ℕ → List ℕ) (ps : List PieceText) (r : Option (List Operand)) → AllShort names (given r) → list_all is_piece_good ps ≡ true →
-    fits_if ps r ≡ true → length (byte_before 32 ps ++ joined_texts names ps (given r)) ≤ most_of ps
-given_short names ps (Some vs) short g f = all_short names 32 ps vs short g f
-given_short names ps None short g f = cc
-
-record Parts (f : FormText) : Type 0 where
-  pieces : list_all is_piece_good f.pieces ≡ true
-  most : length f.word + most_of f.pieces ≤ 40
-
-parts_of : (f : FormText) → is_form_good f ≡ true → Parts f
+pub parts_of : (f : FormText) → is_form_good f ≡ true → Parts f
 unfolding is_form_good
 parts_of f good =
     let a = and_parts _ _ (and_parts (nat_le 1 (length f.word) && list_all is_first_byte f.word) _ good).1 in
@@ -129,11 +98,49 @@ parts_of f good =
     let c = and_parts (nat_le (length f.pieces) 4) (nat_le (length f.word + most_of f.pieces) 40) b.1 in
     record { pieces = b.0; most = leb-true (length f.word + most_of f.pieces) 40 c.1 }
 
--- an instruction of a good form has at most 40 bytes, where the name of its place has at most 16
-pub room_of : (names : ℕ → List ℕ) (op : Micro) (f : FormText) → place_short names op ≡ true → is_form_good f ≡ true → does op f ≡ true →
-    length (form_text names f.word f.pieces (given (operands_of f.kind op))) ≤ 40
-room_of names op f short good h =
+-- there is room for what stands in a hole, and for what is behind it
+pub hole_room : (names : ℕ → List ℕ) (used : ℕ) (p : PieceText) (vs : List Operand) (out : List ℕ) → ReadyPiece names used p vs → fits_first p.hole vs ≡ true →
+    length out ≡ used + length p.before → length (out ++ filled names p.hole vs) ≤ 40
+hole_room names used p vs out h f e =
+    let here = filled_short names p.hole vs h.short (hole_good p h.good) f in
+    omega (arith, h.room, here, e, length-append out (filled names p.hole vs))
+
+pub after_room : (names : ℕ → List ℕ) (used : ℕ) (p : PieceText) (vs : List Operand) (out : List ℕ) → ReadyPiece names used p vs → fits_first p.hole vs ≡ true →
+    length out ≡ used + length p.before + length (filled names p.hole vs) → length (out ++ p.after) ≤ 40
+after_room names used p vs out h f e =
+    let here = filled_short names p.hole vs h.short (hole_good p h.good) f in
+    omega (arith, h.room, here, e, length-append out p.after)
+
+pub behind_of : (ps : List PieceText) (b : ℕ) → length (byte_before b ps) ≤ most_of ps
+unfolding most_of
+behind_of [] b = omega arith
+behind_of (p ∷ ps) b = omega arith
+
+pub byte_one : (ps : List PieceText) (b : ℕ) → length (byte_before b ps) ≤ 1
+byte_one [] b = omega arith
+byte_one (p ∷ ps) b = omega arith
+
+-- there is room for a word and its blank, and then for the operands of a good form
+pub form_ready : (names : ℕ → List ℕ) (f : FormText) (vs : List Operand) (more next : List ℕ) → is_form_good f ≡ true → AllShort names vs →
+    more ≡ f.word → next ≡ more ++ byte_before 32 f.pieces → Ready names (length next) f.pieces vs
+form_ready names f vs more next good short e k =
     let parts = parts_of f good in
-    let all = operands_short names f.kind op short in
-    let most = given_short names f.pieces (operands_of f.kind op) all parts.pieces h in
-    omega (arith, parts.most, most, length-append f.word (byte_before 32 f.pieces ++ joined_texts names f.pieces (given (operands_of f.kind op))))
+    record {
+      good = parts.pieces;
+      short = short;
+      room = omega (arith, parts.most, byte_one f.pieces 32, ap length e, ap length k, length-append more (byte_before 32 f.pieces));
+    }
+
+pub blank_room : (f : FormText) (more : List ℕ) → is_form_good f ≡ true → more ≡ f.word → length (more ++ byte_before 32 f.pieces) ≤ 40
+blank_room f more good e =
+    let parts = parts_of f good in
+    omega (arith, parts.most, behind_of f.pieces 32, ap length e, length-append more (byte_before 32 f.pieces))
+
+pub word_room : (f : FormText) → is_form_good f ≡ true → length f.word ≤ 40
+word_room f good = let parts = parts_of f good in omega (arith, parts.most)
+
+-- the operands that an operation gives have short names
+pub given_are_short : (names : ℕ → List ℕ) (kind : Kind) (op : Micro) (vs : List Operand) → place_short names op ≡ true → Some vs ≡ operands_of kind op → AllShort names vs
+given_are_short names kind op vs h e =
+    let P : Option (List Operand) → Type 0 = (λ r. AllShort names (given r)) in
+    subst P (sym e) (operands_short names kind op h)

@@ -1,13 +1,16 @@
 -- What the code sees of the operands that it prints, the text of operands with commas between, and a quick test of kinds.
 -- Source: own.
-use Rattle.std.specs.Prelude.{ℕ, Bool, true, nat_le, List, [], ◌∷◌, ◌++◌, None, Some, take, length}
+use Rattle.std.specs.Prelude.{ℕ, ◌+◌, ◌≤◌, ◌≡◌, Bool, true, nat_le, List, [], ◌∷◌, ◌++◌, None, Some, take, length}
 use Rattle.micro_ops.specs.declared.operation.Micro.{Micro}
 use Rattle.micro_ops.specs.declared.operation.Micro.TheVariants as ops
 use Rattle.form_laws.specs.declared.kind.Kind.{Kind}
 use Rattle.form_laws.specs.declared.kind.Kind.TheVariants as kinds
 use Rattle.form_laws.specs.declared.kind.Operand.{Operand}
+use Rattle.form_laws.specs.declared.kind.Operand.TheVariants as operands
 use Rattle.instruction_forms.specs.declared.operand_list.OperandList.{OperandList}
 use Rattle.form_laws.specs.Tables.{PieceText, filled, after_hole}
+use Rattle.form_laws.specs.Clear.{is_piece_good, most_in, most_of}
+use Rattle.std.specs.List.{list_all}
 
 -- the operands that a list has
 abbrev pub operands_in : OperandList → List Operand
@@ -30,6 +33,25 @@ joined_texts names (p ∷ ps) vs = piece_text names p vs ++ (byte_before 44 ps +
 -- an instruction's text: its word, a blank before operands, and these
 abbrev pub form_text : (ℕ → List ℕ) → List ℕ → List PieceText → List Operand → List ℕ
 form_text names word ps vs = word ++ (byte_before 32 ps ++ joined_texts names ps vs)
+
+-- each place of operands has a name of at most 16 bytes
+abbrev pub AllShort : (ℕ → List ℕ) → List Operand → Type 0
+AllShort names [] = Unit
+AllShort names (operands.Place p ∷ vs) = (length (names p) ≤ 16) × AllShort names vs
+AllShort names (operands.Register r ∷ vs) = AllShort names vs
+AllShort names (operands.Number n ∷ vs) = AllShort names vs
+AllShort names (operands.Label l ∷ vs) = AllShort names vs
+
+-- behind so many bytes there is room for an operand, and for operands with commas between
+pub record ReadyPiece (names : ℕ → List ℕ) (used : ℕ) (p : PieceText) (vs : List Operand) : Type 0 where
+  pub good : is_piece_good p ≡ true
+  pub short : AllShort names vs
+  pub room : used + (length p.before + (most_in p.hole + length p.after)) ≤ 40
+
+pub record Ready (names : ℕ → List ℕ) (used : ℕ) (ps : List PieceText) (vs : List Operand) : Type 0 where
+  pub good : list_all is_piece_good ps ≡ true
+  pub short : AllShort names vs
+  pub room : used + most_of ps ≤ 41
 
 -- the name of an operation's place has at most 16 bytes, if it has a place
 abbrev pub place_short : (ℕ → List ℕ) → Micro → Bool

@@ -17,7 +17,7 @@ pub(crate) fn does(form: &Form, op: &Micro) -> bool
 
 /// Whether the holes can hold these operands, in order, and all of them.
 #[tactic(auto, unfolding(form_laws::specs::Tables::fits))]
-pub(crate) fn fits(pieces: &[Piece], operands: &[Operand]) -> bool
+fn fits(pieces: &[Piece], operands: &[Operand]) -> bool
     ensures { result ≡ fits (map piece_seen pieces.now) operands.now }
 {
     match pieces {
@@ -30,7 +30,7 @@ pub(crate) fn fits(pieces: &[Piece], operands: &[Operand]) -> bool
 
 /// Whether the hole can hold the first of these operands.
 #[inline]
-fn fits_first(hole: Hole, operands: &[Operand]) -> bool
+pub(crate) fn fits_first(hole: Hole, operands: &[Operand]) -> bool
     ensures { result ≡ fits_first hole operands.now }
 {
     match (hole, operands) {

@@ -19,55 +19,13 @@ pub fn operands_of(kind: &Kind, op: &Micro) -> Option<OperandList>
         (Kind::AddNumber, Micro::AddImm { dst, a, n }) => with_number(dst, a, n),
         (Kind::OrNumber, Micro::OrImm { dst, a, n }) => with_number(dst, a, n),
         (Kind::Sum, Micro::Add { dst, a, b }) => registers(dst, a, b),
-        (
-            Kind::Load,
-            Micro::Load {
-                dst,
-                base,
-                index: None,
-            },
-        ) => two(Register(dst), Register(base)),
-        (
-            Kind::LoadIndexed,
-            Micro::Load {
-                dst,
-                base,
-                index: Some(i),
-            },
-        ) => registers(dst, base, i),
-        (
-            Kind::LoadIndexFirst,
-            Micro::Load {
-                dst,
-                base,
-                index: Some(i),
-            },
-        ) => registers(dst, i, base),
+        (Kind::Load, Micro::Load { dst, base, index }) => plain(dst, base, index),
+        (Kind::LoadIndexed, Micro::Load { dst, base, index }) => indexed(dst, base, index),
+        (Kind::LoadIndexFirst, Micro::Load { dst, base, index }) => index_first(dst, base, index),
         (Kind::LoadInto(r), Micro::LoadAt { dst, place }) => load_into(r, dst, place),
-        (
-            Kind::Store,
-            Micro::Store {
-                src,
-                base,
-                index: None,
-            },
-        ) => two(Register(src), Register(base)),
-        (
-            Kind::StoreIndexed,
-            Micro::Store {
-                src,
-                base,
-                index: Some(i),
-            },
-        ) => registers(src, base, i),
-        (
-            Kind::StoreIndexFirst,
-            Micro::Store {
-                src,
-                base,
-                index: Some(i),
-            },
-        ) => registers(src, i, base),
+        (Kind::Store, Micro::Store { src, base, index }) => plain(src, base, index),
+        (Kind::StoreIndexed, Micro::Store { src, base, index }) => indexed(src, base, index),
+        (Kind::StoreIndexFirst, Micro::Store { src, base, index }) => index_first(src, base, index),
         (Kind::StoreNumber, Micro::StoreAt { place, n }) => two(Place(place), Number(n)),
         (Kind::Compare, Micro::Cmp { a, b }) => two(Register(a), Register(b)),
         (Kind::BranchEqual, Micro::BranchEq { label }) => Some(OperandList::one(Label(label))),
@@ -93,6 +51,42 @@ fn registers(a: u8, b: u8, c: u8) -> Option<OperandList>
         Operand::Register(b),
         Operand::Register(c),
     ))
+}
+
+/// The operands of an access without an index.
+#[inline]
+fn plain(r: u8, base: u8, index: Option<u8>) -> Option<OperandList>
+    ensures load { option_map operands_in result ≡ operands_of Kind.Load (Micro.Load r base index) }
+    ensures store { option_map operands_in result ≡ operands_of Kind.Store (Micro.Store r base index) }
+{
+    match index {
+        None => two(Operand::Register(r), Operand::Register(base)),
+        Some(_) => None,
+    }
+}
+
+/// The operands of an access with an index, the base first.
+#[inline]
+fn indexed(r: u8, base: u8, index: Option<u8>) -> Option<OperandList>
+    ensures load { option_map operands_in result ≡ operands_of Kind.LoadIndexed (Micro.Load r base index) }
+    ensures store { option_map operands_in result ≡ operands_of Kind.StoreIndexed (Micro.Store r base index) }
+{
+    match index {
+        Some(i) => registers(r, base, i),
+        None => None,
+    }
+}
+
+/// The operands of an access with an index, this first.
+#[inline]
+fn index_first(r: u8, base: u8, index: Option<u8>) -> Option<OperandList>
+    ensures load { option_map operands_in result ≡ operands_of Kind.LoadIndexFirst (Micro.Load r base index) }
+    ensures store { option_map operands_in result ≡ operands_of Kind.StoreIndexFirst (Micro.Store r base index) }
+{
+    match index {
+        Some(i) => registers(r, i, base),
+        None => None,
+    }
 }
 
 #[inline]

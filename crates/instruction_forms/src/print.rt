@@ -2,11 +2,11 @@ ghost use Rattle.std.specs.Prelude.{◌≡◌, ◌<◌, ◌≤◌, ◌++◌, [],
 ghost use Rattle.std.specs.List.{list_any};
 ghost use Rattle.arch_trait.specs.Writing.{text_of, name_in, place_below, label_below};
 ghost use Rattle.form_laws.specs.Kinds.{operands_of};
-ghost use Rattle.form_laws.specs.Tables.{piece_seen, form_seen, table_seen, does, given, table_has, filled, first_written, table_written};
+ghost use Rattle.form_laws.specs.Tables.{piece_seen, form_seen, table_seen, does, given, fits, fits_first, table_has, filled, first_written, table_written};
 ghost use Rattle.form_laws.specs.Clear.{is_clear, is_form_good};
-ghost use Rattle.instruction_forms.specs.Printing.{piece_text, byte_before, joined_texts, form_text, place_short, op_sort};
+ghost use Rattle.instruction_forms.specs.Printing.{piece_text, byte_before, joined_texts, form_text, place_short, op_sort, AllShort, Ready, ReadyPiece};
 
-use crate::fits::{after_hole, fits};
+use crate::fits::{after_hole, fits_first};
 use crate::operands::operands_of;
 use crate::push::{Text, push_label, push_number, push_place, push_short, push_word};
 use crate::sorts::{kind_sort, op_sort};
@@ -103,43 +103,50 @@ fn print_if(form: &Form, op: &Micro, places: &Places, out: &mut Text) -> bool
     ensures printed { result ≡ true → out.new.bytes ≡ form_text (name_in places.now) form.now.word.now (map piece_seen form.now.pieces.now) (given (operands_of form.now.kind op.now)) }
     ensures kept { result ≡ false → out.new.bytes ≡ [] }
 {
-    let Some(operands) = operands_of(&form.kind, op) else {
-        return false;
-    };
-    let operands = operands.as_slice();
-    if !fits(form.pieces, operands) {
-        return false;
+    match operands_of(&form.kind, op) {
+        Some(operands) => print_form(form, operands.as_slice(), places, out),
+        None => false,
     }
-    print_form(form, operands, places, out);
-    true
 }
 
-/// Makes `out`, which is empty, an instruction of a form with these operands.
+/// Makes `out`, which is empty, an instruction of a form with these operands, if its holes can hold
+/// them.
 #[inline]
-fn print_form(form: &Form, operands: &[Operand], places: &Places, out: &mut Text)
+fn print_form(form: &Form, operands: &[Operand], places: &Places, out: &mut Text) -> bool
+    requires good { is_form_good (form_seen form.now) ≡ true }
+    requires short { AllShort (name_in places.now) operands.now }
     requires empty { out.old.bytes ≡ [] }
-    requires room { length (form_text (name_in places.now) form.now.word.now (map piece_seen form.now.pieces.now) operands.now) ≤ MAX_TEXT }
-    ensures { out.new.bytes ≡ form_text (name_in places.now) form.now.word.now (map piece_seen form.now.pieces.now) operands.now }
+    ensures fits { result ≡ fits (map piece_seen form.now.pieces.now) operands.now }
+    ensures text { result ≡ true → out.new.bytes ≡ form_text (name_in places.now) form.now.word.now (map piece_seen form.now.pieces.now) operands.now }
+    ensures kept { result ≡ false → out.new.bytes ≡ [] }
 {
     push_word(form.word, out);
     push_blank(form.pieces, out);
-    push_pieces(form.pieces, operands, places, out);
+    if push_pieces(form.pieces, operands, places, out) {
+        return true;
+    }
+    out.clear();
+    false
 }
 
-/// Appends operands with commas between.
+/// Appends operands with commas between, if the holes can hold them; else some of them.
 #[inline]
-fn push_pieces(pieces: &[Piece], operands: &[Operand], places: &Places, out: &mut Text)
-    requires room { length (out.old.bytes ++ joined_texts (name_in places.now) (map piece_seen pieces.now) operands.now) ≤ MAX_TEXT }
-    ensures { out.new.bytes ≡ out.old.bytes ++ joined_texts (name_in places.now) (map piece_seen pieces.now) operands.now }
+fn push_pieces(pieces: &[Piece], operands: &[Operand], places: &Places, out: &mut Text) -> bool
+    requires ready { Ready (name_in places.now) (length out.old.bytes) (map piece_seen pieces.now) operands.now }
+    ensures fits { result ≡ fits (map piece_seen pieces.now) operands.now }
+    ensures text { result ≡ true → out.new.bytes ≡ out.old.bytes ++ joined_texts (name_in places.now) (map piece_seen pieces.now) operands.now }
 {
     let mut left = pieces;
     let mut rest = operands;
     while let [piece, behind @ ..] = left {
-        push_piece(piece, rest, places, out);
+        if !push_piece(piece, rest, places, out) {
+            return false;
+        }
         push_comma(behind, out);
         rest = after_hole(piece.hole, rest);
         left = behind;
     }
+    rest.is_empty()
 }
 
 /// Appends a blank before operands, if there are any.
@@ -166,15 +173,20 @@ fn push_comma(pieces: &[Piece], out: &mut Text)
     }
 }
 
-/// Appends an operand.
+/// Appends an operand, if its hole can hold it; else a part of it.
 #[inline]
-fn push_piece(piece: &Piece, operands: &[Operand], places: &Places, out: &mut Text)
-    requires room { length (out.old.bytes ++ piece_text (name_in places.now) (piece_seen piece.now) operands.now) ≤ MAX_TEXT }
-    ensures { out.new.bytes ≡ out.old.bytes ++ piece_text (name_in places.now) (piece_seen piece.now) operands.now }
+fn push_piece(piece: &Piece, operands: &[Operand], places: &Places, out: &mut Text) -> bool
+    requires ready { ReadyPiece (name_in places.now) (length out.old.bytes) (piece_seen piece.now) operands.now }
+    ensures fits { result ≡ fits_first piece.now.hole operands.now }
+    ensures text { result ≡ true → out.new.bytes ≡ out.old.bytes ++ piece_text (name_in places.now) (piece_seen piece.now) operands.now }
 {
     push_short(piece.before, out);
+    if !fits_first(piece.hole, operands) {
+        return false;
+    }
     push_hole(piece.hole, operands, places, out);
     push_short(piece.after, out);
+    true
 }
 
 /// Appends what stands in a hole.

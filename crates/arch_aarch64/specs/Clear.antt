@@ -1,0 +1,13 @@
+-- The table of AArch64 is clear.
+use Rattle.std.proofs.Common.{◌≡◌, refl, true}
+use Rattle.std.specs.Fmt.{digits}
+use Rattle.final_cond.specs.Numbers.{number_of}
+use Rattle.arch_trait.specs.Writing.{immediate}
+use Rattle.form_laws.specs.Tables.{piece_found, after_prefix, before_suffix}
+use Rattle.form_laws.specs.Clear.{is_clear, differ, piece_apart, pieces_apart, forms_apart, is_piece_good, most_of, is_form_good}
+use Rattle.arch_aarch64.specs.Table.{forms}
+
+-- the table is clear: what it writes reads back
+pub is_clear_table : is_clear forms ≡ true
+unfolding forms is_clear is_form_good is_piece_good most_of forms_apart pieces_apart piece_apart differ piece_found after_prefix before_suffix immediate number_of digits
+is_clear_table = refl

@@ -1,0 +1,103 @@
+-- Operands are printed one behind another, as far as the holes can hold them.
+use Rattle.std.proofs.Common.{ℕ, ◌+◌, ◌-◌, ◌<◌, ◌≤◌, ◌≡◌, ◌==◌, Bool, true, false, ◌&&◌, List, [], ◌∷◌, ◌++◌, map, take, drop, get_or, subst, length, arith, length-append, refl, sym, ap, append_assoc, append-nil, ◌∙◌}
+use Rattle.std.specs.List.{list_all}
+use Rattle.std.proofs.lemmas.Bool.{and_parts}
+use Rattle.std.proofs.lemmas.Bool.Decides.{nat_tests}
+use Rattle.form_laws.specs.declared.form.Piece.{Piece}
+use Rattle.std.proofs.Math.Seq.{take-length}
+use Rattle.form_laws.specs.declared.kind.Operand.{Operand}
+use Rattle.form_laws.specs.Tables.{piece_seen, fits_first, after_hole, fits, filled}
+use Rattle.form_laws.specs.Clear.{is_piece_good, most_in, most_of}
+use Rattle.instruction_forms.specs.Printing.{piece_text, byte_before, joined_texts, Ready, ReadyPiece}
+use Rattle.instruction_forms.proofs.Room.{filled_short, hole_good, short_after, behind_of, byte_one}
+
+-- operands are printed as far as those that are left, to a text that is whole, if they fit
+pub record Going (names : ℕ → List ℕ) (whole : List ℕ) (all : Bool) (out : List ℕ) (left : List Piece) (vs : List Operand) : Type 0 where
+  pub same : out ++ joined_texts names (map piece_seen left) vs ≡ whole
+  pub fit : fits (map piece_seen left) vs ≡ all
+  pub ready : Ready names (length out) (map piece_seen left) vs
+
+pub going_piece : (names : ℕ → List ℕ) (whole : List ℕ) (all : Bool) (out : List ℕ) (left : List Piece) (vs : List Operand) (d : Piece) → 1 ≤ length left →
+    Going names whole all out left vs → ReadyPiece names (length out) (piece_seen (get_or left 0 d)) vs
+unfolding most_of
+going_piece names whole all out [] vs d l g = absurd (omega (arith, l))
+going_piece names whole all out (p ∷ ps) vs d l g = record {
+  good = (and_parts (is_piece_good (piece_seen p)) (list_all is_piece_good (map piece_seen ps)) g.ready.good).0;
+  short = g.ready.short;
+  room = omega (arith, g.ready.room);
+}
+
+pub going_stops : (names : ℕ → List ℕ) (whole : List ℕ) (all : Bool) (out : List ℕ) (left : List Piece) (vs : List Operand) (d : Piece) → 1 ≤ length left →
+    Going names whole all out left vs → fits_first (get_or left 0 d).hole vs ≡ false → all ≡ false
+unfolding fits
+going_stops names whole all out [] vs d l g h = absurd (omega (arith, l))
+going_stops names whole all out (p ∷ ps) vs d l g h =
+    sym g.fit ∙ ap (λ b. b && fits (map piece_seen ps) (after_hole p.hole vs)) h
+
+record First (names : ℕ → List ℕ) (whole : List ℕ) (all : Bool) (out : List ℕ) (ps : List Piece) (vs : List Operand) : Type 0 where
+  comma : length (out ++ byte_before 44 (map piece_seen ps)) ≤ 40
+  going : Going names whole all (out ++ byte_before 44 (map piece_seen ps)) ps vs
+
+first_done : (names : ℕ → List ℕ) (whole : List ℕ) (all : Bool) (out : List ℕ) (p : Piece) (ps : List Piece) (vs : List Operand) →
+    Going names whole all out (p ∷ ps) vs → fits_first p.hole vs ≡ true →
+    First names whole all (out ++ piece_text names (piece_seen p) vs) ps (after_hole p.hole vs)
+unfolding most_of fits
+first_done names whole all out p ps vs g f =
+    let good = and_parts (is_piece_good (piece_seen p)) (list_all is_piece_good (map piece_seen ps)) g.ready.good in
+    let here = filled_short names p.hole vs g.ready.short (hole_good (piece_seen p) good.0) f in
+    let text = piece_text names (piece_seen p) vs in
+    let comma = byte_before 44 (map piece_seen ps) in
+    let long : length text ≤ length p.before.now + (most_in p.hole + length p.after.now) =
+    omega (arith, here, length-append p.before.now (filled names p.hole vs ++ p.after.now), length-append (filled names p.hole vs) p.after.now) in
+    record {
+      comma = omega (arith, g.ready.room, long, behind_of (map piece_seen ps) 44, length-append (out ++ text) comma, length-append out text);
+      going = record {
+        same = simp append_assoc (simp append_assoc at g.same);
+        fit = sym (ap (λ b. b && fits (map piece_seen ps) (after_hole p.hole vs)) f) ∙ g.fit;
+        ready = record {
+          good = good.1;
+          short = short_after names p.hole vs g.ready.short;
+          room = omega (arith, g.ready.room, long, byte_one (map piece_seen ps) 44, length-append (out ++ text) comma, length-append out text);
+        };
+      };
+    }
+
+pub going_comma : (names : ℕ → List ℕ) (whole : List ℕ) (all : Bool) (out : List ℕ) (left : List Piece) (vs : List Operand) (d : Piece) (more : List ℕ) → 1 ≤ length left →
+    Going names whole all out left vs → fits_first (get_or left 0 d).hole vs ≡ true → more ≡ out ++ piece_text names (piece_seen (get_or left 0 d)) vs →
+    length (more ++ byte_before 44 (map piece_seen (take (length left - 1) (drop 1 left)))) ≤ 40
+going_comma names whole all out [] vs d more l g f e = absurd (omega (arith, l))
+going_comma names whole all out (p ∷ ps) vs d more l g f e =
+    let n : length (p ∷ ps) - 1 ≡ length ps = omega arith in
+    let P : List Piece → Type 0 = (λ behind. length (more ++ byte_before 44 (map piece_seen behind)) ≤ 40) in
+    let Q : List ℕ → Type 0 = (λ text. length (text ++ byte_before 44 (map piece_seen ps)) ≤ 40) in
+    subst P (sym (ap (λ n. take n ps) n ∙ take-length ps)) (subst Q (sym e) (first_done names whole all out p ps vs g f).comma)
+
+pub going_on : (names : ℕ → List ℕ) (whole : List ℕ) (all : Bool) (out : List ℕ) (left : List Piece) (vs : List Operand) (d : Piece) (more next : List ℕ) (rest : List Operand) →
+    1 ≤ length left → Going names whole all out left vs → fits_first (get_or left 0 d).hole vs ≡ true →
+    more ≡ out ++ piece_text names (piece_seen (get_or left 0 d)) vs →
+    next ≡ more ++ byte_before 44 (map piece_seen (take (length left - 1) (drop 1 left))) →
+    rest ≡ after_hole (get_or left 0 d).hole vs → Going names whole all next (take (length left - 1) (drop 1 left)) rest
+going_on names whole all out [] vs d more next rest l g f e k m = absurd (omega (arith, l))
+going_on names whole all out (p ∷ ps) vs d more next rest l g f e k m =
+    let n : length (p ∷ ps) - 1 ≡ length ps = omega arith in
+    let b : take (length (p ∷ ps) - 1) ps ≡ ps = ap (λ n. take n ps) n ∙ take-length ps in
+    let t : next ≡ (out ++ piece_text names (piece_seen p) vs) ++ byte_before 44 (map piece_seen ps) =
+    k ∙ (ap (λ behind. more ++ byte_before 44 (map piece_seen behind)) b ∙ ap (λ text. text ++ byte_before 44 (map piece_seen ps)) e) in
+    let P : List Piece → Type 0 = (λ behind. Going names whole all next behind rest) in
+    let Q : List ℕ → Type 0 = (λ text. Going names whole all text ps rest) in
+    let R : List Operand → Type 0 = (λ us. Going names whole all ((out ++ piece_text names (piece_seen p) vs) ++ byte_before 44 (map piece_seen ps)) ps us) in
+    subst P (sym b) (subst Q (sym t) (subst R (sym m) (first_done names whole all out p ps vs g f).going))
+
+pub record Ended (whole : List ℕ) (all : Bool) (out : List ℕ) (vs : List Operand) : Type 0 where
+  pub text : out ≡ whole
+  pub fit : (length vs == 0) ≡ all
+
+empty_fits : (vs : List Operand) → (length vs == 0) ≡ fits [] vs
+unfolding fits
+empty_fits [] = refl
+empty_fits (v ∷ vs) = grind (arith, nat_tests)
+
+pub going_ends : (names : ℕ → List ℕ) (whole : List ℕ) (all : Bool) (out : List ℕ) (left : List Piece) (vs : List Operand) → length left < 1 →
+    Going names whole all out left vs → Ended whole all out vs
+going_ends names whole all out [] vs l g = record { text = sym (append-nil out) ∙ g.same; fit = empty_fits vs ∙ g.fit }
+going_ends names whole all out (p ∷ ps) vs l g = absurd (omega (arith, l))
