@@ -37,7 +37,7 @@ fixed_cell_byte b h = (and_parts (is_cell_byte b) (not (is_blank b) && not (b ==
 fixed_cell : (t : List ℕ) → list_all is_fixed_byte t ≡ true → list_all is_cell_byte t ≡ true
 fixed_cell t h = all_weaker is_fixed_byte is_cell_byte fixed_cell_byte t h
 
--- what stands in a hole stands in a cell
+-- what is in a hole fits a cell
 filled_cell : (names : ℕ → List ℕ) (h : Hole) (vs : List Operand) → is_hole_good h ≡ true → fits_first h vs ≡ true →
     list_all (is_named_operand names) vs ≡ true → list_all is_cell_byte (filled names h vs) ≡ true
 filled_cell names holes.Empty vs good fit named = refl
@@ -97,7 +97,7 @@ pieces_cell names (p ∷ ps) vs good fit named =
       short = omega (arith, length-append p.before (filled names p.hole vs ++ p.after), length-append (filled names p.hole vs) p.after);
     }
 
--- the same behind a blank, with commas between
+-- the same after a blank, with commas between
 comma_cell : (a b : List ℕ) → list_all is_cell_byte a ≡ true → list_all is_cell_byte b ≡ true → list_all is_cell_byte (a ++ 44 ∷ b) ≡ true
 comma_cell a b h k = all_both is_cell_byte a (44 ∷ b) h (and_from true (list_all is_cell_byte b) refl k)
 

@@ -7,3 +7,4 @@ pub mod PlainForms
 pub mod ReadsBack
 pub mod ReadsHad
 pub mod InCells
+pub mod Ranges

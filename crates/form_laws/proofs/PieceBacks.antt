@@ -62,7 +62,7 @@ number_back first count r h small =
     let g : nat_lt r count ≡ true = lt-ltb r count h in
     rw (f, e, g) refl)
 
--- what stands in a hole is read from it
+-- what is in a hole is read from it
 hole_back : (names : ℕ → List ℕ) (h : Hole) (vs : List Operand) → is_hole_good h ≡ true → fits_first h vs ≡ true →
     hole_found h (filled names h vs) ≡ Some (map (named names) (held h vs))
 hole_back names holes.Empty vs good fit = refl
@@ -101,7 +101,7 @@ piece_back names p vs good fit =
     (ap (λ o. option_and_then (hole_found p.hole) o) (suffix_back (filled names p.hole vs) p.after) ∙
     hole_back names p.hole vs (piece_is_good p good).hole fit)
 
--- the operand that a hole takes stands before those that are left
+-- the operand that a hole takes comes before those that are left
 held_first : (names : ℕ → List ℕ) (h : Hole) (vs : List Operand) →
     map (named names) (held h vs) ++ map (named names) (after_hole h vs) ≡ map (named names) vs
 held_first names holes.Empty vs = refl

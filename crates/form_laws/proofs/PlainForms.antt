@@ -59,7 +59,7 @@ unfolding is_place_name
 place_some [] h = cc
 place_some (b ∷ name) h = omega arith
 
--- what stands in a hole is plain
+-- what is in a hole is plain
 filled_word : (names : ℕ → List ℕ) (h : Hole) (vs : List Operand) → is_hole_good h ≡ true → fits_first h vs ≡ true →
     list_all (is_named_operand names) vs ≡ true → list_all is_word_byte (filled names h vs) ≡ true
 filled_word names holes.Empty vs good fit named = refl
@@ -75,7 +75,7 @@ filled_word names holes.Label (operands.Label l ∷ vs) good fit named =
     plain_bytes (label_name l) (label_plain l (and_parts (is_label_name (label_name l)) (list_all (is_named_operand names) vs) named).0)
 filled_word names h vs good fit named = cc
 
--- an operand without a hole has a byte, and so has what stands in a hole
+-- an operand without a hole has a byte, and so has what is in a hole
 filled_some : (names : ℕ → List ℕ) (h : Hole) (vs : List Operand) (fixed : List ℕ) → is_hole_good h ≡ true → is_filled h fixed ≡ true →
     fits_first h vs ≡ true → list_all (is_named_operand names) vs ≡ true → 1 ≤ length fixed + length (filled names h vs)
 filled_some names holes.Empty vs fixed good full fit named =
@@ -103,7 +103,7 @@ piece_plain names p vs good fit named =
     (all_both is_word_byte p.before (filled names p.hole vs ++ p.after) (fixed_word p.before g.before)
     (all_both is_word_byte (filled names p.hole vs) p.after (filled_word names p.hole vs g.hole fit named) (fixed_word p.after g.after)))
 
--- what is left behind a hole is named too
+-- what is left after a hole is named too
 pub left_named : (names : ℕ → List ℕ) (h : Hole) (vs : List Operand) → list_all (is_named_operand names) vs ≡ true →
     list_all (is_named_operand names) (after_hole h vs) ≡ true
 left_named names holes.Empty vs named = named

@@ -69,7 +69,7 @@ most_in holes.Number = 4
 most_in holes.Place = 16
 most_in holes.Label = 4
 
--- the most bytes of operands, each with what stands before it
+-- the most bytes of operands, each with what comes before it
 unfoldable pub most_of : List PieceText → ℕ
 most_of [] = 0
 most_of (p ∷ ps) = 1 + (length p.before + (most_in p.hole + length p.after)) + most_of ps

@@ -98,7 +98,7 @@ abbrev pub table_has : TableText → Micro → Bool
 table_has t (ops.Label l) = are_known t.labels
 table_has t op = list_any (does op) t.forms
 
--- what stands in a hole
+-- what is in a hole
 abbrev pub filled : (ℕ → List ℕ) → Hole → List Operand → List ℕ
 filled names (holes.Register first count) (operands.Register r ∷ vs) = decimal (first + r)
 filled names holes.Number (operands.Number n ∷ vs) = decimal n

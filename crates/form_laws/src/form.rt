@@ -1,6 +1,6 @@
 use crate::kind::Kind;
 
-/// What stands in an operand between its two fixed texts.
+/// What is in an operand between its two fixed texts.
 #[derive(Clone, Copy, Debug)]
 pub enum Hole {
     /// Nothing: the operand is a fixed text.

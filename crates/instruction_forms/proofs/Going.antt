@@ -1,4 +1,4 @@
--- Operands are printed one behind another, as far as the holes can hold them.
+-- Operands are printed one after another, as far as the holes can hold them.
 use Rattle.std.proofs.Common.{ℕ, ◌+◌, ◌-◌, ◌<◌, ◌≤◌, ◌≡◌, ◌==◌, Bool, true, false, ◌&&◌, List, [], ◌∷◌, ◌++◌, map, take, drop, get_or, subst, length, arith, length-append, refl, sym, ap, append_assoc, append-nil, ◌∙◌}
 use Rattle.std.specs.List.{list_all}
 use Rattle.std.proofs.lemmas.Bool.{and_parts}

@@ -14,7 +14,7 @@ use Rattle.form_laws.specs.Clear.{is_clear, forms_apart, is_piece_good, is_form_
 use Rattle.std.proofs.Math.Seq.{take-length}
 use Rattle.instruction_forms.specs.Printing.{byte_before, joined_texts, form_text}
 
--- at most four operands stand behind a blank and commas
+-- at most four operands come after a blank and commas
 commas_are : (names : ℕ → List ℕ) (ps : List PieceText) (vs : List Operand) → nat_le (length ps) 4 ≡ true →
     listed (few (piece_texts names ps vs)) ≡ byte_before 32 ps ++ joined_texts names ps vs
 unfolding piece_texts

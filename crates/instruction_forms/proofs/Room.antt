@@ -18,7 +18,7 @@ use Rattle.form_laws.specs.Tables.{PieceText, FormText, fits_first, after_hole, 
 use Rattle.form_laws.specs.Clear.{is_fixed_byte, is_first_byte, is_hole_good, is_piece_good, is_form_good, most_in, most_of}
 use Rattle.instruction_forms.specs.Printing.{byte_before, place_short, AllShort, Ready, ReadyPiece}
 
--- what stands in a hole is short
+-- what is in a hole is short
 four_digits : (n : ℕ) → n < 10000 → length (decimal n) ≤ 4
 four_digits n h = length-decimal-le 4 n (omega arith) (omega arith) (omega arith)
 
@@ -98,7 +98,7 @@ parts_of f good =
     let c = and_parts (nat_le (length f.pieces) 4) (nat_le (length f.word + most_of f.pieces) 40) b.1 in
     record { pieces = b.0; most = leb-true (length f.word + most_of f.pieces) 40 c.1 }
 
--- there is room for what stands in a hole, and for what is behind it
+-- there is room for what is in a hole, and for what comes after it
 pub hole_room : (names : ℕ → List ℕ) (used : ℕ) (p : PieceText) (vs : List Operand) (out : List ℕ) → ReadyPiece names used p vs → fits_first p.hole vs ≡ true →
     length out ≡ used + length p.before → length (out ++ filled names p.hole vs) ≤ 40
 hole_room names used p vs out h f e =

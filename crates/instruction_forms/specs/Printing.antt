@@ -20,7 +20,7 @@ operands_in l = take l.count l.items
 abbrev pub piece_text : (ℕ → List ℕ) → PieceText → List Operand → List ℕ
 piece_text names p vs = p.before ++ (filled names p.hole vs ++ p.after)
 
--- a byte that stands before operands, if there are any
+-- a byte before operands, if there are any
 abbrev pub byte_before : ℕ → List PieceText → List ℕ
 byte_before b [] = []
 byte_before b (p ∷ ps) = b ∷ []
@@ -42,7 +42,7 @@ AllShort names (operands.Register r ∷ vs) = AllShort names vs
 AllShort names (operands.Number n ∷ vs) = AllShort names vs
 AllShort names (operands.Label l ∷ vs) = AllShort names vs
 
--- behind so many bytes there is room for an operand, and for operands with commas between
+-- after so many bytes there is room for an operand, and for operands with commas between
 pub record ReadyPiece (names : ℕ → List ℕ) (used : ℕ) (p : PieceText) (vs : List Operand) : Type 0 where
   pub good : is_piece_good p ≡ true
   pub short : AllShort names vs

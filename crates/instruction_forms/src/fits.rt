@@ -2,6 +2,7 @@ ghost use Rattle.std.specs.Prelude.{◌≡◌, map};
 ghost use Rattle.form_laws.specs.Tables.{piece_seen, form_seen, fits_first, after_hole, fits, does};
 
 use crate::operands::operands_of;
+use arch_trait::MAX_IMMEDIATE;
 use form_laws::{Form, Hole, Operand, Piece};
 use micro_ops::Micro;
 
@@ -36,7 +37,7 @@ pub(crate) fn fits_first(hole: Hole, operands: &[Operand]) -> bool
     match (hole, operands) {
         (Hole::Empty, _) => true,
         (Hole::Register { count, .. }, [Operand::Register(r), ..]) => *r < count,
-        (Hole::Number, [Operand::Number(n), ..]) => *n <= 2047,
+        (Hole::Number, [Operand::Number(n), ..]) => *n <= MAX_IMMEDIATE,
         (Hole::Place, [Operand::Place(_), ..]) => true,
         (Hole::Label, [Operand::Label(_), ..]) => true,
         _ => false,

@@ -2,14 +2,13 @@
 #![tactic(auto)]
 
 mod fits;
-mod fixed;
 mod found;
 mod has;
+mod numbers;
 mod operand_list;
 mod operands;
 mod print;
 mod push;
-mod raw;
 mod read;
 mod sorts;
 

@@ -189,7 +189,7 @@ fn push_piece(piece: &Piece, operands: &[Operand], places: &Places, out: &mut Te
     true
 }
 
-/// Appends what stands in a hole.
+/// Appends what is in a hole.
 #[inline]
 fn push_hole(hole: Hole, operands: &[Operand], places: &Places, out: &mut Text)
     requires room { length (out.old.bytes ++ filled (name_in places.now) hole operands.now) ≤ MAX_TEXT }

@@ -1,138 +1,137 @@
-ghost use Rattle.std.specs.Prelude.{◌≡◌, ◌≤◌, map, length, option_map, Some};
-ghost use Rattle.std.specs.Option.{MatchOption};
+ghost use Rattle.std.specs.Prelude.{◌≡◌, ◌<◌, ◌≤◌, ◌+◌, [], Some, map, option_map, length};
+ghost use Rattle.arrayvec.specs.ArrayVec.{array_vec_len};
 ghost use Rattle.arch_trait.specs.Pieces.{raw_seen, texts_of};
-ghost use Rattle.arch_trait.specs.Writing.{register_at};
-ghost use Rattle.form_laws.specs.Tables.{piece_seen, form_seen, table_seen, hole_found, piece_found, pieces_found, form_found, first_read, label_read, raw_if, table_raw};
-ghost use Rattle.instruction_forms.specs.Found.{founds_in, found_list};
+ghost use Rattle.form_laws.specs.Tables.{piece_seen, form_seen, table_seen, after_prefix, before_suffix, piece_found, joined, pieces_found, table_raw};
+ghost use Rattle.form_laws.specs.Kinds.{raw_with};
+ghost use Rattle.instruction_forms.specs.Founds.{founds_seen, founds_if, found_in, form_raw, texts_seen};
 
-use crate::fixed::{after_prefix, before_suffix};
-use crate::found::{Found, Founds};
-use crate::raw::raw_with;
-use arch_trait::{Operands, Raw, immediate, read_label_alone};
-use final_cond::number_of;
-use form_laws::{Form, Hole, Labels, Piece, Table};
+use crate::found::{Founds, add_found, raw_with};
+use arch_trait::{Operands, Raw, read_label_alone};
+use form_laws::{Form, Labels, Piece, Table};
 
-/// The instruction with this first word and these operands, by the first form of the table that
-/// fits. None where no form does. A place or a label has no number yet.
-pub fn read_by<'a>(table: &Table, word: &'a [u8], operands: Operands<'a>) -> Option<Raw<'a>>
-    ensures { raw_seen result ≡ table_raw (table_seen table.now) (record { word = word.now; operands = texts_of operands.entry }) }
+/// What is left of a text after a fixed text at its beginning.
+#[inline(always)]
+#[tactic(auto, using(crate::proofs::Readings::prefix_ends, crate::proofs::Readings::prefix_on, crate::proofs::Readings::prefix_fails, crate::proofs::Readings::prefix_longer))]
+fn after_prefix<'a>(prefix: &[u8], text: &'a [u8]) -> Option<&'a [u8]>
+    ensures { option_map (λ rest. rest.now) result ≡ after_prefix prefix.now text.now }
 {
-    let other = read_label(table.labels, word, operands);
-    let forms = table.forms;
-    match operands {
-        Operands::None => first_read(forms, word, &[], other),
-        Operands::One(a) => first_read(forms, word, &[a], other),
-        Operands::Two(a, b) => first_read(forms, word, &[a, b], other),
-        Operands::Three(a, b, c) => first_read(forms, word, &[a, b, c], other),
-        Operands::Four(a, b, c, d) => first_read(forms, word, &[a, b, c, d], other),
-        Operands::More => None,
+    let mut left = prefix;
+    let mut rest = text;
+    while let [wanted, behind @ ..] = left {
+        let [byte, more @ ..] = rest else {
+            return None;
+        };
+        if *wanted != *byte {
+            return None;
+        }
+        left = behind;
+        rest = more;
+    }
+    Some(rest)
+}
+
+/// What is left of a text before a fixed text at its end.
+#[inline(always)]
+#[tactic(auto, using(crate::proofs::Readings::no_suffix), unfolding(form_laws::specs::Tables::before_suffix))]
+fn before_suffix<'a>(suffix: &[u8], text: &'a [u8]) -> Option<&'a [u8]>
+    ensures { option_map (λ rest. rest.now) result ≡ before_suffix suffix.now text.now }
+{
+    if suffix.is_empty() {
+        return Some(text);
+    }
+    if text.len() < suffix.len() {
+        return None;
+    }
+    let (rest, end) = text.split_at(text.len() - suffix.len());
+    if end == suffix { Some(rest) } else { None }
+}
+
+/// Appends the operand that a text is by its form, if it has one. Tells whether the text is of the form.
+#[tactic(auto, unfolding(form_laws::specs::Tables::piece_found))]
+fn add_piece<'a>(piece: &Piece, text: &'a [u8], founds: &mut Founds<'a>) -> bool
+    requires room { array_vec_len founds.old < 4 }
+    ensures found { founds_if result founds.new.items ≡ joined (Some (founds_seen founds.old.items)) (piece_found (piece_seen piece.now) text.now) }
+    ensures more { array_vec_len founds.new ≤ array_vec_len founds.old + 1 }
+{
+    let Some(rest) = after_prefix(piece.before.as_bytes(), text) else {
+        return false;
+    };
+    match before_suffix(piece.after.as_bytes(), rest) {
+        Some(inner) => add_found(piece.hole, inner, founds),
+        None => false,
     }
 }
 
-/// A label as an instruction of its own, where there are such.
-fn read_label<'a>(labels: Labels, word: &'a [u8], operands: Operands<'a>) -> Option<Raw<'a>>
-    ensures { raw_seen result ≡ label_read labels (record { word = word.now; operands = texts_of operands.entry }) }
+/// Appends the operands that texts are by their forms. Tells whether there are as many and each is of its form.
+#[tactic(auto, unfolding(form_laws::specs::Tables::pieces_found), using(crate::proofs::Readings::join_joined, crate::proofs::Readings::no_text))]
+fn add_pieces<'a>(pieces: &[Piece], texts: &[&'a [u8]], founds: &mut Founds<'a>) -> bool
+    requires room { array_vec_len founds.old + length texts.now ≤ 4 }
+    ensures { founds_if result founds.new.items ≡ joined (Some (founds_seen founds.old.items)) (pieces_found (map piece_seen pieces.now) (texts_seen texts.now)) }
 {
-    match labels {
-        Labels::Known => read_label_alone(word, operands),
-        Labels::Unknown => None,
+    match (pieces, texts) {
+        ([], []) => true,
+        ([], [_, ..]) => false,
+        ([_, ..], []) => false,
+        ([piece, pieces @ ..], [text, texts @ ..]) => {
+            add_piece(piece, text, founds) && add_pieces(pieces, texts, founds)
+        }
     }
 }
 
-/// The instruction of the first form that fits, else another.
-#[tactic(auto, unfolding(form_laws::specs::Tables::first_read))]
-fn first_read<'a>(
-    forms: &[Form],
-    word: &[u8],
-    texts: &[&'a [u8]],
-    other: Option<Raw<'a>>,
-) -> Option<Raw<'a>>
+/// The instruction of a form with these operands: none where they aren't of the form.
+#[tactic(auto, using(crate::proofs::Readings::join_nothing))]
+fn read_texts<'a>(form: &Form, texts: &[&'a [u8]]) -> Option<Option<Raw<'a>>>
     requires few { length texts.now ≤ 4 }
-    ensures { raw_seen result ≡ first_read (map form_seen forms.now) word.now (map (λ text. text.now) texts.now) (raw_seen other.entry) }
+    ensures { option_map raw_seen result ≡ option_map (raw_with form.now.kind) (pieces_found (form_seen form.now).pieces (texts_seen texts.now)) }
 {
-    match forms {
-        [] => other,
-        [form, others @ ..] => match form_found(form, word, texts) {
-            Some(found) => raw_with(form.kind, found),
-            None => first_read(others, word, texts, other),
-        },
-    }
-}
-
-/// The operands of an instruction of this form.
-fn form_found<'a>(form: &Form, word: &[u8], texts: &[&'a [u8]]) -> Option<Founds<'a>>
-    requires few { length texts.now ≤ 4 }
-    ensures { option_map founds_in result ≡ form_found (form_seen form.now) word.now (map (λ text. text.now) texts.now) }
-{
-    if word == form.word.as_bytes() {
-        pieces_found(form.pieces, texts)
+    let mut founds = Founds::new();
+    if add_pieces(form.pieces, texts, &mut founds) {
+        Some(raw_with(form.kind, founds.as_slice()))
     } else {
         None
     }
 }
 
-/// The operands that texts are by their forms, where there are as many.
-#[tactic(auto, unfolding(form_laws::specs::Tables::pieces_found), using(crate::proofs::Parts::none_left))]
-fn pieces_found<'a>(pieces: &[Piece], texts: &[&'a [u8]]) -> Option<Founds<'a>>
-    requires few { length texts.now ≤ 4 }
-    ensures found { option_map founds_in result ≡ pieces_found (map piece_seen pieces.now) (map (λ text. text.now) texts.now) }
-    ensures few { MatchOption result Unit (λ found. length (founds_in found) ≤ length texts.now) }
+/// The instruction of a form with these operands: none where they aren't of the form.
+fn read_operands<'a>(form: &Form, operands: &Operands<'a>) -> Option<Option<Raw<'a>>>
+    ensures { option_map raw_seen result ≡ option_map (raw_with form.now.kind) (found_in (form_seen form.now).pieces (texts_of operands.now)) }
 {
-    match (pieces, texts) {
-        ([], []) => Some(Founds::None),
-        ([piece, pieces @ ..], [text, texts @ ..]) => {
-            let first = piece_found(piece, text)?;
-            let rest = pieces_found(pieces, texts)?;
-            Some(rest.after(first))
-        }
-        ([], [_, ..]) => None,
-        ([_, ..], []) => None,
+    match *operands {
+        Operands::None => read_texts(form, &[]),
+        Operands::One(a) => read_texts(form, &[a]),
+        Operands::Two(a, b) => read_texts(form, &[a, b]),
+        Operands::Three(a, b, c) => read_texts(form, &[a, b, c]),
+        Operands::Four(a, b, c, d) => read_texts(form, &[a, b, c, d]),
+        Operands::More => None,
     }
 }
 
-/// The operand that a text is by its form, or that it is this fixed text.
-#[tactic(auto, unfolding(form_laws::specs::Tables::piece_found))]
-fn piece_found<'a>(piece: &Piece, text: &'a [u8]) -> Option<Option<Found<'a>>>
-    ensures { option_map found_list result ≡ piece_found (piece_seen piece.now) text.now }
+/// The instruction of a form with this first word and these operands: none where they aren't of the form.
+fn read_form<'a>(form: &Form, word: &[u8], operands: &Operands<'a>) -> Option<Option<Raw<'a>>>
+    ensures { option_map raw_seen result ≡ form_raw (form_seen form.now) word.now (texts_of operands.now) }
 {
-    let rest = after_prefix(piece.before.as_bytes(), text)?;
-    let inside = before_suffix(piece.after.as_bytes(), rest)?;
-    hole_found(piece.hole, inside)
-}
-
-/// The operand that a text in a hole is, or that the hole is empty.
-fn hole_found<'a>(hole: Hole, text: &'a [u8]) -> Option<Option<Found<'a>>>
-    ensures { option_map found_list result ≡ hole_found hole text.now }
-{
-    match hole {
-        Hole::Empty if text.is_empty() => Some(None),
-        Hole::Empty => None,
-        Hole::Register { first, count } => match register_at(first, count, number_of(text)) {
-            Some(r) => Some(Some(Found::Register(r))),
-            None => None,
-        },
-        Hole::Number => match immediate(text) {
-            Some(n) => Some(Some(Found::Number(n))),
-            None => None,
-        },
-        Hole::Place => Some(Some(Found::Place(text))),
-        Hole::Label => Some(Some(Found::Label(text))),
+    if word == form.word.as_bytes() {
+        read_operands(form, operands)
+    } else {
+        None
     }
 }
 
-/// The register of a number, among so many that begin with number `first`.
-fn register_at(first: u8, count: u8, number: Option<u32>) -> Option<u8>
-    ensures { result ≡ register_at first count number }
+/// The instruction with this first word and these operands, by the first form of the table that fits: none where
+/// no form does. A place or a label has no number yet.
+#[tactic(auto, using(crate::proofs::Readings::first_fits, crate::proofs::Readings::first_not, crate::proofs::Readings::no_form))]
+pub fn read_by<'a>(table: &Table, word: &'a [u8], operands: Operands<'a>) -> Option<Raw<'a>>
+    ensures { raw_seen result ≡ table_raw (table_seen table.now) (record { word = word.now; operands = texts_of operands.entry }) }
 {
-    match number {
-        Some(n) if n >= u32::from(first) => {
-            let r = n - u32::from(first);
-            if r < u32::from(count) {
-                Some(r as u8)
-            } else {
-                None
-            }
+    let mut left = table.forms;
+    while let [form, behind @ ..] = left {
+        if let Some(raw) = read_form(form, word, &operands) {
+            return raw;
         }
-        _ => None,
+        left = behind;
+    }
+    match table.labels {
+        Labels::Known => read_label_alone(word, operands),
+        Labels::Unknown => None,
     }
 }

@@ -1,0 +1,112 @@
+-- The operations of a table whose registers are few are in the range of the machine.
+use Rattle.std.proofs.Common.{ℕ, ◌<◌, ◌≤◌, ◌≡◌, refl, Bool, true, false, ◌&&◌, ◌||◌, nat_le, nat_lt, List, [], ◌∷◌, Option, Some, None, cond, ◌==◌, ◌∙◌, sym, ap, arith}
+use Rattle.std.specs.Prelude.{is_some}
+use Rattle.std.specs.List.{list_all, list_any}
+use Rattle.std.proofs.lemmas.Bool.{and_parts, and_from, leb-true, ltb-true, lt-ltb, eqb-true}
+use Rattle.micro_ops.specs.declared.operation.Micro.{Micro}
+use Rattle.micro_ops.specs.declared.operation.Micro.TheVariants as ops
+use Rattle.micro_ops.specs.Machines.{InRange}
+use Rattle.arch_trait.proofs.Taking.{by_test}
+use Rattle.form_laws.specs.declared.form.Hole.{Hole}
+use Rattle.form_laws.specs.declared.form.Hole.TheVariants as holes
+use Rattle.form_laws.specs.declared.kind.Kind.{Kind}
+use Rattle.form_laws.specs.declared.kind.Kind.TheVariants as kinds
+use Rattle.form_laws.specs.declared.kind.Operand.{Operand}
+use Rattle.form_laws.specs.declared.kind.Operand.TheVariants as operands
+use Rattle.form_laws.specs.Kinds.{operands_of}
+use Rattle.form_laws.specs.Tables.{PieceText, FormText, TableText, fits_first, after_hole, fits, does, table_has, given}
+use Rattle.form_laws.proofs.ChosenForms.{done}
+
+-- a hole holds one of at most 32 registers
+abbrev pub is_small_hole : Hole → Bool
+is_small_hole (holes.Register first count) = nat_le count 32
+is_small_hole _ = true
+
+-- a register that a kind names is below 32
+abbrev pub is_small_kind : Kind → Bool
+is_small_kind (kinds.LoadInto r) = nat_lt r 32
+is_small_kind _ = true
+
+-- so is each register of a form
+abbrev pub is_small_form : FormText → Bool
+is_small_form f = is_small_kind f.kind && list_all (λ (p : PieceText). is_small_hole p.hole) f.pieces
+
+-- an operand is no register, or one below 32
+abbrev is_below : Operand → Bool
+is_below (operands.Register r) = nat_lt r 32
+is_below _ = true
+
+first_below : (h : Hole) (vs : List Operand) → is_small_hole h ≡ true → fits_first h vs ≡ true →
+    list_all is_below (after_hole h vs) ≡ true → list_all is_below vs ≡ true
+first_below holes.Empty vs small fit rest = rest
+first_below (holes.Register first count) (operands.Register r ∷ vs) small fit rest =
+    let a : count ≤ 32 = leb-true count 32 small in
+    let b : r < count = ltb-true r count fit in
+    and_from (nat_lt r 32) (list_all is_below vs) (lt-ltb r 32 (omega arith)) rest
+first_below holes.Number (operands.Number n ∷ vs) small fit rest = rest
+first_below holes.Place (operands.Place p ∷ vs) small fit rest = rest
+first_below holes.Label (operands.Label l ∷ vs) small fit rest = rest
+first_below h vs small fit rest = cc
+
+all_below : (ps : List PieceText) (vs : List Operand) → list_all (λ (p : PieceText). is_small_hole p.hole) ps ≡ true → fits ps vs ≡ true →
+    list_all is_below vs ≡ true
+unfolding fits
+all_below [] [] small fit = refl
+all_below [] (v ∷ vs) small fit = cc
+all_below (p ∷ ps) vs small fit =
+    let a = and_parts (is_small_hole p.hole) (list_all (λ (q : PieceText). is_small_hole q.hole) ps) small in
+    let b = and_parts (fits_first p.hole vs) (fits ps (after_hole p.hole vs)) fit in
+    first_below p.hole vs a.0 b.0 (all_below ps (after_hole p.hole vs) a.1 b.1)
+
+one : (r : ℕ) (vs : List Operand) → list_all is_below (operands.Register r ∷ vs) ≡ true → (r < 32) × (list_all is_below vs ≡ true)
+one r vs h = let p = and_parts (nat_lt r 32) (list_all is_below vs) h in (ltb-true r 32 p.0, p.1)
+
+two : (r s : ℕ) (vs : List Operand) → list_all is_below (operands.Register r ∷ operands.Register s ∷ vs) ≡ true → (r < 32) × (s < 32)
+two r s vs h = let p = one r (operands.Register s ∷ vs) h in (p.0, (one s vs p.1).0)
+
+three : (r s t : ℕ) → list_all is_below (operands.Register r ∷ operands.Register s ∷ operands.Register t ∷ []) ≡ true → (r < 32) × (s < 32) × (t < 32)
+three r s t h =
+    let p = one r (operands.Register s ∷ operands.Register t ∷ []) h in
+    let q = two s t [] p.1 in (p.0, q.0, q.1)
+
+op_in_range : (kind : Kind) (op : Micro) → is_small_kind kind ≡ true → is_some (operands_of kind op) ≡ true →
+    list_all is_below (given (operands_of kind op)) ≡ true → InRange op
+op_in_range kinds.SetNumber (ops.Imm d n) small some h = (one d (operands.Number n ∷ []) h).0
+op_in_range kinds.ExclusiveOr (ops.Xor d a b) small some h = three d a b h
+op_in_range kinds.AddNumber (ops.AddImm d a n) small some h = two d a (operands.Number n ∷ []) h
+op_in_range kinds.OrNumber (ops.OrImm d a n) small some h = two d a (operands.Number n ∷ []) h
+op_in_range kinds.Sum (ops.Add d a b) small some h = three d a b h
+op_in_range kinds.Load (ops.Load d a None) small some h = let p = two d a [] h in (p.0, p.1, tt)
+op_in_range kinds.LoadIndexed (ops.Load d a (Some i)) small some h = three d a i h
+op_in_range kinds.LoadIndexFirst (ops.Load d a (Some i)) small some h = let p = three d i a h in (p.0, p.2, p.1)
+op_in_range (kinds.LoadInto r) (ops.LoadAt d p) small some h = by_test (d == r)
+    (λ e. let f : d ≡ r = eqb-true d r e in let g : r < 32 = ltb-true r 32 small in omega arith)
+    (λ e. let f : is_some (cond (d == r) (Some (operands.Place p ∷ [])) None) ≡ true = some in
+    let g : is_some (cond {A = Option (List Operand)} false (Some (operands.Place p ∷ [])) None) ≡ true = ap (λ b. is_some (cond {A = Option (List Operand)} b (Some (operands.Place p ∷ [])) None)) (sym e) ∙ f in cc)
+op_in_range kinds.Store (ops.Store s a None) small some h = let p = two s a [] h in (p.0, p.1, tt)
+op_in_range kinds.StoreIndexed (ops.Store s a (Some i)) small some h = three s a i h
+op_in_range kinds.StoreIndexFirst (ops.Store s a (Some i)) small some h = let p = three s i a h in (p.0, p.2, p.1)
+op_in_range kinds.StoreNumber (ops.StoreAt p n) small some h = tt
+op_in_range kinds.Compare (ops.Cmp a b) small some h = two a b [] h
+op_in_range kinds.BranchEqual (ops.BranchEq l) small some h = tt
+op_in_range kinds.BranchNotZero (ops.BranchNz a l) small some h = (one a (operands.Label l ∷ []) h).0
+op_in_range (kinds.Order kind) (ops.Barrier other) small some h = tt
+op_in_range kind op small some h = cc
+
+form_in_range : (op : Micro) (f : FormText) → is_small_form f ≡ true → does op f ≡ true → InRange op
+form_in_range op f small h =
+    let a = and_parts (is_small_kind f.kind) (list_all (λ (p : PieceText). is_small_hole p.hole) f.pieces) small in
+    let d = done op f h in
+    op_in_range f.kind op a.0 d.some (all_below f.pieces (given (operands_of f.kind op)) a.1 d.fit)
+
+any_in_range : (op : Micro) (fs : List FormText) → list_all is_small_form fs ≡ true → list_any (does op) fs ≡ true → InRange op
+any_in_range op [] small h = cc
+any_in_range op (f ∷ fs) small h =
+    let a = and_parts (is_small_form f) (list_all is_small_form fs) small in
+    by_test (does op f) (λ e. form_in_range op f a.0 e)
+    (λ e. any_in_range op fs a.1 (ap (λ b. b || list_any (does op) fs) (sym e) ∙ h))
+
+-- an operation of such a table is in the range of the machine
+pub in_range : (t : TableText) (op : Micro) → list_all is_small_form t.forms ≡ true → table_has t op ≡ true → InRange op
+in_range t (ops.Label l) small h = tt
+in_range t op small h = any_in_range op t.forms small h

@@ -1,8 +1,0 @@
-use Rattle.std.proofs.lemmas.Bool.Decides.{Decides-eqb}
-use Rattle.std.proofs.lemmas.Slice.Eq.{strip_prefix_is}
-use Rattle.instruction_forms.proofs.Parts.{after_is}
-use Rattle.instruction_forms.proofs.fixed.after_prefix.Goals as goal
-
-pub returns : goal.returns
-returns c = after_is c.args.prefix.now c.args.text.now c.strip_prefix.result
-    (strip_prefix_is Decides-eqb c.args.text.now c.args.prefix.now c.strip_prefix.result c.strip_prefix.ensures.cases)

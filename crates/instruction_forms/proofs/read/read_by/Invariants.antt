@@ -1,0 +1,13 @@
+use Rattle.std.proofs.Common.{◌≡◌, map, length}
+use Rattle.arch_trait.specs.Pieces.{texts_of}
+use Rattle.form_laws.specs.Tables.{form_seen}
+use Rattle.instruction_forms.specs.Founds.{forms_raw}
+use Rattle.instruction_forms.proofs.read.read_by.Given as goal
+
+abbrev pub invariant-loop-left : goal.invariant-loop-left
+invariant-loop-left l =
+    forms_raw (map form_seen l.left) l.table.labels l.word (texts_of l.operands) ≡
+    forms_raw (map form_seen l.table.forms.now) l.table.labels l.word (texts_of l.operands)
+
+abbrev pub decreases-loop-left : goal.decreases-loop-left
+decreases-loop-left l = length l.left

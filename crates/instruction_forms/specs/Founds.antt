@@ -1,0 +1,42 @@
+-- What the code sees of the operands that it found.
+-- Source: own.
+use Rattle.std.specs.Prelude.{ℕ, Bool, true, false, List, Option, Some, None, map, option_map, option_and_then}
+use Rattle.std.specs.Borrow.{Bor}
+use Rattle.arch_trait.specs.Writing.{RawInstr, OperandTexts}
+use Rattle.instruction_forms.specs.declared.found.Found.{Found}
+use Rattle.instruction_forms.specs.declared.found.Found.TheVariants as founds
+use Rattle.form_laws.specs.Kinds.{FoundOperand, found_register, found_number, found_place, found_label, raw_with}
+use Rattle.form_laws.specs.declared.form.Labels.{Labels}
+use Rattle.form_laws.specs.Tables.{PieceText, FormText, form_found, pieces_found, texts_in, table_raw}
+
+-- an operand that was found
+abbrev pub found_seen : Found → FoundOperand
+found_seen (founds.Register r) = found_register r
+found_seen (founds.Number n) = found_number n
+found_seen (founds.Place name) = found_place name.now
+found_seen (founds.Label name) = found_label name.now
+
+-- the operands that were found, in order
+abbrev pub founds_seen : List Found → List FoundOperand
+founds_seen founds = map found_seen founds
+
+-- the same where each text is an operand
+abbrev pub founds_if : Bool → List Found → Option (List FoundOperand)
+founds_if true founds = Some (founds_seen founds)
+founds_if false founds = None
+
+-- the texts of operands
+abbrev pub texts_seen : List (Bor (List ℕ)) → List (List ℕ)
+texts_seen texts = map (λ text. text.now) texts
+
+-- the operands of an instruction by the forms of its operands
+abbrev pub found_in : List PieceText → OperandTexts → Option (List FoundOperand)
+found_in ps texts = option_and_then (pieces_found ps) (texts_in texts)
+
+-- the instruction of a form, where the instruction is of it
+abbrev pub form_raw : FormText → List ℕ → OperandTexts → Option (Option RawInstr)
+form_raw f word texts = option_map (raw_with f.kind) (option_and_then (form_found f word) (texts_in texts))
+
+-- the instruction by some forms of a table
+abbrev pub forms_raw : List FormText → Labels → List ℕ → OperandTexts → Option RawInstr
+forms_raw forms labels word texts = table_raw (record { forms = forms; labels = labels }) (record { word = word; operands = texts })
