@@ -32,13 +32,13 @@ label = piece [] holes.Label []
 -- the instructions
 unfoldable pub forms : List FormText
 forms =
-    form (codes "MOV") (w ∷ immediate ∷ []) kinds.SetNumber ∷
-    form (codes "EOR") (w ∷ w ∷ w ∷ []) kinds.ExclusiveOr ∷
-    form (codes "ADD") (w ∷ w ∷ immediate ∷ []) kinds.AddNumber ∷
     form (codes "LDR") (w ∷ address ∷ []) kinds.Load ∷
     form (codes "LDR") (w ∷ base ∷ w ∷ fixed (codes "SXTW]") ∷ []) kinds.LoadIndexed ∷
     form (codes "STR") (w ∷ address ∷ []) kinds.Store ∷
     form (codes "STR") (w ∷ base ∷ w ∷ fixed (codes "SXTW]") ∷ []) kinds.StoreIndexed ∷
+    form (codes "MOV") (w ∷ immediate ∷ []) kinds.SetNumber ∷
+    form (codes "EOR") (w ∷ w ∷ w ∷ []) kinds.ExclusiveOr ∷
+    form (codes "ADD") (w ∷ w ∷ immediate ∷ []) kinds.AddNumber ∷
     form (codes "CBNZ") (w ∷ label ∷ []) kinds.BranchNotZero ∷
     form (codes "DMB") (fixed (codes "SY") ∷ []) (kinds.Order (barriers.Fence fences.DmbSy)) ∷
     form (codes "DMB") (fixed (codes "LD") ∷ []) (kinds.Order (barriers.Fence fences.DmbLd)) ∷

@@ -41,13 +41,13 @@ const IMMEDIATE: Piece = piece!("#", Hole::Number, "");
 const LABEL: Piece = piece!("", Hole::Label, "");
 
 const FORMS: &[Form] = &[
-    form!("MOV", [W, IMMEDIATE], Kind::SetNumber),
-    form!("EOR", [W, W, W], Kind::ExclusiveOr),
-    form!("ADD", [W, W, IMMEDIATE], Kind::AddNumber),
     form!("LDR", [W, ADDRESS], Kind::Load),
     form!("LDR", [W, BASE, W, piece!("SXTW]")], Kind::LoadIndexed),
     form!("STR", [W, ADDRESS], Kind::Store),
     form!("STR", [W, BASE, W, piece!("SXTW]")], Kind::StoreIndexed),
+    form!("MOV", [W, IMMEDIATE], Kind::SetNumber),
+    form!("EOR", [W, W, W], Kind::ExclusiveOr),
+    form!("ADD", [W, W, IMMEDIATE], Kind::AddNumber),
     form!("CBNZ", [W, LABEL], Kind::BranchNotZero),
     form!("DMB", [piece!("SY")], fence!(DmbSy)),
     form!("DMB", [piece!("LD")], fence!(DmbLd)),

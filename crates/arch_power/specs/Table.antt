@@ -28,13 +28,13 @@ label = piece [] holes.Label []
 -- the instructions
 unfoldable pub forms : List FormText
 forms =
-    form (codes "li") (register ∷ immediate ∷ []) kinds.SetNumber ∷
-    form (codes "xor") (register ∷ register ∷ register ∷ []) kinds.ExclusiveOr ∷
-    form (codes "addi") (register ∷ register ∷ immediate ∷ []) kinds.AddNumber ∷
     form (codes "lwz") (register ∷ address ∷ []) kinds.Load ∷
     form (codes "lwzx") (register ∷ register ∷ register ∷ []) kinds.LoadIndexFirst ∷
     form (codes "stw") (register ∷ address ∷ []) kinds.Store ∷
     form (codes "stwx") (register ∷ register ∷ register ∷ []) kinds.StoreIndexFirst ∷
+    form (codes "li") (register ∷ immediate ∷ []) kinds.SetNumber ∷
+    form (codes "xor") (register ∷ register ∷ register ∷ []) kinds.ExclusiveOr ∷
+    form (codes "addi") (register ∷ register ∷ immediate ∷ []) kinds.AddNumber ∷
     form (codes "cmpw") (register ∷ register ∷ []) kinds.Compare ∷
     form (codes "beq") (label ∷ []) kinds.BranchEqual ∷
     form (codes "sync") [] (kinds.Order (barriers.Fence fences.Sync)) ∷

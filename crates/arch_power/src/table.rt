@@ -39,13 +39,13 @@ const IMMEDIATE: Piece = piece!("", Hole::Number, "");
 const LABEL: Piece = piece!("", Hole::Label, "");
 
 const FORMS: &[Form] = &[
-    form!("li", [R, IMMEDIATE], Kind::SetNumber),
-    form!("xor", [R, R, R], Kind::ExclusiveOr),
-    form!("addi", [R, R, IMMEDIATE], Kind::AddNumber),
     form!("lwz", [R, ADDRESS], Kind::Load),
     form!("lwzx", [R, R, R], Kind::LoadIndexFirst),
     form!("stw", [R, ADDRESS], Kind::Store),
     form!("stwx", [R, R, R], Kind::StoreIndexFirst),
+    form!("li", [R, IMMEDIATE], Kind::SetNumber),
+    form!("xor", [R, R, R], Kind::ExclusiveOr),
+    form!("addi", [R, R, IMMEDIATE], Kind::AddNumber),
     form!("cmpw", [R, R], Kind::Compare),
     form!("beq", [LABEL], Kind::BranchEqual),
     form!("sync", [], fence!(Sync)),

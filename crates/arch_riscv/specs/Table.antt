@@ -32,12 +32,12 @@ label = piece [] holes.Label []
 -- the instructions; of a fence the accesses before it and after it that it orders
 unfoldable pub forms : List FormText
 forms =
+    form (codes "lw") (register ∷ address ∷ []) kinds.Load ∷
+    form (codes "sw") (register ∷ address ∷ []) kinds.Store ∷
     form (codes "ori") (register ∷ zero ∷ immediate ∷ []) kinds.SetNumber ∷
     form (codes "ori") (register ∷ register ∷ immediate ∷ []) kinds.OrNumber ∷
     form (codes "xor") (register ∷ register ∷ register ∷ []) kinds.ExclusiveOr ∷
     form (codes "add") (register ∷ register ∷ register ∷ []) kinds.Sum ∷
-    form (codes "lw") (register ∷ address ∷ []) kinds.Load ∷
-    form (codes "sw") (register ∷ address ∷ []) kinds.Store ∷
     form (codes "bne") (register ∷ zero ∷ label ∷ []) kinds.BranchNotZero ∷
     form (codes "fence") (fixed (codes "r") ∷ fixed (codes "r") ∷ []) (kinds.Order (barriers.Fence (fences.Fence picks.R picks.R))) ∷
     form (codes "fence") (fixed (codes "r") ∷ fixed (codes "w") ∷ []) (kinds.Order (barriers.Fence (fences.Fence picks.R picks.W))) ∷

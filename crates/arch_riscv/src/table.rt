@@ -44,12 +44,12 @@ const IMMEDIATE: Piece = piece!("", Hole::Number, "");
 const LABEL: Piece = piece!("", Hole::Label, "");
 
 const FORMS: &[Form] = &[
+    form!("lw", [X, ADDRESS], Kind::Load),
+    form!("sw", [X, ADDRESS], Kind::Store),
     form!("ori", [X, ZERO, IMMEDIATE], Kind::SetNumber),
     form!("ori", [X, X, IMMEDIATE], Kind::OrNumber),
     form!("xor", [X, X, X], Kind::ExclusiveOr),
     form!("add", [X, X, X], Kind::Sum),
-    form!("lw", [X, ADDRESS], Kind::Load),
-    form!("sw", [X, ADDRESS], Kind::Store),
     form!("bne", [X, ZERO, LABEL], Kind::BranchNotZero),
     form!("fence", [piece!("r"), piece!("r")], fence!(R, R)),
     form!("fence", [piece!("r"), piece!("w")], fence!(R, W)),

@@ -19,14 +19,14 @@ immediate = piece (codes "$") holes.Number []
 -- the instructions
 unfoldable pub forms : List FormText
 forms =
+    form (codes "MOV") (address ∷ immediate ∷ []) kinds.StoreNumber ∷
+    form (codes "MFENCE") [] (kinds.Order (barriers.Fence fences.MFence)) ∷
     form (codes "MOV") (fixed (codes "EAX") ∷ address ∷ []) (kinds.LoadInto 0) ∷
     form (codes "MOV") (fixed (codes "EBX") ∷ address ∷ []) (kinds.LoadInto 1) ∷
     form (codes "MOV") (fixed (codes "ECX") ∷ address ∷ []) (kinds.LoadInto 2) ∷
     form (codes "MOV") (fixed (codes "EDX") ∷ address ∷ []) (kinds.LoadInto 3) ∷
     form (codes "MOV") (fixed (codes "ESI") ∷ address ∷ []) (kinds.LoadInto 4) ∷
-    form (codes "MOV") (fixed (codes "EDI") ∷ address ∷ []) (kinds.LoadInto 5) ∷
-    form (codes "MOV") (address ∷ immediate ∷ []) kinds.StoreNumber ∷
-    form (codes "MFENCE") [] (kinds.Order (barriers.Fence fences.MFence)) ∷ []
+    form (codes "MOV") (fixed (codes "EDI") ∷ address ∷ []) (kinds.LoadInto 5) ∷ []
 
 -- the table, in which no labels stand
 abbrev pub table : TableText

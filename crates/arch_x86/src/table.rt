@@ -11,14 +11,14 @@ const ADDRESS: Piece = piece!("[", Hole::Place, "]");
 const IMMEDIATE: Piece = piece!("$", Hole::Number, "");
 
 const FORMS: &[Form] = &[
+    form!("MOV", [ADDRESS, IMMEDIATE], Kind::StoreNumber),
+    form!("MFENCE", [], Kind::Order(Barrier::Fence(FenceKind::MFence))),
     form!("MOV", [piece!("EAX"), ADDRESS], Kind::LoadInto(0)),
     form!("MOV", [piece!("EBX"), ADDRESS], Kind::LoadInto(1)),
     form!("MOV", [piece!("ECX"), ADDRESS], Kind::LoadInto(2)),
     form!("MOV", [piece!("EDX"), ADDRESS], Kind::LoadInto(3)),
     form!("MOV", [piece!("ESI"), ADDRESS], Kind::LoadInto(4)),
     form!("MOV", [piece!("EDI"), ADDRESS], Kind::LoadInto(5)),
-    form!("MOV", [ADDRESS, IMMEDIATE], Kind::StoreNumber),
-    form!("MFENCE", [], Kind::Order(Barrier::Fence(FenceKind::MFence))),
 ];
 
 /// X86's instructions, in the order in which the forms are tried.

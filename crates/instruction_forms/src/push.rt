@@ -69,7 +69,7 @@ pub(crate) fn push_place(place: u8, places: &Places, out: &mut Text)
     ensures { out.new.bytes ≡ out.old.bytes ++ name_in places.now place }
 {
     if place < places.len() {
-        out.push_str(places.get(place).as_str());
+        push_short(places.get(place).as_str(), out);
     }
 }
 
