@@ -4,7 +4,7 @@ use Rattle.std.specs.Fmt.{digits}
 use Rattle.std.specs.List.{list_all}
 use Rattle.micro_ops.specs.declared.operation.Micro.{Micro}
 use Rattle.micro_ops.specs.Machines.{InRange}
-use Rattle.final_cond.specs.Numbers.{number_of}
+use Rattle.text_laws.specs.Numbers.{number_of}
 use Rattle.arch_trait.specs.Writing.{immediate}
 use Rattle.form_laws.specs.Tables.{table_has, piece_found, after_prefix, before_suffix}
 use Rattle.form_laws.specs.Clear.{is_clear, differ, piece_apart, pieces_apart, forms_apart, is_piece_good, most_of, is_form_good}

@@ -2,7 +2,7 @@
 use Rattle.std.proofs.Common.{ℕ, ◌<◌, ◌≡◌, refl, arith}
 use Rattle.arch_trait.specs.Forms.{register_name, register_names}
 use Rattle.arch_trait.specs.Writing.{WritesBack, name_in}
-use Rattle.arch_trait.proofs.FormBacks.{IsNumbered, names_count, names_formed, names_once, name_at}
+use Rattle.arch_laws.proofs.FormBacks.{IsNumbered, names_count, names_formed, names_once, name_at}
 use Rattle.form_laws.proofs.ReadsBack.{AreNames, writes_back}
 use Rattle.arch_riscv.specs.Puts.{puts}
 use Rattle.arch_riscv.specs.Table.{table, numbered, writing}

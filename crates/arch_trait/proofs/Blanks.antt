@@ -5,8 +5,8 @@ use Rattle.std.proofs.Math.Seq.{take-length}
 use Rattle.std.specs.List.{position, position_or_len, slice_split, onto_first}
 use Rattle.std.proofs.lemmas.List.Splits.{slice_split_first, slice_split_none}
 use Rattle.std.proofs.lemmas.List.Sums.{fails_before_first}
-use Rattle.final_cond.specs.Runs.{is_blank, unblanked, after_run}
-use Rattle.final_cond.proofs.NameLaws.{rest_is}
+use Rattle.text_laws.specs.Runs.{is_blank, unblanked, after_run}
+use Rattle.text_laws.proofs.NameLaws.{rest_is}
 use Rattle.arch_trait.specs.Writing.{none, one, two, three, four, more}
 use Rattle.arch_trait.specs.Reading.{kept_before, before_blanks, trimmed, few, operands_if, operands_in}
 use Rattle.arch_trait.proofs.Taking.{by_test}

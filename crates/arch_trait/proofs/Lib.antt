@@ -3,15 +3,9 @@ pub mod Runs
 pub mod Codes
 pub mod Shapes
 pub mod Whole
-pub mod Items
 pub mod Tables
 pub mod Compiling
 pub mod Accesses
 pub mod Spelling
 pub mod Blanks
 pub mod PlainTexts
-pub mod Renumbered
-pub mod CellTexts
-pub mod Ordered
-pub mod Addressed
-pub mod FormBacks

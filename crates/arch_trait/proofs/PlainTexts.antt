@@ -9,11 +9,11 @@ use Rattle.std.proofs.lemmas.Bool.Decides.{nat_tests}
 use Rattle.std.proofs.lemmas.Fmt.{digits_decimal, length-decimal-le}
 use Rattle.std.proofs.lemmas.List.Folds.{list_all-append}
 use Rattle.std.proofs.lemmas.Str.Parse.{IsNumeralModel, numerals_by_value}
-use Rattle.final_cond.specs.Names.{is_place_name, is_register_name, is_place_byte, begins_place}
-use Rattle.final_cond.proofs.NameLaws.{all_weaker}
-use Rattle.final_cond.proofs.NumberLaws.{number_of-decimal}
+use Rattle.text_laws.specs.Names.{is_place_name, is_register_name, is_place_byte, begins_place}
+use Rattle.text_laws.proofs.NameLaws.{all_weaker}
+use Rattle.text_laws.proofs.NumberLaws.{number_of-decimal}
 use Rattle.micro_ops.specs.declared.operation.Micro.TheVariants as ops
-use Rattle.final_cond.specs.Numbers.{number_of}
+use Rattle.text_laws.specs.Numbers.{number_of}
 use Rattle.arch_trait.specs.Writing.{immediate, at_most, bracketed, has_brackets, inside_brackets, is_plain, is_label_name, label, label_name, label_word, label_raw, register_text, register_at, register_read}
 use Rattle.arch_trait.proofs.Taking.{by_test}
 use Rattle.arch_trait.proofs.Spelling.{is_word_byte}

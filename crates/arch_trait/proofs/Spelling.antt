@@ -2,7 +2,7 @@
 use Rattle.std.proofs.Common.{ℕ, ◌≡◌, ◌==◌, refl, Bool, true, false, not, ◌&&◌, List, [], ◌∷◌, ◌++◌, Some, map, ◌∙◌, sym, ap, append-nil, append_assoc}
 use Rattle.std.proofs.lemmas.Bool.{and_parts}
 use Rattle.std.specs.List.{list_all, slice_split, onto_first}
-use Rattle.final_cond.specs.Runs.{is_blank, run_of, after_run, unblanked}
+use Rattle.text_laws.specs.Runs.{is_blank, run_of, after_run, unblanked}
 use Rattle.micro_ops.specs.declared.operation.Micro.{Micro}
 use Rattle.arch_trait.specs.Threads.{Puts}
 use Rattle.arch_trait.specs.Writing.{OperandTexts, none, one, two, three, four, more, Written, Writing, WritesBack, listed, text_of, op_text, is_plain, all_plain, raw_of, name_of, is_named, with_number}

@@ -5,8 +5,8 @@ use Rattle.std.proofs.lemmas.List.Folds.{list_all-append}
 use Rattle.std.proofs.lemmas.List.FromFn.{map-range_with_len_more, length-map-range_with_len}
 use Rattle.std.specs.List.{list_all, position_from, IsDistinct, AllByRecursion}
 use Rattle.std.specs.Str.{bytes_eq}
-use Rattle.final_cond.specs.Names.{is_place_name, is_register_name, begins_place, is_place_byte}
-use Rattle.final_cond.proofs.NameLaws.{all_weaker}
+use Rattle.text_laws.specs.Names.{is_place_name, is_register_name, begins_place, is_place_byte}
+use Rattle.text_laws.proofs.NameLaws.{all_weaker}
 use Rattle.std.specs.Char.{is_ascii_alphabetic, is_ascii_alphanumeric}
 use Rattle.arch_trait.specs.Names.{IsTable, number_in, location_letters, lap_mark, location_name, letters}
 use Rattle.arch_trait.proofs.Taking.{by_test}

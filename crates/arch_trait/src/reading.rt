@@ -1,6 +1,6 @@
 ghost use Rattle.std.specs.Prelude.{◌≡◌, ◌==◌};
 ghost use Rattle.std.specs.List.{position, slice_split};
-ghost use Rattle.final_cond.specs.Runs.{is_blank, run_of, after_run, unblanked};
+ghost use Rattle.text_laws.specs.Runs.{is_blank, run_of, after_run, unblanked};
 ghost use Rattle.arch_trait.specs.Reading.{before_blanks, trimmed, is_inked, operands_in};
 ghost use Rattle.arch_trait.specs.Pieces.{texts_of, name_seen};
 ghost use Rattle.arch_trait.specs.Writing.{nothing};
@@ -107,7 +107,7 @@ pub fn trimmed(text: &[u8]) -> &[u8]
 }
 
 /// The first word of a text that doesn't begin with a blank, and what stands behind it.
-#[tactic(auto, using(final_cond::proofs::RunLaws::run_stops, final_cond::proofs::RunLaws::run_ends, final_cond::proofs::RunLaws::none_passed, final_cond::proofs::RunLaws::one_passed))]
+#[tactic(auto, using(text_laws::proofs::RunLaws::run_stops, text_laws::proofs::RunLaws::run_ends, text_laws::proofs::RunLaws::none_passed, text_laws::proofs::RunLaws::one_passed))]
 pub fn split_word(text: &[u8]) -> (&[u8], &[u8])
     ensures word { result.0.now ≡ run_of is_inked text.now }
     ensures rest { result.1.now ≡ after_run is_inked text.now }

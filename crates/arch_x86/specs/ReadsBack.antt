@@ -2,7 +2,7 @@
 use Rattle.std.proofs.Common.{◌≡◌, refl, true, rules}
 use Rattle.std.specs.List.{list_all, IsDistinct}
 use Rattle.std.specs.Str.{bytes_eq}
-use Rattle.final_cond.specs.Names.{is_register_name}
+use Rattle.text_laws.specs.Names.{is_register_name}
 use Rattle.arch_trait.specs.Writing.{WritesBack}
 use Rattle.form_laws.proofs.ReadsBack.{AreNames, writes_back}
 use Rattle.arch_x86.specs.Puts.{puts}

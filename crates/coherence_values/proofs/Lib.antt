@@ -1,8 +1,1 @@
-pub mod Ways
-pub mod Along
-pub mod Writes
 pub mod Walk
-pub mod Entries
-pub mod Laws
-pub mod Lists
-pub mod Arcs

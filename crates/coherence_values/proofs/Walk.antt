@@ -10,16 +10,17 @@ use Rattle.list_laws.specs.Numbers.{upto}
 use Rattle.list_laws.proofs.Cases.{by_test, by_less, by_same, by_option}
 use Rattle.list_laws.proofs.Counts.{count_upto_one_more, count_upto_same}
 use Rattle.list_laws.proofs.Numbers.{map-upto_more, length-map-upto, get_or-map-upto}
-use Rattle.cycle_resolve.specs.Resolution.{move_count, edge_at, event_before, moves_before, location_of, IsResolved}
-use Rattle.cycle_resolve.proofs.Locations.{moves_on, moves_kept, moves_most, moves_end, location_first, location_wrapped, location_kept}
-use Rattle.cycle_resolve.proofs.Arcs.{several_locations}
+use Rattle.resolution_laws.specs.Resolution.{move_count, edge_at, event_before, moves_before, location_of, IsResolved}
+use Rattle.resolution_laws.proofs.Locations.{moves_on, moves_kept, moves_most, moves_end, location_first, location_wrapped, location_kept}
+use Rattle.resolution_laws.proofs.Arcs.{several_locations}
 use Rattle.coherence_values.specs.declared.valued.Arc.{Arc}
-use Rattle.coherence_values.specs.Values.{edge_into, is_write_at, way_place, value_of, write_count, write_at}
-use Rattle.coherence_values.specs.Arc.{is_later_entry, first_entry, inner_entry, last_entry, seen_of, writes_before, seen_with, LeadsOn, all_seen}
-use Rattle.coherence_values.proofs.Along.{is_write, value_at_end, value_most, write_count_most}
-use Rattle.coherence_values.proofs.Ways.{only_on_way}
-use Rattle.coherence_values.proofs.Writes.{write_of, is_write_number, write_at_from, value_from}
-use Rattle.coherence_values.proofs.Entries.{find_more}
+use Rattle.value_laws.specs.Values.{edge_into, is_write_at, way_place, value_of, write_count, write_at}
+use Rattle.value_laws.specs.Entries.{is_later_entry, first_entry, inner_entry, last_entry}
+use Rattle.coherence_values.specs.Arc.{seen_of, writes_before, seen_with, LeadsOn, all_seen}
+use Rattle.value_laws.proofs.Along.{is_write, value_at_end, value_most, write_count_most}
+use Rattle.value_laws.proofs.Ways.{only_on_way}
+use Rattle.value_laws.proofs.Writes.{write_of, is_write_number, write_at_from, value_from}
+use Rattle.value_laws.proofs.Entries.{find_more}
 
 -- an arc with one event more, which the edge `into` enters and the edge `out` leaves
 abbrev pub arc_with : Arc → ℕ → Edge → Edge → Arc

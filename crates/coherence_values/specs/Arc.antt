@@ -1,29 +1,12 @@
 -- What the code keeps of the writes on an arc, its struct `Arc`, and of all events: for the clauses of private functions
 -- and the invariant of `Valued`.
-use Rattle.std.specs.Prelude.{◌≡◌, ℕ, ◌-◌, ◌<◌, Bool, ◌&&◌, nat_lt, List, [], ◌∷◌, length, map, count_by, Option}
-use Rattle.std.specs.List.{find, filter_map}
+use Rattle.std.specs.Prelude.{◌≡◌, ℕ, ◌-◌, ◌<◌, ◌&&◌, nat_lt, List, length, map, count_by}
 use Rattle.relax_edges.specs.declared.edge.Edge.{Edge}
-use Rattle.relax_edges.specs.EdgeTable.{is_external}
 use Rattle.list_laws.specs.Numbers.{upto}
-use Rattle.cycle_resolve.specs.Resolution.{edge_at, move_count, location_of, IsResolved}
+use Rattle.resolution_laws.specs.Resolution.{edge_at, move_count, location_of, IsResolved}
 use Rattle.coherence_values.specs.declared.valued.Arc.{Arc}
-use Rattle.coherence_values.specs.Values.{edge_into, is_write_at, way_place, value_of, write_count, write_at}
-
--- event i, a write, isn't the first write of its location, and an external edge enters it
-abbrev pub is_later_entry : List Edge → ℕ → Bool
-is_later_entry es i = is_external (edge_into es i) && nat_lt 1 (value_of es i)
-
--- the first such event among the writes of a location with these numbers
-unfoldable pub first_entry : List Edge → ℕ → List ℕ → Option ℕ
-first_entry es location numbers = find (is_later_entry es) (filter_map (write_at es location) numbers)
-
--- the first one among the first n writes of a location, but for the last of these
-abbrev pub inner_entry : List Edge → ℕ → ℕ → Option ℕ
-inner_entry es location n = first_entry es location (upto (n - 1))
-
--- the last of the first n writes of a location, where it is one
-abbrev pub last_entry : List Edge → ℕ → ℕ → Option ℕ
-last_entry es location n = first_entry es location ((n - 1) ∷ [])
+use Rattle.value_laws.specs.Values.{edge_into, is_write_at, way_place, value_of, write_count}
+use Rattle.value_laws.specs.Entries.{inner_entry, last_entry}
 
 -- what is kept of the first n writes of a location
 abbrev pub seen_of : List Edge → ℕ → ℕ → Arc

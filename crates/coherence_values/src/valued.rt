@@ -1,23 +1,13 @@
 ghost use Rattle.std.specs.Prelude.{◌≡◌, ◌+◌, ◌<◌, ◌≤◌, ◌==◌, ◌&&◌, length, Some};
-ghost use Rattle.cycle_resolve.specs.Resolution.{move_count, IsResolved};
-ghost use Rattle.coherence_values.specs.Values.{value_of, write_count, write_at, is_write_at, is_observed, valuation_of};
+ghost use Rattle.resolution_laws.specs.Resolution.{move_count, IsResolved};
+ghost use Rattle.value_laws.specs.Values.{value_of, write_count, write_at, is_write_at, is_observed, valuation_of};
 ghost use Rattle.coherence_values.specs.Arc.{LeadsOn, seen_of, writes_before, values_of, all_seen};
 
 use arrayvec::ArrayVec;
 use cycle_resolve::Resolved;
 use relax_edges::{Dir, Edge, MAX_EDGES, ObsMode};
 use std::marker::Model;
-
-/// A write that is neither the first nor the last of its location, and that an external edge
-/// enters: only an observer can tell its place in the coherence order.
-#[derive(Clone, Copy, Debug, PartialEq, Eq, thiserror::Error)]
-#[error("location {location} needs an observer, for its write at event {event}")]
-pub struct NeedsObserver {
-    /// The location of the write.
-    pub location: u8,
-    /// The number of the write among the events.
-    pub event: u8,
-}
+use value_laws::NeedsObserver;
 
 /// What a walk along a location's arc has seen of its writes.
 #[derive(Clone, Copy, Default)]
@@ -67,7 +57,7 @@ pub struct Valued<'a> {
 }
 
 impl<'a> Model for Valued<'a> {
-    ghost use Rattle.coherence_values.specs.Values.{Valuation};
+    ghost use Rattle.value_laws.specs.Values.{Valuation};
     ghost use Rattle.coherence_values.specs.Kept.{IsKept};
 
     ghost Value = { Valuation };

@@ -7,8 +7,8 @@ use Rattle.relax_edges.specs.declared.edge.Edge.{Edge}
 use Rattle.list_laws.specs.Numbers.{upto}
 use Rattle.list_laws.proofs.Cases.{by_less}
 use Rattle.list_laws.proofs.Numbers.{length-map-upto, slice_get-map-upto, slice_get-upto, length-upto}
-use Rattle.cycle_resolve.specs.Resolution.{external_count, thread_of, slot_of, events_in}
-use Rattle.coherence_values.specs.Values.{write_count}
+use Rattle.resolution_laws.specs.Resolution.{external_count, thread_of, slot_of, events_in}
+use Rattle.value_laws.specs.Values.{write_count}
 use Rattle.program_meaning.specs.declared.WriteAt.{WriteAt}
 use Rattle.program_meaning.specs.Accesses.{Access, read, got_from, at_name}
 use Rattle.program_meaning.specs.Standing.{event_name}

@@ -6,9 +6,9 @@ use Rattle.relax_edges.specs.declared.kinds.ObsMode.{ObsMode}
 use Rattle.relax_edges.specs.declared.edge.Edge.{Edge}
 use Rattle.list_laws.specs.Numbers.{upto}
 use Rattle.list_laws.proofs.Numbers.{length-map-upto}
-use Rattle.cycle_resolve.specs.Resolution.{edge_at, external_count, event_after, events_in}
-use Rattle.cycle_resolve.proofs.Around.{after_below}
-use Rattle.coherence_values.specs.Values.{write_count}
+use Rattle.resolution_laws.specs.Resolution.{edge_at, external_count, event_after, events_in}
+use Rattle.resolution_laws.proofs.Around.{after_below}
+use Rattle.value_laws.specs.Values.{write_count}
 use Rattle.program_meaning.specs.declared.WriteAt.{WriteAt}
 use Rattle.program_meaning.specs.Accesses.{Access, Visit, read, accesses_of, got_from, at_name}
 use Rattle.program_meaning.specs.Executions.{Execution}

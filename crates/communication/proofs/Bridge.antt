@@ -14,13 +14,13 @@ use Rattle.relax_edges.specs.declared.kinds.Reach.{Reach}
 use Rattle.relax_edges.specs.declared.kinds.Reach.TheVariants.{Internal, External}
 use Rattle.relax_edges.specs.declared.edge.Edge.{Edge}
 use Rattle.relax_edges.specs.EdgeTable.{source_of, place_of, reach_of, is_external, is_diff, same_dir}
-use Rattle.cycle_resolve.specs.Resolution.{IsResolved, edge_at, external_count, move_count, thread_of, slot_of, location_of, event_after}
-use Rattle.cycle_resolve.proofs.Threads.{thread_out, event_in_slot, slot_of_event}
-use Rattle.cycle_resolve.proofs.Arcs.{SameRun, thread_below, several_locations, one_run, one_location, none_moves}
-use Rattle.cycle_resolve.proofs.Around.{source_after, internal_follows, external_leads, keeps_location, changes_location}
-use Rattle.coherence_values.specs.Values.{value_of, write_at}
-use Rattle.coherence_values.proofs.Along.{is_write, value_after, value_most, write_value, values_in_thread, values_in_thread_grow}
-use Rattle.coherence_values.proofs.Writes.{write_of as write_from, write_at_parts, write_at_from, is_write_number, write_number}
+use Rattle.resolution_laws.specs.Resolution.{IsResolved, edge_at, external_count, move_count, thread_of, slot_of, location_of, event_after}
+use Rattle.resolution_laws.proofs.Threads.{thread_out, event_in_slot, slot_of_event}
+use Rattle.resolution_laws.proofs.Arcs.{SameRun, thread_below, several_locations, one_run, one_location, none_moves}
+use Rattle.resolution_laws.proofs.Around.{source_after, internal_follows, external_leads, keeps_location, changes_location}
+use Rattle.value_laws.specs.Values.{value_of, write_at}
+use Rattle.value_laws.proofs.Along.{is_write, value_after, value_most, write_value, values_in_thread, values_in_thread_grow}
+use Rattle.value_laws.proofs.Writes.{write_of as write_from, write_at_parts, write_at_from, is_write_number, write_number}
 use Rattle.program_meaning.specs.Coherence.{MayFollow}
 use Rattle.communication.proofs.Resolves.{IsWrite, Resolves, written_by}
 

@@ -10,9 +10,9 @@ use Rattle.relax_edges.specs.declared.kinds.ObsMode.{ObsMode}
 use Rattle.relax_edges.specs.declared.edge.Edge.{Edge}
 use Rattle.relax_edges.specs.declared.edge.Edge.TheVariants as edges
 use Rattle.relax_edges.specs.EdgeTable.{source_of, target_of, place_of, reach_of}
-use Rattle.cycle_resolve.specs.Resolution.{edge_at, location_of, event_after}
-use Rattle.cycle_resolve.proofs.Around.{after_below}
-use Rattle.coherence_values.specs.Values.{value_of}
+use Rattle.resolution_laws.specs.Resolution.{edge_at, location_of, event_after}
+use Rattle.resolution_laws.proofs.Around.{after_below}
+use Rattle.value_laws.specs.Values.{value_of}
 use Rattle.program_meaning.specs.Executions.{Execution}
 use Rattle.program_meaning.specs.Coherence.{placed_by, source_at}
 use Rattle.program_meaning.specs.Standing.{AreAt, CommunicatesBy, ComesBefore, Reaches, Joins, event_name}

@@ -7,8 +7,8 @@ use Rattle.relax_edges.specs.declared.kinds.Com.TheVariants as coms
 use Rattle.relax_edges.specs.declared.kinds.ObsMode.TheVariants.{Accept}
 use Rattle.relax_edges.specs.declared.edge.Edge.{Edge}
 use Rattle.relax_edges.specs.declared.edge.Edge.TheVariants as edges
-use Rattle.cycle_resolve.specs.Resolution.{thread_of, slot_of, location_of, moves_before, events_in}
-use Rattle.coherence_values.specs.Values.{value_of, way_place, write_count, write_at, is_observed}
+use Rattle.resolution_laws.specs.Resolution.{thread_of, slot_of, location_of, moves_before, events_in}
+use Rattle.value_laws.specs.Values.{value_of, way_place, write_count, write_at, is_observed}
 use Rattle.program_meaning.specs.declared.WriteAt.{WriteAt}
 use Rattle.program_meaning.specs.Accesses.{read, write}
 use Rattle.program_meaning.specs.Intended.{cycle_accesses, intended, location_order, location_numbered}

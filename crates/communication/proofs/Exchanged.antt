@@ -19,9 +19,9 @@ use Rattle.list_laws.specs.Numbers.{upto}
 use Rattle.list_laws.proofs.Cases.{by_same, by_less}
 use Rattle.list_laws.proofs.Numbers.{length-map-upto, length-upto, slice_get-upto, slice_get-map-upto}
 use Rattle.list_laws.proofs.Ranks.{unrank_upto}
-use Rattle.cycle_resolve.specs.Resolution.{edge_at, move_count, thread_of, location_of, event_after, event_before}
-use Rattle.cycle_resolve.proofs.Around.{by_after, before_below, after_before}
-use Rattle.coherence_values.specs.Values.{value_of, write_count, is_observed, edge_into}
+use Rattle.resolution_laws.specs.Resolution.{edge_at, move_count, thread_of, location_of, event_after, event_before}
+use Rattle.resolution_laws.proofs.Around.{by_after, before_below, after_before}
+use Rattle.value_laws.specs.Values.{value_of, write_count, is_observed, edge_into}
 use Rattle.program_meaning.specs.declared.WriteAt.{WriteAt}
 use Rattle.program_meaning.specs.Accesses.{Access, at_name}
 use Rattle.program_meaning.specs.Executions.{IsExecutionOf, IsOrderOf}

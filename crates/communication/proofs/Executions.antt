@@ -4,7 +4,7 @@ use Rattle.relax_edges.specs.declared.kinds.Value.TheVariants.{Num}
 use Rattle.relax_edges.specs.declared.edge.Edge.{Edge}
 use Rattle.micro_ops.specs.declared.operation.Micro.TheVariants as ops
 use Rattle.micro_ops.specs.declared.operation.Item.{Item}
-use Rattle.cycle_resolve.specs.Resolution.{edge_at, thread_of, slot_of, event_after, events_in}
+use Rattle.resolution_laws.specs.Resolution.{edge_at, thread_of, slot_of, event_after, events_in}
 use Rattle.program_meaning.specs.Accesses.{Access, Visit, read, write, at_name, barriers_behind}
 use Rattle.program_meaning.specs.Executions.{Execution}
 use Rattle.program_meaning.specs.Coherence.{final_value}

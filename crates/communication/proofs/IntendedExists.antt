@@ -10,8 +10,8 @@ use Rattle.relax_edges.specs.EdgeTable.{source_of}
 use Rattle.list_laws.specs.Numbers.{upto}
 use Rattle.list_laws.proofs.Numbers.{length-map-upto, length-upto, slice_get-upto}
 use Rattle.std.proofs.lemmas.Option.{slice_get_within}
-use Rattle.cycle_resolve.specs.Resolution.{edge_at, move_count, thread_of, location_of}
-use Rattle.coherence_values.specs.Values.{value_of, write_count}
+use Rattle.resolution_laws.specs.Resolution.{edge_at, move_count, thread_of, location_of}
+use Rattle.value_laws.specs.Values.{value_of, write_count}
 use Rattle.program_meaning.specs.declared.WriteAt.{WriteAt}
 use Rattle.program_meaning.specs.Accesses.{Access, at_name}
 use Rattle.program_meaning.specs.Executions.{IsExecutionOf, IsOrderOf}

@@ -7,8 +7,8 @@ use Rattle.relax_edges.specs.declared.kinds.Dir.TheVariants as dirs
 use Rattle.relax_edges.specs.declared.kinds.ObsMode.{ObsMode}
 use Rattle.relax_edges.specs.declared.edge.Edge.{Edge}
 use Rattle.list_laws.proofs.Numbers.{slice_get-map-upto}
-use Rattle.cycle_resolve.specs.Resolution.{move_count, events_in}
-use Rattle.coherence_values.specs.Values.{value_of, write_count}
+use Rattle.resolution_laws.specs.Resolution.{move_count, events_in}
+use Rattle.value_laws.specs.Values.{value_of, write_count}
 use Rattle.program_meaning.specs.declared.WriteAt.{WriteAt}
 use Rattle.program_meaning.specs.Accesses.{Access, at_name}
 use Rattle.program_meaning.specs.Executions.{Execution, IsExecutionOf, IsOrderOf}

@@ -8,8 +8,8 @@ use Rattle.list_laws.specs.Numbers.{upto}
 use Rattle.list_laws.proofs.Cases.{by_less}
 use Rattle.list_laws.proofs.Numbers.{length-map-upto, slice_get-map-upto}
 use Rattle.list_laws.proofs.Ranks.{unrank_upto}
-use Rattle.cycle_resolve.specs.Resolution.{external_count, move_count, location_of, events_in}
-use Rattle.coherence_values.specs.Values.{value_of, write_count, is_observed}
+use Rattle.resolution_laws.specs.Resolution.{external_count, move_count, location_of, events_in}
+use Rattle.value_laws.specs.Values.{value_of, write_count, is_observed}
 use Rattle.program_meaning.specs.declared.WriteAt.{WriteAt}
 use Rattle.program_meaning.specs.Accesses.{Access, read, got_from, at_name, is_read}
 use Rattle.program_meaning.specs.Executions.{Execution, IsExecutionOf, AreReadsOf, CanRead}

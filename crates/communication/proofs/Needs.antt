@@ -18,9 +18,9 @@ use Rattle.list_laws.specs.Numbers.{upto}
 use Rattle.list_laws.proofs.Cases.{by_test, by_option, by_less}
 use Rattle.list_laws.proofs.Numbers.{slice_get-upto}
 use Rattle.list_laws.proofs.Finds.{any_upto_fails}
-use Rattle.cycle_resolve.specs.Resolution.{edge_at, move_count, location_of}
-use Rattle.coherence_values.specs.declared.valued.NeedsObserver.{NeedsObserver}
-use Rattle.coherence_values.specs.Values.{value_of, write_at, write_count, edge_into, is_inner_entry, is_write_at, is_observed, first_inner_entry, first_need, observer_need, Valuation, valuation_of}
+use Rattle.resolution_laws.specs.Resolution.{edge_at, move_count, location_of}
+use Rattle.value_laws.specs.declared.needs.NeedsObserver.{NeedsObserver}
+use Rattle.value_laws.specs.Values.{value_of, write_at, write_count, edge_into, is_inner_entry, is_write_at, is_observed, first_inner_entry, first_need, observer_need, Valuation, valuation_of}
 use Rattle.communication.specs.Premises.{IsServed}
 use Rattle.communication.proofs.Lists.{length-filter_map-upto, slice_get-filter_map-upto}
 use Rattle.communication.proofs.Resolves.{IsWrite, Resolves, EntersLast, InnerEntry}

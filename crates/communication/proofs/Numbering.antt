@@ -9,7 +9,7 @@ use Rattle.list_laws.specs.Numbers.{upto}
 use Rattle.list_laws.proofs.Cases.{by_test, by_less}
 use Rattle.list_laws.proofs.Counts.{count_upto-suc, count_upto-le, count_upto_one_more, count_upto_none}
 use Rattle.list_laws.proofs.Finds.{find_upto_only, any_upto, any_upto_none, any_upto_passing}
-use Rattle.cycle_resolve.specs.Resolution.{move_count}
+use Rattle.resolution_laws.specs.Resolution.{move_count}
 use Rattle.program_meaning.specs.Intended.{IsNumbering, location_numbered}
 
 -- where all numbers below n are counted, each passes

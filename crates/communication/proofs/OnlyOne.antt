@@ -15,8 +15,8 @@ use Rattle.list_laws.proofs.Cases.{by_test}
 use Rattle.list_laws.proofs.Ranks.{rank_upto}
 use Rattle.list_laws.specs.Numbers.{upto}
 use Rattle.std.specs.List.{count_by}
-use Rattle.cycle_resolve.specs.Resolution.{edge_at, external_count, move_count, thread_of, slot_of, location_of, event_after}
-use Rattle.coherence_values.specs.Values.{value_of, write_count, is_observed, edge_into}
+use Rattle.resolution_laws.specs.Resolution.{edge_at, external_count, move_count, thread_of, slot_of, location_of, event_after}
+use Rattle.value_laws.specs.Values.{value_of, write_count, is_observed, edge_into}
 use Rattle.program_meaning.specs.declared.WriteAt.{WriteAt}
 use Rattle.program_meaning.specs.Accesses.{read, at_name}
 use Rattle.program_meaning.specs.Executions.{Execution}

@@ -8,7 +8,7 @@ use Rattle.relax_edges.specs.declared.kinds.Dir.TheVariants as dirs
 use Rattle.relax_edges.specs.declared.kinds.ObsMode.{ObsMode}
 use Rattle.relax_edges.specs.declared.edge.Edge.{Edge}
 use Rattle.micro_ops.specs.Running.{Outcome}
-use Rattle.coherence_values.specs.Values.{write_count}
+use Rattle.value_laws.specs.Values.{write_count}
 use Rattle.program_meaning.specs.declared.WriteAt.{WriteAt}
 use Rattle.program_meaning.specs.Accesses.{Access, accesses_of, visits_of, is_read}
 use Rattle.program_meaning.specs.Executions.{Execution, IsExecutionOf}

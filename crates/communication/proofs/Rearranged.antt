@@ -4,8 +4,8 @@ use Rattle.std.specs.List.{filter_map}
 use Rattle.relax_edges.specs.declared.kinds.ObsMode.{ObsMode}
 use Rattle.relax_edges.specs.declared.edge.Edge.{Edge}
 use Rattle.list_laws.specs.Numbers.{upto}
-use Rattle.cycle_resolve.specs.Resolution.{move_count}
-use Rattle.coherence_values.specs.Values.{write_count}
+use Rattle.resolution_laws.specs.Resolution.{move_count}
+use Rattle.value_laws.specs.Values.{write_count}
 use Rattle.program_meaning.specs.declared.WriteAt.{WriteAt}
 use Rattle.program_meaning.specs.Accesses.{at_name}
 use Rattle.program_meaning.specs.Executions.{IsOrderOf}

@@ -9,9 +9,9 @@ use Rattle.relax_edges.specs.declared.kinds.Reach.TheVariants.{Internal, Externa
 use Rattle.relax_edges.specs.declared.kinds.ObsMode.{ObsMode}
 use Rattle.relax_edges.specs.declared.edge.Edge.{Edge}
 use Rattle.relax_edges.specs.EdgeTable.{source_of, target_of, place_of, reach_of}
-use Rattle.cycle_resolve.specs.Resolution.{edge_at, external_count, move_count, thread_of, slot_of, location_of, event_after, event_before, events_in}
-use Rattle.cycle_resolve.proofs.Around.{before_below, after_before}
-use Rattle.coherence_values.specs.Values.{value_of, write_at, write_count, edge_into, is_observed}
+use Rattle.resolution_laws.specs.Resolution.{edge_at, external_count, move_count, thread_of, slot_of, location_of, event_after, event_before, events_in}
+use Rattle.resolution_laws.proofs.Around.{before_below, after_before}
+use Rattle.value_laws.specs.Values.{value_of, write_at, write_count, edge_into, is_observed}
 use Rattle.program_meaning.specs.Coherence.{MayFollow}
 
 -- event i is in slot s of thread k

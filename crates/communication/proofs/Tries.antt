@@ -11,8 +11,8 @@ use Rattle.relax_edges.specs.declared.kinds.ObsMode.TheVariants.{Accept, Avoid, 
 use Rattle.relax_edges.specs.declared.edge.Edge.{Edge}
 use Rattle.relax_edges.specs.declared.edge.Edge.TheVariants as edges
 use Rattle.list_laws.specs.Numbers.{upto}
-use Rattle.cycle_resolve.specs.Resolution.{edge_at, event_after, move_count, thread_of, slot_of, location_of, moves_before, events_in}
-use Rattle.coherence_values.specs.Values.{value_of, way_place, write_count, write_at, is_observed}
+use Rattle.resolution_laws.specs.Resolution.{edge_at, event_after, move_count, thread_of, slot_of, location_of, moves_before, events_in}
+use Rattle.value_laws.specs.Values.{value_of, way_place, write_count, write_at, is_observed}
 use Rattle.program_meaning.specs.Accesses.{Access, read, write}
 use Rattle.program_meaning.specs.Executions.{Execution}
 use Rattle.program_meaning.specs.Coherence.{coherence_place, final_value}

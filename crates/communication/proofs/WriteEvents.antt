@@ -5,8 +5,8 @@ use Rattle.relax_edges.specs.declared.kinds.Dir.TheVariants as dirs
 use Rattle.relax_edges.specs.declared.kinds.ObsMode.{ObsMode}
 use Rattle.relax_edges.specs.declared.edge.Edge.{Edge}
 use Rattle.relax_edges.specs.EdgeTable.{source_of}
-use Rattle.cycle_resolve.specs.Resolution.{edge_at, move_count, location_of}
-use Rattle.coherence_values.specs.Values.{value_of, write_count}
+use Rattle.resolution_laws.specs.Resolution.{edge_at, move_count, location_of}
+use Rattle.value_laws.specs.Values.{value_of, write_count}
 use Rattle.program_meaning.specs.declared.WriteAt.{WriteAt}
 use Rattle.program_meaning.specs.Accesses.{Access, write, at_name}
 use Rattle.program_meaning.specs.Executions.{CanRead}

@@ -5,8 +5,8 @@ use Rattle.std.specs.List.{filter_map}
 use Rattle.relax_edges.specs.declared.kinds.ObsMode.TheVariants.{Avoid}
 use Rattle.relax_edges.specs.declared.edge.Edge.{Edge}
 use Rattle.list_laws.specs.Numbers.{upto}
-use Rattle.cycle_resolve.specs.Resolution.{move_count, location_of}
-use Rattle.coherence_values.specs.Values.{value_of, write_count}
+use Rattle.resolution_laws.specs.Resolution.{move_count, location_of}
+use Rattle.value_laws.specs.Values.{value_of, write_count}
 use Rattle.program_meaning.specs.declared.WriteAt.{WriteAt}
 use Rattle.program_meaning.specs.Executions.{Execution}
 use Rattle.program_meaning.specs.Intended.{write_of, location_numbered, intended}

@@ -6,8 +6,8 @@ use Rattle.relax_edges.specs.declared.kinds.Dir.TheVariants as dirs
 use Rattle.relax_edges.specs.declared.kinds.ObsMode.{ObsMode}
 use Rattle.relax_edges.specs.declared.edge.Edge.{Edge}
 use Rattle.micro_ops.specs.declared.operation.Item.{Item}
-use Rattle.cycle_resolve.specs.Resolution.{edge_at, external_count, move_count, event_after}
-use Rattle.coherence_values.specs.Values.{is_observed, write_count}
+use Rattle.resolution_laws.specs.Resolution.{edge_at, external_count, move_count, event_after}
+use Rattle.value_laws.specs.Values.{is_observed, write_count}
 use Rattle.program_meaning.specs.declared.WriteAt.{WriteAt}
 use Rattle.program_meaning.specs.Accesses.{Access, Visit, barriers_behind, is_read}
 use Rattle.program_meaning.specs.Executions.{Execution}

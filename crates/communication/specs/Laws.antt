@@ -4,9 +4,9 @@ use Rattle.relax_edges.specs.declared.kinds.ObsMode.{ObsMode}
 use Rattle.relax_edges.specs.declared.kinds.ObsMode.TheVariants.{Avoid}
 use Rattle.relax_edges.specs.declared.edge.Edge.{Edge}
 use Rattle.micro_ops.specs.Running.{Outcome}
-use Rattle.cycle_resolve.specs.Resolution.{IsResolved, edge_at, event_after, event_before, move_count}
-use Rattle.coherence_values.specs.declared.valued.NeedsObserver.{NeedsObserver}
-use Rattle.coherence_values.specs.Values.{observer_need}
+use Rattle.resolution_laws.specs.Resolution.{IsResolved, edge_at, event_after, event_before, move_count}
+use Rattle.value_laws.specs.declared.needs.NeedsObserver.{NeedsObserver}
+use Rattle.value_laws.specs.Values.{observer_need}
 use Rattle.program_meaning.specs.Executions.{Execution}
 use Rattle.program_meaning.specs.Coherence.{final_value}
 use Rattle.program_meaning.specs.Programs.{Program, HasEnded, runs_of}

@@ -4,8 +4,8 @@ use Rattle.std.specs.Prelude.{◌≡◌, ℕ, ◌<◌, ◌≤◌, false, List, N
 use Rattle.relax_edges.specs.declared.kinds.ObsMode.{ObsMode}
 use Rattle.relax_edges.specs.declared.kinds.ObsMode.TheVariants.{Accept, Avoid, Force}
 use Rattle.relax_edges.specs.declared.edge.Edge.{Edge}
-use Rattle.cycle_resolve.specs.Resolution.{move_count}
-use Rattle.coherence_values.specs.Values.{is_observed, observer_need, write_count}
+use Rattle.resolution_laws.specs.Resolution.{move_count}
+use Rattle.value_laws.specs.Values.{is_observed, observer_need, write_count}
 use Rattle.program_meaning.specs.Executions.{Execution, IsExecutionOf}
 use Rattle.program_meaning.specs.Coherence.{IsCoherent, final_value}
 use Rattle.program_meaning.specs.Intended.{cycle_accesses}

@@ -1,2 +1,1 @@
-pub mod Resolution
 pub mod Kept

@@ -3,4 +3,5 @@
 
 mod resolved;
 
-pub use resolved::{Event, ResolveError, Resolved, resolve};
+pub use resolution_laws::{Event, ResolveError};
+pub use resolved::{Resolved, resolve};

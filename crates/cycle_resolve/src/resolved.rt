@@ -1,37 +1,13 @@
 ghost use Rattle.std.specs.Prelude.{◌≡◌, ◌≤◌, ◌<◌, length, IfOk, position};
 ghost use Rattle.walk_laws.specs.Rotation.{rotated};
 ghost use Rattle.relax_edges.specs.EdgeTable.{is_external};
-ghost use Rattle.cycle_resolve.specs.Resolution.{external_count, move_count, ends_outside, turned, event_of, events_of, is_coherence_only, resolution_of, IsResolved};
+ghost use Rattle.resolution_laws.specs.Resolution.{external_count, move_count, ends_outside, turned, event_of, events_of, is_coherence_only, resolution_of, IsResolved};
 
 use arrayvec::ArrayVec;
 use edge_algebra::Cycle;
-use relax_edges::{Dir, Edge, MAX_EDGES};
+use relax_edges::{Edge, MAX_EDGES};
+use resolution_laws::{Event, ResolveError};
 use std::marker::Model;
-
-/// An access of a cycle: what it does, and where.
-#[derive(Clone, Copy, Debug, Default, PartialEq, Eq)]
-pub struct Event {
-    /// Whether it reads or writes.
-    pub dir: Dir,
-    /// Its thread, from 0.
-    pub thread: u8,
-    /// Its place in the thread, from 0.
-    pub slot: u8,
-    /// Its location, from 0.
-    pub location: u8,
-}
-
-/// Why a cycle has no resolution.
-#[derive(Clone, Copy, Debug, PartialEq, Eq, thiserror::Error)]
-pub enum ResolveError {
-    /// Fewer than two edges are external.
-    #[error("a cycle has at least two external edges")]
-    TooFewThreads,
-    /// All edges to another location lie in one thread, or there is none: coherence alone says
-    /// which executions of such a cycle are possible.
-    #[error("the edges to another location lie in one thread")]
-    CoherenceOnly,
-}
 
 /// A cycle whose last edge is external, with the events of its edges.
 ///

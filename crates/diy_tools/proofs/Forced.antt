@@ -15,7 +15,7 @@ use Rattle.walk_laws.specs.Composable.{IsCycle, first_break}
 use Rattle.walk_laws.proofs.Composing.{unbroken_cycle}
 use Rattle.edge_algebra.specs.declared.errors.CycleError.TheVariants as composing
 use Rattle.edge_algebra.specs.Compose.{unbroken}
-use Rattle.cycle_resolve.specs.Resolution.{turned}
+use Rattle.resolution_laws.specs.Resolution.{turned}
 use Rattle.arch_trait.specs.Cells.{WritesCells, MakesOneAccess}
 use Rattle.arch_trait.specs.Laws.{IsArch}
 use Rattle.arch_trait.specs.Threads.{Puts}

@@ -4,7 +4,7 @@
 use Rattle.std.specs.Prelude.{◌≡◌, ℕ, List, Result, Ok, None}
 use Rattle.relax_edges.specs.declared.edge.Edge.{Edge}
 use Rattle.relax_edges.specs.declared.kinds.ObsMode.{ObsMode}
-use Rattle.cycle_resolve.specs.Resolution.{turned}
+use Rattle.resolution_laws.specs.Resolution.{turned}
 use Rattle.diy_io.specs.Shelf.{ShelfSeen}
 use Rattle.diy_io.specs.Wrote.{SinkSeen}
 use Rattle.diy_words.specs.declared.usage.Usage.{Usage}

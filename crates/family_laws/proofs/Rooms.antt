@@ -10,8 +10,8 @@ use Rattle.relax_edges.specs.declared.edge.Edge.{Edge}
 use Rattle.list_laws.specs.Numbers.{upto}
 use Rattle.list_laws.proofs.Cases.{by_test}
 use Rattle.list_laws.proofs.Numbers.{length-map-upto}
-use Rattle.cycle_resolve.specs.Resolution.{events_in, external_count, move_count}
-use Rattle.coherence_values.specs.Values.{is_observed, write_count}
+use Rattle.resolution_laws.specs.Resolution.{events_in, external_count, move_count}
+use Rattle.value_laws.specs.Values.{is_observed, write_count}
 use Rattle.program_meaning.specs.Intended.{observed_locations}
 use Rattle.arch_trait.specs.declared.step.Shape.{Shape}
 use Rattle.arch_trait.specs.declared.step.Step.{Step}

@@ -10,9 +10,9 @@ use Rattle.relax_edges.specs.declared.edge.Edge.{Edge}
 use Rattle.relax_edges.specs.EdgeTable.{is_of_arch}
 use Rattle.list_laws.proofs.Cases.{by_test}
 use Rattle.cycle_names.specs.Families.{all_families, family_edges}
-use Rattle.cycle_resolve.specs.declared.resolved.ResolveError.TheVariants as resolving
-use Rattle.cycle_resolve.specs.Resolution.{external_count, move_count, turned, thread_of, moves_before, location_of, events_in, moves_in, is_coherence_only, resolution_of}
-use Rattle.coherence_values.specs.Values.{write_count}
+use Rattle.resolution_laws.specs.declared.errors.ResolveError.TheVariants as resolving
+use Rattle.resolution_laws.specs.Resolution.{external_count, move_count, turned, thread_of, moves_before, location_of, events_in, moves_in, is_coherence_only, resolution_of}
+use Rattle.value_laws.specs.Values.{write_count}
 use Rattle.arch_trait.specs.Threads.{Puts}
 use Rattle.test_maker.specs.declared.refusal.MakeRefusal.TheVariants.{NotOfArch}
 use Rattle.test_maker.specs.Refusals.{or_else, refusal_of, resolved_refusal}

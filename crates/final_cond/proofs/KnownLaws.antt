@@ -4,7 +4,7 @@ use Rattle.std.specs.Prelude.{Bool, true, cond, Option, Some, None, Ok}
 use Rattle.final_cond.specs.declared.errors.CondKind.TheVariants.{BadTerm}
 use Rattle.final_cond.specs.Conditions.{LeftSeen}
 use Rattle.final_cond.specs.Reading.{Read, ◌>>=◌, fault, found, only_known, left_at_front, left_read}
-use Rattle.final_cond.proofs.RunLaws.{by_test}
+use Rattle.text_laws.proofs.RunLaws.{by_test}
 
 -- a left side that was read, where it passes a stricter test too
 abbrev pub judged : (LeftSeen → Bool) → List ℕ → LeftSeen × List ℕ → Read LeftSeen

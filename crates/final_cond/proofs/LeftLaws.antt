@@ -5,7 +5,7 @@ use Rattle.std.specs.Char.{is_ascii_digit}
 use Rattle.std.proofs.lemmas.Bool.{eq-eqb, ne_eqb}
 use Rattle.std.proofs.lemmas.Bool.Decides.{nat_tests}
 use Rattle.final_cond.specs.Reading.{left_at_front, bracketed_at_front, register_at_front, place_at_front}
-use Rattle.final_cond.proofs.NameLaws.{rest_is}
+use Rattle.text_laws.proofs.NameLaws.{rest_is}
 
 pub left_of_nothing : (text : List ℕ) → length text < 1 → left_at_front text ≡ None
 unfolding left_at_front

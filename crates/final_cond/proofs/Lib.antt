@@ -1,7 +1,4 @@
 mod ReadingRows
-pub mod RunLaws
-pub mod NameLaws
-pub mod NumberLaws
 pub mod LeftLaws
 pub mod TermLaws
 pub mod WithinLaws

@@ -10,13 +10,13 @@ use Rattle.std.proofs.lemmas.Bool.Decides.{nat_tests}
 use Rattle.std.proofs.lemmas.List.Folds.{list_all-append}
 use Rattle.final_cond.specs.declared.cond.Quantifier.{Quantifier}
 use Rattle.final_cond.specs.declared.cond.Quantifier.TheVariants.{Exists, NotExists, Forall}
-use Rattle.final_cond.specs.Names.{is_place_byte}
+use Rattle.text_laws.specs.Names.{is_place_byte}
 use Rattle.final_cond.specs.Conditions.{LeftSeen, InRegister, AtPlace, TermSeen, CondSeen}
 use Rattle.final_cond.specs.CondText.{quantifier_word, left_text, term_text, further_term_text, terms_text, cond_text}
 use Rattle.final_cond.specs.ReadBack.{IsFormedTerm, IsFormed}
 use Rattle.final_cond.specs.Reading.{has_form}
 use Rattle.final_cond.proofs.BackLaws.{Named, named, place_bytes, digits_of}
-use Rattle.final_cond.proofs.NameLaws.{all_weaker}
+use Rattle.text_laws.proofs.NameLaws.{all_weaker}
 
 -- a byte from the blank to `~`
 abbrev pub is_printable : ℕ → Bool

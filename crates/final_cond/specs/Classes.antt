@@ -3,8 +3,8 @@ use Rattle.std.specs.Prelude.{ℕ, Bool}
 use Rattle.std.specs.Char.{is_ascii_digit, is_ascii_alphanumeric}
 use Rattle.final_cond.specs.declared.runs.Class.{Class}
 use Rattle.final_cond.specs.declared.runs.Class.TheVariants as classes
-use Rattle.final_cond.specs.Names.{is_place_byte}
-use Rattle.final_cond.specs.Runs.{is_blank}
+use Rattle.text_laws.specs.Names.{is_place_byte}
+use Rattle.text_laws.specs.Runs.{is_blank}
 use Rattle.final_cond.specs.Reading.{is_word_byte}
 
 -- whether a byte is of a class

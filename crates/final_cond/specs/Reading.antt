@@ -12,10 +12,10 @@ use Rattle.final_cond.specs.declared.errors.CondKind.TheVariants.{BadQuantifier,
 use Rattle.final_cond.specs.declared.errors.CondError.{CondError}
 use Rattle.final_cond.specs.declared.read.Follow.{Follow}
 use Rattle.final_cond.specs.declared.read.Follow.TheVariants as follows
-use Rattle.final_cond.specs.Names.{is_place_byte, is_place_name, is_register_name}
+use Rattle.text_laws.specs.Names.{is_place_byte, is_place_name, is_register_name}
 use Rattle.final_cond.specs.Conditions.{LeftSeen, InRegister, AtPlace, TermSeen, CondSeen}
-use Rattle.final_cond.specs.Numbers.{number_of}
-use Rattle.final_cond.specs.Runs.{run_of, after_run, is_blank, unblanked}
+use Rattle.text_laws.specs.Numbers.{number_of}
+use Rattle.text_laws.specs.Runs.{run_of, after_run, is_blank, unblanked}
 
 -- what is faulty, and the text from there on
 pub record Fault : Type 0 where

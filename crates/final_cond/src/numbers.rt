@@ -1,12 +1,12 @@
 ghost use Rattle.std.specs.Prelude.{◌≡◌};
-ghost use Rattle.final_cond.specs.Numbers.{number_of};
+ghost use Rattle.text_laws.specs.Numbers.{number_of};
 
 use crate::runs::Class;
 use std::str;
 
 /// The number that these bytes write in decimal. There is none where they aren't digits, have a
 /// leading zero, or write more than `u32::MAX`.
-#[tactic(auto, using(crate::proofs::NumberLaws::not_digits, crate::proofs::NumberLaws::leading_zero, crate::proofs::NumberLaws::parsed, crate::proofs::NumberLaws::digits_ascii))]
+#[tactic(auto, using(text_laws::proofs::NumberLaws::not_digits, text_laws::proofs::NumberLaws::leading_zero, text_laws::proofs::NumberLaws::parsed, text_laws::proofs::NumberLaws::digits_ascii))]
 pub fn number_of(digits: &[u8]) -> Option<u32>
     ensures { result ≡ number_of digits.now }
 {

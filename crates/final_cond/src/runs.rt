@@ -1,7 +1,7 @@
 ghost use Rattle.std.specs.Prelude.{◌≡◌, length};
 ghost use Rattle.std.specs.List.{list_all};
 ghost use Rattle.final_cond.specs.Classes.{class_test};
-ghost use Rattle.final_cond.specs.Runs.{run_of, after_run};
+ghost use Rattle.text_laws.specs.Runs.{run_of, after_run};
 
 /// The classes of bytes of which the words of a condition are made.
 #[derive(Clone, Copy)]
@@ -35,7 +35,7 @@ impl Class {
 }
 
 /// The bytes at the front of a text that are of a class, and the text behind them.
-#[tactic(auto, using(crate::proofs::RunLaws::run_stops, crate::proofs::RunLaws::run_ends, crate::proofs::RunLaws::none_passed, crate::proofs::RunLaws::one_passed))]
+#[tactic(auto, using(text_laws::proofs::RunLaws::run_stops, text_laws::proofs::RunLaws::run_ends, text_laws::proofs::RunLaws::none_passed, text_laws::proofs::RunLaws::one_passed))]
 pub(crate) fn split_run(class: Class, text: &[u8]) -> (&[u8], &[u8])
     ensures run { result.0.now ≡ run_of (class_test class) text.now }
     ensures rest { result.1.now ≡ after_run (class_test class) text.now }

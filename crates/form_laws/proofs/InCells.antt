@@ -5,18 +5,18 @@ use Rattle.std.specs.Str.{bytes_eq}
 use Rattle.std.proofs.lemmas.Bool.{and_parts, and_from, leb-true, ltb-true}
 use Rattle.std.proofs.lemmas.Bool.Decides.{nat_tests}
 use Rattle.std.proofs.lemmas.Fmt.{length-decimal-le}
-use Rattle.final_cond.specs.Names.{is_place_name}
+use Rattle.text_laws.specs.Names.{is_place_name}
 use Rattle.final_cond.specs.Reading.{is_word_byte}
-use Rattle.final_cond.specs.Runs.{is_blank, run_of, after_run, unblanked}
-use Rattle.final_cond.proofs.NameLaws.{all_weaker, place_name_short}
+use Rattle.text_laws.specs.Runs.{is_blank, run_of, after_run, unblanked}
+use Rattle.text_laws.proofs.NameLaws.{all_weaker, place_name_short}
 use Rattle.micro_ops.specs.declared.operation.Micro.{Micro}
 use Rattle.micro_ops.specs.declared.operation.Micro.TheVariants as ops
 use Rattle.arch_trait.specs.Cells.{is_cell_byte, first_word, ends_rows, is_label_op, WritesCells}
 use Rattle.arch_trait.specs.Reading.{few}
 use Rattle.arch_trait.specs.Threads.{Puts}
 use Rattle.arch_trait.specs.Writing.{OperandTexts, none, one, two, three, four, more, listed, text_of, name_of, is_named, is_label_name, label_name}
-use Rattle.arch_trait.proofs.CellTexts.{all_both, place_cell, decimal_cell}
-use Rattle.arch_trait.proofs.FormBacks.{label_cell}
+use Rattle.arch_laws.proofs.CellTexts.{all_both, place_cell, decimal_cell}
+use Rattle.arch_laws.proofs.FormBacks.{label_cell}
 use Rattle.arch_trait.proofs.PlainTexts.{three_digits}
 use Rattle.form_laws.specs.declared.form.Hole.{Hole}
 use Rattle.form_laws.specs.declared.form.Hole.TheVariants as holes

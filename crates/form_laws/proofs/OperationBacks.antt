@@ -9,7 +9,7 @@ use Rattle.micro_ops.specs.declared.operation.Micro.{Micro}
 use Rattle.micro_ops.specs.declared.operation.Micro.TheVariants as ops
 use Rattle.micro_ops.specs.declared.operation.Barrier.{Barrier}
 use Rattle.micro_ops.specs.declared.operation.Barrier.TheVariants as barriers
-use Rattle.final_cond.specs.Names.{is_place_name}
+use Rattle.text_laws.specs.Names.{is_place_name}
 use Rattle.arch_trait.specs.Writing.{raw_of, name_of, is_named, is_label_name, label_name}
 use Rattle.form_laws.specs.declared.kind.Kind.{Kind}
 use Rattle.form_laws.specs.declared.kind.Kind.TheVariants as kinds

@@ -7,8 +7,8 @@ use Rattle.std.specs.Str.{bytes_eq}
 use Rattle.std.proofs.Math.Seq.{take-append_seam, drop-append_seam}
 use Rattle.std.proofs.lemmas.Bool.{and_parts, le-leb, lt-ltb, eq-eqb, ltb-true, leb-true}
 use Rattle.std.proofs.lemmas.Slice.Eq.{bytes_eq-Decides}
-use Rattle.final_cond.specs.Numbers.{number_of}
-use Rattle.final_cond.proofs.NumberLaws.{number_of-decimal}
+use Rattle.text_laws.specs.Numbers.{number_of}
+use Rattle.text_laws.proofs.NumberLaws.{number_of-decimal}
 use Rattle.arch_trait.specs.Writing.{register_at, label_name}
 use Rattle.arch_trait.proofs.PlainTexts.{immediate_back}
 use Rattle.form_laws.specs.declared.form.Hole.{Hole}

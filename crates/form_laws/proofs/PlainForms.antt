@@ -6,14 +6,14 @@ use Rattle.std.specs.Str.{bytes_eq}
 use Rattle.std.proofs.lemmas.Bool.{and_parts, and_from, and_right, leb-true, ltb-true}
 use Rattle.std.proofs.lemmas.List.Folds.{list_all-append}
 use Rattle.std.proofs.lemmas.Slice.Eq.{bytes_eq-Decides}
-use Rattle.final_cond.specs.Names.{is_place_name}
+use Rattle.text_laws.specs.Names.{is_place_name}
 use Rattle.final_cond.proofs.BackLaws.{digits_of}
-use Rattle.final_cond.proofs.NameLaws.{all_weaker}
+use Rattle.text_laws.proofs.NameLaws.{all_weaker}
 use Rattle.arch_trait.specs.Cells.{is_cell_byte}
 use Rattle.arch_trait.specs.Reading.{few}
 use Rattle.arch_trait.specs.Writing.{is_plain, all_plain, is_label_name, label_name, label_word}
-use Rattle.arch_trait.proofs.CellTexts.{all_both}
-use Rattle.arch_trait.proofs.FormBacks.{label_plain}
+use Rattle.arch_laws.proofs.CellTexts.{all_both}
+use Rattle.arch_laws.proofs.FormBacks.{label_plain}
 use Rattle.arch_trait.proofs.PlainTexts.{decimal_plain, place_name_plain}
 use Rattle.arch_trait.proofs.Spelling.{is_word_byte}
 use Rattle.arch_trait.proofs.Taking.{by_test}

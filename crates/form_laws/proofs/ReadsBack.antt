@@ -5,13 +5,13 @@ use Rattle.std.specs.List.{list_all, list_any, IsDistinct}
 use Rattle.std.specs.Str.{bytes_eq}
 use Rattle.std.proofs.Common.{refl, ◌∙◌, ap, arith}
 use Rattle.std.proofs.lemmas.Bool.{and_parts, leb-true}
-use Rattle.final_cond.specs.Names.{is_register_name}
+use Rattle.text_laws.specs.Names.{is_register_name}
 use Rattle.micro_ops.specs.declared.operation.Micro.{Micro}
 use Rattle.micro_ops.specs.declared.operation.Micro.TheVariants as ops
 use Rattle.arch_trait.specs.Forms.{label_alone}
 use Rattle.arch_trait.specs.Threads.{Puts}
 use Rattle.arch_trait.specs.Writing.{WritesBack, Written, none, RawInstr, name_of, is_named, raw_of, is_plain, all_plain, label_word}
-use Rattle.arch_trait.proofs.FormBacks.{label_word_plain}
+use Rattle.arch_laws.proofs.FormBacks.{label_word_plain}
 use Rattle.arch_trait.proofs.PlainTexts.{label_back}
 use Rattle.form_laws.specs.declared.form.Labels.{Labels}
 use Rattle.form_laws.specs.declared.form.Labels.TheVariants as labels

@@ -11,7 +11,7 @@ use Rattle.relax_edges.specs.declared.kinds.ObsMode.{ObsMode}
 use Rattle.relax_edges.specs.EdgeTable.{is_of_arch, is_external}
 use Rattle.walk_laws.specs.Composable.{IsCycle}
 use Rattle.listing_laws.specs.Listing.{IsListed}
-use Rattle.cycle_resolve.specs.Resolution.{external_count, resolution_of}
+use Rattle.resolution_laws.specs.Resolution.{external_count, resolution_of}
 use Rattle.arch_trait.specs.Threads.{Puts}
 use Rattle.test_maker.specs.declared.refusal.MakeRefusal.{MakeRefusal}
 use Rattle.test_maker.specs.declared.refusal.MakeRefusal.TheVariants.{NotOfArch}

@@ -9,7 +9,7 @@ use Rattle.relax_edges.specs.declared.kinds.ObsMode.{ObsMode}
 use Rattle.relax_edges.specs.EdgeTable.{is_of_arch}
 use Rattle.listing_laws.specs.Listing.{IsListed}
 use Rattle.cycle_names.specs.Names.{name_of}
-use Rattle.cycle_resolve.specs.Resolution.{external_count}
+use Rattle.resolution_laws.specs.Resolution.{external_count}
 use Rattle.arch_trait.specs.Threads.{Puts}
 use Rattle.arch_trait.specs.Writing.{Writing}
 use Rattle.test_maker.specs.Refusals.{refusal_of}

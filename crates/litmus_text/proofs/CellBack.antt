@@ -3,7 +3,7 @@ use Rattle.std.proofs.Common.{◌≡◌, ℕ, zero, suc, List, [], ◌∷◌, �
 use Rattle.std.specs.Prelude.{Bool}
 use Rattle.std.specs.List.{list_all}
 use Rattle.std.proofs.Math.ListN.{replicate}
-use Rattle.final_cond.specs.Runs.{is_blank, run_of, after_run, unblanked}
+use Rattle.text_laws.specs.Runs.{is_blank, run_of, after_run, unblanked}
 use Rattle.arch_trait.specs.Reading.{before_blanks, kept_before, trimmed, is_inked, operands_in, operands_if, written_in, instr_read, number_raw}
 use Rattle.arch_trait.specs.Writing.{Writing, Written}
 use Rattle.arch_trait.specs.Cells.{is_cell_byte}

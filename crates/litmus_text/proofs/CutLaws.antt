@@ -5,7 +5,7 @@ use Rattle.std.specs.List.{list_all, filter, slice_split}
 use Rattle.std.proofs.lemmas.Bool.{eqb-true, eqb-false}
 use Rattle.std.proofs.lemmas.List.{take-append-drop}
 use Rattle.std.proofs.Math.Seq.{drop-cons, take-length}
-use Rattle.final_cond.specs.Runs.{run_of, after_run, is_blank, unblanked}
+use Rattle.text_laws.specs.Runs.{run_of, after_run, is_blank, unblanked}
 use Rattle.arch_trait.specs.Reading.{before_blanks, kept_before, trimmed, is_inked}
 use Rattle.litmus_text.specs.Cuts.{is_nil, cut_at, pieces, words}
 use Rattle.litmus_text.specs.Lines.{is_comment, is_passed}

@@ -7,7 +7,7 @@ use Rattle.std.proofs.lemmas.List.Sums.{sum_by-append, sum_by-cons}
 use Rattle.micro_ops.specs.declared.operation.Micro.{Micro}
 use Rattle.micro_ops.specs.declared.operation.Micro.TheVariants as ops
 use Rattle.micro_ops.specs.Running.{labels_of, lands, stands}
-use Rattle.final_cond.specs.Names.{is_place_name}
+use Rattle.text_laws.specs.Names.{is_place_name}
 use Rattle.arch_trait.specs.declared.step.Step.{Step}
 use Rattle.arch_trait.specs.Cells.{is_access, accesses_in}
 use Rattle.arch_trait.specs.LabelOrder.{labels_after, is_next, labels_ordered}

@@ -14,7 +14,7 @@ use Rattle.relax_edges.specs.Architectures.{arch_word}
 use Rattle.relax_edges.specs.Words.{word_of}
 use Rattle.relax_edges.specs.AllEdges.{edges_in_order}
 use Rattle.relax_edges.proofs.Ranks.{each_edge}
-use Rattle.final_cond.specs.Runs.{is_blank, run_of, after_run, unblanked}
+use Rattle.text_laws.specs.Runs.{is_blank, run_of, after_run, unblanked}
 use Rattle.arch_trait.specs.Reading.{before_blanks, kept_before, trimmed}
 use Rattle.arch_trait.specs.Cells.{is_line_byte}
 use Rattle.litmus_text.specs.Lines.{Lines, line, is_passed}

@@ -9,7 +9,7 @@ use Rattle.arch_trait.specs.Cells.{is_line_byte}
 use Rattle.litmus_text.specs.Placing.{place_in}
 use Rattle.std.proofs.lemmas.List.Concat.{flat_map-append}
 use Rattle.std.proofs.lemmas.List.Folds.{list_all-append}
-use Rattle.final_cond.specs.Runs.{is_blank}
+use Rattle.text_laws.specs.Runs.{is_blank}
 use Rattle.arch_trait.specs.Threads.{Puts, ThreadCode}
 use Rattle.arch_trait.specs.Writing.{Writing, WritesBack, name_in}
 use Rattle.litmus_text.specs.Lines.{Lines, ends, line, ◌>>=◌}

@@ -10,14 +10,14 @@ use Rattle.std.proofs.lemmas.Bool.Decides.{nat_tests}
 use Rattle.std.proofs.lemmas.List.Sums.{AllPass-from_list_all}
 use Rattle.relax_edges.specs.declared.kinds.Value.TheVariants as values
 use Rattle.final_cond.specs.declared.errors.CondKind.TheVariants.{BadTerm}
-use Rattle.final_cond.specs.Names.{is_place_name, is_register_name, is_place_byte, begins_place}
-use Rattle.final_cond.specs.Numbers.{number_of}
-use Rattle.final_cond.specs.Runs.{is_blank, after_run, unblanked}
+use Rattle.text_laws.specs.Names.{is_place_name, is_register_name, is_place_byte, begins_place}
+use Rattle.text_laws.specs.Numbers.{number_of}
+use Rattle.text_laws.specs.Runs.{is_blank, after_run, unblanked}
 use Rattle.final_cond.specs.Conditions.{LeftSeen, InRegister}
 use Rattle.final_cond.specs.CondText.{left_text}
 use Rattle.final_cond.specs.Reading.{Fault, found, only_known, left_at_front, left_read, has_form}
 use Rattle.final_cond.proofs.BackLaws.{digits_of, left_back, named, place_bytes}
-use Rattle.final_cond.proofs.NumberLaws.{not_digits}
+use Rattle.text_laws.proofs.NumberLaws.{not_digits}
 use Rattle.arch_trait.specs.Threads.{Puts}
 use Rattle.arch_trait.specs.Names.{number_in, names_added}
 use Rattle.arch_trait.specs.Reading.{before_blanks, trimmed}

@@ -6,9 +6,9 @@ use Rattle.std.specs.Str.{bytes_eq}
 use Rattle.std.proofs.lemmas.Bool.{eqb-true}
 use Rattle.std.proofs.lemmas.Slice.Eq.{bytes_eq-Decides}
 use Rattle.final_cond.specs.declared.errors.CondKind.TheVariants.{BadTerm}
-use Rattle.final_cond.specs.Runs.{is_blank, after_run, unblanked}
+use Rattle.text_laws.specs.Runs.{is_blank, after_run, unblanked}
 use Rattle.final_cond.specs.Conditions.{LeftSeen, InRegister, AtPlace}
-use Rattle.final_cond.specs.Names.{is_register_name}
+use Rattle.text_laws.specs.Names.{is_register_name}
 use Rattle.final_cond.specs.Reading.{Fault, found, left_at_front, left_read, only_known, has_form}
 use Rattle.arch_trait.specs.Reading.{before_blanks, kept_before, trimmed}
 use Rattle.arch_trait.specs.Writing.{Writing}

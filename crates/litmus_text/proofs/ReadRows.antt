@@ -12,9 +12,9 @@ use Rattle.micro_ops.specs.declared.operation.Micro.{Micro}
 use Rattle.micro_ops.specs.declared.operation.Micro.TheVariants as ops
 use Rattle.micro_ops.specs.declared.operation.Barrier.TheVariants.{Fence}
 use Rattle.final_cond.specs.declared.cond.Quantifier.TheVariants.{Exists, NotExists}
-use Rattle.final_cond.specs.Runs.{run_of, after_run}
-use Rattle.final_cond.specs.Names.{is_place_name, is_register_name}
-use Rattle.final_cond.specs.Numbers.{number_of}
+use Rattle.text_laws.specs.Runs.{run_of, after_run}
+use Rattle.text_laws.specs.Names.{is_place_name, is_register_name}
+use Rattle.text_laws.specs.Numbers.{number_of}
 use Rattle.final_cond.specs.Conditions.{LeftSeen, InRegister, AtPlace, TermSeen}
 use Rattle.final_cond.specs.Reading.{opening_read, sign_read, left_read, left_at_front, right_read, value_read, follow_read}
 use Rattle.arch_trait.specs.Names.{number_in}

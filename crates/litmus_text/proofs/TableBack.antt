@@ -7,7 +7,7 @@ use Rattle.std.proofs.Math.ListN.{replicate}
 use Rattle.std.proofs.lemmas.List.{replicate_more}
 use Rattle.std.proofs.lemmas.Bool.{ltb-true}
 use Rattle.std.proofs.lemmas.Bool.Decides.{nat_tests}
-use Rattle.final_cond.specs.Runs.{is_blank, run_of, after_run, unblanked}
+use Rattle.text_laws.specs.Runs.{is_blank, run_of, after_run, unblanked}
 use Rattle.final_cond.specs.Reading.{is_word_byte}
 use Rattle.micro_ops.specs.declared.operation.Micro.{Micro}
 use Rattle.micro_ops.specs.declared.operation.Micro.TheVariants as ops

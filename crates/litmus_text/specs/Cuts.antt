@@ -2,7 +2,7 @@
 -- Source: own.
 use Rattle.std.specs.Prelude.{ℕ, ◌==◌, Bool, true, false, cond, not, List, [], ◌∷◌, Option, Some, None}
 use Rattle.std.specs.List.{filter, slice_split}
-use Rattle.final_cond.specs.Runs.{is_blank}
+use Rattle.text_laws.specs.Runs.{is_blank}
 
 -- a text is empty
 abbrev pub is_nil : List ℕ → Bool

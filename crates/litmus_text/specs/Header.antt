@@ -5,7 +5,7 @@ use Rattle.std.specs.Char.{is_ascii_alphabetic}
 use Rattle.std.specs.Str.{bytes_eq}
 use Rattle.relax_edges.specs.declared.kinds.ArchName.{ArchName}
 use Rattle.relax_edges.specs.Architectures.{arch_word, arch_of}
-use Rattle.final_cond.specs.Runs.{run_of, after_run}
+use Rattle.text_laws.specs.Runs.{run_of, after_run}
 use Rattle.litmus_text.specs.declared.errors.TestKind.TheVariants.{BadHeader, BadQuote, EndMissing}
 use Rattle.litmus_text.specs.declared.limits.TheConstants.{MAX_NAME}
 use Rattle.litmus_text.specs.Lines.{Lines, ends, line, Read, bad}

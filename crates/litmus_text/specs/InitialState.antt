@@ -5,9 +5,9 @@ use Rattle.std.specs.List.{list_any}
 use Rattle.std.specs.Str.{bytes_eq}
 use Rattle.relax_edges.specs.declared.kinds.Value.{Value}
 use Rattle.relax_edges.specs.declared.kinds.Value.TheVariants as values
-use Rattle.final_cond.specs.Names.{is_place_name}
-use Rattle.final_cond.specs.Numbers.{number_of}
-use Rattle.final_cond.specs.Runs.{unblanked}
+use Rattle.text_laws.specs.Names.{is_place_name}
+use Rattle.text_laws.specs.Numbers.{number_of}
+use Rattle.text_laws.specs.Runs.{unblanked}
 use Rattle.final_cond.specs.Conditions.{LeftSeen, InRegister, AtPlace}
 use Rattle.final_cond.specs.Reading.{left_at_front}
 use Rattle.arch_trait.specs.Names.{number_in, number_added, names_added}

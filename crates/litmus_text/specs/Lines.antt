@@ -3,7 +3,7 @@
 use Rattle.std.specs.Prelude.{ℕ, ◌+◌, ◌-◌, ◌==◌, Bool, cond, ◌&&◌, ◌||◌, List, [], ◌∷◌, Result, Ok, Err, codes, length, take, drop}
 use Rattle.std.specs.List.{list_all, slice_split}
 use Rattle.std.specs.Str.{bytes_eq}
-use Rattle.final_cond.specs.Runs.{is_blank}
+use Rattle.text_laws.specs.Runs.{is_blank}
 use Rattle.arch_trait.specs.Reading.{trimmed}
 use Rattle.litmus_text.specs.declared.errors.TestKind.{TestKind}
 use Rattle.litmus_text.specs.declared.errors.TextError.{TextError}

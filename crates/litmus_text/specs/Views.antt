@@ -5,7 +5,7 @@ use Rattle.std.specs.Borrow.{Bor}
 use Rattle.std.specs.List.{list_all}
 use Rattle.final_cond.specs.declared.cond.Cond.{Cond}
 use Rattle.final_cond.specs.declared.cond.Term.{Term}
-use Rattle.final_cond.specs.Names.{is_place_name}
+use Rattle.text_laws.specs.Names.{is_place_name}
 use Rattle.final_cond.specs.Conditions.{TermSeen, term_view, cond_view}
 use Rattle.litmus_text.specs.declared.reading.cuts.Pieces.{Pieces}
 use Rattle.litmus_text.specs.declared.reading.text.Text.{Text}

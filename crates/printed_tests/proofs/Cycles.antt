@@ -10,7 +10,7 @@ use Rattle.walk_laws.specs.Composable.{IsCycle}
 use Rattle.cycle_names.specs.Names as cycles
 use Rattle.cycle_names.specs.Names.{name_of}
 use Rattle.cycle_names.proofs.NameLaws.{names_of_cycles}
-use Rattle.cycle_resolve.specs.Resolution.{turned}
+use Rattle.resolution_laws.specs.Resolution.{turned}
 use Rattle.arch_trait.specs.Cells.{WritesCells, MakesOneAccess}
 use Rattle.arch_trait.specs.Laws.{IsArch}
 use Rattle.arch_trait.specs.Threads.{Puts}

@@ -17,9 +17,9 @@ use Rattle.relax_edges.specs.declared.kinds.Dir.{Dir}
 use Rattle.relax_edges.specs.declared.kinds.Dir.TheVariants as dirs
 use Rattle.relax_edges.specs.declared.kinds.ObsMode.{ObsMode}
 use Rattle.relax_edges.specs.declared.edge.Edge.{Edge}
-use Rattle.coherence_values.proofs.Along.{write_count_most}
-use Rattle.cycle_resolve.specs.Resolution.{IsResolved, move_count}
-use Rattle.final_cond.specs.Names.{is_place_name, is_register_name}
+use Rattle.value_laws.proofs.Along.{write_count_most}
+use Rattle.resolution_laws.specs.Resolution.{IsResolved, move_count}
+use Rattle.text_laws.specs.Names.{is_place_name, is_register_name}
 use Rattle.arch_trait.specs.declared.step.Step.{Step}
 use Rattle.arch_trait.specs.Cells.{MakesOneAccess}
 use Rattle.arch_trait.specs.Codes.{AllBelow, IsFormed}
@@ -29,7 +29,7 @@ use Rattle.arch_trait.specs.Names.{letters, location_name, number_in}
 use Rattle.arch_trait.specs.Threads.{Puts, ThreadCode, FitSteps, compiled, is_load_dir, setting_out, visits}
 use Rattle.arch_trait.specs.Writing.{Writing, WritesBack, name_in}
 use Rattle.arch_trait.proofs.Codes.{thread_short}
-use Rattle.arch_trait.proofs.Ordered.{compiled_ordered, compiled_accesses}
+use Rattle.arch_laws.proofs.Ordered.{compiled_ordered, compiled_accesses}
 use Rattle.arch_trait.proofs.Tables.{location_new}
 use Rattle.arch_trait.proofs.Whole.{is_formed}
 use Rattle.litmus_text.specs.Items.{Link, LinkFits, links_of}

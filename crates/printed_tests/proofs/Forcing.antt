@@ -4,7 +4,7 @@ use Rattle.relax_edges.specs.declared.kinds.ArchName.{ArchName}
 use Rattle.relax_edges.specs.declared.kinds.ObsMode.{ObsMode}
 use Rattle.relax_edges.specs.declared.edge.Edge.{Edge}
 use Rattle.final_cond.specs.States.{Meets}
-use Rattle.cycle_resolve.specs.Resolution.{move_count}
+use Rattle.resolution_laws.specs.Resolution.{move_count}
 use Rattle.arch_trait.specs.Laws.{IsArch}
 use Rattle.arch_trait.specs.Names.{letters, number_in}
 use Rattle.arch_trait.specs.Threads.{Puts}

@@ -20,10 +20,10 @@ use Rattle.final_cond.specs.declared.cond.Quantifier.{Quantifier}
 use Rattle.final_cond.specs.declared.cond.Quantifier.TheVariants as quantifiers
 use Rattle.final_cond.specs.Conditions.{LeftSeen, InRegister, AtPlace, TermSeen, CondSeen}
 use Rattle.final_cond.specs.CondText.{quantifier_word, left_text, term_text, further_term_text, terms_text, cond_text}
-use Rattle.final_cond.specs.Names.{is_register_name}
+use Rattle.text_laws.specs.Names.{is_register_name}
 use Rattle.final_cond.specs.ReadBack.{IsFormedTerm}
 use Rattle.final_cond.specs.Reading.{has_form}
-use Rattle.final_cond.proofs.NameLaws.{place_name_short, register_name_short}
+use Rattle.text_laws.proofs.NameLaws.{place_name_short, register_name_short}
 use Rattle.arch_trait.specs.Threads.{ThreadCode}
 use Rattle.arch_trait.specs.Writing.{Writing, op_text, name_in}
 use Rattle.litmus_text.specs.declared.limits.TheConstants.{MAX_TEXT}

@@ -20,7 +20,7 @@ use Rattle.arch_trait.specs.declared.link.Link.{Link}
 use Rattle.arch_trait.specs.declared.link.Link.TheVariants as links
 use Rattle.arch_trait.specs.Links.{link_items, link_control}
 use Rattle.arch_trait.specs.Threads.{ThreadCode, access_item, first_of, left_after, loads_after, thread_items, loads_in}
-use Rattle.arch_trait.proofs.Renumbered.{loads_kept, renumbered_makes}
+use Rattle.arch_laws.proofs.Renumbered.{loads_kept, renumbered_makes}
 use Rattle.litmus_text.specs.Mentioned.{is_in, op_is_in}
 
 -- another number for one place

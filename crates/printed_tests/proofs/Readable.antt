@@ -7,12 +7,12 @@ use Rattle.std.proofs.lemmas.Option.{slice_get_within}
 use Rattle.relax_edges.specs.declared.kinds.ArchName.{ArchName}
 use Rattle.relax_edges.specs.declared.kinds.ObsMode.{ObsMode}
 use Rattle.relax_edges.specs.declared.edge.Edge.{Edge}
-use Rattle.cycle_resolve.specs.Resolution.{move_count}
+use Rattle.resolution_laws.specs.Resolution.{move_count}
 use Rattle.micro_ops.specs.declared.operation.Micro.{Micro}
 use Rattle.final_cond.specs.Conditions.{TermSeen}
-use Rattle.final_cond.specs.Names.{is_register_name}
+use Rattle.text_laws.specs.Names.{is_register_name}
 use Rattle.final_cond.specs.ReadBack.{IsFormedTerm}
-use Rattle.final_cond.proofs.NameLaws.{place_name_short, register_name_short}
+use Rattle.text_laws.proofs.NameLaws.{place_name_short, register_name_short}
 use Rattle.arch_trait.specs.Cells.{WritesCells, MakesOneAccess, is_access}
 use Rattle.arch_trait.specs.LabelOrder.{labels_after}
 use Rattle.arch_trait.specs.Laws.{IsArch, InOrder}

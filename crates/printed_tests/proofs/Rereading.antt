@@ -12,11 +12,11 @@ use Rattle.micro_ops.specs.declared.operation.Micro.{Micro}
 use Rattle.micro_ops.specs.declared.operation.Micro.TheVariants as ops
 use Rattle.micro_ops.specs.Renumbering.{op_at}
 use Rattle.list_laws.specs.Numbers.{upto}
-use Rattle.cycle_resolve.specs.Resolution.{IsResolved, move_count, external_count, events_in, location_of, slot_of}
-use Rattle.cycle_resolve.specs.Resolution as resolution
-use Rattle.cycle_resolve.proofs.Arcs.{leaving, thread_below}
-use Rattle.cycle_resolve.proofs.Locations.{location_first}
-use Rattle.cycle_resolve.proofs.Threads.{event_in_slot}
+use Rattle.resolution_laws.specs.Resolution.{IsResolved, move_count, external_count, events_in, location_of, slot_of}
+use Rattle.resolution_laws.specs.Resolution as resolution
+use Rattle.resolution_laws.proofs.Arcs.{leaving, thread_below}
+use Rattle.resolution_laws.proofs.Locations.{location_first}
+use Rattle.resolution_laws.proofs.Threads.{event_in_slot}
 use Rattle.arch_trait.specs.declared.step.Step.{Step}
 use Rattle.arch_trait.specs.Laws.{IsArch}
 use Rattle.arch_trait.specs.Names.{location_name, letters}

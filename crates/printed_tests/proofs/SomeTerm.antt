@@ -14,13 +14,13 @@ use Rattle.relax_edges.specs.declared.kinds.Dir.TheVariants as dirs
 use Rattle.relax_edges.specs.declared.kinds.ObsMode.{ObsMode}
 use Rattle.relax_edges.specs.declared.edge.Edge.{Edge}
 use Rattle.relax_edges.specs.EdgeTable.{is_external, same_dir, source_of}
-use Rattle.cycle_resolve.specs.Resolution.{IsResolved, edge_at, event_after, events_in, external_count, location_of, move_count, slot_of}
-use Rattle.cycle_resolve.specs.Resolution as resolution
-use Rattle.cycle_resolve.proofs.Arcs.{last_keeps, location_below, thread_below}
-use Rattle.cycle_resolve.proofs.Around.{after_below}
-use Rattle.cycle_resolve.proofs.Threads.{event_in_slot}
-use Rattle.coherence_values.specs.Values.{is_observed, value_of, write_count}
-use Rattle.coherence_values.proofs.Along.{value_after, value_most, write_value}
+use Rattle.resolution_laws.specs.Resolution.{IsResolved, edge_at, event_after, events_in, external_count, location_of, move_count, slot_of}
+use Rattle.resolution_laws.specs.Resolution as resolution
+use Rattle.resolution_laws.proofs.Arcs.{last_keeps, location_below, thread_below}
+use Rattle.resolution_laws.proofs.Around.{after_below}
+use Rattle.resolution_laws.proofs.Threads.{event_in_slot}
+use Rattle.value_laws.specs.Values.{is_observed, value_of, write_count}
+use Rattle.value_laws.proofs.Along.{value_after, value_most, write_value}
 use Rattle.arch_trait.specs.declared.step.Step.{Step}
 use Rattle.arch_trait.specs.Threads.{Puts, is_load_dir, loads_in}
 use Rattle.communication.proofs.Lists.{got_map}

@@ -13,10 +13,10 @@ use Rattle.walk_laws.specs.Rotation.{rotated}
 use Rattle.list_laws.proofs.Cases.{by_test, by_less, by_option}
 use Rattle.list_laws.proofs.Counts.{count_upto_none}
 use Rattle.list_laws.proofs.Prefixes.{count_take, count_take_more}
-use Rattle.cycle_resolve.specs.Resolution.{edge_at, ends_outside, external_count, slot_of, thread_of, turned}
-use Rattle.cycle_resolve.proofs.Locations.{ends_with}
-use Rattle.cycle_resolve.proofs.Threads.{slot-zero, slot_in, slot_out, thread-zero, thread_out, thread_up}
-use Rattle.cycle_resolve.proofs.Turning.{outside_after, turn_of, turned_at_position, turned_by_first, turned_by_none, turned_without}
+use Rattle.resolution_laws.specs.Resolution.{edge_at, ends_outside, external_count, slot_of, thread_of, turned}
+use Rattle.resolution_laws.proofs.Locations.{ends_with}
+use Rattle.resolution_laws.proofs.Threads.{slot-zero, slot_in, slot_out, thread-zero, thread_out, thread_up}
+use Rattle.resolution_laws.proofs.Turning.{outside_after, turn_of, turned_at_position, turned_by_first, turned_by_none, turned_without}
 use Rattle.rotated_tests.specs.Alike.{BeginsAlike, BeginsInside, TurnedAlike}
 use Rattle.rotated_tests.proofs.Parts.{edge_first, ended_back, ended_below, external_count-append, thread_second}
 

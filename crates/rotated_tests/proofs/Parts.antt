@@ -13,9 +13,9 @@ use Rattle.relax_edges.specs.EdgeTable.{is_external, is_diff}
 use Rattle.list_laws.specs.Numbers.{upto}
 use Rattle.list_laws.proofs.Cases.{by_test, by_same}
 use Rattle.list_laws.proofs.Parts.{take-append-add}
-use Rattle.cycle_resolve.specs.Resolution.{external_count, move_count, edge_at, ends_outside, thread_of, moves_before, events_in}
-use Rattle.cycle_resolve.proofs.Threads.{thread_up, thread_out, thread_end}
-use Rattle.cycle_resolve.proofs.Locations.{ends_with}
+use Rattle.resolution_laws.specs.Resolution.{external_count, move_count, edge_at, ends_outside, thread_of, moves_before, events_in}
+use Rattle.resolution_laws.proofs.Threads.{thread_up, thread_out, thread_end}
+use Rattle.resolution_laws.proofs.Locations.{ends_with}
 use Rattle.test_laws.proofs.Everywhere.{all_joined}
 
 pub external_count-append : (a b : List Edge) → external_count (a ++ b) ≡ external_count a + external_count b

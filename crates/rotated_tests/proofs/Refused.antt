@@ -12,11 +12,11 @@ use Rattle.walk_laws.specs.Composable.{IsCycle}
 use Rattle.walk_laws.specs.Rotation.{IsRotation}
 use Rattle.walk_laws.proofs.Laws.{cycle_of_rotation}
 use Rattle.walk_laws.proofs.Rotating.{rotation_back}
-use Rattle.cycle_resolve.specs.declared.resolved.ResolveError.{ResolveError}
-use Rattle.cycle_resolve.specs.Resolution.{resolution_of, IsResolved}
-use Rattle.cycle_resolve.proofs.Rotations.{refused_alike as resolution_refused_alike, resolves_alike}
-use Rattle.cycle_resolve.proofs.Turning.{resolution_resolved}
-use Rattle.coherence_values.specs.Values.{observer_need}
+use Rattle.resolution_laws.specs.declared.errors.ResolveError.{ResolveError}
+use Rattle.resolution_laws.specs.Resolution.{resolution_of, IsResolved}
+use Rattle.resolution_laws.proofs.Rotations.{refused_alike as resolution_refused_alike, resolves_alike}
+use Rattle.resolution_laws.proofs.Turning.{resolution_resolved}
+use Rattle.value_laws.specs.Values.{observer_need}
 use Rattle.arch_trait.specs.declared.step.Step.{Step}
 use Rattle.arch_trait.specs.Threads.{Puts}
 use Rattle.test_laws.specs.Steps.{cycle_steps}

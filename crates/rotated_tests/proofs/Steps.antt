@@ -7,8 +7,8 @@ use Rattle.relax_edges.specs.declared.edge.Edge.{Edge}
 use Rattle.relax_edges.specs.EdgeTable.{source_of}
 use Rattle.list_laws.specs.Numbers.{upto}
 use Rattle.list_laws.proofs.Ranks.{rank_upto}
-use Rattle.cycle_resolve.specs.Resolution.{external_count, edge_at, event_before, events_in, move_count, slot_of, IsResolved}
-use Rattle.coherence_values.specs.Values.{is_observed, write_count}
+use Rattle.resolution_laws.specs.Resolution.{external_count, edge_at, event_before, events_in, move_count, slot_of, IsResolved}
+use Rattle.value_laws.specs.Values.{is_observed, write_count}
 use Rattle.arch_trait.specs.declared.link.Link.TheVariants.{Plain}
 use Rattle.arch_trait.specs.declared.step.Step.{Step}
 use Rattle.arch_trait.specs.Links.{edge_link}

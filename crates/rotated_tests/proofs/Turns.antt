@@ -6,10 +6,10 @@ use Rattle.std.proofs.lemmas.Bool.{lt-ltb, le-ltb}
 use Rattle.std.proofs.Math.Nat.{mod-eq_of_lt, add-mod-mod, add-mod_left}
 use Rattle.relax_edges.specs.declared.edge.Edge.{Edge}
 use Rattle.list_laws.proofs.Cases.{by_less}
-use Rattle.cycle_resolve.specs.Resolution.{external_count, move_count, edge_at, ends_outside, event_after, location_of, slot_of, events_in, IsResolved}
-use Rattle.cycle_resolve.proofs.Arcs.{location_below}
-use Rattle.cycle_resolve.proofs.Around.{by_after, after_below}
-use Rattle.cycle_resolve.proofs.Rotations.{renumbered}
+use Rattle.resolution_laws.specs.Resolution.{external_count, move_count, edge_at, ends_outside, event_after, location_of, slot_of, events_in, IsResolved}
+use Rattle.resolution_laws.proofs.Arcs.{location_below}
+use Rattle.resolution_laws.proofs.Around.{by_after, after_below}
+use Rattle.resolution_laws.proofs.Rotations.{renumbered}
 use Rattle.communication.proofs.Lists.{map-map}
 use Rattle.rotated_tests.proofs.Parts.{edge_first, edge_second, external_count-append, move_count-append, ended_back, events_first, events_second, events_below}
 use Rattle.rotated_tests.proofs.Alike.{Alike, ThreadFrom}

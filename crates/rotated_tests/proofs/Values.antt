@@ -11,14 +11,14 @@ use Rattle.relax_edges.specs.EdgeTable.{source_of, same_dir, is_external, is_dif
 use Rattle.list_laws.specs.Numbers.{upto}
 use Rattle.list_laws.proofs.Cases.{by_test, by_same}
 use Rattle.list_laws.proofs.Finds.{any_upto, any_upto_none, any_upto_passing}
-use Rattle.cycle_resolve.specs.Resolution.{move_count, edge_at, event_before, event_after, location_of, IsResolved}
-use Rattle.cycle_resolve.proofs.Locations.{location_first}
-use Rattle.cycle_resolve.proofs.Arcs.{leaving, location_below, several_locations}
-use Rattle.cycle_resolve.proofs.Around.{by_after, after_below, after_before, before_after, before_below, moves_within}
-use Rattle.coherence_values.specs.Values.{edge_into, is_write_at, value_of, write_count, is_inner_entry, is_observed, first_need, observer_need}
-use Rattle.coherence_values.specs.Arc.{inner_entry}
-use Rattle.coherence_values.proofs.Along.{is_write, value_after, value_at_end}
-use Rattle.coherence_values.proofs.Entries.{inner_found, no_inner_entry, no_need_more}
+use Rattle.resolution_laws.specs.Resolution.{move_count, edge_at, event_before, event_after, location_of, IsResolved}
+use Rattle.resolution_laws.proofs.Locations.{location_first}
+use Rattle.resolution_laws.proofs.Arcs.{leaving, location_below, several_locations}
+use Rattle.resolution_laws.proofs.Around.{by_after, after_below, after_before, before_after, before_below, moves_within}
+use Rattle.value_laws.specs.Values.{edge_into, is_write_at, value_of, write_count, is_inner_entry, is_observed, first_need, observer_need}
+use Rattle.value_laws.specs.Entries.{inner_entry}
+use Rattle.value_laws.proofs.Along.{is_write, value_after, value_at_end}
+use Rattle.value_laws.proofs.Entries.{inner_found, no_inner_entry, no_need_more}
 use Rattle.rotated_tests.proofs.Alike.{Alike}
 
 -- from a number up to another below n

@@ -6,7 +6,7 @@ use Rattle.relax_edges.specs.declared.kinds.ObsMode.{ObsMode}
 use Rattle.relax_edges.specs.declared.edge.Edge.{Edge}
 use Rattle.walk_laws.specs.Composable.{IsCycle}
 use Rattle.walk_laws.specs.Rotation.{IsRotation, rotated}
-use Rattle.cycle_resolve.specs.Resolution.{ends_outside, external_count, slot_of, thread_of, turned}
+use Rattle.resolution_laws.specs.Resolution.{ends_outside, external_count, slot_of, thread_of, turned}
 use Rattle.arch_trait.specs.Threads.{Puts}
 use Rattle.arch_trait.specs.Writing.{Writing, name_in}
 use Rattle.litmus_text.specs.TestText.{test_text}

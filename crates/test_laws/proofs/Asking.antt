@@ -11,8 +11,8 @@ use Rattle.relax_edges.specs.declared.kinds.ObsMode.{ObsMode}
 use Rattle.relax_edges.specs.declared.edge.Edge.{Edge}
 use Rattle.list_laws.specs.Numbers.{upto}
 use Rattle.list_laws.proofs.Ranks.{rank_upto, unrank_upto}
-use Rattle.cycle_resolve.specs.Resolution.{move_count}
-use Rattle.coherence_values.specs.Values.{is_observed, write_count}
+use Rattle.resolution_laws.specs.Resolution.{move_count}
+use Rattle.value_laws.specs.Values.{is_observed, write_count}
 use Rattle.final_cond.specs.Conditions.{LeftSeen, AtPlace}
 use Rattle.arch_trait.specs.declared.step.Step.{Step}
 use Rattle.arch_trait.specs.Threads.{Puts, ThreadCode, compiled, HoldNumbers}

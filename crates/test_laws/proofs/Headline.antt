@@ -7,7 +7,7 @@ use Rattle.std.proofs.lemmas.Option.{slice_get_within}
 use Rattle.std.proofs.lemmas.Slice.Eq.{bytes_eq-Decides}
 use Rattle.relax_edges.specs.declared.kinds.ObsMode.{ObsMode}
 use Rattle.relax_edges.specs.declared.edge.Edge.{Edge}
-use Rattle.cycle_resolve.specs.Resolution.{move_count}
+use Rattle.resolution_laws.specs.Resolution.{move_count}
 use Rattle.final_cond.specs.Conditions.{CondSeen}
 use Rattle.final_cond.specs.States.{Meets}
 use Rattle.arch_trait.specs.declared.step.Step.{Step}
@@ -16,7 +16,7 @@ use Rattle.arch_trait.specs.Renumbering.{renumbered}
 use Rattle.arch_trait.specs.Laws.{IsArch}
 use Rattle.arch_trait.specs.Names.{location_name}
 use Rattle.arch_trait.proofs.Tables.{length-letters}
-use Rattle.arch_trait.proofs.Renumbered.{renumbered_same}
+use Rattle.arch_laws.proofs.Renumbered.{renumbered_same}
 use Rattle.program_meaning.specs.Executions.{Execution}
 use Rattle.program_meaning.specs.Programs.{Program, IsCandidate, IsCoherentIn}
 use Rattle.program_meaning.specs.Standing.{AllStand}

@@ -8,8 +8,8 @@ use Rattle.relax_edges.specs.declared.kinds.Dir.TheVariants as dirs
 use Rattle.relax_edges.specs.declared.kinds.ObsMode.{ObsMode}
 use Rattle.relax_edges.specs.declared.edge.Edge.{Edge}
 use Rattle.list_laws.specs.Numbers.{upto}
-use Rattle.cycle_resolve.specs.Resolution.{IsResolved, external_count, move_count, events_in}
-use Rattle.coherence_values.specs.Values.{write_count}
+use Rattle.resolution_laws.specs.Resolution.{IsResolved, external_count, move_count, events_in}
+use Rattle.value_laws.specs.Values.{write_count}
 use Rattle.arch_trait.specs.declared.step.Step.{Step}
 use Rattle.arch_trait.specs.Threads.{ThreadCode, is_load_dir}
 use Rattle.program_meaning.specs.Accesses.{Access, is_read, reads_by}

@@ -6,8 +6,8 @@ use Rattle.std.proofs.lemmas.Option.{slice_get-get_or}
 use Rattle.std.proofs.lemmas.List.FromFn.{get_or-map-range_with_len, length-map-range_with_len}
 use Rattle.relax_edges.specs.declared.edge.Edge.{Edge}
 use Rattle.list_laws.proofs.Cases.{by_test, by_less}
-use Rattle.cycle_resolve.specs.Resolution.{IsResolved, move_count}
-use Rattle.cycle_resolve.proofs.Sizes.{external_and_moves}
+use Rattle.resolution_laws.specs.Resolution.{IsResolved, move_count}
+use Rattle.resolution_laws.proofs.Sizes.{external_and_moves}
 use Rattle.arch_trait.specs.Names.{location_name, letters, number_in}
 use Rattle.arch_trait.proofs.Tables.{location_new}
 use Rattle.program_meaning.specs.Intended.{IsNumbering}

@@ -9,9 +9,9 @@ use Rattle.list_laws.specs.Numbers.{upto}
 use Rattle.list_laws.proofs.Cases.{by_less}
 use Rattle.list_laws.proofs.Numbers.{length-map-upto, slice_get-map-upto}
 use Rattle.list_laws.proofs.Ranks.{length-filter-upto, unrank_upto}
-use Rattle.cycle_resolve.specs.Resolution.{external_count, move_count}
-use Rattle.coherence_values.specs.Values.{is_observed}
-use Rattle.coherence_values.proofs.Laws.{threads_and_observers}
+use Rattle.resolution_laws.specs.Resolution.{external_count, move_count}
+use Rattle.value_laws.specs.Values.{is_observed}
+use Rattle.value_laws.proofs.Laws.{threads_and_observers}
 use Rattle.arch_trait.specs.declared.step.Step.{Step}
 use Rattle.program_meaning.specs.Intended.{observed_locations}
 use Rattle.communication.proofs.Lists.{slice_get-append_left, slice_get-append_right, image_of, got_map}

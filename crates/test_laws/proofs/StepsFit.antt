@@ -19,14 +19,14 @@ use Rattle.relax_edges.specs.EdgeTable.{source_of, target_of, is_of_arch, is_ext
 use Rattle.list_laws.specs.Numbers.{upto}
 use Rattle.list_laws.proofs.Cases.{by_test}
 use Rattle.list_laws.proofs.Numbers.{length-upto, length-map-upto, slice_get-upto}
-use Rattle.cycle_resolve.specs.Resolution.{IsResolved, edge_at, move_count, event_before, event_after, events_in, thread_of, slot_of, location_of}
-use Rattle.cycle_resolve.proofs.Threads.{slot-zero, slot_out, slot_of_event}
-use Rattle.cycle_resolve.proofs.Around.{source_after, internal_follows}
-use Rattle.cycle_resolve.proofs.Arcs.{location_below}
-use Rattle.cycle_resolve.proofs.Sizes.{only_in_slot, thread_has_events, thread_size_most}
-use Rattle.coherence_values.specs.Values.{value_of, write_count}
-use Rattle.coherence_values.proofs.Along.{value_most, write_count_most}
-use Rattle.coherence_values.proofs.Laws.{observed_writes}
+use Rattle.resolution_laws.specs.Resolution.{IsResolved, edge_at, move_count, event_before, event_after, events_in, thread_of, slot_of, location_of}
+use Rattle.resolution_laws.proofs.Threads.{slot-zero, slot_out, slot_of_event}
+use Rattle.resolution_laws.proofs.Around.{source_after, internal_follows}
+use Rattle.resolution_laws.proofs.Arcs.{location_below}
+use Rattle.resolution_laws.proofs.Sizes.{only_in_slot, thread_has_events, thread_size_most}
+use Rattle.value_laws.specs.Values.{value_of, write_count}
+use Rattle.value_laws.proofs.Along.{value_most, write_count_most}
+use Rattle.value_laws.proofs.Laws.{observed_writes}
 use Rattle.arch_trait.specs.declared.step.Step.{Step}
 use Rattle.arch_trait.specs.declared.link.Link.{Link}
 use Rattle.arch_trait.specs.declared.link.Link.TheVariants.{Plain}

@@ -15,10 +15,10 @@ use Rattle.list_laws.specs.Numbers.{upto}
 use Rattle.list_laws.proofs.Numbers.{length-upto, length-map-upto}
 use Rattle.list_laws.proofs.Counts.{count_upto_fewer}
 use Rattle.list_laws.proofs.Totals.{classes_total}
-use Rattle.cycle_resolve.specs.Resolution.{IsResolved, edge_at, external_count, move_count, events_in, location_of}
-use Rattle.cycle_resolve.proofs.Arcs.{location_below}
-use Rattle.cycle_resolve.proofs.Sizes.{external_and_moves, thread_sizes_total}
-use Rattle.coherence_values.specs.Values.{is_write_at, is_observed, write_count}
+use Rattle.resolution_laws.specs.Resolution.{IsResolved, edge_at, external_count, move_count, events_in, location_of}
+use Rattle.resolution_laws.proofs.Arcs.{location_below}
+use Rattle.resolution_laws.proofs.Sizes.{external_and_moves, thread_sizes_total}
+use Rattle.value_laws.specs.Values.{is_write_at, is_observed, write_count}
 use Rattle.arch_trait.specs.declared.step.Step.{Step}
 use Rattle.arch_trait.specs.Threads.{Puts, is_load_dir, loads_in, setting_out, compiled}
 use Rattle.arch_trait.proofs.Codes.{thread_loads_length}

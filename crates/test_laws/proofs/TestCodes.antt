@@ -8,15 +8,15 @@ use Rattle.relax_edges.specs.declared.kinds.ObsMode.{ObsMode}
 use Rattle.relax_edges.specs.declared.edge.Edge.{Edge}
 use Rattle.relax_edges.specs.EdgeTable.{is_of_arch}
 use Rattle.list_laws.specs.Numbers.{upto}
-use Rattle.cycle_resolve.specs.Resolution.{IsResolved, external_count, move_count, events_in}
-use Rattle.coherence_values.specs.Values.{write_count}
+use Rattle.resolution_laws.specs.Resolution.{IsResolved, external_count, move_count, events_in}
+use Rattle.value_laws.specs.Values.{write_count}
 use Rattle.arch_trait.specs.declared.step.Step.{Step}
 use Rattle.arch_trait.specs.Codes.{AllBelow, MakesSteps}
 use Rattle.arch_trait.specs.Threads.{Puts, ThreadCode, is_load_dir, compiled}
 use Rattle.arch_trait.specs.Laws.{IsArch}
 use Rattle.arch_trait.specs.Renumbering.{step_at, renumbered}
 use Rattle.arch_trait.proofs.Whole.{makes_steps, is_formed}
-use Rattle.arch_trait.proofs.Renumbered.{renumbered_makes}
+use Rattle.arch_laws.proofs.Renumbered.{renumbered_makes}
 use Rattle.program_meaning.specs.Programs.{Program}
 use Rattle.program_meaning.specs.Intended.{observed_locations}
 use Rattle.communication.proofs.Lists.{got_map, image_of, map_same, map-map}

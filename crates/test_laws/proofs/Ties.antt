@@ -10,7 +10,7 @@ use Rattle.relax_edges.specs.declared.edge.Edge.TheVariants as edges
 use Rattle.relax_edges.specs.EdgeTable.{source_of}
 use Rattle.arch_trait.specs.declared.link.Link.{Link}
 use Rattle.arch_trait.specs.Links.{edge_link, branches, is_addr, is_data, mask_if, link_control}
-use Rattle.arch_trait.proofs.Items.{control_row}
+use Rattle.arch_laws.proofs.Items.{control_row}
 use Rattle.program_meaning.specs.Accesses.{Access, is_read, reads_by, reads_before}
 use Rattle.program_meaning.specs.Standing.{Named, BarriersWait, TiesBy, is_in_mask, mask_of}
 use Rattle.test_laws.proofs.Visits.{link_barred}

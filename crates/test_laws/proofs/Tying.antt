@@ -10,11 +10,11 @@ use Rattle.relax_edges.specs.declared.kinds.ObsMode.{ObsMode}
 use Rattle.relax_edges.specs.declared.edge.Edge.{Edge}
 use Rattle.relax_edges.specs.declared.edge.Edge.TheVariants as edges
 use Rattle.relax_edges.specs.EdgeTable.{is_of_arch, is_external}
-use Rattle.cycle_resolve.specs.Resolution.{IsResolved, edge_at, move_count, thread_of as event_thread, slot_of, events_in, event_after}
-use Rattle.cycle_resolve.proofs.Threads.{event_in_slot, slot_of_event}
-use Rattle.cycle_resolve.proofs.Arcs.{thread_below}
-use Rattle.cycle_resolve.proofs.Around.{after_below, before_after, internal_follows}
-use Rattle.coherence_values.specs.Values.{write_count}
+use Rattle.resolution_laws.specs.Resolution.{IsResolved, edge_at, move_count, thread_of as event_thread, slot_of, events_in, event_after}
+use Rattle.resolution_laws.proofs.Threads.{event_in_slot, slot_of_event}
+use Rattle.resolution_laws.proofs.Arcs.{thread_below}
+use Rattle.resolution_laws.proofs.Around.{after_below, before_after, internal_follows}
+use Rattle.value_laws.specs.Values.{write_count}
 use Rattle.arch_trait.specs.declared.step.Step.{Step}
 use Rattle.arch_trait.specs.declared.link.Link.TheVariants.{Plain}
 use Rattle.arch_trait.specs.Links.{edge_link}

@@ -5,8 +5,8 @@ use Rattle.std.specs.List.{list_all}
 use Rattle.relax_edges.specs.declared.kinds.ObsMode.{ObsMode}
 use Rattle.relax_edges.specs.declared.edge.Edge.{Edge}
 use Rattle.relax_edges.specs.EdgeTable.{is_of_arch}
-use Rattle.cycle_resolve.specs.Resolution.{IsResolved}
-use Rattle.coherence_values.specs.Values.{valuation_of}
+use Rattle.resolution_laws.specs.Resolution.{IsResolved}
+use Rattle.value_laws.specs.Values.{valuation_of}
 use Rattle.program_meaning.specs.Executions.{Execution}
 use Rattle.program_meaning.specs.Standing.{AllStand}
 use Rattle.program_meaning.specs.Intended.{intended}

@@ -8,8 +8,8 @@ use Rattle.relax_edges.specs.declared.kinds.ObsMode.{ObsMode}
 use Rattle.relax_edges.specs.declared.edge.Edge.{Edge}
 use Rattle.relax_edges.specs.EdgeTable.{source_of}
 use Rattle.list_laws.specs.Numbers.{upto}
-use Rattle.cycle_resolve.specs.Resolution.{edge_at, event_before, events_in, external_count, location_of, slot_of}
-use Rattle.coherence_values.specs.Values.{value_of, write_count}
+use Rattle.resolution_laws.specs.Resolution.{edge_at, event_before, events_in, external_count, location_of, slot_of}
+use Rattle.value_laws.specs.Values.{value_of, write_count}
 use Rattle.arch_trait.specs.declared.link.Link.{Link}
 use Rattle.arch_trait.specs.declared.link.Link.TheVariants.{Plain}
 use Rattle.arch_trait.specs.declared.step.Step.{Step}

@@ -10,12 +10,12 @@ use Rattle.list_laws.specs.Numbers.{upto}
 use Rattle.list_laws.proofs.Numbers.{length-map-upto}
 use Rattle.list_laws.proofs.Counts.{count_upto-le}
 use Rattle.list_laws.proofs.Ranks.{length-filter-upto, rank_upto}
-use Rattle.cycle_resolve.specs.Resolution.{IsResolved, edge_at, events_in, event_of, external_count, move_count, slot_of, thread_of}
-use Rattle.cycle_resolve.specs.declared.resolved.Event.{Event}
-use Rattle.cycle_resolve.proofs.Threads.{slot-zero}
-use Rattle.coherence_values.specs.Values.{is_observed, write_count}
-use Rattle.coherence_values.proofs.Along.{write_count_most}
-use Rattle.coherence_values.proofs.Laws.{threads_and_observers}
+use Rattle.resolution_laws.specs.Resolution.{IsResolved, edge_at, events_in, event_of, external_count, move_count, slot_of, thread_of}
+use Rattle.resolution_laws.specs.declared.event.Event.{Event}
+use Rattle.resolution_laws.proofs.Threads.{slot-zero}
+use Rattle.value_laws.specs.Values.{is_observed, write_count}
+use Rattle.value_laws.proofs.Along.{write_count_most}
+use Rattle.value_laws.proofs.Laws.{threads_and_observers}
 use Rattle.program_meaning.specs.Intended.{observed_locations}
 use Rattle.arch_trait.specs.declared.step.Step.{Step}
 use Rattle.arch_trait.specs.Links.{edge_link}

@@ -2,11 +2,11 @@
 use Rattle.std.proofs.Common.{◌≡◌, List, Option, Some, None, Result, Ok, Err, refl, sym, ap, ◌∙◌, subst}
 use Rattle.relax_edges.specs.declared.kinds.ObsMode.{ObsMode}
 use Rattle.relax_edges.specs.declared.edge.Edge.{Edge}
-use Rattle.cycle_resolve.specs.Resolution.{IsResolved}
+use Rattle.resolution_laws.specs.Resolution.{IsResolved}
 use Rattle.relax_edges.specs.declared.kinds.ObsMode.TheVariants as modes
-use Rattle.coherence_values.specs.declared.valued.NeedsObserver.{NeedsObserver}
-use Rattle.coherence_values.specs.Values.{Valuation, observer_need, valuation_of}
-use Rattle.coherence_values.proofs.Entries.{avoid_allowed, avoid_refused}
+use Rattle.value_laws.specs.declared.needs.NeedsObserver.{NeedsObserver}
+use Rattle.value_laws.specs.Values.{Valuation, observer_need, valuation_of}
+use Rattle.value_laws.proofs.Entries.{avoid_allowed, avoid_refused}
 use Rattle.arch_trait.specs.Laws.{IsArch}
 use Rattle.arch_trait.specs.Names.{number_in}
 use Rattle.arch_trait.specs.Threads.{Puts}

@@ -8,7 +8,7 @@ use Rattle.std.proofs.lemmas.List.{drop_all, length-map, length-set, map-append,
 use Rattle.arrayvec.specs.ArrayVec.{ArrayVec, with_items}
 use Rattle.relax_edges.specs.declared.kinds.ObsMode.{ObsMode}
 use Rattle.relax_edges.specs.declared.edge.Edge.{Edge}
-use Rattle.cycle_resolve.specs.Resolution.{IsResolved}
+use Rattle.resolution_laws.specs.Resolution.{IsResolved}
 use Rattle.final_cond.specs.declared.cond.Cond.{Cond}
 use Rattle.final_cond.specs.Conditions.{term_view}
 use Rattle.arch_trait.specs.declared.code.Code.{Code}

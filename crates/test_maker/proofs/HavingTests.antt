@@ -8,13 +8,13 @@ use Rattle.relax_edges.specs.declared.kinds.ObsMode.{ObsMode}
 use Rattle.relax_edges.specs.declared.kinds.ObsMode.TheVariants as modes
 use Rattle.relax_edges.specs.declared.edge.Edge.{Edge}
 use Rattle.relax_edges.specs.EdgeTable.{is_of_arch}
-use Rattle.cycle_resolve.specs.declared.resolved.ResolveError.{ResolveError}
-use Rattle.cycle_resolve.specs.declared.resolved.ResolveError.TheVariants as resolving
-use Rattle.cycle_resolve.specs.Resolution.{resolution_of, turned}
-use Rattle.cycle_resolve.proofs.Turning.{resolution_resolved}
-use Rattle.coherence_values.specs.declared.valued.NeedsObserver.{NeedsObserver}
-use Rattle.coherence_values.specs.Values.{observer_need, valuation_of}
-use Rattle.coherence_values.proofs.Entries.{avoid_allowed}
+use Rattle.resolution_laws.specs.declared.errors.ResolveError.{ResolveError}
+use Rattle.resolution_laws.specs.declared.errors.ResolveError.TheVariants as resolving
+use Rattle.resolution_laws.specs.Resolution.{resolution_of, turned}
+use Rattle.resolution_laws.proofs.Turning.{resolution_resolved}
+use Rattle.value_laws.specs.declared.needs.NeedsObserver.{NeedsObserver}
+use Rattle.value_laws.specs.Values.{observer_need, valuation_of}
+use Rattle.value_laws.proofs.Entries.{avoid_allowed}
 use Rattle.arch_trait.specs.Threads.{Puts}
 use Rattle.test_laws.specs.Headline.{HasTest}
 use Rattle.test_laws.specs.Steps.{cycle_steps}

@@ -8,10 +8,10 @@ use Rattle.relax_edges.specs.declared.edge.Edge.{Edge}
 use Rattle.relax_edges.specs.declared.kinds.ObsMode.{ObsMode}
 use Rattle.relax_edges.specs.declared.kinds.ObsMode.TheVariants.{Accept, Avoid, Force}
 use Rattle.list_laws.specs.Numbers.{upto}
-use Rattle.cycle_resolve.specs.Resolution.{move_count}
-use Rattle.cycle_resolve.proofs.Sizes.{external_and_moves}
-use Rattle.coherence_values.specs.declared.valued.NeedsObserver.{NeedsObserver}
-use Rattle.coherence_values.specs.Values.{Valuation, valuation_of, observer_need, first_need, first_inner_entry}
+use Rattle.resolution_laws.specs.Resolution.{move_count}
+use Rattle.resolution_laws.proofs.Sizes.{external_and_moves}
+use Rattle.value_laws.specs.declared.needs.NeedsObserver.{NeedsObserver}
+use Rattle.value_laws.specs.Values.{Valuation, valuation_of, observer_need, first_need, first_inner_entry}
 use Rattle.arch_trait.specs.Threads.{Puts}
 use Rattle.test_laws.specs.Steps.{cycle_steps}
 use Rattle.test_laws.specs.TestOf.{TestSeen, plain}
@@ -19,7 +19,7 @@ use Rattle.test_maker.specs.declared.refusal.MakeRefusal.{MakeRefusal}
 use Rattle.test_maker.specs.declared.refusal.MakeRefusal.TheVariants.{TooManyRegisters}
 use Rattle.test_maker.specs.Refusals.{is_crowded}
 use Rattle.test_maker.specs.Made.{MakesValued, NamesLocation}
-use Rattle.coherence_values.proofs.Entries.{avoid_refused, avoid_allowed}
+use Rattle.value_laws.proofs.Entries.{avoid_refused, avoid_allowed}
 
 all_with : (b n : ℕ) (xs : List ℕ) → AllByRecursion (λ l. l < b) xs → n < b → AllByRecursion (λ l. l < b) (xs ++ n ∷ [])
 all_with b n [] h below = (below, tt)

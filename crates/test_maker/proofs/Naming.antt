@@ -9,12 +9,12 @@ use Rattle.relax_edges.specs.declared.edge.Edge.{Edge}
 use Rattle.list_laws.specs.Numbers.{upto}
 use Rattle.list_laws.proofs.Counts.{count_upto-le}
 use Rattle.list_laws.proofs.Ranks.{length-filter-upto}
-use Rattle.cycle_resolve.specs.Resolution.{IsResolved, move_count}
-use Rattle.cycle_resolve.proofs.Sizes.{external_and_moves}
+use Rattle.resolution_laws.specs.Resolution.{IsResolved, move_count}
+use Rattle.resolution_laws.proofs.Sizes.{external_and_moves}
 use Rattle.final_cond.specs.declared.cond.Term.{Term}
 use Rattle.final_cond.specs.Conditions.{AtPlace, term_view}
 use Rattle.arch_trait.specs.Names.{letters, location_name}
-use Rattle.coherence_values.specs.Values.{write_count}
+use Rattle.value_laws.specs.Values.{write_count}
 use Rattle.test_laws.specs.TestOf.{is_named, last_term}
 use Rattle.test_maker.proofs.Filling.{found_more}
 

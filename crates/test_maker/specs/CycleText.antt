@@ -3,7 +3,7 @@
 use Rattle.std.specs.Prelude.{ℕ, List}
 use Rattle.relax_edges.specs.declared.kinds.ObsMode.{ObsMode}
 use Rattle.relax_edges.specs.declared.edge.Edge.{Edge}
-use Rattle.cycle_resolve.specs.Resolution.{turned}
+use Rattle.resolution_laws.specs.Resolution.{turned}
 use Rattle.arch_trait.specs.Threads.{Puts}
 use Rattle.arch_trait.specs.Writing.{Writing, name_in}
 use Rattle.litmus_text.specs.TestText.{test_text}

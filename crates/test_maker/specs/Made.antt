@@ -6,8 +6,8 @@ use Rattle.relax_edges.specs.declared.TheConstants.{MAX_EDGES}
 use Rattle.relax_edges.specs.declared.kinds.ObsMode.{ObsMode}
 use Rattle.relax_edges.specs.declared.edge.Edge.{Edge}
 use Rattle.relax_edges.specs.EdgeTable.{is_of_arch}
-use Rattle.cycle_resolve.specs.declared.resolved.ResolveError.{ResolveError}
-use Rattle.cycle_resolve.specs.Resolution.{resolution_of, turned}
+use Rattle.resolution_laws.specs.declared.errors.ResolveError.{ResolveError}
+use Rattle.resolution_laws.specs.Resolution.{resolution_of, turned}
 use Rattle.final_cond.specs.Conditions.{cond_view}
 use Rattle.arch_trait.specs.Threads.{Puts}
 use Rattle.arch_trait.specs.Codes.{thread_of}

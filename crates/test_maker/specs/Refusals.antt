@@ -8,10 +8,10 @@ use Rattle.relax_edges.specs.declared.kinds.ObsMode.{ObsMode}
 use Rattle.relax_edges.specs.declared.kinds.ObsMode.TheVariants.{Accept, Avoid, Force}
 use Rattle.relax_edges.specs.declared.edge.Edge.{Edge}
 use Rattle.relax_edges.specs.EdgeTable.{is_of_arch}
-use Rattle.cycle_resolve.specs.declared.resolved.ResolveError.{ResolveError}
-use Rattle.cycle_resolve.specs.declared.resolved.ResolveError.TheVariants as resolving
-use Rattle.cycle_resolve.specs.Resolution.{resolution_of}
-use Rattle.coherence_values.specs.Values.{observer_need}
+use Rattle.resolution_laws.specs.declared.errors.ResolveError.{ResolveError}
+use Rattle.resolution_laws.specs.declared.errors.ResolveError.TheVariants as resolving
+use Rattle.resolution_laws.specs.Resolution.{resolution_of}
+use Rattle.value_laws.specs.Values.{observer_need}
 use Rattle.arch_trait.specs.declared.step.Step.{Step}
 use Rattle.arch_trait.specs.Threads.{Puts, shape_of}
 use Rattle.test_maker.specs.declared.refusal.MakeRefusal.{MakeRefusal}

@@ -3,7 +3,7 @@ ghost use Rattle.std.specs.List.{zip};
 ghost use Rattle.arrayvec.specs.ArrayVec.{array_vec_len};
 ghost use Rattle.final_cond.specs.declared.cond.Quantifier.TheVariants.{Exists};
 ghost use Rattle.final_cond.specs.Conditions.{term_view, AtPlace};
-ghost use Rattle.cycle_resolve.specs.Resolution.{move_count};
+ghost use Rattle.resolution_laws.specs.Resolution.{move_count};
 ghost use Rattle.arch_trait.specs.Names.{letters};
 ghost use Rattle.arch_trait.specs.Writing.{name_in};
 ghost use Rattle.test_laws.specs.Steps.{numbers_read};

@@ -1,7 +1,7 @@
 ghost use Rattle.std.specs.Prelude.{◌≡◌, ◌≤◌, not, length, IfErr, IfOk, OnOk};
 ghost use Rattle.std.specs.List.{position_from};
 ghost use Rattle.relax_edges.specs.EdgeTable.{is_of_arch};
-ghost use Rattle.cycle_resolve.specs.Resolution.{turned};
+ghost use Rattle.resolution_laws.specs.Resolution.{turned};
 ghost use Rattle.arch_trait.specs.Names.{number_in};
 ghost use Rattle.arch_trait.specs.Writing.{name_in};
 ghost use Rattle.test_laws.specs.Headline.{HasTest};

@@ -1,7 +1,7 @@
 ghost use Rattle.std.specs.Prelude.{◌≡◌, ◌<◌, ◌+◌, length, map, Some, slice_get};
 ghost use Rattle.list_laws.specs.Numbers.{upto};
-ghost use Rattle.cycle_resolve.specs.Resolution.{external_count, events_in, move_count, slot_of};
-ghost use Rattle.coherence_values.specs.Values.{write_count};
+ghost use Rattle.resolution_laws.specs.Resolution.{external_count, events_in, move_count, slot_of};
+ghost use Rattle.value_laws.specs.Values.{write_count};
 ghost use Rattle.program_meaning.specs.Intended.{observed_locations};
 ghost use Rattle.test_laws.specs.Steps.{event_link, event_step, thread_steps, observing, observer_steps, cycle_steps};
 ghost use Rattle.test_laws.specs.TestOf.{plain};

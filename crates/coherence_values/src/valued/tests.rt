@@ -1,5 +1,5 @@
 ghost use Rattle.std.specs.Prelude.{◌<◌};
-ghost use Rattle.cycle_resolve.specs.Resolution.{move_count};
+ghost use Rattle.resolution_laws.specs.Resolution.{move_count};
 
 use super::*;
 use cycle_resolve::resolve;

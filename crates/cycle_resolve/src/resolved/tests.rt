@@ -1,7 +1,7 @@
 use super::*;
 use edge_algebra::cycle;
 use relax_edges::Dir::{R, W};
-use relax_edges::{Com, DepKind, FenceKind, Pick, Reach, Sd};
+use relax_edges::{Com, DepKind, Dir, FenceKind, Pick, Reach, Sd};
 use std::process::Abort;
 
 const POD_WR: Edge = Edge::Po {

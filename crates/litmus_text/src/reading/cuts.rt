@@ -1,6 +1,6 @@
 ghost use Rattle.std.specs.Prelude.{◌≡◌, option_map};
 ghost use Rattle.std.specs.Char.{is_ascii_alphabetic};
-ghost use Rattle.final_cond.specs.Runs.{run_of, after_run, unblanked};
+ghost use Rattle.text_laws.specs.Runs.{run_of, after_run, unblanked};
 ghost use Rattle.final_cond.specs.Reading.{is_word_byte};
 ghost use Rattle.litmus_text.specs.Cuts.{cut_at, pieces, words};
 ghost use Rattle.litmus_text.specs.Header.{two_words};
@@ -80,7 +80,7 @@ pub(crate) fn two_words(text: &[u8]) -> Option<(&[u8], &[u8])>
 }
 
 /// The letters at the front of a text, and the text behind them.
-#[tactic(auto, using(final_cond::proofs::RunLaws::run_stops, final_cond::proofs::RunLaws::run_ends, final_cond::proofs::RunLaws::none_passed, final_cond::proofs::RunLaws::one_passed))]
+#[tactic(auto, using(text_laws::proofs::RunLaws::run_stops, text_laws::proofs::RunLaws::run_ends, text_laws::proofs::RunLaws::none_passed, text_laws::proofs::RunLaws::one_passed))]
 pub(crate) fn split_letters(text: &[u8]) -> (&[u8], &[u8])
     ensures letters { result.0.now ≡ run_of is_ascii_alphabetic text.now }
     ensures rest { result.1.now ≡ after_run is_ascii_alphabetic text.now }
@@ -94,7 +94,7 @@ pub(crate) fn split_letters(text: &[u8]) -> (&[u8], &[u8])
 }
 
 /// The first word of a line: it ends before a blank or a parenthesis.
-#[tactic(auto, using(final_cond::proofs::RunLaws::run_stops, final_cond::proofs::RunLaws::run_ends, final_cond::proofs::RunLaws::none_passed, final_cond::proofs::RunLaws::one_passed))]
+#[tactic(auto, using(text_laws::proofs::RunLaws::run_stops, text_laws::proofs::RunLaws::run_ends, text_laws::proofs::RunLaws::none_passed, text_laws::proofs::RunLaws::one_passed))]
 pub(crate) fn first_word_of_line(text: &[u8]) -> &[u8]
     ensures { result.now ≡ run_of is_word_byte (unblanked text.now) }
 {

@@ -1,5 +1,5 @@
 ghost use Rattle.std.specs.Prelude.{◌≡◌, ◌<◌, ◌+◌, ◌^◌, true, length, option_map, IfSome, IfOk};
-ghost use Rattle.final_cond.specs.Names.{is_place_name};
+ghost use Rattle.text_laws.specs.Names.{is_place_name};
 ghost use Rattle.arch_trait.specs.Names.{number_added};
 ghost use Rattle.litmus_text.specs.Gives.{GivesInMemory};
 ghost use Rattle.litmus_text.specs.Cuts.{pieces};

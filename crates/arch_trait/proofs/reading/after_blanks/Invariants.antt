@@ -1,5 +1,5 @@
 use Rattle.std.proofs.Common.{◌≡◌, length}
-use Rattle.final_cond.specs.Runs.{unblanked}
+use Rattle.text_laws.specs.Runs.{unblanked}
 use Rattle.arch_trait.proofs.reading.after_blanks.Given as goal
 
 abbrev pub invariant-loop-rest : goal.invariant-loop-rest

@@ -1,4 +1,4 @@
-use Rattle.final_cond.proofs.RunLaws.{Passed}
+use Rattle.text_laws.proofs.RunLaws.{Passed}
 use Rattle.arch_trait.specs.Reading.{is_inked}
 use Rattle.arch_trait.proofs.reading.split_word.Given as goal
 

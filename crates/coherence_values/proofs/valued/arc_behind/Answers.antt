@@ -1,7 +1,7 @@
 use Rattle.std.proofs.Common.{◌≡◌, true, false, length, refl, sym, ◌∙◌, ap, arith}
 use Rattle.relax_edges.specs.EdgeTable.{is_diff}
-use Rattle.cycle_resolve.specs.Resolution.{edge_at}
-use Rattle.cycle_resolve.proofs.Locations.{moves-zero, moves_kept}
+use Rattle.resolution_laws.specs.Resolution.{edge_at}
+use Rattle.resolution_laws.proofs.Locations.{moves-zero, moves_kept}
 use Rattle.coherence_values.specs.declared.valued.Arc.{Arc}
 use Rattle.coherence_values.specs.Arc.{seen_of}
 use Rattle.coherence_values.proofs.Walk.{into_next, arc_begins, arc_goes_on, walk_step, fresh_arc, arc_wraps, moves_made, writes_before_is}

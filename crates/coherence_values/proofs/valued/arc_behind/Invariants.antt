@@ -1,6 +1,6 @@
 use Rattle.std.proofs.Common.{◌≡◌, ◌<◌, ◌≤◌}
-use Rattle.cycle_resolve.specs.Resolution.{moves_before, location_of}
-use Rattle.coherence_values.specs.Values.{edge_into}
+use Rattle.resolution_laws.specs.Resolution.{moves_before, location_of}
+use Rattle.value_laws.specs.Values.{edge_into}
 use Rattle.coherence_values.specs.Arc.{seen_of}
 use Rattle.coherence_values.proofs.Walk.{writes_so_far}
 use Rattle.coherence_values.proofs.valued.arc_behind.Given as goal

@@ -1,6 +1,6 @@
 use Rattle.std.proofs.Common.{◌≡◌, None}
 use Rattle.list_laws.specs.Numbers.{upto}
-use Rattle.coherence_values.specs.Values.{first_need}
+use Rattle.value_laws.specs.Values.{first_need}
 use Rattle.coherence_values.proofs.valued.value.Given as goal
 
 abbrev pub invariant-loop-location : goal.invariant-loop-location

@@ -1,9 +1,9 @@
 use Rattle.std.proofs.Common.{◌≡◌, ◌+◌, true, false, length, map, refl, sym, ◌∙◌, ap, arith}
 use Rattle.relax_edges.specs.EdgeTable.{is_diff}
-use Rattle.cycle_resolve.specs.Resolution.{edge_at, location_of, moves_before}
-use Rattle.cycle_resolve.proofs.Locations.{moves-zero, moves_few, moves_end, location-zero}
+use Rattle.resolution_laws.specs.Resolution.{edge_at, location_of, moves_before}
+use Rattle.resolution_laws.proofs.Locations.{moves-zero, moves_few, moves_end, location-zero}
 use Rattle.coherence_values.specs.declared.valued.Arc.{Arc}
-use Rattle.coherence_values.specs.Values.{value_of, write_count}
+use Rattle.value_laws.specs.Values.{value_of, write_count}
 use Rattle.coherence_values.specs.Arc.{seen_of}
 use Rattle.list_laws.specs.Numbers.{upto}
 use Rattle.list_laws.proofs.Numbers.{length-map-upto, map-upto_more}

@@ -1,7 +1,7 @@
 use Rattle.std.proofs.Common.{◌≡◌, map}
 use Rattle.list_laws.specs.Numbers.{upto}
-use Rattle.cycle_resolve.specs.Resolution.{moves_before, location_of}
-use Rattle.coherence_values.specs.Values.{edge_into, value_of, write_count}
+use Rattle.resolution_laws.specs.Resolution.{moves_before, location_of}
+use Rattle.value_laws.specs.Values.{edge_into, value_of, write_count}
 use Rattle.coherence_values.specs.Arc.{seen_of}
 use Rattle.coherence_values.proofs.Walk.{writes_so_far}
 use Rattle.coherence_values.proofs.valued.walked.Given as goal

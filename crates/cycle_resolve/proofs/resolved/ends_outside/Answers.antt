@@ -1,5 +1,5 @@
 use Rattle.std.proofs.Common.{◌-◌, length, arith, sym, ◌∙◌}
-use Rattle.cycle_resolve.proofs.Locations.{ends_with}
+use Rattle.resolution_laws.proofs.Locations.{ends_with}
 use Rattle.cycle_resolve.proofs.resolved.ends_outside.Goals as goal
 
 pub returns-in-len1-up : goal.returns-in-len1-up

@@ -1,7 +1,7 @@
 use Rattle.std.proofs.Common.{◌≡◌, ◌+◌, length, arith, sym, ◌∙◌, ap}
 use Rattle.list_laws.proofs.Numbers.{length-map-upto, map-upto_more}
-use Rattle.cycle_resolve.specs.Resolution.{event_of, thread_of, slot_of}
-use Rattle.cycle_resolve.proofs.Walking.{stands_at_start, stands_small, stands_out, stands_in, location_goes_round, location_goes_on, location_stays}
+use Rattle.resolution_laws.specs.Resolution.{event_of, thread_of, slot_of}
+use Rattle.resolution_laws.proofs.Walking.{stands_at_start, stands_small, stands_out, stands_in, location_goes_round, location_goes_on, location_stays}
 use Rattle.cycle_resolve.proofs.resolved.events_of.Goals as goal
 use Rattle.cycle_resolve.proofs.resolved.events_of.Goals.{then-is_external, else-is_external, then-is_diff+then-location-locations, then-is_diff+else-location-locations, else-is_diff}
 

@@ -1,7 +1,7 @@
 use Rattle.std.proofs.Common.{◌≡◌, map}
 use Rattle.list_laws.specs.Numbers.{upto}
-use Rattle.cycle_resolve.specs.Resolution.{event_of}
-use Rattle.cycle_resolve.proofs.Walking.{StandsAt}
+use Rattle.resolution_laws.specs.Resolution.{event_of}
+use Rattle.resolution_laws.proofs.Walking.{StandsAt}
 use Rattle.cycle_resolve.proofs.resolved.events_of.Given as goal
 
 abbrev pub invariant-loop-edge : goal.invariant-loop-edge

@@ -1,7 +1,7 @@
 use Rattle.std.proofs.Common.{◌≡◌, ◌+◌, length, arith, sym, ◌∙◌}
-use Rattle.cycle_resolve.specs.Resolution.{thread_of}
-use Rattle.cycle_resolve.proofs.Locations.{moves_in_before, moves_counted}
-use Rattle.cycle_resolve.proofs.Walking.{counts_move, counts_none, elsewhere_start, elsewhere_in, elsewhere_out, all_in_thread, none_in_thread}
+use Rattle.resolution_laws.specs.Resolution.{thread_of}
+use Rattle.resolution_laws.proofs.Locations.{moves_in_before, moves_counted}
+use Rattle.resolution_laws.proofs.Walking.{counts_move, counts_none, elsewhere_start, elsewhere_in, elsewhere_out, all_in_thread, none_in_thread}
 use Rattle.cycle_resolve.proofs.resolved.is_coherence_only.Goals as goal
 use Rattle.cycle_resolve.proofs.resolved.is_coherence_only.Goals.{then-is_diff, else-is_diff, then-is_external+else-in_thread-locations, else-is_external}
 

@@ -1,4 +1,4 @@
-use Rattle.cycle_resolve.proofs.Walking.{SomeElsewhere}
+use Rattle.resolution_laws.proofs.Walking.{SomeElsewhere}
 use Rattle.cycle_resolve.proofs.resolved.is_coherence_only.Given as goal
 
 abbrev pub invariant-loop-edge : goal.invariant-loop-edge

@@ -1,5 +1,5 @@
 use Rattle.std.proofs.Common.{sym, ◌∙◌}
-use Rattle.cycle_resolve.proofs.Turning.{turned_by_none, turned_at_position, turned_without}
+use Rattle.resolution_laws.proofs.Turning.{turned_by_none, turned_at_position, turned_without}
 use Rattle.cycle_resolve.proofs.resolved.turn.Goals as goal
 
 pub returns-then-ends_outside-clause-turned : goal.returns-then-ends_outside-clause-turned

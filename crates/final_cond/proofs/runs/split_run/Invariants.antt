@@ -1,5 +1,5 @@
 use Rattle.final_cond.specs.Classes.{class_test}
-use Rattle.final_cond.proofs.RunLaws.{Passed}
+use Rattle.text_laws.proofs.RunLaws.{Passed}
 use Rattle.final_cond.proofs.runs.split_run.Given as goal
 
 -- the bytes before the place have been passed

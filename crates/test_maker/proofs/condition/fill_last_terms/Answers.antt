@@ -1,5 +1,5 @@
 use Rattle.std.proofs.Common.{◌∙◌, ◌<◌, map, sym, ap, arith, length}
-use Rattle.cycle_resolve.specs.Resolution.{move_count}
+use Rattle.resolution_laws.specs.Resolution.{move_count}
 use Rattle.arrayvec.specs.ArrayVec.{ArrayVec}
 use Rattle.final_cond.specs.declared.cond.Term.{Term}
 use Rattle.final_cond.specs.Conditions.{term_view}

@@ -1,5 +1,5 @@
 use Rattle.std.proofs.Common.{ap, ◌∙◌, subst}
-use Rattle.cycle_resolve.specs.Resolution.{IsResolved, move_count}
+use Rattle.resolution_laws.specs.Resolution.{IsResolved, move_count}
 use Rattle.arch_trait.specs.Names.{letters}
 use Rattle.test_maker.proofs.Printing.{made_printable}
 use Rattle.test_maker.proofs.maker.make_valued.Goals as goal

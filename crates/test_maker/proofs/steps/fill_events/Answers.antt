@@ -1,7 +1,7 @@
 use Rattle.std.proofs.Common.{◌∙◌, ◌≡◌, ◌<◌, ◌==◌, ◌++◌, ◌∷◌, [], map, ap, arith, length}
 use Rattle.std.specs.List.{filter}
 use Rattle.list_laws.specs.Numbers.{upto}
-use Rattle.cycle_resolve.specs.Resolution.{thread_of}
+use Rattle.resolution_laws.specs.Resolution.{thread_of}
 use Rattle.arrayvec.specs.ArrayVec.{ArrayVec}
 use Rattle.arch_trait.specs.declared.step.Step.{Step}
 use Rattle.test_laws.specs.Steps.{event_step}

@@ -1,5 +1,5 @@
 use Rattle.std.proofs.Common.{◌<◌, arith}
-use Rattle.coherence_values.specs.Values.{write_count}
+use Rattle.value_laws.specs.Values.{write_count}
 use Rattle.test_laws.specs.Steps.{observing}
 use Rattle.test_maker.proofs.Filling.{few_reads}
 use Rattle.test_maker.proofs.steps.fill_reads.Goals as goal

@@ -1,5 +1,5 @@
 use Rattle.std.proofs.Common.{◌∙◌, ◌<◌, ◌≤◌, ◌-◌, sym, ap, arith, slice_get, Some}
-use Rattle.cycle_resolve.specs.Resolution.{external_count}
+use Rattle.resolution_laws.specs.Resolution.{external_count}
 use Rattle.program_meaning.specs.Intended.{observed_locations}
 use Rattle.test_laws.specs.TestOf.{plain}
 use Rattle.test_laws.proofs.StepsAt.{thread_steps_at, observer_steps_at, steps-count}

@@ -1,8 +1,8 @@
 use Rattle.std.proofs.Common.{◌∙◌, ◌≡◌, ◌<◌, sym, ap, arith}
 use Rattle.std.specs.List.{count_by}
 use Rattle.list_laws.specs.Numbers.{upto}
-use Rattle.cycle_resolve.specs.Resolution.{move_count}
-use Rattle.coherence_values.specs.Values.{is_observed}
+use Rattle.resolution_laws.specs.Resolution.{move_count}
+use Rattle.value_laws.specs.Values.{is_observed}
 use Rattle.test_maker.proofs.Filling.{observed_got, observers_all}
 use Rattle.test_maker.proofs.steps.observed_location.Goals as goal
 

@@ -3,8 +3,8 @@ use Rattle.std.specs.List.{count_by}
 use Rattle.list_laws.specs.Numbers.{upto}
 use Rattle.list_laws.proofs.Counts.{count_upto-le}
 use Rattle.list_laws.proofs.Ranks.{length-filter-upto}
-use Rattle.cycle_resolve.specs.Resolution.{move_count}
-use Rattle.coherence_values.specs.Values.{is_observed}
+use Rattle.resolution_laws.specs.Resolution.{move_count}
+use Rattle.value_laws.specs.Values.{is_observed}
 use Rattle.test_maker.proofs.steps.observer_count.Goals as goal
 
 pub overflow_add-count : goal.overflow_add-count

@@ -1,5 +1,5 @@
 use Rattle.std.proofs.Common.{◌∙◌, ap, arith}
-use Rattle.cycle_resolve.specs.Resolution.{external_count}
+use Rattle.resolution_laws.specs.Resolution.{external_count}
 use Rattle.test_laws.specs.TestOf.{plain}
 use Rattle.test_laws.proofs.StepsAt.{steps-count}
 use Rattle.test_maker.proofs.Filling.{few_threads}

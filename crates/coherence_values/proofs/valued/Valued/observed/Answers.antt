@@ -3,8 +3,8 @@ use Rattle.std.specs.Prelude.{nat_le}
 use Rattle.std.specs.Option.{is_some}
 use Rattle.relax_edges.specs.declared.kinds.ObsMode.TheVariants.{Accept, Avoid, Force}
 use Rattle.coherence_values.specs.declared.valued.Arc.{Arc}
-use Rattle.coherence_values.specs.Values.{Valuation, is_observed}
-use Rattle.coherence_values.proofs.Entries.{inner_found}
+use Rattle.value_laws.specs.Values.{Valuation, is_observed}
+use Rattle.value_laws.proofs.Entries.{inner_found}
 use Rattle.coherence_values.proofs.valued.Valued.observed.Goals as goal
 
 pub returns-in-Accept : goal.returns-in-Accept

@@ -1,9 +1,9 @@
 use Rattle.std.proofs.Common.{◌≡◌, ◌+◌, ◌==◌, ◌&&◌, length, Some, None, sym, ◌∙◌, ap, arith}
 use Rattle.list_laws.proofs.Finds.{find_upto_first, find_upto_none}
-use Rattle.cycle_resolve.specs.Resolution.{IsResolved}
-use Rattle.coherence_values.specs.Values.{Valuation, is_write_at, value_of, write_at}
-use Rattle.coherence_values.proofs.Along.{write_count_most}
-use Rattle.coherence_values.proofs.Writes.{write_number}
+use Rattle.resolution_laws.specs.Resolution.{IsResolved}
+use Rattle.value_laws.specs.Values.{Valuation, is_write_at, value_of, write_at}
+use Rattle.value_laws.proofs.Along.{write_count_most}
+use Rattle.value_laws.proofs.Writes.{write_number}
 use Rattle.coherence_values.proofs.valued.Valued.write_at.Goals as goal
 
 pub overflow_add-k : goal.overflow_add-k

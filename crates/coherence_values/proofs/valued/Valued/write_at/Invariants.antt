@@ -1,5 +1,5 @@
 use Rattle.std.proofs.Common.{◌≡◌, ℕ, ◌+◌, ◌<◌, false, ◌==◌, ◌&&◌}
-use Rattle.coherence_values.specs.Values.{is_write_at, value_of}
+use Rattle.value_laws.specs.Values.{is_write_at, value_of}
 use Rattle.coherence_values.proofs.valued.Valued.write_at.Given as goal
 
 abbrev pub invariant-loop-event : goal.invariant-loop-event

@@ -1,5 +1,5 @@
 use Rattle.std.specs.Char.{is_ascii_alphabetic}
-use Rattle.final_cond.proofs.RunLaws.{Passed}
+use Rattle.text_laws.proofs.RunLaws.{Passed}
 use Rattle.litmus_text.proofs.reading.cuts.split_letters.Given as goal
 
 abbrev pub invariant-loop-i : goal.invariant-loop-i

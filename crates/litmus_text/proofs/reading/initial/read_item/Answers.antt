@@ -1,6 +1,6 @@
 use Rattle.std.proofs.Common.{◌≤◌, length, arith}
-use Rattle.final_cond.specs.Runs.{is_blank}
-use Rattle.final_cond.proofs.RunLaws.{after_run-le}
+use Rattle.text_laws.specs.Runs.{is_blank}
+use Rattle.text_laws.proofs.RunLaws.{after_run-le}
 use Rattle.litmus_text.proofs.ItemLaws.{before_blanks-le}
 use Rattle.litmus_text.proofs.reading.initial.read_item.Goals as goal
 

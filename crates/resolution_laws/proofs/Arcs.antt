@@ -1,0 +1,166 @@
+-- The locations of a resolved cycle: there are several, which events of a thread share one, and where each one is left.
+use Rattle.std.proofs.Common.{◌≡◌, ℕ, zero, suc, ◌+◌, ◌-◌, ◌<◌, ◌≤◌, Bool, true, false, ◌==◌, ◌&&◌, List, length, get_or, refl, sym, ◌∙◌, ap, arith}
+use Rattle.std.specs.List.{filter}
+use Rattle.std.specs.Prelude.{◌↔◌}
+use Rattle.std.proofs.lemmas.Bool.{eq-eqb, and_from}
+use Rattle.std.proofs.lemmas.Option.{slice_get-get_or}
+use Rattle.relax_edges.specs.declared.kinds.Reach.TheVariants.{Internal}
+use Rattle.relax_edges.specs.declared.kinds.Com.TheVariants.{Rf}
+use Rattle.relax_edges.specs.declared.edge.Edge.{Edge}
+use Rattle.relax_edges.specs.declared.edge.Edge.TheVariants as edges
+use Rattle.relax_edges.specs.EdgeTable.{is_external, is_diff}
+use Rattle.list_laws.specs.Numbers.{upto}
+use Rattle.list_laws.proofs.Cases.{by_test, by_less}
+use Rattle.list_laws.proofs.Counts.{count_upto_up, count_upto_past, counted}
+use Rattle.list_laws.proofs.Prefixes.{count_all, count_take}
+use Rattle.list_laws.proofs.Ranks.{unrank_upto, length-filter-upto}
+use Rattle.resolution_laws.specs.Resolution.{external_count, move_count, edge_at, thread_of, moves_before, location_of, moves_in, IsResolved}
+use Rattle.resolution_laws.proofs.Threads.{thread_up, thread_end, thread_out}
+use Rattle.resolution_laws.proofs.Locations.{ends_with, external_keeps, moves_on, moves_kept, moves_up, moves_end, moves_most, location_wrapped, location_first, same_moves_location, moves_in_before, moves_between, moves_in_fewer}
+
+-- the last edge is external, and keeps the location
+pub last_outside : (es : List Edge) (n : ℕ) → IsResolved es → length es ≡ n + 1 → is_external (edge_at es n) ≡ true
+last_outside es n r h = sym (ends_with es n h) ∙ r.outside
+
+pub last_keeps : (es : List Edge) (n : ℕ) → IsResolved es → length es ≡ n + 1 → is_diff (edge_at es n) ≡ false
+last_keeps es n r h = external_keeps (edge_at es n) (last_outside es n r h)
+
+-- so the threads of events are below the number of threads
+pub thread_below : (es : List Edge) (i : ℕ) → IsResolved es → i < length es → thread_of es i < external_count es
+thread_below es i r h =
+    let e : length es ≡ (length es - 1) + 1 = omega arith in
+    omega (arith, thread_up es i (length es - 1) (omega arith) (omega arith), thread_out es (length es - 1) (omega arith) (last_outside es (length es - 1) r e), ap (thread_of es) e, thread_end es)
+
+-- and at the last event all moves are made
+pub moves_last : (es : List Edge) (n : ℕ) → IsResolved es → length es ≡ n + 1 → moves_before es n ≡ move_count es
+moves_last es n r h = omega (arith, moves_kept es n (omega (arith, h)) (last_keeps es n r h), ap (moves_before es) h, moves_end es)
+
+-- a move is counted in its thread
+move_in_thread : (es : List Edge) (i : ℕ) → i < length es → is_diff (edge_at es i) ≡ true → 1 ≤ moves_in es (thread_of es i)
+unfolding moves_in
+move_in_thread es i h t =
+    omega (
+      arith,
+      count_upto_past (λ j. is_diff (edge_at es j) && (thread_of es j == thread_of es i)) i (length es) h
+          (and_from (is_diff (edge_at es i)) (thread_of es i == thread_of es i) t (eq-eqb (thread_of es i) (thread_of es i) refl)),
+    )
+
+-- there are at least two locations
+pub several_locations : (es : List Edge) → IsResolved es → 2 ≤ move_count es
+several_locations es r =
+    let first = moves_in_fewer es 0 r (omega (arith, r.threads)) in
+    let w = counted (λ j. is_diff (edge_at es j)) (length es) (omega (arith, first, count_all is_diff es (edges.Com Rf Internal))) in
+    omega (arith, move_in_thread es w.number w.below w.passes, moves_in_fewer es (thread_of es w.number) r (thread_below es w.number r w.below))
+
+-- each location is that of some event, which a `d` edge leaves
+pub record Leaving (es : List Edge) (l : ℕ) : Type 0 where
+  pub event : ℕ
+  pub below : event < length es
+  pub leaves : is_diff (edge_at es event) ≡ true
+  pub moves : moves_before es event ≡ l
+
+pub leaving : (es : List Edge) (l : ℕ) → l < move_count es → Leaving es l
+unfolding moves_before
+leaving es l h =
+    let p : ℕ → Bool = λ j. is_diff (edge_at es j) in
+    let long : l < length (filter p (upto (length es))) = omega (arith, h, length-filter-upto p (length es), count_all is_diff es (edges.Com Rf Internal)) in
+    let g = slice_get-get_or (filter p (upto (length es))) l 0 long in
+    let w = unrank_upto p (length es) l (get_or (filter p (upto (length es))) l 0) g in
+    record {
+      event = get_or (filter p (upto (length es))) l 0;
+      below = w.below;
+      leaves = w.passes;
+      moves = count_take is_diff es (edges.Com Rf Internal) (get_or (filter p (upto (length es))) l 0) (omega (arith, w.below)) ∙ w.rank;
+    }
+
+-- the location of an event is the number of moves before it, but for the events behind the last move, which are at
+-- location 0 with those before the first
+pub location_cases : {G : Type 0} (es : List Edge) (i : ℕ) → i < length es → (moves_before es i ≡ move_count es → location_of es i ≡ 0 → G) → (moves_before es i < move_count es → location_of es i ≡ moves_before es i → G) → G
+location_cases es i h wrapped first =
+    by_less (moves_before es i) (move_count es)
+    (λ l. first l (location_first es i l))
+    (λ g. let e : moves_before es i ≡ move_count es = omega (arith, g, moves_most es i (omega arith)) in wrapped e (location_wrapped es i e))
+
+pub location_below : (es : List Edge) (i : ℕ) → IsResolved es → i < length es → location_of es i < move_count es
+location_below es i r h =
+    location_cases es i h
+    (λ w z. omega (arith, z, several_locations es r))
+    (λ l e. omega (arith, l, e))
+
+-- two events of a thread at one location have the same moves before them
+pub one_location : (es : List Edge) (i j : ℕ) → IsResolved es → i ≤ j → j < length es → thread_of es i ≡ thread_of es j → location_of es i ≡ location_of es j → moves_before es i ≡ moves_before es j
+unfolding moves_in_before moves_in
+one_location es i j r h l t e =
+    let k = thread_of es j in
+    let apart = moves_between es i j (thread_of es j) h (omega arith) t refl in
+    let fewer = moves_in_fewer es (thread_of es j) r (thread_below es j r l) in
+    let part = count_upto_up (λ m. is_diff (edge_at es m) && (thread_of es m == thread_of es j)) j (length es) (omega arith) in
+    let up = moves_up es i j h (omega arith) in
+    location_cases es i (omega arith)
+    (λ w z. omega (arith, w, up, moves_most es j (omega arith)))
+    (λ m z. location_cases es j l
+    (λ v y. omega (arith, m, z, v, y, e, apart, fewer, part))
+    (λ v y. omega (arith, z, y, e)))
+
+-- no `d` edge stands between events with the same moves before them, and so they are at one location with all between
+pub none_moves : (es : List Edge) (i j m : ℕ) → i ≤ m → m < j → j ≤ length es → moves_before es i ≡ moves_before es j → is_diff (edge_at es m) ≡ false
+none_moves es i j m a b c e =
+    by_test (is_diff (edge_at es m))
+    (λ t. absurd (omega (arith, e, moves_on es m (omega arith) t, moves_up es i m a (omega arith), moves_up es (m + 1) j (omega arith) c)))
+    (λ f. f)
+
+pub same_moves : (es : List Edge) (i j : ℕ) → i ≤ j → j ≤ length es → ((m : ℕ) → i ≤ m → m < j → is_diff (edge_at es m) ≡ false) → moves_before es i ≡ moves_before es j
+same_moves es i zero h l k = let e : i ≡ 0 = omega arith in rw e refl
+same_moves es i (suc j) h l k =
+    by_less j i
+    (λ g. let e : i ≡ suc j = omega arith in rw e refl)
+    (λ g. let one = same_moves es i j g (omega arith) (λ m a b. k m a (omega arith)) in
+    let step = moves_kept es j (omega arith) (k j g (omega arith)) in
+    let s : j + 1 ≡ suc j = omega arith in
+    one ∙ sym step ∙ ap (moves_before es) s)
+
+-- in one thread, two events are at one location exactly where no edge between them leads to another
+pub location_in_thread : (es : List Edge) (i j : ℕ) → IsResolved es → i ≤ j → j < length es → thread_of es i ≡ thread_of es j → (location_of es i ≡ location_of es j) ↔ ((m : ℕ) → i ≤ m → m < j → is_diff (edge_at es m) ≡ false)
+location_in_thread es i j r h l t = (
+  λ e m a b. none_moves es i j m a b (omega arith) (one_location es i j r h l t e),
+  λ k. same_moves_location es i j (same_moves es i j h (omega arith) k),
+)
+
+-- the events of a thread at one location stand together: in one run, none of another thread or location between them
+pub record SameRun (es : List Edge) (i m : ℕ) : Type 0 where
+  pub thread : thread_of es m ≡ thread_of es i
+  pub location : location_of es m ≡ location_of es i
+  pub moves : moves_before es m ≡ moves_before es i
+
+pub one_run : (es : List Edge) (i m j : ℕ) → IsResolved es → i ≤ m → m ≤ j → j < length es → thread_of es i ≡ thread_of es j → location_of es i ≡ location_of es j → SameRun es i m
+one_run es i m j r a b l t e =
+    let same = one_location es i j r (omega arith) l t e in
+    let moves : moves_before es m ≡ moves_before es i = omega (arith, same, moves_up es i m a (omega arith), moves_up es m j b (omega arith)) in
+    record {
+      thread = omega (arith, t, thread_up es i m a (omega arith), thread_up es m j b (omega arith));
+      location = same_moves_location es m i moves;
+      moves = moves;
+    }
+
+-- a `d` edge leads to another location
+pub moved_location : (es : List Edge) (i : ℕ) → IsResolved es → i + 1 < length es → is_diff (edge_at es i) ≡ true → (location_of es (i + 1) ≡ location_of es i → ⊥)
+moved_location es i r h t e =
+    let two = several_locations es r in
+    let on = moves_on es i (omega arith) t in
+    location_cases es i (omega arith)
+    (λ w z. omega (arith, w, on, moves_most es (i + 1) (omega arith)))
+    (λ m z. location_cases es (i + 1) h
+    (λ v y. omega (arith, m, z, v, y, e, on, two))
+    (λ v y. omega (arith, z, y, e, on)))
+
+-- two events at one location stand on one stretch of the list without a `d` edge between them, or they are at location 0
+-- before the first `d` edge and behind the last
+pub arc_cases : {G : Type 0} (es : List Edge) (i j : ℕ) → i ≤ j → j < length es → location_of es i ≡ location_of es j → (moves_before es i ≡ moves_before es j → G) → (location_of es i ≡ 0 → moves_before es i ≡ 0 → moves_before es j ≡ move_count es → G) → G
+arc_cases es i j h l e one wrapped =
+    let up = moves_up es i j h (omega arith) in
+    let most = moves_most es j (omega arith) in
+    location_cases es i (omega arith)
+    (λ w z. one (omega (arith, w, up, most)))
+    (λ m z. location_cases es j l
+    (λ v y. wrapped (e ∙ y) (sym z ∙ e ∙ y) v)
+    (λ v y. one (sym z ∙ e ∙ y)))

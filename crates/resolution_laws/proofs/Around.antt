@@ -1,0 +1,121 @@
+-- The way round a cycle: where each edge leads, the last one back to event 0 included.
+use Rattle.std.proofs.Common.{◌≡◌, ℕ, zero, suc, ◌+◌, ◌-◌, ◌<◌, true, false, ◌==◌, cond, List, [], ◌∷◌, ◌++◌, length, get_or, refl, sym, ◌∙◌, ap, arith, length-append}
+use Rattle.std.proofs.lemmas.List.{get_or_append_left, get_or_push}
+use Rattle.std.proofs.lemmas.Bool.{eq-eqb, ne_eqb, and_parts, cond-true, cond-false}
+use Rattle.relax_edges.specs.declared.kinds.Dir.{Dir}
+use Rattle.relax_edges.specs.declared.kinds.Dir.TheVariants as dirs
+use Rattle.relax_edges.specs.declared.edge.Edge.{Edge}
+use Rattle.relax_edges.specs.EdgeTable.{source_of, target_of, joins_to, same_dir, is_external, is_diff}
+use Rattle.walk_laws.specs.Composable.{is_joined, IsCycle}
+use Rattle.list_laws.proofs.Cases.{by_same}
+use Rattle.resolution_laws.specs.Resolution.{external_count, edge_at, thread_of, slot_of, location_of, event_after, event_before, IsResolved}
+use Rattle.resolution_laws.proofs.Threads.{thread-zero, thread_out, thread_in, thread_end, slot-zero, slot_out, slot_in}
+use Rattle.resolution_laws.proofs.Locations.{location-zero, location_kept, location_wrapped}
+use Rattle.resolution_laws.proofs.Arcs.{last_outside, last_keeps, moves_last, moved_location, thread_below}
+
+-- behind the last event comes event 0, behind any other the next one
+pub by_after : {G : Type 0} (es : List Edge) (i : ℕ) → i < length es → (i + 1 < length es → event_after es i ≡ i + 1 → G) → (length es ≡ i + 1 → event_after es i ≡ 0 → G) → G
+unfolding event_after
+by_after es i h next last =
+    by_same (i + 1) (length es)
+    (λ e. last (sym e) (cond-true {A = ℕ} (i + 1 == length es) 0 (i + 1) (eq-eqb (i + 1) (length es) e)))
+    (λ d. next (omega (arith, d, h)) (cond-false {A = ℕ} (i + 1 == length es) 0 (i + 1) (ne_eqb (i + 1) (length es) d)))
+
+pub after_below : (es : List Edge) (i : ℕ) → i < length es → event_after es i < length es
+after_below es i h = by_after es i h (λ l e. omega (arith, l, e)) (λ l e. omega (arith, h, e))
+
+pub before_below : (es : List Edge) (i : ℕ) → i < length es → event_before es i < length es
+before_below es zero h = omega arith
+before_below es (suc i) h = omega arith
+
+pub after_before : (es : List Edge) (i : ℕ) → i < length es → event_after es (event_before es i) ≡ i
+after_before es zero h = by_after es (length es - 1) (omega arith) (λ l e. absurd (omega (arith, l))) (λ l e. e)
+after_before es (suc i) h = by_after es i (omega arith) (λ l e. omega (arith, e)) (λ l e. absurd (omega (arith, l, h)))
+
+pub before_after : (es : List Edge) (i : ℕ) → i < length es → event_before es (event_after es i) ≡ i
+before_after es i h =
+    by_after es i h
+    (λ l e. let s : event_after es i ≡ suc i = omega (arith, e) in rw s refl)
+    (λ l e. rw e (omega (arith, l)))
+
+-- each edge of a joined list joins the next one
+pub joined_next : (d : Edge) (u : List Edge) (i : ℕ) → is_joined u ≡ true → i + 1 < length u → joins_to (get_or u i d) (get_or u (i + 1) d) ≡ true
+joined_next d [] i h l = absurd (omega arith)
+joined_next d (e ∷ []) i h l = absurd (omega arith)
+joined_next d (e ∷ f ∷ u) zero h l = (and_parts (joins_to e f) (is_joined (f ∷ u)) h).0
+joined_next d (e ∷ f ∷ u) (suc i) h l =
+    let s : suc i + 1 ≡ suc (i + 1) = omega arith in
+    rw s (joined_next d (f ∷ u) i (and_parts (joins_to e f) (is_joined (f ∷ u)) h).1 (omega arith))
+
+-- each edge of a cycle joins the one behind it
+pub joins_after : (es : List Edge) (i : ℕ) → IsCycle es → i < length es → joins_to (edge_at es i) (edge_at es (event_after es i)) ≡ true
+joins_after [] i c h = absurd (omega arith)
+joins_after (e ∷ u) i c h =
+    let long = length-append (e ∷ u) (e ∷ []) in
+    let j = joined_next (edge_at [] 0) ((e ∷ u) ++ e ∷ []) i c.closed (omega (arith, h, long)) in
+    let here : get_or ((e ∷ u) ++ e ∷ []) i (edge_at [] 0) ≡ edge_at (e ∷ u) i = get_or_append_left (e ∷ u) (e ∷ []) (edge_at [] 0) i h in
+    by_after (e ∷ u) i h
+    (λ l a. let there : get_or ((e ∷ u) ++ e ∷ []) (i + 1) (edge_at [] 0) ≡ edge_at (e ∷ u) (i + 1) = get_or_append_left (e ∷ u) (e ∷ []) (edge_at [] 0) (i + 1) l in
+    rw a (ap (λ x. joins_to x (edge_at (e ∷ u) (i + 1))) (sym here) ∙ ap (λ x. joins_to (get_or ((e ∷ u) ++ e ∷ []) i (edge_at [] 0)) x) (sym there) ∙ j))
+    (λ l a. let there : get_or ((e ∷ u) ++ e ∷ []) (i + 1) (edge_at [] 0) ≡ e = get_or_push (e ∷ u) e (edge_at [] 0) (i + 1) l in
+    rw a (ap (λ x. joins_to x e) (sym here) ∙ ap (λ x. joins_to (get_or ((e ∷ u) ++ e ∷ []) i (edge_at [] 0)) x) (sym there) ∙ j))
+
+-- so what an edge enters is what the edge behind it leaves
+pub source_after : (es : List Edge) (i : ℕ) → IsCycle es → i < length es → source_of (edge_at es (event_after es i)) ≡ target_of (edge_at es i)
+source_after es i c h = same (target_of (edge_at es i)) (source_of (edge_at es (event_after es i))) (joins_after es i c h)
+  where
+    same : (a b : Dir) → same_dir a b ≡ true → b ≡ a
+    same dirs.R dirs.R e = refl
+    same dirs.W dirs.W e = refl
+    same dirs.R dirs.W e = cc
+    same dirs.W dirs.R e = cc
+
+-- an internal edge leads to the next slot of its thread, which is the next event
+pub record Follows (es : List Edge) (i : ℕ) : Type 0 where
+  pub within : i + 1 < length es
+  pub next : event_after es i ≡ i + 1
+  pub thread : thread_of es (i + 1) ≡ thread_of es i
+  pub slot : slot_of es (i + 1) ≡ slot_of es i + 1
+
+pub internal_follows : (es : List Edge) (i : ℕ) → IsResolved es → i < length es → is_external (edge_at es i) ≡ false → Follows es i
+internal_follows es i r h f =
+    by_after es i h
+    (λ l e. record { within = l; next = e; thread = thread_in es i h f; slot = slot_in es i h f })
+    (λ l e. let a : true ≡ false = sym (last_outside es i r l) ∙ f in cc)
+
+-- an external edge leads to the first slot of the next thread, and the last one to that of thread 0
+pub record Leads (es : List Edge) (i : ℕ) : Type 0 where
+  pub thread : thread_of es (event_after es i) ≡ cond (thread_of es i + 1 == external_count es) 0 (thread_of es i + 1)
+  pub slot : slot_of es (event_after es i) ≡ 0
+
+pub external_leads : (es : List Edge) (i : ℕ) → IsResolved es → i < length es → is_external (edge_at es i) ≡ true → Leads es i
+external_leads es i r h t =
+    by_after es i h
+    (λ l e. let o = thread_out es i h t in
+    record {
+      thread = rw e (o ∙ sym (cond-false {A = ℕ} (thread_of es i + 1 == external_count es) 0 (thread_of es i + 1) (ne_eqb (thread_of es i + 1) (external_count es) (λ z. omega (arith, z, o, thread_below es (i + 1) r l)))));
+      slot = rw e (slot_out es i h t);
+    })
+    (λ l e. let all : thread_of es i + 1 ≡ external_count es = sym (thread_out es i h t) ∙ sym (ap (thread_of es) l) ∙ thread_end es in
+    record {
+      thread = rw e (thread-zero es ∙ sym (cond-true {A = ℕ} (thread_of es i + 1 == external_count es) 0 (thread_of es i + 1) (eq-eqb (thread_of es i + 1) (external_count es) all)));
+      slot = rw e (slot-zero es);
+    })
+
+-- an edge that isn't a `d` edge keeps the location, also the last one
+pub keeps_location : (es : List Edge) (i : ℕ) → IsResolved es → i < length es → is_diff (edge_at es i) ≡ false → location_of es (event_after es i) ≡ location_of es i
+keeps_location es i r h f =
+    by_after es i h
+    (λ l e. rw e (location_kept es i h f))
+    (λ l e. rw e (location-zero es ∙ sym (location_wrapped es i (moves_last es i r l))))
+
+-- a `d` edge is followed by the next event, at another location
+pub moves_within : (es : List Edge) (i : ℕ) → IsResolved es → i < length es → is_diff (edge_at es i) ≡ true → i + 1 < length es
+moves_within es i r h t =
+    by_after es i h (λ l e. l) (λ l e. let a : false ≡ true = sym (last_keeps es i r l) ∙ t in cc)
+
+pub changes_location : (es : List Edge) (i : ℕ) → IsResolved es → i < length es → is_diff (edge_at es i) ≡ true → (location_of es (event_after es i) ≡ location_of es i → ⊥)
+changes_location es i r h t q =
+    by_after es i h
+    (λ l e. moved_location es i r l t (ap (location_of es) (sym e) ∙ q))
+    (λ l e. let a : false ≡ true = sym (last_keeps es i r l) ∙ t in cc)

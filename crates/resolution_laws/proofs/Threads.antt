@@ -1,0 +1,85 @@
+-- Threads and slots: how they change along an edge, and that an event and its thread and slot name one another.
+use Rattle.std.proofs.Common.{◌≡◌, ℕ, ◌+◌, ◌<◌, ◌≤◌, true, false, ◌==◌, List, length, Some, slice_get, refl, ap, arith, eq-eqb}
+use Rattle.std.proofs.lemmas.List.{take_all}
+use Rattle.std.proofs.lemmas.Bool.{eqb-true, ne_eqb, cond-true, cond-false}
+use Rattle.relax_edges.specs.declared.kinds.Reach.TheVariants.{Internal}
+use Rattle.relax_edges.specs.declared.kinds.Com.TheVariants.{Rf}
+use Rattle.relax_edges.specs.declared.edge.Edge.{Edge}
+use Rattle.relax_edges.specs.declared.edge.Edge.TheVariants as edges
+use Rattle.relax_edges.specs.EdgeTable.{is_external}
+use Rattle.list_laws.proofs.Counts.{count_upto_more_yes, count_upto_none, count_upto_up, count_upto-le}
+use Rattle.list_laws.proofs.Prefixes.{count_take, count_take_more}
+use Rattle.list_laws.proofs.Ranks.{rank_upto, unrank_upto}
+use Rattle.resolution_laws.specs.Resolution.{external_count, edge_at, thread_of, slot_of, events_in}
+
+pub thread-zero : (es : List Edge) → thread_of es 0 ≡ 0
+unfolding thread_of
+thread-zero es = refl
+
+-- an external edge leads to the next thread
+pub thread_out : (es : List Edge) (i : ℕ) → i < length es → is_external (edge_at es i) ≡ true → thread_of es (i + 1) ≡ thread_of es i + 1
+unfolding thread_of
+thread_out es i h t = omega (arith, count_take_more is_external es i (edges.Com Rf Internal) h, cond-true {A = ℕ} (is_external (edge_at es i)) 1 0 t)
+
+-- an internal edge stays in its thread
+pub thread_in : (es : List Edge) (i : ℕ) → i < length es → is_external (edge_at es i) ≡ false → thread_of es (i + 1) ≡ thread_of es i
+unfolding thread_of
+thread_in es i h t = omega (arith, count_take_more is_external es i (edges.Com Rf Internal) h, cond-false {A = ℕ} (is_external (edge_at es i)) 1 0 t)
+
+-- behind the last edge all external edges are counted
+pub thread_end : (es : List Edge) → thread_of es (length es) ≡ external_count es
+unfolding thread_of
+thread_end es = ap external_count (take_all (length es) es (omega arith))
+
+-- threads are numbered upwards
+pub thread_up : (es : List Edge) (i j : ℕ) → i ≤ j → j ≤ length es → thread_of es i ≤ thread_of es j
+unfolding thread_of
+thread_up es i j h l =
+    omega (arith, count_take is_external es (edges.Com Rf Internal) i (omega arith), count_take is_external es (edges.Com Rf Internal) j l, count_upto_up (λ m. is_external (edge_at es m)) i j h)
+
+-- threads are at most as many as edges
+pub thread_most : (es : List Edge) (i : ℕ) → i ≤ length es → thread_of es i ≤ i
+unfolding thread_of
+thread_most es i h = omega (arith, count_take is_external es (edges.Com Rf Internal) i h, count_upto-le (λ m. is_external (edge_at es m)) i)
+
+-- slots are at most as many as events
+pub slot_most : (es : List Edge) (i : ℕ) → slot_of es i ≤ i
+unfolding slot_of
+slot_most es i = count_upto-le (λ j. thread_of es j == thread_of es i) i
+
+pub slot-zero : (es : List Edge) → slot_of es 0 ≡ 0
+unfolding slot_of
+slot-zero es = refl
+
+-- an internal edge leads to the next slot
+pub slot_in : (es : List Edge) (i : ℕ) → i < length es → is_external (edge_at es i) ≡ false → slot_of es (i + 1) ≡ slot_of es i + 1
+unfolding slot_of
+slot_in es i h t =
+    let e : thread_of es (i + 1) ≡ thread_of es i = thread_in es i h t in
+    rw e (count_upto_more_yes (λ j. thread_of es j == thread_of es i) i (eq-eqb (thread_of es i) (thread_of es i) refl))
+
+-- an external edge leads to a first slot
+pub slot_out : (es : List Edge) (i : ℕ) → i < length es → is_external (edge_at es i) ≡ true → slot_of es (i + 1) ≡ 0
+unfolding slot_of
+slot_out es i h t =
+    count_upto_none (λ j. thread_of es j == thread_of es (i + 1)) (i + 1)
+    (λ j l. ne_eqb (thread_of es j) (thread_of es (i + 1)) (λ e. omega (arith, e, thread_out es i h t, thread_up es j i (omega arith) (omega arith))))
+
+-- number i is the event in slot s of thread k
+pub record IsAt (es : List Edge) (k s i : ℕ) : Type 0 where
+  pub below : i < length es
+  pub thread : thread_of es i ≡ k
+  pub slot : slot_of es i ≡ s
+
+-- each event stands in its thread at the place of its slot
+pub event_in_slot : (es : List Edge) (i : ℕ) → i < length es → slice_get (events_in es (thread_of es i)) (slot_of es i) ≡ Some i
+unfolding events_in slot_of
+event_in_slot es i h = rank_upto (λ j. thread_of es j == thread_of es i) (length es) i h (eq-eqb (thread_of es i) (thread_of es i) refl)
+
+-- what stands at a place of a thread is an event of that thread, in that slot
+pub slot_of_event : (es : List Edge) (k s i : ℕ) → slice_get (events_in es k) s ≡ Some i → IsAt es k s i
+unfolding events_in slot_of
+slot_of_event es k s i h =
+    let r = unrank_upto (λ j. thread_of es j == k) (length es) s i h in
+    let t : thread_of es i ≡ k = eqb-true (thread_of es i) k r.passes in
+    record { below = r.below; thread = t; slot = rw t r.rank }

@@ -1,0 +1,97 @@
+-- Names of their forms: as code tests them, and that they are short and ASCII.
+use Rattle.std.proofs.Common.{◌≡◌, ℕ, ◌-◌, ◌≤◌, List, [], ◌∷◌, length, get_or, take, drop, refl, ap, ◌∙◌, arith}
+use Rattle.std.specs.Prelude.{Bool, true, ◌&&◌, nat_le}
+use Rattle.std.specs.Char.{is_ascii, is_ascii_alphabetic, is_ascii_alphanumeric}
+use Rattle.std.specs.List.{list_all}
+use Rattle.std.specs.Str.{IsAscii, IsUtf8}
+use Rattle.std.proofs.Math.Seq.{take-length}
+use Rattle.std.proofs.lemmas.Bool.{and_parts, and_from, leb-true, ltb-true}
+use Rattle.std.proofs.lemmas.Bool.Decides.{nat_tests}
+use Rattle.std.proofs.lemmas.Str.{IsUtf8-from_ascii}
+use Rattle.std.proofs.lemmas.Str.Ascii.{IsAscii-nil, IsAscii-cons}
+use Rattle.text_laws.specs.Names.{begins_place, is_place_byte, is_place_name, is_register_name}
+
+pub rest_is : (byte : ℕ) (bytes : List ℕ) → take (length (byte ∷ bytes) - 1) (drop 1 (byte ∷ bytes)) ≡ bytes
+rest_is byte bytes = ap (λ n. take n bytes) (omega arith) ∙ take-length bytes
+
+-- a place's name by its first byte and the others
+pub is_place_name_parts : (name : List ℕ) → 1 ≤ length name → is_place_name name
+    ≡ (begins_place (get_or name 0 0) && list_all is_place_byte (take (length name - 1) (drop 1 name)) && nat_le (length name) 16)
+unfolding is_place_name
+is_place_name_parts [] h = absurd (omega arith)
+is_place_name_parts (byte ∷ bytes) h = rw rest_is refl
+
+-- a register's name by its first byte and the others
+pub is_register_name_parts : (name : List ℕ) → 1 ≤ length name → is_register_name name
+    ≡ (is_ascii_alphabetic (get_or name 0 0) && list_all is_ascii_alphanumeric (take (length name - 1) (drop 1 name)) && nat_le (length name) 16)
+unfolding is_register_name
+is_register_name_parts [] h = absurd (omega arith)
+is_register_name_parts (byte ∷ bytes) h = rw rest_is refl
+
+all_ascii : (bytes : List ℕ) → list_all is_ascii bytes ≡ true → IsAscii bytes
+all_ascii [] h = IsAscii-nil
+all_ascii (byte ∷ bytes) h =
+    let p : (is_ascii byte ≡ true) × (list_all is_ascii bytes ≡ true) = and_parts (is_ascii byte) (list_all is_ascii bytes) h in
+    IsAscii-cons byte bytes (ltb-true byte 128 p.0) (all_ascii bytes p.1)
+
+-- ASCII bytes are UTF-8
+pub utf8_from_ascii : (bytes : List ℕ) → list_all is_ascii bytes ≡ true → IsUtf8 bytes
+utf8_from_ascii bytes h = IsUtf8-from_ascii bytes (all_ascii bytes h)
+
+pub all_weaker : (p q : ℕ → Bool) → ((byte : ℕ) → p byte ≡ true → q byte ≡ true) → (bytes : List ℕ) → list_all p bytes ≡ true → list_all q bytes ≡ true
+all_weaker p q weaker [] h = refl
+all_weaker p q weaker (byte ∷ bytes) h =
+    let k : (p byte ≡ true) × (list_all p bytes ≡ true) = and_parts (p byte) (list_all p bytes) h in
+    and_from (q byte) (list_all q bytes) (weaker byte k.0) (all_weaker p q weaker bytes k.1)
+
+place_byte_ascii : (byte : ℕ) → is_place_byte byte ≡ true → is_ascii byte ≡ true
+place_byte_ascii byte h = grind (arith, nat_tests)
+
+begins_place_ascii : (byte : ℕ) → begins_place byte ≡ true → is_ascii byte ≡ true
+begins_place_ascii byte h = grind (arith, nat_tests)
+
+register_byte_ascii : (byte : ℕ) → is_ascii_alphanumeric byte ≡ true → is_ascii byte ≡ true
+register_byte_ascii byte h = grind (arith, nat_tests)
+
+letter_ascii : (byte : ℕ) → is_ascii_alphabetic byte ≡ true → is_ascii byte ≡ true
+letter_ascii byte h = grind (arith, nat_tests)
+
+-- a name's first byte passes, the others pass, and they are at most 16
+pub record Shaped (first others : ℕ → Bool) (name : List ℕ) : Type 0 where
+  pub byte : ℕ
+  pub bytes : List ℕ
+  pub is : name ≡ byte ∷ bytes
+  pub begins : first byte ≡ true
+  pub goes_on : list_all others bytes ≡ true
+  pub short : length name ≤ 16
+
+shaped : (first others : ℕ → Bool) (byte : ℕ) (bytes : List ℕ) → (first byte && list_all others bytes && nat_le (length (byte ∷ bytes)) 16) ≡ true → Shaped first others (byte ∷ bytes)
+shaped first others byte bytes h =
+    let p : ((first byte && list_all others bytes) ≡ true) × (nat_le (length (byte ∷ bytes)) 16 ≡ true) = and_parts (first byte && list_all others bytes) (nat_le (length (byte ∷ bytes)) 16) h in
+    let q : (first byte ≡ true) × (list_all others bytes ≡ true) = and_parts (first byte) (list_all others bytes) p.0 in
+    record { byte = byte; bytes = bytes; is = refl; begins = q.0; goes_on = q.1; short = leb-true (length (byte ∷ bytes)) 16 p.1 }
+
+pub place_shaped : (name : List ℕ) → is_place_name name ≡ true → Shaped begins_place is_place_byte name
+unfolding is_place_name
+place_shaped [] h = absurd (cc)
+place_shaped (byte ∷ bytes) h = shaped begins_place is_place_byte byte bytes h
+
+pub register_shaped : (name : List ℕ) → is_register_name name ≡ true → Shaped is_ascii_alphabetic is_ascii_alphanumeric name
+unfolding is_register_name
+register_shaped [] h = absurd (cc)
+register_shaped (byte ∷ bytes) h = shaped is_ascii_alphabetic is_ascii_alphanumeric byte bytes h
+
+pub shaped_all : (first others q : ℕ → Bool) → ((byte : ℕ) → first byte ≡ true → q byte ≡ true) → ((byte : ℕ) → others byte ≡ true → q byte ≡ true) → (name : List ℕ) → Shaped first others name → list_all q name ≡ true
+shaped_all first others q f g name s = rw s.is (and_from (q s.byte) (list_all q s.bytes) (f s.byte s.begins) (all_weaker others q g s.bytes s.goes_on))
+
+pub place_name_short : (name : List ℕ) → is_place_name name ≡ true → length name ≤ 16
+place_name_short name h = (place_shaped name h).short
+
+pub register_name_short : (name : List ℕ) → is_register_name name ≡ true → length name ≤ 16
+register_name_short name h = (register_shaped name h).short
+
+pub place_name_ascii : (name : List ℕ) → is_place_name name ≡ true → list_all is_ascii name ≡ true
+place_name_ascii name h = shaped_all begins_place is_place_byte is_ascii begins_place_ascii place_byte_ascii name (place_shaped name h)
+
+pub register_name_ascii : (name : List ℕ) → is_register_name name ≡ true → list_all is_ascii name ≡ true
+register_name_ascii name h = shaped_all is_ascii_alphabetic is_ascii_alphanumeric is_ascii letter_ascii register_byte_ascii name (register_shaped name h)

@@ -1,0 +1,74 @@
+-- The front of a text as far as its bytes pass: how a walk finds it, and what it is where the text is known.
+use Rattle.std.proofs.Common.{◌≡◌, ℕ, suc, ◌+◌, ◌<◌, ◌≤◌, List, [], ◌∷◌, ◌++◌, length, get_or, take, drop, refl, sym, ap, ◌∙◌, arith, add-one, append_assoc, append-nil}
+use Rattle.std.specs.Prelude.{Bool, true, false}
+use Rattle.std.specs.List.{list_all}
+use Rattle.std.proofs.Math.Seq.{drop-cons, drop-length, take-length}
+use Rattle.std.proofs.lemmas.List.{take_more}
+use Rattle.text_laws.specs.Runs.{run_of, after_run}
+
+pub by_test : {G : Type 0} (b : Bool) → (b ≡ true → G) → (b ≡ false → G) → G
+by_test true p q = p refl
+by_test false p q = q refl
+
+run_goes : (passes : ℕ → Bool) (byte : ℕ) (text : List ℕ) → passes byte ≡ true → run_of passes (byte ∷ text) ≡ byte ∷ run_of passes text
+unfolding run_of
+run_goes passes byte text h = rw h refl
+
+after_goes : (passes : ℕ → Bool) (byte : ℕ) (text : List ℕ) → passes byte ≡ true → after_run passes (byte ∷ text) ≡ after_run passes text
+unfolding after_run
+after_goes passes byte text h = rw h refl
+
+run_halts : (passes : ℕ → Bool) (byte : ℕ) (text : List ℕ) → passes byte ≡ false → run_of passes (byte ∷ text) ≡ []
+unfolding run_of
+run_halts passes byte text h = rw h refl
+
+after_halts : (passes : ℕ → Bool) (byte : ℕ) (text : List ℕ) → passes byte ≡ false → after_run passes (byte ∷ text) ≡ byte ∷ text
+unfolding after_run
+after_halts passes byte text h = rw h refl
+
+-- the walk has passed the bytes before a place
+pub record Passed (passes : ℕ → Bool) (text : List ℕ) (i : ℕ) : Type 0 where
+  pub run : run_of passes text ≡ take i text ++ run_of passes (drop i text)
+  pub rest : after_run passes text ≡ after_run passes (drop i text)
+
+pub none_passed : (passes : ℕ → Bool) (text : List ℕ) → Passed passes text 0
+none_passed passes text = record { run = refl; rest = refl }
+
+pub one_passed : (passes : ℕ → Bool) (text : List ℕ) (i : ℕ) → i < length text → passes (get_or text i 0) ≡ true → Passed passes text i → Passed passes text (i + 1)
+one_passed passes text i inside passing p =
+    let e : drop i text ≡ get_or text i 0 ∷ drop (i + 1) text = rw add-one (drop-cons text i 0 inside) in
+    record {
+      run = rw (take_more text i 0 inside, append_assoc)
+          (p.run ∙ ap (λ t. take i text ++ t) (ap (run_of passes) e ∙ run_goes passes (get_or text i 0) (drop (i + 1) text) passing));
+      rest = p.rest ∙ ap (after_run passes) e ∙ after_goes passes (get_or text i 0) (drop (i + 1) text) passing;
+    }
+
+-- the walk ends at a byte that doesn't pass
+pub run_stops : (passes : ℕ → Bool) (text : List ℕ) (i : ℕ) → i < length text → passes (get_or text i 0) ≡ false → Passed passes text i → (run_of passes text ≡ take i text) × (after_run passes text ≡ drop i text)
+run_stops passes text i inside fails p = (
+  p.run ∙ ap (λ t. take i text ++ t) (ap (run_of passes) (drop-cons text i 0 inside) ∙ run_halts passes (get_or text i 0) (drop (suc i) text) fails) ∙ append-nil (take i text),
+  p.rest ∙ ap (after_run passes) (drop-cons text i 0 inside) ∙ after_halts passes (get_or text i 0) (drop (suc i) text) fails ∙ sym (drop-cons text i 0 inside),
+)
+
+-- the walk ends with the text
+pub run_ends : (passes : ℕ → Bool) (text : List ℕ) (i : ℕ) → i ≡ length text → Passed passes text i → (run_of passes text ≡ text) × (after_run passes text ≡ [])
+unfolding run_of after_run
+run_ends passes text i whole p =
+    let e : drop i text ≡ [] = ap (λ n. drop n text) whole ∙ drop-length text in
+    let f : take i text ≡ text = ap (λ n. take n text) whole ∙ take-length text in
+    (p.run ∙ ap (λ t. take i text ++ t) (ap (run_of passes) e) ∙ append-nil (take i text) ∙ f, p.rest ∙ ap (after_run passes) e)
+
+-- all bytes of a run pass
+pub run_passes : (passes : ℕ → Bool) (text : List ℕ) → list_all passes (run_of passes text) ≡ true
+unfolding run_of
+run_passes passes [] = refl
+run_passes passes (byte ∷ text) =
+    by_test (passes byte) (λ h. rw (h, h, run_passes passes text) refl) (λ h. rw h refl)
+
+-- what stands behind a run is no longer than the text
+pub after_run-le : (passes : ℕ → Bool) (text : List ℕ) → length (after_run passes text) ≤ length text
+unfolding after_run
+after_run-le passes [] = omega arith
+after_run-le passes (byte ∷ text) =
+    let k : length (after_run passes text) ≤ length text = after_run-le passes text in
+    by_test (passes byte) (λ h. rw h (omega arith)) (λ h. rw h (omega arith))
