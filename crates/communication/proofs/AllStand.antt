@@ -1,4 +1,4 @@
--- All edges of a cycle stand in a program that makes its accesses and ties them as the edges say.
+-- All edges of a cycle stand in a program that makes its accesses and marks and ties them as the edges say.
 use Rattle.std.proofs.Common.{◌≡◌, ℕ, suc, ◌+◌, ◌-◌, ◌<◌, ◌≤◌, List, [], ◌∷◌, length, map, Some, slice_get, refl, sym, ◌∙◌, ap, subst, arith, length-append}
 use Rattle.std.proofs.lemmas.List.{length-map}
 use Rattle.relax_edges.specs.declared.kinds.Dir.TheVariants as dirs
@@ -54,7 +54,7 @@ is_event_at es mode number p x i e r m h v =
 -- free reads observe
 observes : (visits : List Visit) → AreFree visits → ((k : ℕ) (visit : Visit) → slice_get visits k ≡ Some visit → visit.access.dir ≡ dirs.R) → Observes visits
 observes [] f d = tt
-observes (visit ∷ visits) f d = (d 0 visit refl, f.0, f.1, observes visits f.2 (λ k v g. d (suc k) v g))
+observes (visit ∷ visits) f d = (d 0 visit refl, f.0, f.1, f.2, observes visits f.3 (λ k v g. d (suc k) v g))
 
 -- how many threads the cycle's test has
 threads-count : (es : List Edge) (mode : ObsMode) (number : ℕ → ℕ) → external_count es ≤ length (cycle_accesses es mode number)
@@ -104,6 +104,8 @@ all_stand es mode number p x r q n m c f = record {
     joins = subst (λ (z : AccessAt × AccessAt × List (List Access)). Joins z.2 x (edge_at es i) z.0 z.1)
         (λ t. (sym (is_event_at es mode number p x i e r m h u) t, sym (is_event_at es mode number p x (event_after es i) g r m (after_below es i h) v) t, sym m t))
         (edges_join es mode number x i r q n c h);
+    leaves_mark = f.marks i e h u;
+    enters_mark = f.marks (event_after es i) g (after_below es i h) v ∙ sym (r.marks i h);
     ties = f.ties i e g h u v;
   };
 }

@@ -17,7 +17,7 @@ use Rattle.relax_edges.specs.EdgeTable.{source_of, place_of, reach_of, is_extern
 use Rattle.resolution_laws.specs.Resolution.{IsResolved, edge_at, external_count, move_count, thread_of, slot_of, location_of, event_after}
 use Rattle.resolution_laws.proofs.Threads.{thread_out, event_in_slot, slot_of_event}
 use Rattle.resolution_laws.proofs.Arcs.{SameRun, thread_below, several_locations, one_run, one_location, none_moves}
-use Rattle.resolution_laws.proofs.Around.{source_after, internal_follows, external_leads, keeps_location, changes_location}
+use Rattle.resolution_laws.proofs.Around.{source_after, mark_after, internal_follows, external_leads, keeps_location, changes_location}
 use Rattle.value_laws.specs.Values.{value_of, write_at}
 use Rattle.value_laws.proofs.Along.{is_write, value_after, value_most, write_value, values_in_thread, values_in_thread_grow}
 use Rattle.value_laws.proofs.Writes.{write_of as write_from, write_at_parts, write_at_from, is_write_number, write_number}
@@ -139,6 +139,7 @@ resolves es r = record {
   event = λ k s i h. let a = slot_of_event es k s i h in record { below = a.below; thread = a.thread; slot = a.slot };
   rises = λ i j h l t. slots_rise es i j h t;
   enters = λ i h. sym (source_after es i r.composes h);
+  marks = λ i h. sym (mark_after es i r.composes h);
   keeps = λ i h p. keeps_location es i r h (keeps (edge_at es i) p);
   moves = λ i h p. changes_location es i r h (moves (edge_at es i) p);
   stays = λ i h p. next_slot es i r h p;

@@ -7,9 +7,10 @@ use Rattle.relax_edges.specs.declared.kinds.Reach.{Reach}
 use Rattle.relax_edges.specs.declared.kinds.Reach.TheVariants.{Internal, External}
 use Rattle.relax_edges.specs.declared.kinds.Com.TheVariants as coms
 use Rattle.relax_edges.specs.declared.kinds.ObsMode.{ObsMode}
+use Rattle.relax_edges.specs.declared.kinds.Kind.{Kind}
+use Rattle.relax_edges.specs.declared.kinds.Kind.TheVariants as kinds
 use Rattle.relax_edges.specs.declared.edge.Edge.{Edge}
-use Rattle.relax_edges.specs.declared.edge.Edge.TheVariants as edges
-use Rattle.relax_edges.specs.EdgeTable.{source_of, target_of, place_of, reach_of}
+use Rattle.relax_edges.specs.EdgeTable.{kind_of, source_of, target_of, place_of, reach_of, kind_source, kind_target, kind_place}
 use Rattle.resolution_laws.specs.Resolution.{edge_at, location_of, event_after}
 use Rattle.resolution_laws.proofs.Around.{after_below}
 use Rattle.value_laws.specs.Values.{value_of}
@@ -59,14 +60,14 @@ comes_before es mode number i r n h t p =
       place_is_value es mode number (event_name es (event_after es i)) (event_access es number (event_after es i)) r n (event_stands es mode number (event_after es i) r (after_below es i h)),
     )
 
-communicates : (es : List Edge) (mode : ObsMode) (number : ℕ → ℕ) (i : ℕ) → Resolves es → IsNumbering es number → i < length es → (edge : Edge) → edge_at es i ≡ edge → CommunicatesBy edge (cycle_accesses es mode number) (intended es mode number) (event_at es number i) (event_at es number (event_after es i))
-communicates es mode number i r n h (edges.Com coms.Rf reach) e = reads_from es mode number i r n h (ap source_of e) (ap target_of e) (ap place_of e)
-communicates es mode number i r n h (edges.Com coms.Fr reach) e = comes_before es mode number i r n h (ap target_of e) (ap place_of e)
-communicates es mode number i r n h (edges.Com coms.Ws reach) e = comes_before es mode number i r n h (ap target_of e) (ap place_of e)
-communicates es mode number i r n h (edges.Po sd from to) e = tt
-communicates es mode number i r n h (edges.Fenced kind sd from to) e = tt
-communicates es mode number i r n h (edges.Dep kind sd to) e = tt
-communicates es mode number i r n h (edges.Data sd) e = tt
+communicates : (es : List Edge) (mode : ObsMode) (number : ℕ → ℕ) (i : ℕ) → Resolves es → IsNumbering es number → i < length es → (k : Kind) → kind_of (edge_at es i) ≡ k → CommunicatesBy k (cycle_accesses es mode number) (intended es mode number) (event_at es number i) (event_at es number (event_after es i))
+communicates es mode number i r n h (kinds.Com coms.Rf reach) e = reads_from es mode number i r n h (ap kind_source e) (ap kind_target e) (ap kind_place e)
+communicates es mode number i r n h (kinds.Com coms.Fr reach) e = comes_before es mode number i r n h (ap kind_target e) (ap kind_place e)
+communicates es mode number i r n h (kinds.Com coms.Ws reach) e = comes_before es mode number i r n h (ap kind_target e) (ap kind_place e)
+communicates es mode number i r n h (kinds.Po sd from to) e = tt
+communicates es mode number i r n h (kinds.Fenced kind sd from to) e = tt
+communicates es mode number i r n h (kinds.Dep kind sd to) e = tt
+communicates es mode number i r n h (kinds.Data sd) e = tt
 
 -- each edge joins its events in the intended execution
 pub intended_joins : (es : List Edge) (mode : ObsMode) (number : ℕ → ℕ) (i : ℕ) → Resolves es → IsNumbering es number → i < length es → Joins (cycle_accesses es mode number) (intended es mode number) (edge_at es i) (event_at es number i) (event_at es number (event_after es i))
@@ -74,7 +75,7 @@ intended_joins es mode number i r n h = record {
   leaves = refl;
   enters = sym (r.enters i h);
   places = by_place (place_of (edge_at es i)) refl;
-  communicates = communicates es mode number i r n h (edge_at es i) refl;
+  communicates = communicates es mode number i r n h (kind_of (edge_at es i)) refl;
   reaches = by_reach (reach_of (edge_at es i)) refl;
 }
   where

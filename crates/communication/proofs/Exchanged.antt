@@ -12,9 +12,10 @@ use Rattle.relax_edges.specs.declared.kinds.Sd.TheVariants.{Same}
 use Rattle.relax_edges.specs.declared.kinds.Reach.TheVariants.{Internal, External}
 use Rattle.relax_edges.specs.declared.kinds.Com.TheVariants as coms
 use Rattle.relax_edges.specs.declared.kinds.ObsMode.TheVariants.{Avoid}
+use Rattle.relax_edges.specs.declared.kinds.Kind.{Kind}
+use Rattle.relax_edges.specs.declared.kinds.Kind.TheVariants as kinds
 use Rattle.relax_edges.specs.declared.edge.Edge.{Edge}
-use Rattle.relax_edges.specs.declared.edge.Edge.TheVariants as edges
-use Rattle.relax_edges.specs.EdgeTable.{source_of, target_of, place_of, reach_of}
+use Rattle.relax_edges.specs.EdgeTable.{kind_of, source_of, target_of, place_of, reach_of, kind_target, kind_place, kind_reach}
 use Rattle.list_laws.specs.Numbers.{upto}
 use Rattle.list_laws.proofs.Cases.{by_same, by_less}
 use Rattle.list_laws.proofs.Numbers.{length-map-upto, length-upto, slice_get-upto, slice_get-map-upto}
@@ -286,19 +287,19 @@ falls_back es number event r n q p less =
 -- in the exchanged execution the edge into the write doesn't join its events
 pub exchanged_breaks : (es : List Edge) (number : ℕ → ℕ) (event : ℕ) → Resolves es → IsNumbering es number → InnerEntry es event → Joins (cycle_accesses es Avoid number) (exchanged es number event) (edge_at es (event_before es event)) (event_at es number (event_before es event)) (event_at es number event) → ⊥
 exchanged_breaks es number event r n q j =
-    by_edge (edge_at es (event_before es event)) refl j.communicates
+    by_kind (kind_of (edge_at es (event_before es event))) refl j.communicates
   where
     into : target_of (edge_at es (event_before es event)) ≡ dirs.W
     into = sym j.enters ∙ q.writes
 
-    by_edge : (edge : Edge) → edge_at es (event_before es event) ≡ edge → CommunicatesBy edge (cycle_accesses es Avoid number) (exchanged es number event) (event_at es number (event_before es event)) (event_at es number event) → ⊥
-    by_edge (edges.Com coms.Rf reach) e c = let d : dirs.R ≡ dirs.W = sym (ap target_of e) ∙ into in cc
-    by_edge (edges.Com coms.Fr reach) e c = falls_back es number event r n q (ap place_of e) c
-    by_edge (edges.Com coms.Ws reach) e c = falls_back es number event r n q (ap place_of e) c
-    by_edge (edges.Po sd from to) e c = let d : Internal ≡ External = sym (ap reach_of e) ∙ q.outside in cc
-    by_edge (edges.Fenced kind sd from to) e c = let d : Internal ≡ External = sym (ap reach_of e) ∙ q.outside in cc
-    by_edge (edges.Dep kind sd to) e c = let d : Internal ≡ External = sym (ap reach_of e) ∙ q.outside in cc
-    by_edge (edges.Data sd) e c = let d : Internal ≡ External = sym (ap reach_of e) ∙ q.outside in cc
+    by_kind : (k : Kind) → kind_of (edge_at es (event_before es event)) ≡ k → CommunicatesBy k (cycle_accesses es Avoid number) (exchanged es number event) (event_at es number (event_before es event)) (event_at es number event) → ⊥
+    by_kind (kinds.Com coms.Rf reach) e c = let d : dirs.R ≡ dirs.W = sym (ap kind_target e) ∙ into in cc
+    by_kind (kinds.Com coms.Fr reach) e c = falls_back es number event r n q (ap kind_place e) c
+    by_kind (kinds.Com coms.Ws reach) e c = falls_back es number event r n q (ap kind_place e) c
+    by_kind (kinds.Po sd from to) e c = let d : Internal ≡ External = sym (ap kind_reach e) ∙ q.outside in cc
+    by_kind (kinds.Fenced kind sd from to) e c = let d : Internal ≡ External = sym (ap kind_reach e) ∙ q.outside in cc
+    by_kind (kinds.Dep kind sd to) e c = let d : Internal ≡ External = sym (ap kind_reach e) ∙ q.outside in cc
+    by_kind (kinds.Data sd) e c = let d : Internal ≡ External = sym (ap kind_reach e) ∙ q.outside in cc
 
 -- so it meets the same condition
 pub exchanged_meets : (es : List Edge) (number : ℕ → ℕ) (event : ℕ) → Resolves es → IsNumbering es number → InnerEntry es event → MeetsCondition es Avoid number (exchanged es number event)

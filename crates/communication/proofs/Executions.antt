@@ -1,6 +1,7 @@
 -- Executions of small programs written out: candidates and others, in which the edges of a cycle stand or don't.
 use Rattle.std.proofs.Common.{◌≡◌, ℕ, zero, suc, ◌<◌, ◌≤◌, List, [], ◌∷◌, length, Some, None, refl, sym, ap, subst, arith, ◌∙◌, slice_get}
-use Rattle.relax_edges.specs.declared.kinds.Value.TheVariants.{Num}
+use Rattle.relax_edges.specs.declared.kinds.Value.TheVariants.{Num, Place}
+use Rattle.relax_edges.specs.declared.kinds.Mark.TheVariants.{Plain, Acquire}
 use Rattle.relax_edges.specs.declared.edge.Edge.{Edge}
 use Rattle.micro_ops.specs.declared.operation.Micro.TheVariants as ops
 use Rattle.micro_ops.specs.declared.operation.Item.{Item}
@@ -17,7 +18,7 @@ use Rattle.communication.proofs.Decided.{some_is, candidate_means, coheres_means
 abbrev free : List Edge → ℕ → Access → Named
 free es i access = record {
   name = event_name es i;
-  visit = record { barriers = []; access = access; address_mask = 0; data_mask = 0; control_mask = 0 };
+  visit = record { barriers = []; access = access; mark = Plain; address_mask = 0; data_mask = 0; control_mask = 0 };
 }
 
 -- the edge that leaves event i doesn't stand, though both its events are there
@@ -141,18 +142,26 @@ both_initial-all_stand = record { events = both_initial-events; stand = stand }
         Stands (accesses_in buffers both_initial) both_initial (edge_at store_buffering i) e f
     stand zero e f l g h = stands_at store_buffering buffers both_initial 0 1 e f (write 0 1) (read 1 0) refl refl g h (record {
       joins = record { leaves = refl; enters = refl; places = λ (q : 0 ≡ 1). omega (arith, q); communicates = tt; reaches = (refl, refl) };
+      leaves_mark = refl;
+      enters_mark = refl;
       ties = record { barriers_are = refl; address_is = refl; data_is = refl; control_is = refl };
     })
     stand (suc zero) e f l g h = stands_at store_buffering buffers both_initial 1 2 e f (read 1 0) (write 1 1) refl refl g h (record {
       joins = record { leaves = refl; enters = refl; places = refl; communicates = omega arith; reaches = λ (q : 0 ≡ 1). omega (arith, q) };
+      leaves_mark = refl;
+      enters_mark = refl;
       ties = tt;
     })
     stand (suc (suc zero)) e f l g h = stands_at store_buffering buffers both_initial 2 3 e f (write 1 1) (read 0 0) refl refl g h (record {
       joins = record { leaves = refl; enters = refl; places = λ (q : 1 ≡ 0). omega (arith, q); communicates = tt; reaches = (refl, refl) };
+      leaves_mark = refl;
+      enters_mark = refl;
       ties = record { barriers_are = refl; address_is = refl; data_is = refl; control_is = refl };
     })
     stand (suc (suc (suc zero))) e f l g h = stands_at store_buffering buffers both_initial 3 0 e f (read 0 0) (write 0 1) refl refl g h (record {
       joins = record { leaves = refl; enters = refl; places = refl; communicates = omega arith; reaches = λ (q : 1 ≡ 0). omega (arith, q) };
+      leaves_mark = refl;
+      enters_mark = refl;
       ties = tt;
     })
     stand (suc (suc (suc (suc i)))) e f l g h = absurd (omega (arith, l))
@@ -189,6 +198,35 @@ no_source-refused h = zero_is_one refl (h.execution.reads 0 (write 0 1 ∷ read 
   where
     zero_is_one : {n : ℕ} → n ≡ 1 → n ≡ 0 → ⊥
     zero_is_one d e = omega (arith, d, e)
+
+-- store buffering where the first thread's read is a load-acquire
+abbrev acquiring : Program
+acquiring = record {
+  places = 2;
+  threads =
+      record { init = (1, Place 1) ∷ []; code = ops.StoreAt 0 1 ∷ ops.LoadAcq 0 1 ∷ [] } ∷
+      record { init = []; code = ops.StoreAt 1 1 ∷ ops.LoadAt 0 0 ∷ [] } ∷ [];
+}
+
+acquiring-accesses : accesses_in acquiring both_initial ≡ accesses_in buffers both_initial
+acquiring-accesses = refl
+
+-- an edge without marks doesn't stand at it
+acquiring-edge_fails : Fails store_buffering acquiring both_initial 0
+unfolding thread_of slot_of event_after
+acquiring-edge_fails = record {
+  source = free store_buffering 0 (write 0 1);
+  target = record {
+    name = event_name store_buffering 1;
+    visit = record { barriers = []; access = read 1 0; mark = Acquire; address_mask = 0; data_mask = 0; control_mask = 0 };
+  };
+  leaves = record { name_is = refl; visit_is = refl; direction = refl };
+  enters = record { name_is = refl; visit_is = refl; direction = refl };
+  fails = λ stands. let same : Acquire ≡ Plain = stands.enters_mark in cc;
+}
+
+acquiring-not_all : AllStand store_buffering acquiring both_initial → ⊥
+acquiring-not_all = not_all store_buffering acquiring both_initial 0 (omega arith) acquiring-edge_fails
 
 -- Two writes of each of two places: MOV [x],$2; MOV [y],$1 beside MOV [y],$2; MOV [x],$1. Its condition is that both end as 2.
 abbrev pub double_writes : Program
@@ -289,18 +327,26 @@ both_in_order-all_stand = record { events = both_in_order-events; stand = stand 
         Stands (accesses_in double_writes both_in_order) both_in_order (edge_at two_writes i) e f
     stand zero e f l g h = stands_at two_writes double_writes both_in_order 0 1 e f (write 0 2) (write 1 1) refl refl g h (record {
       joins = record { leaves = refl; enters = refl; places = λ (q : 0 ≡ 1). omega (arith, q); communicates = tt; reaches = (refl, refl) };
+      leaves_mark = refl;
+      enters_mark = refl;
       ties = record { barriers_are = refl; address_is = refl; data_is = refl; control_is = refl };
     })
     stand (suc zero) e f l g h = stands_at two_writes double_writes both_in_order 1 2 e f (write 1 1) (write 1 2) refl refl g h (record {
       joins = record { leaves = refl; enters = refl; places = refl; communicates = omega arith; reaches = λ (q : 0 ≡ 1). omega (arith, q) };
+      leaves_mark = refl;
+      enters_mark = refl;
       ties = tt;
     })
     stand (suc (suc zero)) e f l g h = stands_at two_writes double_writes both_in_order 2 3 e f (write 1 2) (write 0 1) refl refl g h (record {
       joins = record { leaves = refl; enters = refl; places = λ (q : 1 ≡ 0). omega (arith, q); communicates = tt; reaches = (refl, refl) };
+      leaves_mark = refl;
+      enters_mark = refl;
       ties = record { barriers_are = refl; address_is = refl; data_is = refl; control_is = refl };
     })
     stand (suc (suc (suc zero))) e f l g h = stands_at two_writes double_writes both_in_order 3 0 e f (write 0 1) (write 0 2) refl refl g h (record {
       joins = record { leaves = refl; enters = refl; places = refl; communicates = omega arith; reaches = λ (q : 1 ≡ 0). omega (arith, q) };
+      leaves_mark = refl;
+      enters_mark = refl;
       ties = tt;
     })
     stand (suc (suc (suc (suc i)))) e f l g h = absurd (omega (arith, l))

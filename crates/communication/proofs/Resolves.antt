@@ -8,7 +8,7 @@ use Rattle.relax_edges.specs.declared.kinds.Sd.TheVariants.{Same, Diff}
 use Rattle.relax_edges.specs.declared.kinds.Reach.TheVariants.{Internal, External}
 use Rattle.relax_edges.specs.declared.kinds.ObsMode.{ObsMode}
 use Rattle.relax_edges.specs.declared.edge.Edge.{Edge}
-use Rattle.relax_edges.specs.EdgeTable.{source_of, target_of, place_of, reach_of}
+use Rattle.relax_edges.specs.EdgeTable.{source_of, target_of, place_of, reach_of, source_mark, target_mark}
 use Rattle.resolution_laws.specs.Resolution.{edge_at, external_count, move_count, thread_of, slot_of, location_of, event_after, event_before, events_in}
 use Rattle.resolution_laws.proofs.Around.{before_below, after_before}
 use Rattle.value_laws.specs.Values.{value_of, write_at, write_count, edge_into, is_observed}
@@ -41,6 +41,7 @@ pub record Resolves (es : List Edge) : Type 0 where
   pub event : (k s i : ℕ) → slice_get (events_in es k) s ≡ Some i → IsIn es k s i
   pub rises : (i j : ℕ) → i < j → j < length es → thread_of es i ≡ thread_of es j → slot_of es i < slot_of es j
   pub enters : (i : ℕ) → i < length es → target_of (edge_at es i) ≡ source_of (edge_at es (event_after es i))
+  pub marks : (i : ℕ) → i < length es → target_mark (edge_at es i) ≡ source_mark (edge_at es (event_after es i))
   pub keeps : (i : ℕ) → i < length es → place_of (edge_at es i) ≡ Same → location_of es (event_after es i) ≡ location_of es i
   pub moves : (i : ℕ) → i < length es → place_of (edge_at es i) ≡ Diff → location_of es (event_after es i) ≢ location_of es i
   pub stays : (i : ℕ) → i < length es → reach_of (edge_at es i) ≡ Internal → (thread_of es (event_after es i) ≡ thread_of es i) × (slot_of es (event_after es i) ≡ slot_of es i + 1)

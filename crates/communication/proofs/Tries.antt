@@ -8,8 +8,11 @@ use Rattle.relax_edges.specs.declared.kinds.FenceKind.TheVariants as fences
 use Rattle.relax_edges.specs.declared.kinds.Com.TheVariants as coms
 use Rattle.relax_edges.specs.declared.kinds.ObsMode.{ObsMode}
 use Rattle.relax_edges.specs.declared.kinds.ObsMode.TheVariants.{Accept, Avoid, Force}
+use Rattle.relax_edges.specs.declared.kinds.Kind.{Kind}
+use Rattle.relax_edges.specs.declared.kinds.Kind.TheVariants as kinds
 use Rattle.relax_edges.specs.declared.edge.Edge.{Edge}
 use Rattle.relax_edges.specs.declared.edge.Edge.TheVariants as edges
+use Rattle.relax_edges.specs.EdgeTable.{kind_of}
 use Rattle.list_laws.specs.Numbers.{upto}
 use Rattle.resolution_laws.specs.Resolution.{edge_at, event_after, move_count, thread_of, slot_of, location_of, moves_before, events_in}
 use Rattle.value_laws.specs.Values.{value_of, way_place, write_count, write_at, is_observed}
@@ -52,11 +55,11 @@ ends es mode threads x =
 
 -- the communication of each edge into a write
 abbrev orders_hold : List Edge → List (List Access) → Execution → Bool
-orders_hold es threads x = list_all (λ i. holds (edge_at es i) i (event_after es i)) (upto (length es))
+orders_hold es threads x = list_all (λ i. holds (kind_of (edge_at es i)) i (event_after es i)) (upto (length es))
   where
-    holds : Edge → ℕ → ℕ → Bool
-    holds (edges.Com coms.Rf _) i j = true
-    holds (edges.Com _ _) i j = nat_lt (coherence_place threads x (event_name es i) (event_access es here i)) (coherence_place threads x (event_name es j) (event_access es here j))
+    holds : Kind → ℕ → ℕ → Bool
+    holds (kinds.Com coms.Rf _) i j = true
+    holds (kinds.Com _ _) i j = nat_lt (coherence_place threads x (event_name es i) (event_access es here i)) (coherence_place threads x (event_name es j) (event_access es here j))
     holds _ i j = true
 
 -- the outcomes: coherent, with the final values of the condition

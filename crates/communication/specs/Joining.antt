@@ -1,10 +1,12 @@
 -- What a program must do so that the laws of this crate speak of it: make the accesses of the cycle's test on any
--- values read, and tie them as the edges say. `es` is the list of edges in which threads and locations are counted.
+-- values read, and mark and tie them as the edges say. `es` is the list of edges in which threads and locations are counted.
 use Rattle.std.specs.Prelude.{◌≡◌, ℕ, ◌<◌, ◌≤◌, false, List, [], ◌∷◌, length, map, filter, Option, Some, slice_get}
 use Rattle.relax_edges.specs.declared.kinds.Dir.{Dir}
 use Rattle.relax_edges.specs.declared.kinds.Dir.TheVariants as dirs
+use Rattle.relax_edges.specs.declared.kinds.Mark.TheVariants.{Plain}
 use Rattle.relax_edges.specs.declared.kinds.ObsMode.{ObsMode}
 use Rattle.relax_edges.specs.declared.edge.Edge.{Edge}
+use Rattle.relax_edges.specs.EdgeTable.{kind_of, source_mark}
 use Rattle.micro_ops.specs.declared.operation.Item.{Item}
 use Rattle.resolution_laws.specs.Resolution.{edge_at, external_count, move_count, event_after}
 use Rattle.value_laws.specs.Values.{is_observed, write_count}
@@ -65,14 +67,16 @@ pub record IsOutcome (es : List Edge) (mode : ObsMode) (number : ℕ → ℕ) (p
   pub reads : ReadsAsAsked es mode number x
   pub ends : EndsAsAsked es mode number p x
 
--- no barriers and no dependencies in a thread
+-- no marks, no barriers and no dependencies in a thread
 abbrev pub AreFree : List Visit → Type 0
 AreFree [] = Unit {0}
-AreFree (visit ∷ visits) = (visit.barriers ≡ []) × IsFree visit × AreFree visits
+AreFree (visit ∷ visits) = (visit.mark ≡ Plain) × (visit.barriers ≡ []) × IsFree visit × AreFree visits
 
--- what stands between the accesses of a program is what the edges of the cycle say, and else nothing
+-- the marks of the accesses of a program, and what stands between them, are what the edges of the cycle say, and else
+-- there is nothing
 pub record IsTiedUp (es : List Edge) (p : Program) (x : Execution) : Type 0 where
-  pub ties : (i : ℕ) (e f : Named) → i < length es → IsEvent es (visits_in p x) i e → IsEvent es (visits_in p x) (event_after es i) f → TiesBy (edge_at es i) (accesses_in p x) e f
+  pub marks : (i : ℕ) (e : Named) → i < length es → IsEvent es (visits_in p x) i e → e.visit.mark ≡ source_mark (edge_at es i)
+  pub ties : (i : ℕ) (e f : Named) → i < length es → IsEvent es (visits_in p x) i e → IsEvent es (visits_in p x) (event_after es i) f → TiesBy (kind_of (edge_at es i)) (accesses_in p x) e f
   pub observers : (k : ℕ) (visits : List Visit) → external_count es ≤ k → slice_get (visits_in p x) k ≡ Some visits → AreFree visits
   pub starts : (k : ℕ) (visits : List Visit) → slice_get (visits_in p x) k ≡ Some visits → StartsFree visits
   pub ends : (k : ℕ) (made : List Item) → slice_get (items_in p x) k ≡ Some made → barriers_behind [] made ≡ []

@@ -54,7 +54,8 @@ NoConditionServes =
     (es : List Edge) (number : ℕ → ℕ) (need : NeedsObserver) → IsResolved es → IsNumbering es number → observer_need es ≡ Some need →
     IsUndecided es number need.event
 
--- all edges stand in each outcome of a program that makes the accesses of the cycle's test and ties them as the edges say
+-- all edges stand in each outcome of a program that makes the accesses of the cycle's test and marks and ties them as the
+-- edges say
 abbrev pub AllEdgesStand : Type 0
 AllEdgesStand =
     (es : List Edge) (mode : ObsMode) (number : ℕ → ℕ) (p : Program) (x : Execution) → IsResolved es → IsServed es mode → IsNumbering es number →

@@ -29,7 +29,7 @@ pub fn no_condition_serves()
 {}
 
 /// All edges stand in every outcome of a program that makes the accesses of the cycle's test, with
-/// the barriers and dependencies of the edges between them.
+/// the marks of the edges, and with their barriers and dependencies between them.
 pub fn all_edges_stand()
     ensures { AllEdgesStand }
 {}

@@ -47,7 +47,7 @@ pub fn may_begin(edges: &[Edge]) -> bool
 }
 
 /// Whether no back part of the second list of ranks is less than the first list.
-fn none_below(ranks: &[u8], back: &[u8]) -> bool
+fn none_below(ranks: &[u16], back: &[u16]) -> bool
     ensures { result ≡ none_below ranks.now back.now }
 {
     match back {
@@ -77,7 +77,7 @@ fn least_place(edges: &[Edge]) -> u8
 }
 
 /// The ranks of the edges, twice over: each rotation is a part of it.
-fn ranks_twice(edges: &[Edge]) -> ArrayVec<u8, TWICE>
+fn ranks_twice(edges: &[Edge]) -> ArrayVec<u16, TWICE>
     requires { length edges.now ≤ MAX_EDGES }
     ensures { result.items ≡ map rank_of edges.now ++ map rank_of edges.now }
 {
@@ -87,7 +87,7 @@ fn ranks_twice(edges: &[Edge]) -> ArrayVec<u8, TWICE>
     ranks
 }
 
-fn push_ranks(ranks: &mut ArrayVec<u8, TWICE>, edges: &[Edge])
+fn push_ranks(ranks: &mut ArrayVec<u16, TWICE>, edges: &[Edge])
     requires { length ranks.old.items + length edges.now ≤ TWICE }
     ensures { ranks.new.items ≡ ranks.old.items ++ map rank_of edges.now }
 {
@@ -97,7 +97,7 @@ fn push_ranks(ranks: &mut ArrayVec<u8, TWICE>, edges: &[Edge])
 }
 
 /// Whether the first list of ranks is less at the first place where they differ, which both have.
-fn is_below(ranks: &[u8], others: &[u8]) -> bool
+fn is_below(ranks: &[u16], others: &[u16]) -> bool
     ensures { result ≡ ranks_below ranks.now others.now }
 {
     match ranks {

@@ -1,5 +1,6 @@
 -- Runs written out.
 use Rattle.std.proofs.Common.{ℕ, ◌≡◌, ◌==◌, refl, false, cond, List, [], ◌∷◌, Some, None, ap, ◌∙◌}
+use Rattle.relax_edges.specs.declared.kinds.Mark.TheVariants.{Plain}
 use Rattle.relax_edges.specs.declared.kinds.Dir.TheVariants as dirs
 use Rattle.relax_edges.specs.declared.kinds.Value.{Value}
 use Rattle.relax_edges.specs.declared.kinds.Value.TheVariants.{Num, Place}
@@ -29,7 +30,7 @@ its_registers = (1, Place 1) ∷ (4, Place 0) ∷ []
 
 reading_thread_ends :
     EndsWith (runs reading_thread its_registers (1 ∷ 0 ∷ []))
-    (items.Access dirs.R 1 1 0 0 0 ∷ items.Access dirs.R 0 0 1 0 0 ∷ [])
+    (items.Access dirs.R Plain 1 1 0 0 0 ∷ items.Access dirs.R Plain 0 0 1 0 0 ∷ [])
     (λ q. cond (q == 0) (Num 1) (Num 0))
 reading_thread_ends = (refl, refl, refl, refl)
 
@@ -43,7 +44,7 @@ reading_thread_left = refl
 addressed : (d s a v p n m : ℕ) (reads : List ℕ) (r : Run) → (a == d) ≡ false →
     r.state.regs a ≡ at_place p → (r.state.regs s).mask ≡ m → r.reads ≡ n ∷ reads →
     exec (ops.Xor d s s ∷ ops.Add d d a ∷ ops.Load v d None ∷ []) (At r) ≡
-    At (after_load (holding (holding r d (num 0 m)) d (address p m)) v p n m reads)
+    At (after_load Plain (holding (holding r d (num 0 m)) d (address p m)) v p n m reads)
 addressed d s a v p n m reads r e at_p is_m is_n =
     let zeroed = holding r d (num 0 m) in
     let added = holding zeroed d (address p m) in

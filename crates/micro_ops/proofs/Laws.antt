@@ -241,7 +241,7 @@ labels_append (ops.Label l ∷ a) b = ap (λ ls. l ∷ ls) (labels_append a b)
 labels_append (_ ∷ a) b = labels_append a b
 
 more_names : (item : Item) (m n : ℕ) → m ≤ n → NamesLoads m item → NamesLoads n item
-more_names (items.Access d p v i j k) m n h g = (wide g.0, wide g.1, wide g.2)
+more_names (items.Access d a p v i j k) m n h g = (wide g.0, wide g.1, wide g.2)
   where
     wide : {x : ℕ} → x < 2 ^ m → x < 2 ^ n
     wide e = lt_of_lt_of_le e (pow_mono h)

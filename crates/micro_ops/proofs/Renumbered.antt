@@ -3,6 +3,8 @@ use Rattle.std.proofs.Common.{◌≡◌, ℕ, zero, suc, ◌+◌, ◌==◌, Bool
 use Rattle.std.specs.Option.{option_map}
 use Rattle.std.proofs.lemmas.List.{map-append}
 use Rattle.relax_edges.specs.declared.kinds.Dir.TheVariants as dirs
+use Rattle.relax_edges.specs.declared.kinds.Mark.{Mark}
+use Rattle.relax_edges.specs.declared.kinds.Mark.TheVariants.{Plain, Acquire, Release}
 use Rattle.relax_edges.specs.declared.kinds.Value.{Value}
 use Rattle.relax_edges.specs.declared.kinds.Value.TheVariants.{Num, Place}
 use Rattle.micro_ops.specs.declared.held.Held.{Held}
@@ -110,16 +112,16 @@ address_mask_at : (f : ℕ → ℕ) (s : State) (base : ℕ) (index : Option ℕ
 address_mask_at f s base None = refl
 address_mask_at f s base (Some index) = refl
 
-loading_at : (f : ℕ → ℕ) (s : State) (dst : ℕ) (place : Option ℕ) (mask : ℕ) (read : Option ℕ) → loading (state_at f s) dst (option_map f place) mask read ≡ option_map (told_at f) (loading s dst place mask read)
-loading_at f s dst None mask read = refl
-loading_at f s dst (Some p) mask None = refl
-loading_at f s dst (Some p) mask (Some n) =
-    ap (λ t. Some (record { state = record t { loads = s.loads + 1 }; item = Some (items.Access dirs.R (f p) n mask 0 s.control); jump = None })) (put_at f s dst (num n (bit s.loads)))
+loading_at : (f : ℕ → ℕ) (mark : Mark) (s : State) (dst : ℕ) (place : Option ℕ) (mask : ℕ) (read : Option ℕ) → loading mark (state_at f s) dst (option_map f place) mask read ≡ option_map (told_at f) (loading mark s dst place mask read)
+loading_at f mark s dst None mask read = refl
+loading_at f mark s dst (Some p) mask None = refl
+loading_at f mark s dst (Some p) mask (Some n) =
+    ap (λ t. Some (record { state = record t { loads = s.loads + 1 }; item = Some (items.Access dirs.R mark (f p) n mask 0 s.control); jump = None })) (put_at f s dst (num n (bit s.loads)))
 
-storing_at : (f : ℕ → ℕ) (s : State) (place : Option ℕ) (mask : ℕ) (v : Value) (data_mask : ℕ) → storing (state_at f s) (option_map f place) mask (value_at f v) data_mask ≡ option_map (told_at f) (storing s place mask v data_mask)
-storing_at f s None mask v data_mask = refl
-storing_at f s (Some p) mask (Num n) data_mask = refl
-storing_at f s (Some p) mask (Place q) data_mask = refl
+storing_at : (f : ℕ → ℕ) (mark : Mark) (s : State) (place : Option ℕ) (mask : ℕ) (v : Value) (data_mask : ℕ) → storing mark (state_at f s) (option_map f place) mask (value_at f v) data_mask ≡ option_map (told_at f) (storing mark s place mask v data_mask)
+storing_at f mark s None mask v data_mask = refl
+storing_at f mark s (Some p) mask (Num n) data_mask = refl
+storing_at f mark s (Some p) mask (Place q) data_mask = refl
 
 comparing_at : (f : ℕ → ℕ) (s : State) (mask : ℕ) (o : Option Bool) → comparing (state_at f s) mask o ≡ option_map (told_at f) (comparing s mask o)
 comparing_at f s mask None = refl
@@ -141,14 +143,22 @@ step_at f (ops.AddImm dst a n) s read = ap (writing (state_at f s) dst (s.regs a
 step_at f (ops.OrImm dst a n) s read = ap (writing (state_at f s) dst (s.regs a).mask) (ored_at f (s.regs a).value n) ∙ writing_at f s dst (s.regs a).mask (ored (s.regs a).value n)
 step_at f (ops.Add dst a b) s read = ap (writing (state_at f s) dst (both_masks s a b)) (summed_at f (s.regs a).value (s.regs b).value) ∙ writing_at f s dst (both_masks s a b) (summed (s.regs a).value (s.regs b).value)
 step_at f (ops.Load dst base index) s read =
-    ap (λ p. loading (state_at f s) dst p (address_mask (state_at f s) base index) read) (place_of_at f s base index)
-    ∙ ap (λ m. loading (state_at f s) dst (option_map f (place_of s base index)) m read) (address_mask_at f s base index)
-    ∙ loading_at f s dst (place_of s base index) (address_mask s base index) read
-step_at f (ops.LoadAt dst place) s read = loading_at f s dst (Some place) 0 read
+    ap (λ p. loading Plain (state_at f s) dst p (address_mask (state_at f s) base index) read) (place_of_at f s base index)
+    ∙ ap (λ m. loading Plain (state_at f s) dst (option_map f (place_of s base index)) m read) (address_mask_at f s base index)
+    ∙ loading_at f Plain s dst (place_of s base index) (address_mask s base index) read
+step_at f (ops.LoadAcq dst base) s read =
+    ap (λ p. loading Acquire (state_at f s) dst p (address_mask (state_at f s) base None) read) (place_of_at f s base None)
+    ∙ ap (λ m. loading Acquire (state_at f s) dst (option_map f (place_of s base None)) m read) (address_mask_at f s base None)
+    ∙ loading_at f Acquire s dst (place_of s base None) (address_mask s base None) read
+step_at f (ops.LoadAt dst place) s read = loading_at f Plain s dst (Some place) 0 read
 step_at f (ops.Store src base index) s read =
-    ap (λ p. storing (state_at f s) p (address_mask (state_at f s) base index) (value_at f (s.regs src).value) (s.regs src).mask) (place_of_at f s base index)
-    ∙ ap (λ m. storing (state_at f s) (option_map f (place_of s base index)) m (value_at f (s.regs src).value) (s.regs src).mask) (address_mask_at f s base index)
-    ∙ storing_at f s (place_of s base index) (address_mask s base index) (s.regs src).value (s.regs src).mask
+    ap (λ p. storing Plain (state_at f s) p (address_mask (state_at f s) base index) (value_at f (s.regs src).value) (s.regs src).mask) (place_of_at f s base index)
+    ∙ ap (λ m. storing Plain (state_at f s) (option_map f (place_of s base index)) m (value_at f (s.regs src).value) (s.regs src).mask) (address_mask_at f s base index)
+    ∙ storing_at f Plain s (place_of s base index) (address_mask s base index) (s.regs src).value (s.regs src).mask
+step_at f (ops.StoreRel src base) s read =
+    ap (λ p. storing Release (state_at f s) p (address_mask (state_at f s) base None) (value_at f (s.regs src).value) (s.regs src).mask) (place_of_at f s base None)
+    ∙ ap (λ m. storing Release (state_at f s) (option_map f (place_of s base None)) m (value_at f (s.regs src).value) (s.regs src).mask) (address_mask_at f s base None)
+    ∙ storing_at f Release s (place_of s base None) (address_mask s base None) (s.regs src).value (s.regs src).mask
 step_at f (ops.StoreAt place n) s read = refl
 step_at f (ops.Cmp a b) s read = of_test (a == b)
   where
@@ -168,8 +178,10 @@ load_at f (ops.OrImm dst a n) = refl
 load_at f (ops.Add dst a b) = refl
 load_at f (ops.Load dst base index) = refl
 load_at f (ops.LoadAt dst place) = refl
+load_at f (ops.LoadAcq dst base) = refl
 load_at f (ops.Store src base index) = refl
 load_at f (ops.StoreAt place n) = refl
+load_at f (ops.StoreRel src base) = refl
 load_at f (ops.Cmp a b) = refl
 load_at f (ops.BranchEq label) = refl
 load_at f (ops.BranchNz a label) = refl
@@ -184,8 +196,10 @@ label_at f l (ops.OrImm dst a n) = refl
 label_at f l (ops.Add dst a b) = refl
 label_at f l (ops.Load dst base index) = refl
 label_at f l (ops.LoadAt dst place) = refl
+label_at f l (ops.LoadAcq dst base) = refl
 label_at f l (ops.Store src base index) = refl
 label_at f l (ops.StoreAt place n) = refl
+label_at f l (ops.StoreRel src base) = refl
 label_at f l (ops.Cmp a b) = refl
 label_at f l (ops.BranchEq label) = refl
 label_at f l (ops.BranchNz a label) = refl

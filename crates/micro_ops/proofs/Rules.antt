@@ -2,6 +2,8 @@
 use Rattle.std.proofs.Common.{ℕ, zero, suc, ◌+◌, ◌^◌, ◌<◌, ◌≡◌, ◌==◌, refl, Bool, true, false, bit_or, bit_xor, List, [], ◌∷◌, ◌++◌, Some, None, ◌∙◌, ap, eq-eqb, lt-ltb}
 use Rattle.std.proofs.Math.Dec.{eqb-suc-zero}
 use Rattle.relax_edges.specs.declared.kinds.Dir.TheVariants as dirs
+use Rattle.relax_edges.specs.declared.kinds.Mark.{Mark}
+use Rattle.relax_edges.specs.declared.kinds.Mark.TheVariants.{Plain, Acquire, Release}
 use Rattle.relax_edges.specs.declared.kinds.Value.TheVariants.{Num}
 use Rattle.micro_ops.specs.declared.held.Held.{Held}
 use Rattle.micro_ops.specs.declared.operation.Micro.TheVariants as ops
@@ -16,17 +18,17 @@ abbrev pub holding : Run → ℕ → Held → Run
 holding r dst held = record r { state = put r.state dst held }
 
 -- a run after a load from a place
-abbrev pub after_load : Run → ℕ → ℕ → ℕ → ℕ → List ℕ → Run
-after_load r dst place n mask reads = record {
+abbrev pub after_load : Mark → Run → ℕ → ℕ → ℕ → ℕ → List ℕ → Run
+after_load mark r dst place n mask reads = record {
   state = record (put r.state dst (num n (bit r.state.loads))) { loads = r.state.loads + 1 };
   reads = reads;
-  made = r.made ++ items.Access dirs.R place n mask 0 r.state.control ∷ [];
+  made = r.made ++ items.Access dirs.R mark place n mask 0 r.state.control ∷ [];
 }
 
 -- a run after a store to a place
-abbrev pub after_store : Run → ℕ → ℕ → ℕ → ℕ → Run
-after_store r place n mask data_mask = record r {
-  made = r.made ++ items.Access dirs.W place n mask data_mask r.state.control ∷ [];
+abbrev pub after_store : Mark → Run → ℕ → ℕ → ℕ → ℕ → Run
+after_store mark r place n mask data_mask = record r {
+  made = r.made ++ items.Access dirs.W mark place n mask data_mask r.state.control ∷ [];
 }
 
 -- a run after a comparison
@@ -72,12 +74,18 @@ pub run_add_address : (d a b p mask : ℕ) (r : Run) → r.state.regs a ≡ num 
     go (ops.Add d a b) (At r) ≡ At (holding r d (address p mask))
 run_add_address d a b p mask r e f = rw (e, f, or_zero mask) refl
 
+-- an address that depends on no load, and a number 0 that depends on loads
+pub run_add_to_address : (d a b p mask : ℕ) (r : Run) → r.state.regs a ≡ at_place p →
+    r.state.regs b ≡ num 0 mask →
+    go (ops.Add d a b) (At r) ≡ At (holding r d (address p mask))
+run_add_to_address d a b p mask r e f = rw (e, f, zero_or mask) refl
+
 pub run_load : (d base p n mask : ℕ) (reads : List ℕ) (r : Run) → r.state.regs base ≡ address p mask →
     r.reads ≡ n ∷ reads →
-    go (ops.Load d base None) (At r) ≡ At (after_load r d p n mask reads)
+    go (ops.Load d base None) (At r) ≡ At (after_load Plain r d p n mask reads)
 run_load d base p n mask reads r e f =
     ap (λ reads. taken (ops.Load d base None) r true reads) f ∙
-    ap (λ held. led (loading r.state d (place_at held.value (Num 0)) held.mask (Some n)) reads r.made) e
+    ap (λ held. led (loading Plain r.state d (place_at held.value (Num 0)) held.mask (Some n)) reads r.made) e
 
 pub run_load_wants : (d base p mask : ℕ) (r : Run) → r.state.regs base ≡ address p mask → r.reads ≡ [] →
     go (ops.Load d base None) (At r) ≡ Wants r
@@ -86,7 +94,7 @@ run_load_wants d base p mask r e f =
 
 pub run_load_index : (d base index p n mask : ℕ) (reads : List ℕ) (r : Run) →
     r.state.regs base ≡ at_place p → r.state.regs index ≡ num 0 mask → r.reads ≡ n ∷ reads →
-    go (ops.Load d base (Some index)) (At r) ≡ At (after_load r d p n mask reads)
+    go (ops.Load d base (Some index)) (At r) ≡ At (after_load Plain r d p n mask reads)
 run_load_index d base index p n mask reads r e g f = rw (f, e, g, zero_or mask) refl
 
 pub run_load_index_wants : (d base index p mask : ℕ) (r : Run) → r.state.regs base ≡ at_place p →
@@ -96,29 +104,50 @@ run_load_index_wants d base index p mask r e g f =
     ap (λ reads. taken (ops.Load d base (Some index)) r true reads) f ∙ rw (e, g) refl
 
 pub run_load_at : (d p n : ℕ) (reads : List ℕ) (r : Run) → r.reads ≡ n ∷ reads →
-    go (ops.LoadAt d p) (At r) ≡ At (after_load r d p n 0 reads)
+    go (ops.LoadAt d p) (At r) ≡ At (after_load Plain r d p n 0 reads)
 run_load_at d p n reads r f = rw f refl
 
 pub run_load_at_wants : (d p : ℕ) (r : Run) → r.reads ≡ [] → go (ops.LoadAt d p) (At r) ≡ Wants r
 run_load_at_wants d p r f = ap (λ reads. taken (ops.LoadAt d p) r true reads) f
 
+pub run_load_acquire : (d base p n mask : ℕ) (reads : List ℕ) (r : Run) → r.state.regs base ≡ address p mask →
+    r.reads ≡ n ∷ reads →
+    go (ops.LoadAcq d base) (At r) ≡ At (after_load Acquire r d p n mask reads)
+run_load_acquire d base p n mask reads r e f =
+    ap (λ reads. taken (ops.LoadAcq d base) r true reads) f ∙
+    ap (λ held. led (loading Acquire r.state d (place_at held.value (Num 0)) held.mask (Some n)) reads r.made) e
+
+pub run_load_acquire_wants : (d base p mask : ℕ) (r : Run) → r.state.regs base ≡ address p mask → r.reads ≡ [] →
+    go (ops.LoadAcq d base) (At r) ≡ Wants r
+run_load_acquire_wants d base p mask r e f =
+    ap (λ reads. taken (ops.LoadAcq d base) r true reads) f ∙ rw e refl
+
 pub run_store : (src base p n mask data_mask : ℕ) (r : Run) → r.state.regs base ≡ address p mask →
     r.state.regs src ≡ num n data_mask →
-    go (ops.Store src base None) (At r) ≡ At (after_store r p n mask data_mask)
+    go (ops.Store src base None) (At r) ≡ At (after_store Plain r p n mask data_mask)
 run_store src base p n mask data_mask r e g =
     ap (λ held. led
-    (storing r.state (place_at held.value (Num 0)) held.mask
+    (storing Plain r.state (place_at held.value (Num 0)) held.mask
     (r.state.regs src).value (r.state.regs src).mask) r.reads r.made) e ∙
-    ap (λ held. led (storing r.state (Some p) mask held.value held.mask) r.reads r.made) g
+    ap (λ held. led (storing Plain r.state (Some p) mask held.value held.mask) r.reads r.made) g
+
+pub run_store_release : (src base p n mask data_mask : ℕ) (r : Run) → r.state.regs base ≡ address p mask →
+    r.state.regs src ≡ num n data_mask →
+    go (ops.StoreRel src base) (At r) ≡ At (after_store Release r p n mask data_mask)
+run_store_release src base p n mask data_mask r e g =
+    ap (λ held. led
+    (storing Release r.state (place_at held.value (Num 0)) held.mask
+    (r.state.regs src).value (r.state.regs src).mask) r.reads r.made) e ∙
+    ap (λ held. led (storing Release r.state (Some p) mask held.value held.mask) r.reads r.made) g
 
 pub run_store_index : (src base index p n mask data_mask : ℕ) (r : Run) →
     r.state.regs base ≡ at_place p → r.state.regs index ≡ num 0 mask →
     r.state.regs src ≡ num n data_mask →
-    go (ops.Store src base (Some index)) (At r) ≡ At (after_store r p n mask data_mask)
+    go (ops.Store src base (Some index)) (At r) ≡ At (after_store Plain r p n mask data_mask)
 run_store_index src base index p n mask data_mask r e f g = rw (e, f, g, zero_or mask) refl
 
 pub run_store_at : (p n : ℕ) (r : Run) →
-    go (ops.StoreAt p n) (At r) ≡ At (after_store r p n 0 0)
+    go (ops.StoreAt p n) (At r) ≡ At (after_store Plain r p n 0 0)
 run_store_at p n r = refl
 
 -- a register compared with itself

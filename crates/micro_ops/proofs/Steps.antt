@@ -2,6 +2,8 @@
 use Rattle.std.proofs.Common.{add-zero, sym, eq-eqb, ℕ, suc, ◌+◌, ◌^◌, ◌<◌, ◌≡◌, ◌==◌, refl, Bool, true, false, cond, not, Option, Some, None, ◌⊎◌, inl, inr, arith, lt_of_lt_of_le, pow-suc}
 use Rattle.std.proofs.lemmas.Nat.{or_lt, pow_pos}
 use Rattle.std.proofs.Math.Pow.{pow_mono}
+use Rattle.relax_edges.specs.declared.kinds.Mark.{Mark}
+use Rattle.relax_edges.specs.declared.kinds.Mark.TheVariants.{Plain, Acquire, Release}
 use Rattle.relax_edges.specs.declared.kinds.Value.{Value}
 use Rattle.relax_edges.specs.declared.kinds.Value.TheVariants.{Num, Place}
 use Rattle.micro_ops.specs.declared.held.Held.{Held}
@@ -30,22 +32,22 @@ on_writing P s dst mask (Some v) h = h v
 on_writing P s dst mask None h = tt
 
 -- a fact of each load
-pub on_loading : (P : Told → Type 0) (s : State) (dst : ℕ) (place : Option ℕ) (mask : ℕ)
+pub on_loading : (P : Told → Type 0) (mark : Mark) (s : State) (dst : ℕ) (place : Option ℕ) (mask : ℕ)
     (read : Option ℕ) →
-    ((p n : ℕ) → OnTold P (loading s dst (Some p) mask (Some n))) →
-    OnTold P (loading s dst place mask read)
-on_loading P s dst (Some p) mask (Some n) h = h p n
-on_loading P s dst (Some p) mask None h = tt
-on_loading P s dst None mask read h = tt
+    ((p n : ℕ) → OnTold P (loading mark s dst (Some p) mask (Some n))) →
+    OnTold P (loading mark s dst place mask read)
+on_loading P mark s dst (Some p) mask (Some n) h = h p n
+on_loading P mark s dst (Some p) mask None h = tt
+on_loading P mark s dst None mask read h = tt
 
 -- a fact of each store
-pub on_storing : (P : Told → Type 0) (s : State) (place : Option ℕ) (mask : ℕ) (value : Value)
+pub on_storing : (P : Told → Type 0) (mark : Mark) (s : State) (place : Option ℕ) (mask : ℕ) (value : Value)
     (data_mask : ℕ) →
-    ((p n : ℕ) → OnTold P (storing s (Some p) mask (Num n) data_mask)) →
-    OnTold P (storing s place mask value data_mask)
-on_storing P s (Some p) mask (Num n) data_mask h = h p n
-on_storing P s (Some p) mask (Place q) data_mask h = tt
-on_storing P s None mask value data_mask h = tt
+    ((p n : ℕ) → OnTold P (storing mark s (Some p) mask (Num n) data_mask)) →
+    OnTold P (storing mark s place mask value data_mask)
+on_storing P mark s (Some p) mask (Num n) data_mask h = h p n
+on_storing P mark s (Some p) mask (Place q) data_mask h = tt
+on_storing P mark s None mask value data_mask h = tt
 
 -- a fact of each comparison
 pub on_comparing : (P : Told → Type 0) (s : State) (mask : ℕ) (equal : Option Bool) →
@@ -85,12 +87,18 @@ step_jumps (ops.Add d a b) s read =
     on_writing (JumpsTo None) s d (both_masks s a b) (summed (s.regs a).value (s.regs b).value)
     (λ v. inl refl)
 step_jumps (ops.Load d base index) s read =
-    on_loading (JumpsTo None) s d (place_of s base index) (address_mask s base index) read
+    on_loading (JumpsTo None) Plain s d (place_of s base index) (address_mask s base index) read
+    (λ p n. inl refl)
+step_jumps (ops.LoadAcq d base) s read =
+    on_loading (JumpsTo None) Acquire s d (place_of s base None) (address_mask s base None) read
     (λ p n. inl refl)
 step_jumps (ops.LoadAt d p) s read =
-    on_loading (JumpsTo None) s d (Some p) 0 read (λ p n. inl refl)
+    on_loading (JumpsTo None) Plain s d (Some p) 0 read (λ p n. inl refl)
 step_jumps (ops.Store src base index) s read =
-    on_storing (JumpsTo None) s (place_of s base index) (address_mask s base index)
+    on_storing (JumpsTo None) Plain s (place_of s base index) (address_mask s base index)
+    (s.regs src).value (s.regs src).mask (λ p n. inl refl)
+step_jumps (ops.StoreRel src base) s read =
+    on_storing (JumpsTo None) Release s (place_of s base None) (address_mask s base None)
     (s.regs src).value (s.regs src).mask (λ p n. inl refl)
 step_jumps (ops.StoreAt p n) s read = inl refl
 step_jumps (ops.Cmp a b) s read =
@@ -131,12 +139,18 @@ step_keeps (ops.Add d a b) s read r e =
     on_writing (Keeps s r) s d (both_masks s a b) (summed (s.regs a).value (s.regs b).value)
     (λ v. put_other s r d (record { value = v; mask = both_masks s a b }) e)
 step_keeps (ops.Load d base index) s read r e =
-    on_loading (Keeps s r) s d (place_of s base index) (address_mask s base index) read
+    on_loading (Keeps s r) Plain s d (place_of s base index) (address_mask s base index) read
+    (λ p n. put_other s r d (num n (bit s.loads)) e)
+step_keeps (ops.LoadAcq d base) s read r e =
+    on_loading (Keeps s r) Acquire s d (place_of s base None) (address_mask s base None) read
     (λ p n. put_other s r d (num n (bit s.loads)) e)
 step_keeps (ops.LoadAt d p) s read r e =
-    on_loading (Keeps s r) s d (Some p) 0 read (λ p n. put_other s r d (num n (bit s.loads)) e)
+    on_loading (Keeps s r) Plain s d (Some p) 0 read (λ p n. put_other s r d (num n (bit s.loads)) e)
 step_keeps (ops.Store src base index) s read r e =
-    on_storing (Keeps s r) s (place_of s base index) (address_mask s base index)
+    on_storing (Keeps s r) Plain s (place_of s base index) (address_mask s base index)
+    (s.regs src).value (s.regs src).mask (λ p n. refl)
+step_keeps (ops.StoreRel src base) s read r e =
+    on_storing (Keeps s r) Release s (place_of s base None) (address_mask s base None)
     (s.regs src).value (s.regs src).mask (λ p n. refl)
 step_keeps (ops.StoreAt p n) s read r e = refl
 step_keeps (ops.Cmp a b) s read r e =
@@ -203,9 +217,9 @@ bit_below : (k : ℕ) → bit k < 2 ^ (k + 1)
 bit_below k =
     let e : k + 1 ≡ suc k = omega arith in rw e (omega (arith, pow-suc 2 k, pow_pos k))
 
-named_load : (s : State) (d p n mask : ℕ) → MasksNameLoads s → mask < 2 ^ s.loads →
-    OnTold (Named s) (loading s d (Some p) mask (Some n))
-named_load s d p n mask h k = record {
+named_load : (mark : Mark) (s : State) (d p n mask : ℕ) → MasksNameLoads s → mask < 2 ^ s.loads →
+    OnTold (Named s) (loading mark s d (Some p) mask (Some n))
+named_load mark s d p n mask h k = record {
   masks = record {
     in_regs = λ r. in_either (r == d) r;
     in_flag = wider s.flag_mask s.loads h.in_flag;
@@ -220,10 +234,10 @@ named_load s d p n mask h k = record {
     in_either true r = bit_below s.loads
     in_either false r = wider (s.regs r).mask s.loads (h.in_regs r)
 
-named_store : (s : State) (p n mask data_mask : ℕ) → MasksNameLoads s → mask < 2 ^ s.loads →
+named_store : (mark : Mark) (s : State) (p n mask data_mask : ℕ) → MasksNameLoads s → mask < 2 ^ s.loads →
     data_mask < 2 ^ s.loads →
-    OnTold (Named s) (storing s (Some p) mask (Num n) data_mask)
-named_store s p n mask data_mask h k j = record {
+    OnTold (Named s) (storing mark s (Some p) mask (Num n) data_mask)
+named_store mark s p n mask data_mask h k j = record {
   masks = h;
   item = (k, j, h.in_control);
   loads = omega arith;
@@ -267,18 +281,26 @@ step_named (ops.Add d a b) s read h =
     on_writing (Named s) s d (both_masks s a b) (summed (s.regs a).value (s.regs b).value)
     (λ v. named_write s d v (both_masks s a b) h (named_both s a b h))
 step_named (ops.Load d base index) s read h =
-    on_loading (Named s) s d (place_of s base index) (address_mask s base index) read
-    (λ p n. named_load s d p n (address_mask s base index) h (named_place s base index h))
+    on_loading (Named s) Plain s d (place_of s base index) (address_mask s base index) read
+    (λ p n. named_load Plain s d p n (address_mask s base index) h (named_place s base index h))
+step_named (ops.LoadAcq d base) s read h =
+    on_loading (Named s) Acquire s d (place_of s base None) (address_mask s base None) read
+    (λ p n. named_load Acquire s d p n (address_mask s base None) h (named_place s base None h))
 step_named (ops.LoadAt d p) s read h =
-    on_loading (Named s) s d (Some p) 0 read
-    (λ p n. named_load s d p n 0 h (empty_mask s.loads))
+    on_loading (Named s) Plain s d (Some p) 0 read
+    (λ p n. named_load Plain s d p n 0 h (empty_mask s.loads))
 step_named (ops.Store src base index) s read h =
-    on_storing (Named s) s (place_of s base index) (address_mask s base index)
+    on_storing (Named s) Plain s (place_of s base index) (address_mask s base index)
     (s.regs src).value (s.regs src).mask
-    (λ p n. named_store s p n (address_mask s base index) (s.regs src).mask h
+    (λ p n. named_store Plain s p n (address_mask s base index) (s.regs src).mask h
     (named_place s base index h) (h.in_regs src))
+step_named (ops.StoreRel src base) s read h =
+    on_storing (Named s) Release s (place_of s base None) (address_mask s base None)
+    (s.regs src).value (s.regs src).mask
+    (λ p n. named_store Release s p n (address_mask s base None) (s.regs src).mask h
+    (named_place s base None h) (h.in_regs src))
 step_named (ops.StoreAt p n) s read h =
-    named_store s p n 0 0 h (empty_mask s.loads) (empty_mask s.loads)
+    named_store Plain s p n 0 0 h (empty_mask s.loads) (empty_mask s.loads)
 step_named (ops.Cmp a b) s read h =
     on_comparing (Named s) s (both_masks s a b)
     (cond (a == b) (Some true) (same_number (s.regs a).value (s.regs b).value))
@@ -311,11 +333,17 @@ step_counts (ops.Add d a b) s read =
     on_writing (Counts s 0) s d (both_masks s a b) (summed (s.regs a).value (s.regs b).value)
     (λ v. sym (add-zero s.loads))
 step_counts (ops.Load d base index) s read =
-    on_loading (Counts s 1) s d (place_of s base index) (address_mask s base index) read
+    on_loading (Counts s 1) Plain s d (place_of s base index) (address_mask s base index) read
     (λ p n. refl)
-step_counts (ops.LoadAt d p) s read = on_loading (Counts s 1) s d (Some p) 0 read (λ p n. refl)
+step_counts (ops.LoadAcq d base) s read =
+    on_loading (Counts s 1) Acquire s d (place_of s base None) (address_mask s base None) read
+    (λ p n. refl)
+step_counts (ops.LoadAt d p) s read = on_loading (Counts s 1) Plain s d (Some p) 0 read (λ p n. refl)
 step_counts (ops.Store src base index) s read =
-    on_storing (Counts s 0) s (place_of s base index) (address_mask s base index)
+    on_storing (Counts s 0) Plain s (place_of s base index) (address_mask s base index)
+    (s.regs src).value (s.regs src).mask (λ p n. sym (add-zero s.loads))
+step_counts (ops.StoreRel src base) s read =
+    on_storing (Counts s 0) Release s (place_of s base None) (address_mask s base None)
     (s.regs src).value (s.regs src).mask (λ p n. sym (add-zero s.loads))
 step_counts (ops.StoreAt p n) s read = sym (add-zero s.loads)
 step_counts (ops.Cmp a b) s read =

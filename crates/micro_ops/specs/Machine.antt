@@ -3,6 +3,8 @@
 -- tests use; what depends on a load, through registers, after those manuals' syntactic dependencies.
 use Rattle.std.specs.Prelude.{ℕ, zero, ◌+◌, ◌^◌, Bool, true, cond, not, ◌==◌, nat_lt, bit_or, bit_xor, Option, Some, None}
 use Rattle.relax_edges.specs.declared.kinds.Dir.TheVariants as dirs
+use Rattle.relax_edges.specs.declared.kinds.Mark.{Mark}
+use Rattle.relax_edges.specs.declared.kinds.Mark.TheVariants.{Plain, Acquire, Release}
 use Rattle.relax_edges.specs.declared.kinds.Value.{Value}
 use Rattle.relax_edges.specs.declared.kinds.Value.TheVariants.{Num, Place}
 use Rattle.micro_ops.specs.declared.held.Held.{Held}
@@ -118,19 +120,19 @@ writing _ _ _ None = None
 abbrev pub making : State → Item → Option Told
 making s item = Some (record { state = s; item = Some item; jump = None })
 
--- a load from a place: the register gets the number read, which depends on this load alone
-abbrev pub loading : State → ℕ → Option ℕ → ℕ → Option ℕ → Option Told
-loading s dst (Some place) mask (Some n) =
+-- a load of a mark from a place: the register gets the number read, which depends on this load alone
+abbrev pub loading : Mark → State → ℕ → Option ℕ → ℕ → Option ℕ → Option Told
+loading mark s dst (Some place) mask (Some n) =
     making
     (record (put s dst (num n (bit s.loads))) { loads = s.loads + 1 })
-    (items.Access dirs.R place n mask 0 s.control)
-loading _ _ _ _ _ = None
+    (items.Access dirs.R mark place n mask 0 s.control)
+loading _ _ _ _ _ _ = None
 
--- a store of a number to a place
-abbrev pub storing : State → Option ℕ → ℕ → Value → ℕ → Option Told
-storing s (Some place) mask (Num n) data_mask =
-    making s (items.Access dirs.W place n mask data_mask s.control)
-storing _ _ _ _ _ = None
+-- a store of a mark, of a number to a place
+abbrev pub storing : Mark → State → Option ℕ → ℕ → Value → ℕ → Option Told
+storing mark s (Some place) mask (Num n) data_mask =
+    making s (items.Access dirs.W mark place n mask data_mask s.control)
+storing _ _ _ _ _ _ = None
 
 -- a comparison
 abbrev pub comparing : State → ℕ → Option Bool → Option Told
@@ -164,11 +166,15 @@ step (ops.OrImm dst a n) s _ = writing s dst (s.regs a).mask (ored (s.regs a).va
 step (ops.Add dst a b) s _ =
     writing s dst (both_masks s a b) (summed (s.regs a).value (s.regs b).value)
 step (ops.Load dst base index) s read =
-    loading s dst (place_of s base index) (address_mask s base index) read
-step (ops.LoadAt dst place) s read = loading s dst (Some place) 0 read
+    loading Plain s dst (place_of s base index) (address_mask s base index) read
+step (ops.LoadAt dst place) s read = loading Plain s dst (Some place) 0 read
+step (ops.LoadAcq dst base) s read =
+    loading Acquire s dst (place_of s base None) (address_mask s base None) read
 step (ops.Store src base index) s _ =
-    storing s (place_of s base index) (address_mask s base index) (s.regs src).value (s.regs src).mask
-step (ops.StoreAt place n) s _ = storing s (Some place) 0 (Num n) 0
+    storing Plain s (place_of s base index) (address_mask s base index) (s.regs src).value (s.regs src).mask
+step (ops.StoreAt place n) s _ = storing Plain s (Some place) 0 (Num n) 0
+step (ops.StoreRel src base) s _ =
+    storing Release s (place_of s base None) (address_mask s base None) (s.regs src).value (s.regs src).mask
 step (ops.Cmp a b) s _ =
     comparing s (both_masks s a b)
     (cond (a == b) (Some true) (same_number (s.regs a).value (s.regs b).value))

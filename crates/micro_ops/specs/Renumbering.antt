@@ -21,6 +21,6 @@ value_at number (Place place) = Place (number place)
 
 -- an item so
 abbrev pub item_at : (ℕ → ℕ) → Item → Item
-item_at number (items.Access dir place value address_mask data_mask control_mask) =
-    items.Access dir (number place) value address_mask data_mask control_mask
+item_at number (items.Access dir mark place value address_mask data_mask control_mask) =
+    items.Access dir mark (number place) value address_mask data_mask control_mask
 item_at number (items.Barrier kind control) = items.Barrier kind control

@@ -28,6 +28,7 @@ pub data Point : Type 0 where
 abbrev pub is_load : Micro → Bool
 is_load (ops.Load _ _ _) = true
 is_load (ops.LoadAt _ _) = true
+is_load (ops.LoadAcq _ _) = true
 is_load _ = false
 
 -- an operation is this label
@@ -160,6 +161,7 @@ writes (ops.OrImm dst _ _) = Some dst
 writes (ops.Add dst _ _) = Some dst
 writes (ops.Load dst _ _) = Some dst
 writes (ops.LoadAt dst _) = Some dst
+writes (ops.LoadAcq dst _) = Some dst
 writes _ = None
 
 -- a register is the one that is named
@@ -174,7 +176,7 @@ is_written r (op ∷ code) = is_named r (writes op) || is_written r code
 
 -- an item is a read
 abbrev pub is_read : Item → Bool
-is_read (items.Access dirs.R _ _ _ _ _) = true
+is_read (items.Access dirs.R _ _ _ _ _ _) = true
 is_read _ = false
 
 -- a state whose masks name loads that were stepped, and no others
@@ -185,7 +187,7 @@ pub record MasksNameLoads (s : State) : Type 0 where
 
 -- an item whose masks name only loads below a number
 abbrev pub NamesLoads : ℕ → Item → Type 0
-NamesLoads loads (items.Access _ _ _ addr_mask data_mask ctrl_mask) =
+NamesLoads loads (items.Access _ _ _ _ addr_mask data_mask ctrl_mask) =
     (addr_mask < 2 ^ loads) × (data_mask < 2 ^ loads) × (ctrl_mask < 2 ^ loads)
 NamesLoads loads (items.Barrier _ ctrl_mask) = ctrl_mask < 2 ^ loads
 

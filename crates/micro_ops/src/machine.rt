@@ -6,7 +6,7 @@ ghost use Rattle.micro_ops.specs.Machines.{state_of, held_in, told, InRange};
 use crate::held::Held;
 use crate::operand::{add_immediate, equal, exclusive_or, or_immediate, place, sum};
 use crate::operation::{Barrier, Item, Micro};
-use relax_edges::{Dir, Value};
+use relax_edges::{Dir, Mark, Value};
 use std::marker::Model;
 use thiserror::Error;
 
@@ -142,21 +142,33 @@ impl Machine {
             Micro::Add { dst, a, b } => self.add(dst, a, b),
             Micro::Load { dst, base, index } => {
                 self.load(
+                    Mark::Plain,
                     dst,
                     self.place(base, index),
                     self.address_mask(base, index),
                     read,
                 )
             }
-            Micro::LoadAt { dst, place } => self.load(dst, Some(place), 0, read),
+            Micro::LoadAt { dst, place } => self.load(Mark::Plain, dst, Some(place), 0, read),
+            Micro::LoadAcq { dst, base } => {
+                self.load(
+                    Mark::Acquire,
+                    dst,
+                    self.place(base, None),
+                    self.address_mask(base, None),
+                    read,
+                )
+            }
             Micro::Store { src, base, index } => {
                 self.store(
+                    Mark::Plain,
                     self.place(base, index),
                     self.address_mask(base, index),
                     self.held(src),
                 )
             }
             Micro::StoreAt { place, n } => self.store(
+                Mark::Plain,
                 Some(place),
                 0,
                 Held {
@@ -164,6 +176,14 @@ impl Machine {
                     mask: 0,
                 },
             ),
+            Micro::StoreRel { src, base } => {
+                self.store(
+                    Mark::Release,
+                    self.place(base, None),
+                    self.address_mask(base, None),
+                    self.held(src),
+                )
+            }
             Micro::Cmp { a, b } => self.compare(a, b),
             Micro::BranchEq { label } => Ok(self.branch(self.flag_mask, self.flag, label)),
             Micro::BranchNz { a, label } => self.branch_on(a, label),
@@ -260,6 +280,7 @@ impl Machine {
     #[tactic(auto, using(std::proofs::lemmas::Nat::one_shl))]
     fn load(
         &mut self,
+        mark: Mark,
         register: u8,
         place: Option<u8>,
         mask: u64,
@@ -267,7 +288,7 @@ impl Machine {
     ) -> Result<Stepped, Stuck>
         requires register { register < 32 }
         requires room { (state_of self.old).loads < 64 }
-        ensures gives { told result (state_of self.new) ≡ loading (state_of self.old) register place mask read }
+        ensures gives { told result (state_of self.new) ≡ loading mark (state_of self.old) register place mask read }
         ensures unchanged { OnErr result (self.new ≡ self.old) }
     {
         let (Some(place), Some(value)) = (place, read) else {
@@ -275,6 +296,7 @@ impl Machine {
         };
         let item = Item::Access {
             dir: Dir::R,
+            mark,
             place,
             value,
             addr_mask: mask,
@@ -289,14 +311,21 @@ impl Machine {
         Ok(Stepped::makes(item))
     }
 
-    fn store(&self, place: Option<u8>, mask: u64, source: Held) -> Result<Stepped, Stuck>
-        ensures { told result (state_of self.now) ≡ storing (state_of self.now) place mask source.value source.mask }
+    fn store(
+        &self,
+        mark: Mark,
+        place: Option<u8>,
+        mask: u64,
+        source: Held,
+    ) -> Result<Stepped, Stuck>
+        ensures { told result (state_of self.now) ≡ storing mark (state_of self.now) place mask source.value source.mask }
     {
         let (Some(place), Value::Num(value)) = (place, source.value) else {
             return Err(Stuck);
         };
         Ok(Stepped::makes(Item::Access {
             dir: Dir::W,
+            mark,
             place,
             value,
             addr_mask: mask,

@@ -1,6 +1,6 @@
 ghost use Rattle.std.specs.Prelude.{◌≡◌};
 
-use relax_edges::{Dir, FenceKind};
+use relax_edges::{Dir, FenceKind, Mark};
 
 /// An instruction that orders accesses and makes none.
 #[derive(Clone, Copy, Debug, PartialEq, Eq)]
@@ -57,6 +57,11 @@ pub enum Micro {
         dst: u8,
         place: u8,
     },
+    /// `dst` becomes what is read at the address `base`, by a load-acquire.
+    LoadAcq {
+        dst: u8,
+        base: u8,
+    },
     /// The number in `src` is written at the address `base`, or `base` plus `index`.
     Store {
         src: u8,
@@ -67,6 +72,11 @@ pub enum Micro {
     StoreAt {
         place: u8,
         n: u32,
+    },
+    /// The number in `src` is written at the address `base`, by a store-release.
+    StoreRel {
+        src: u8,
+        base: u8,
     },
     /// The flag becomes whether `a` equals `b`.
     Cmp {
@@ -104,10 +114,11 @@ impl Default for Micro {
 /// depends on. Bit `k` of a mask names load number `k` of the thread, from 0.
 #[derive(Clone, Copy, Debug, PartialEq, Eq)]
 pub enum Item {
-    /// A read of the value at the place, or a write of it. The masks name the loads that its
+    /// A read of the value at the place, or a write of it, with its mark. The masks name the loads that its
     /// address, its value and the branches before it depend on.
     Access {
         dir: Dir,
+        mark: Mark,
         place: u8,
         value: u32,
         addr_mask: u64,

@@ -123,7 +123,10 @@ impl Micro {
     fn is_load(self) -> bool
         ensures { result ≡ is_load self }
     {
-        matches!(self, Micro::Load { .. } | Micro::LoadAt { .. })
+        matches!(
+            self,
+            Micro::Load { .. } | Micro::LoadAt { .. } | Micro::LoadAcq { .. }
+        )
     }
 
     fn is_label(self, label: u8) -> bool

@@ -3,11 +3,12 @@ ghost use Rattle.micro_ops.specs.Machines.{InRange};
 ghost use Rattle.micro_ops.specs.Running.{is_load, lands};
 
 use crate::{Barrier, Item, Machine, Micro, RunError, Stuck, run_thread};
-use relax_edges::{Dir, Value};
+use relax_edges::{Dir, Mark, Value};
 
 fn read(place: u8, value: u32, addr_mask: u64, ctrl_mask: u64) -> Item {
     Item::Access {
         dir: Dir::R,
+        mark: Mark::Plain,
         place,
         value,
         addr_mask,
@@ -19,6 +20,7 @@ fn read(place: u8, value: u32, addr_mask: u64, ctrl_mask: u64) -> Item {
 fn write(place: u8, value: u32, addr_mask: u64, data_mask: u64, ctrl_mask: u64) -> Item {
     Item::Access {
         dir: Dir::W,
+        mark: Mark::Plain,
         place,
         value,
         addr_mask,

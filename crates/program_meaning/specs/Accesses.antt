@@ -3,6 +3,7 @@
 use Rattle.std.specs.Prelude.{ℕ, Bool, true, false, List, [], ◌∷◌, ◌++◌, take, map, count_by, Option, Some, None, slice_get}
 use Rattle.relax_edges.specs.declared.kinds.Dir.{Dir}
 use Rattle.relax_edges.specs.declared.kinds.Dir.TheVariants as dirs
+use Rattle.relax_edges.specs.declared.kinds.Mark.{Mark}
 use Rattle.micro_ops.specs.declared.operation.Barrier.{Barrier}
 use Rattle.micro_ops.specs.declared.operation.Item.{Item}
 use Rattle.micro_ops.specs.declared.operation.Item.TheVariants as items
@@ -26,11 +27,12 @@ pub record Barred : Type 0 where
   pub kind : Barrier
   pub control : ℕ
 
--- an access, the barriers between it and the access before it, and the loads that its address, its data and the
--- branches before it depend on. Bit k of a mask names load number k of the thread
+-- an access with its mark, the barriers between it and the access before it, and the loads that its address, its data
+-- and the branches before it depend on. Bit k of a mask names load number k of the thread
 pub record Visit : Type 0 where
   pub barriers : List Barred
   pub access : Access
+  pub mark : Mark
   pub address_mask : ℕ
   pub data_mask : ℕ
   pub control_mask : ℕ
@@ -40,10 +42,11 @@ abbrev pub visits_from : List Barred → List Item → List Visit
 visits_from passed [] = []
 visits_from passed (items.Barrier kind control ∷ rest) =
     visits_from (passed ++ record { kind = kind; control = control } ∷ []) rest
-visits_from passed (items.Access dir place value address_mask data_mask control_mask ∷ rest) =
+visits_from passed (items.Access dir mark place value address_mask data_mask control_mask ∷ rest) =
     record {
       barriers = passed;
       access = record { dir = dir; place = place; value = value };
+      mark = mark;
       address_mask = address_mask;
       data_mask = data_mask;
       control_mask = control_mask;
@@ -58,7 +61,7 @@ abbrev pub barriers_behind : List Barred → List Item → List Barred
 barriers_behind passed [] = passed
 barriers_behind passed (items.Barrier kind control ∷ rest) =
     barriers_behind (passed ++ record { kind = kind; control = control } ∷ []) rest
-barriers_behind passed (items.Access _ _ _ _ _ _ ∷ rest) = barriers_behind [] rest
+barriers_behind passed (items.Access _ _ _ _ _ _ _ ∷ rest) = barriers_behind [] rest
 
 -- the accesses alone
 abbrev pub accesses_of : List Visit → List Access

@@ -12,9 +12,11 @@ use Rattle.relax_edges.specs.declared.kinds.Com.TheVariants as coms
 use Rattle.relax_edges.specs.declared.kinds.FenceKind.TheVariants as fences
 use Rattle.relax_edges.specs.declared.kinds.DepKind.{DepKind}
 use Rattle.relax_edges.specs.declared.kinds.DepKind.TheVariants as deps
+use Rattle.relax_edges.specs.declared.kinds.Kind.{Kind}
+use Rattle.relax_edges.specs.declared.kinds.Kind.TheVariants as edges
+use Rattle.relax_edges.specs.declared.kinds.Mark.TheVariants.{Plain}
 use Rattle.relax_edges.specs.declared.edge.Edge.{Edge}
-use Rattle.relax_edges.specs.declared.edge.Edge.TheVariants as edges
-use Rattle.relax_edges.specs.EdgeTable.{source_of, target_of, reach_of, place_of}
+use Rattle.relax_edges.specs.EdgeTable.{source_of, target_of, reach_of, place_of, kind_of, source_mark, target_mark}
 use Rattle.micro_ops.specs.declared.operation.Barrier.{Barrier}
 use Rattle.micro_ops.specs.declared.operation.Barrier.TheVariants as kinds
 use Rattle.micro_ops.specs.declared.operation.Item.{Item}
@@ -55,7 +57,7 @@ Communicates coms.Fr threads x e f = ComesBefore threads x e f
 Communicates coms.Ws threads x e f = ComesBefore threads x e f
 
 -- the communication that an edge asks for, if it is one
-abbrev pub CommunicatesBy : Edge → List (List Access) → Execution → AccessAt → AccessAt → Type 0
+abbrev pub CommunicatesBy : Kind → List (List Access) → Execution → AccessAt → AccessAt → Type 0
 CommunicatesBy (edges.Com kind _) threads x e f = Communicates kind threads x e f
 CommunicatesBy (edges.Po _ _ _) threads x e f = Unit {0}
 CommunicatesBy (edges.Fenced _ _ _ _) threads x e f = Unit {0}
@@ -72,7 +74,7 @@ pub record Joins (threads : List (List Access)) (x : Execution) (edge : Edge) (e
   pub leaves : e.access.dir ≡ source_of edge
   pub enters : f.access.dir ≡ target_of edge
   pub places : AreAt (place_of edge) e.access.place f.access.place
-  pub communicates : CommunicatesBy edge threads x e f
+  pub communicates : CommunicatesBy (kind_of edge) threads x e f
   pub reaches : Reaches (reach_of edge) e.name f.name
 
 -- the mask that names the read e alone
@@ -105,7 +107,7 @@ DependsBy deps.CtrlIsb threads e f =
     IsTied threads e f (kinds.Isb ∷ []) 0 0 true × BarriersWait threads e f.visit.barriers
 
 -- how an internal edge ties the next access of the thread; an external one ties nothing
-abbrev pub TiesBy : Edge → List (List Access) → Named → Named → Type 0
+abbrev pub TiesBy : Kind → List (List Access) → Named → Named → Type 0
 TiesBy (edges.Com _ Internal) threads e f = IsTied threads e f [] 0 0 false
 TiesBy (edges.Com _ External) threads e f = Unit {0}
 TiesBy (edges.Po _ _ _) threads e f = IsTied threads e f [] 0 0 false
@@ -113,10 +115,13 @@ TiesBy (edges.Fenced kind _ _ _) threads e f = IsTied threads e f (kinds.Fence k
 TiesBy (edges.Dep kind _ _) threads e f = DependsBy kind threads e f
 TiesBy (edges.Data _) threads e f = IsTied threads e f [] 0 (mask_of threads e) false
 
--- an edge stands from access e to access f: it joins them, and what stands between them is what it says
+-- an edge stands from access e to access f: it joins them, their marks are its own, and what stands between them is
+-- what it says
 pub record Stands (threads : List (List Access)) (x : Execution) (edge : Edge) (e f : Named) : Type 0 where
   pub joins : Joins threads x edge (access_at e) (access_at f)
-  pub ties : TiesBy edge threads e f
+  pub leaves_mark : e.visit.mark ≡ source_mark edge
+  pub enters_mark : f.visit.mark ≡ target_mark edge
+  pub ties : TiesBy (kind_of edge) threads e f
 
 -- the name of event i: its thread and its slot there
 abbrev pub event_name : List Edge → ℕ → WriteAt
@@ -139,11 +144,11 @@ abbrev pub StartsFree : List Visit → Type 0
 StartsFree [] = Unit {0}
 StartsFree (visit ∷ visits) = (visit.barriers ≡ []) × IsFree visit
 
--- an observer: reads alone, without a barrier and with empty masks
+-- an observer: plain reads alone, without a barrier and with empty masks
 abbrev pub Observes : List Visit → Type 0
 Observes [] = Unit {0}
 Observes (visit ∷ visits) =
-    (visit.access.dir ≡ dirs.R) × (visit.barriers ≡ []) × IsFree visit × Observes visits
+    (visit.access.dir ≡ dirs.R) × (visit.mark ≡ Plain) × (visit.barriers ≡ []) × IsFree visit × Observes visits
 
 -- a program has the events of a cycle in an execution: its first threads have them as their accesses, each at its slot
 -- and in its direction; all other threads observe; no barrier stands at either end of a thread

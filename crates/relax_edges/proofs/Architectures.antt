@@ -4,7 +4,7 @@ use Rattle.std.proofs.Common.{refl}
 use Rattle.relax_edges.specs.declared.kinds.ArchName.{ArchName}
 use Rattle.relax_edges.specs.declared.kinds.ArchName.TheVariants.{X86, PPC, AArch64, RISCV}
 use Rattle.relax_edges.specs.Architectures.{arch_word, arch_of, all_archs}
-use Rattle.relax_edges.proofs.Spellings.{named_is}
+use Rattle.relax_edges.proofs.KindSpellings.{named_is}
 
 -- reading an architecture's text gives the architecture
 pub arch_of-arch_word : (arch : ArchName) → arch_of (arch_word arch) ≡ Some arch

@@ -8,6 +8,8 @@ pub mod Paths
 pub mod RelaxWords
 pub mod Stars
 pub mod Kept
+pub mod KindRanks
+pub mod KindSpellings
 pub mod Search
 pub mod Items
 pub mod Fronts

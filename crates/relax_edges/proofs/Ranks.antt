@@ -14,13 +14,24 @@ use Rattle.relax_edges.specs.declared.kinds.Dir.{Dir}
 use Rattle.relax_edges.specs.declared.kinds.Dir.TheVariants as dirs
 use Rattle.relax_edges.specs.declared.kinds.Sd.{Sd}
 use Rattle.relax_edges.specs.declared.kinds.Sd.TheVariants.{Same, Diff}
+use Rattle.relax_edges.specs.declared.kinds.Reach.{Reach}
 use Rattle.relax_edges.specs.declared.kinds.Reach.TheVariants.{Internal, External}
+use Rattle.relax_edges.specs.declared.kinds.Com.{Com}
 use Rattle.relax_edges.specs.declared.kinds.Com.TheVariants as coms
 use Rattle.relax_edges.specs.declared.kinds.Pick.TheVariants as picks
 use Rattle.relax_edges.specs.declared.kinds.FenceKind.{FenceKind}
 use Rattle.relax_edges.specs.declared.kinds.FenceKind.TheVariants as fences
 use Rattle.relax_edges.specs.declared.kinds.DepKind.{DepKind}
 use Rattle.relax_edges.specs.declared.kinds.DepKind.TheVariants as deps
+use Rattle.relax_edges.specs.declared.order.TheConstants.{EDGES}
+use Rattle.relax_edges.specs.declared.marked.Dmb.{Dmb}
+use Rattle.relax_edges.specs.declared.marked.Dmb.TheVariants.{Sy, Ld, St}
+use Rattle.relax_edges.specs.declared.marked.MarkableDep.{MarkableDep}
+use Rattle.relax_edges.specs.declared.marked.MarkableDep.TheVariants.{Addr, Ctrl, CtrlIsb}
+use Rattle.relax_edges.specs.declared.marked.MarkableKind.{MarkableKind}
+use Rattle.relax_edges.specs.declared.marked.MarkableKind.TheVariants as markables
+use Rattle.relax_edges.specs.declared.marked.MarkedEnds.{MarkedEnds}
+use Rattle.relax_edges.specs.declared.marked.MarkedEnds.TheVariants.{Both, Source, Target}
 use Rattle.relax_edges.specs.declared.edge.Edge.{Edge}
 use Rattle.relax_edges.specs.declared.edge.Edge.TheVariants as edges
 use Rattle.relax_edges.specs.Order.{rank_of}
@@ -45,6 +56,17 @@ eight P a b c d e f g h Same dirs.W dirs.W = h
 abbrev pub IsPlaced : Edge → Type 0
 IsPlaced edge = slice_get edges_in_order (rank_of edge) ≡ Some edge
 
+-- a fact about a place and a direction, from its four cases
+four : (P : Sd → Dir → Type 0) → P Diff dirs.R → P Diff dirs.W → P Same dirs.R → P Same dirs.W → (sd : Sd) (to : Dir) → P sd to
+four P a b c d Diff dirs.R = a
+four P a b c d Diff dirs.W = b
+four P a b c d Same dirs.R = c
+four P a b c d Same dirs.W = d
+
+-- the edge of a kind that may have marks, with some
+abbrev with_ends : MarkableKind → MarkedEnds → Edge
+with_ends kind ends = edges.Marked (record { kind = kind; ends = ends })
+
 placed_fence : (kind : FenceKind) (sd : Sd) (from to : Dir) → IsPlaced (edges.Fenced kind sd from to)
 unfolding rank_of edges_in_order
 placed_fence fences.MFence = eight _ refl refl refl refl refl refl refl refl
@@ -67,22 +89,77 @@ placed_fence (fences.Fence picks.RW picks.RW) = eight _ refl refl refl refl refl
 
 placed_dependency : (kind : DepKind) (sd : Sd) (to : Dir) → IsPlaced (edges.Dep kind sd to)
 unfolding rank_of edges_in_order
-placed_dependency deps.Addr Diff dirs.R = refl
-placed_dependency deps.Addr Diff dirs.W = refl
-placed_dependency deps.Addr Same dirs.R = refl
-placed_dependency deps.Addr Same dirs.W = refl
-placed_dependency deps.CtrlIsb Diff dirs.R = refl
-placed_dependency deps.CtrlIsb Diff dirs.W = refl
-placed_dependency deps.CtrlIsb Same dirs.R = refl
-placed_dependency deps.CtrlIsb Same dirs.W = refl
-placed_dependency deps.CtrlIsync Diff dirs.R = refl
-placed_dependency deps.CtrlIsync Diff dirs.W = refl
-placed_dependency deps.CtrlIsync Same dirs.R = refl
-placed_dependency deps.CtrlIsync Same dirs.W = refl
-placed_dependency deps.Ctrl Diff dirs.R = refl
-placed_dependency deps.Ctrl Diff dirs.W = refl
-placed_dependency deps.Ctrl Same dirs.R = refl
-placed_dependency deps.Ctrl Same dirs.W = refl
+placed_dependency deps.Addr = four _ refl refl refl refl
+placed_dependency deps.CtrlIsb = four _ refl refl refl refl
+placed_dependency deps.CtrlIsync = four _ refl refl refl refl
+placed_dependency deps.Ctrl = four _ refl refl refl refl
+
+placed_barrier : (fence : Dmb) (ends : MarkedEnds) (sd : Sd) (from to : Dir) → IsPlaced (with_ends (markables.Fenced fence sd from to) ends)
+unfolding rank_of edges_in_order
+placed_barrier Sy Both = eight _ refl refl refl refl refl refl refl refl
+placed_barrier Sy Source = eight _ refl refl refl refl refl refl refl refl
+placed_barrier Sy Target = eight _ refl refl refl refl refl refl refl refl
+placed_barrier Ld Both = eight _ refl refl refl refl refl refl refl refl
+placed_barrier Ld Source = eight _ refl refl refl refl refl refl refl refl
+placed_barrier Ld Target = eight _ refl refl refl refl refl refl refl refl
+placed_barrier St Both = eight _ refl refl refl refl refl refl refl refl
+placed_barrier St Source = eight _ refl refl refl refl refl refl refl refl
+placed_barrier St Target = eight _ refl refl refl refl refl refl refl refl
+
+placed_order : (ends : MarkedEnds) (sd : Sd) (from to : Dir) → IsPlaced (with_ends (markables.Po sd from to) ends)
+unfolding rank_of edges_in_order
+placed_order Both = eight _ refl refl refl refl refl refl refl refl
+placed_order Source = eight _ refl refl refl refl refl refl refl refl
+placed_order Target = eight _ refl refl refl refl refl refl refl refl
+
+placed_marked_dependency : (dep : MarkableDep) (ends : MarkedEnds) (sd : Sd) (to : Dir) → IsPlaced (with_ends (markables.Dep dep sd to) ends)
+unfolding rank_of edges_in_order
+placed_marked_dependency Addr Both = four _ refl refl refl refl
+placed_marked_dependency Addr Source = four _ refl refl refl refl
+placed_marked_dependency Addr Target = four _ refl refl refl refl
+placed_marked_dependency Ctrl Both = four _ refl refl refl refl
+placed_marked_dependency Ctrl Source = four _ refl refl refl refl
+placed_marked_dependency Ctrl Target = four _ refl refl refl refl
+placed_marked_dependency CtrlIsb Both = four _ refl refl refl refl
+placed_marked_dependency CtrlIsb Source = four _ refl refl refl refl
+placed_marked_dependency CtrlIsb Target = four _ refl refl refl refl
+
+placed_communication : (kind : Com) (reach : Reach) (ends : MarkedEnds) → IsPlaced (with_ends (markables.Com kind reach) ends)
+unfolding rank_of edges_in_order
+placed_communication coms.Rf Internal Both = refl
+placed_communication coms.Rf Internal Source = refl
+placed_communication coms.Rf Internal Target = refl
+placed_communication coms.Rf External Both = refl
+placed_communication coms.Rf External Source = refl
+placed_communication coms.Rf External Target = refl
+placed_communication coms.Fr Internal Both = refl
+placed_communication coms.Fr Internal Source = refl
+placed_communication coms.Fr Internal Target = refl
+placed_communication coms.Fr External Both = refl
+placed_communication coms.Fr External Source = refl
+placed_communication coms.Fr External Target = refl
+placed_communication coms.Ws Internal Both = refl
+placed_communication coms.Ws Internal Source = refl
+placed_communication coms.Ws Internal Target = refl
+placed_communication coms.Ws External Both = refl
+placed_communication coms.Ws External Source = refl
+placed_communication coms.Ws External Target = refl
+
+placed_data : (sd : Sd) (ends : MarkedEnds) → IsPlaced (with_ends (markables.Data sd) ends)
+unfolding rank_of edges_in_order
+placed_data Diff Both = refl
+placed_data Diff Source = refl
+placed_data Diff Target = refl
+placed_data Same Both = refl
+placed_data Same Source = refl
+placed_data Same Target = refl
+
+placed_marked : (kind : MarkableKind) (ends : MarkedEnds) → IsPlaced (with_ends kind ends)
+placed_marked (markables.Com kind reach) ends = placed_communication kind reach ends
+placed_marked (markables.Po sd from to) ends = placed_order ends sd from to
+placed_marked (markables.Fenced fence sd from to) ends = placed_barrier fence ends sd from to
+placed_marked (markables.Dep dep sd to) ends = placed_marked_dependency dep ends sd to
+placed_marked (markables.Data sd) ends = placed_data sd ends
 
 pub placed : (edge : Edge) → IsPlaced edge
 unfolding rank_of edges_in_order
@@ -97,6 +174,7 @@ placed (edges.Fenced kind sd from to) = placed_fence kind sd from to
 placed (edges.Dep kind sd to) = placed_dependency kind sd to
 placed (edges.Data Diff) = refl
 placed (edges.Data Same) = refl
+placed (edges.Marked marked) = placed_marked marked.kind marked.ends
 
 -- what a test says of all edges of the list, it says of each edge
 pub each_edge : (test : Edge → Bool) → list_all test edges_in_order ≡ true → (edge : Edge) → test edge ≡ true
@@ -106,13 +184,13 @@ each_edge test all edge =
     subst P (get_or_from_slice_get edges_in_order (rank_of edge) edge edge (placed edge))
     (All-get_or P edges_in_order (rank_of edge) edge within (AllPass-from_list_all test edges_in_order all))
 
--- there are 168 edges
-pub edges-length : length edges_in_order ≡ 168
+-- how many edges there are
+pub edges-length : length edges_in_order ≡ EDGES
 unfolding edges_in_order
 edges-length = refl
 
--- each edge has a rank below 168
-pub rank_below : (edge : Edge) → rank_of edge < 168
+-- each edge has a rank below that
+pub rank_below : (edge : Edge) → rank_of edge < EDGES
 rank_below edge = rw (← edges-length) (slice_get_within edges_in_order (rank_of edge) edge (placed edge))
 
 -- no two edges have one rank

@@ -1,6 +1,7 @@
 -- All edges, in the byte order of their printed words.
 -- Source: the diy part of the herdtools manual, "Candidate relaxations"; the order is own.
 use Rattle.std.specs.Prelude.{List, [], ◌∷◌, ◌++◌}
+use Rattle.std.specs.List.{flat_map}
 use Rattle.relax_edges.specs.declared.kinds.Dir.{Dir}
 use Rattle.relax_edges.specs.declared.kinds.Dir.TheVariants as dirs
 use Rattle.relax_edges.specs.declared.kinds.Sd.{Sd}
@@ -14,20 +15,41 @@ use Rattle.relax_edges.specs.declared.kinds.FenceKind.{FenceKind}
 use Rattle.relax_edges.specs.declared.kinds.FenceKind.TheVariants as fences
 use Rattle.relax_edges.specs.declared.kinds.DepKind.{DepKind}
 use Rattle.relax_edges.specs.declared.kinds.DepKind.TheVariants as deps
+use Rattle.relax_edges.specs.declared.marked.Dmb.{Dmb}
+use Rattle.relax_edges.specs.declared.marked.Dmb.TheVariants.{Sy, Ld, St}
+use Rattle.relax_edges.specs.declared.marked.MarkableDep.{MarkableDep}
+use Rattle.relax_edges.specs.declared.marked.MarkableDep.TheVariants.{Addr, Ctrl, CtrlIsb}
+use Rattle.relax_edges.specs.declared.marked.MarkableKind.{MarkableKind}
+use Rattle.relax_edges.specs.declared.marked.MarkableKind.TheVariants as markables
+use Rattle.relax_edges.specs.declared.marked.MarkedEnds.TheVariants.{Both, Source, Target}
 use Rattle.relax_edges.specs.declared.edge.Edge.{Edge}
 use Rattle.relax_edges.specs.declared.edge.Edge.TheVariants as edges
+use Rattle.relax_edges.specs.Marks.{markable_kind}
+use Rattle.relax_edges.specs.EdgeTable.{unmarked}
 
--- the two edges of a communication
+-- an edge without marks, and the edges of its kind with them, in the order of the letters
+abbrev pub with_marks : MarkableKind → List Edge
+with_marks kind =
+    unmarked (markable_kind kind)
+    ∷ edges.Marked (record { kind = kind; ends = Both })
+    ∷ edges.Marked (record { kind = kind; ends = Source })
+    ∷ edges.Marked (record { kind = kind; ends = Target }) ∷ []
+
+-- the edges of a communication
 abbrev pub both_reaches : Com → List Edge
-both_reaches kind = edges.Com kind External ∷ edges.Com kind Internal ∷ []
+both_reaches kind = with_marks (markables.Com kind External) ++ with_marks (markables.Com kind Internal)
 
--- an edge with each of the eight choices of place and directions
-abbrev pub eight_choices : (Sd → Dir → Dir → Edge) → List Edge
-eight_choices edge =
-    edge Diff dirs.R dirs.R ∷ edge Diff dirs.R dirs.W ∷ edge Diff dirs.W dirs.R ∷ edge Diff dirs.W dirs.W
-    ∷ edge Same dirs.R dirs.R ∷ edge Same dirs.R dirs.W ∷ edge Same dirs.W dirs.R ∷ edge Same dirs.W dirs.W ∷ []
+-- the eight choices of place and directions
+abbrev pub eight_choices : {A : Type 0} → (Sd → Dir → Dir → A) → List A
+eight_choices kind =
+    kind Diff dirs.R dirs.R ∷ kind Diff dirs.R dirs.W ∷ kind Diff dirs.W dirs.R ∷ kind Diff dirs.W dirs.W
+    ∷ kind Same dirs.R dirs.R ∷ kind Same dirs.R dirs.W ∷ kind Same dirs.W dirs.R ∷ kind Same dirs.W dirs.W ∷ []
 
--- the eight edges of a fence
+-- the edges of a barrier of AArch64
+abbrev pub with_barrier : Dmb → List Edge
+with_barrier fence = flat_map with_marks (eight_choices (markables.Fenced fence))
+
+-- the eight edges of another fence
 abbrev pub with_fence : FenceKind → List Edge
 with_fence kind = eight_choices (edges.Fenced kind)
 
@@ -35,16 +57,20 @@ with_fence kind = eight_choices (edges.Fenced kind)
 abbrev pub with_predecessors : Pick → List Edge
 with_predecessors pred = with_fence (fences.Fence pred picks.R) ++ with_fence (fences.Fence pred picks.RW) ++ with_fence (fences.Fence pred picks.W)
 
--- the four edges of a dependency
-abbrev pub with_dependency : DepKind → List Edge
-with_dependency kind = edges.Dep kind Diff dirs.R ∷ edges.Dep kind Diff dirs.W ∷ edges.Dep kind Same dirs.R ∷ edges.Dep kind Same dirs.W ∷ []
+-- the four choices of place and direction
+abbrev pub four_choices : {A : Type 0} → (Sd → Dir → A) → List A
+four_choices kind = kind Diff dirs.R ∷ kind Diff dirs.W ∷ kind Same dirs.R ∷ kind Same dirs.W ∷ []
+
+-- the edges of a dependency that AArch64 has
+abbrev pub with_dependency : MarkableDep → List Edge
+with_dependency dep = flat_map with_marks (four_choices (markables.Dep dep))
 
 -- the edges whose words begin with `D`
 abbrev pub edges_of_letter_d : List Edge
 edges_of_letter_d =
-    with_fence fences.DmbLd ++ with_fence fences.DmbSt ++ with_fence fences.DmbSy
-    ++ with_dependency deps.Addr ++ with_dependency deps.CtrlIsb ++ with_dependency deps.CtrlIsync ++ with_dependency deps.Ctrl
-    ++ (edges.Data Diff ∷ edges.Data Same ∷ [])
+    with_barrier Ld ++ with_barrier St ++ with_barrier Sy
+    ++ with_dependency Addr ++ with_dependency CtrlIsb ++ four_choices (edges.Dep deps.CtrlIsync) ++ with_dependency Ctrl
+    ++ with_marks (markables.Data Diff) ++ with_marks (markables.Data Same)
 
 -- all edges
 unfoldable pub edges_in_order : List Edge
@@ -56,7 +82,7 @@ edges_in_order =
     ++ with_fence fences.ISync
     ++ with_fence fences.LwSync
     ++ with_fence fences.MFence
-    ++ eight_choices edges.Po
+    ++ flat_map with_marks (eight_choices markables.Po)
     ++ both_reaches coms.Rf
     ++ with_fence fences.Sync
     ++ both_reaches coms.Ws

@@ -1,6 +1,7 @@
 -- The edge table: what each edge joins, how far it reaches, and on which architectures it is.
 -- Source: the diy part of the herdtools manual, "Candidate relaxations".
-use Rattle.std.specs.Prelude.{Bool, true, false}
+use Rattle.std.specs.Prelude.{Bool, true, false, ◌&&◌, cond, Option, Some, None}
+use Rattle.std.specs.Option.{option_map}
 use Rattle.relax_edges.specs.declared.kinds.Dir.{Dir}
 use Rattle.relax_edges.specs.declared.kinds.Dir.TheVariants as dirs
 use Rattle.relax_edges.specs.declared.kinds.Sd.{Sd}
@@ -15,8 +16,25 @@ use Rattle.relax_edges.specs.declared.kinds.FenceKind.{FenceKind}
 use Rattle.relax_edges.specs.declared.kinds.FenceKind.TheVariants as fences
 use Rattle.relax_edges.specs.declared.kinds.DepKind.{DepKind}
 use Rattle.relax_edges.specs.declared.kinds.DepKind.TheVariants as deps
+use Rattle.relax_edges.specs.declared.kinds.Kind.{Kind}
+use Rattle.relax_edges.specs.declared.kinds.Kind.TheVariants as kinds
+use Rattle.relax_edges.specs.declared.kinds.Mark.{Mark}
+use Rattle.relax_edges.specs.declared.kinds.Mark.TheVariants.{Plain, Acquire, Release}
+use Rattle.relax_edges.specs.declared.marked.MarkableKind.{MarkableKind}
+use Rattle.relax_edges.specs.declared.marked.MarkedEnds.{MarkedEnds}
+use Rattle.relax_edges.specs.declared.marked.MarkedEdge.{MarkedEdge}
+use Rattle.relax_edges.specs.Marks.{markable_kind, as_markable, marks_source, marks_target, mark_of, ends_marked}
 use Rattle.relax_edges.specs.declared.edge.Edge.{Edge}
 use Rattle.relax_edges.specs.declared.edge.Edge.TheVariants as edges
+
+-- an edge without its marks
+abbrev pub kind_of : Edge → Kind
+kind_of (edges.Com kind reach) = kinds.Com kind reach
+kind_of (edges.Po sd from to) = kinds.Po sd from to
+kind_of (edges.Fenced kind sd from to) = kinds.Fenced kind sd from to
+kind_of (edges.Dep kind sd to) = kinds.Dep kind sd to
+kind_of (edges.Data sd) = kinds.Data sd
+kind_of (edges.Marked marked) = markable_kind marked.kind
 
 -- what the access does that a communication leaves
 abbrev pub com_source : Com → Dir
@@ -30,37 +48,71 @@ com_target coms.Rf = dirs.R
 com_target coms.Fr = dirs.W
 com_target coms.Ws = dirs.W
 
+-- what the access does that an edge leaves, by its kind
+abbrev pub kind_source : Kind → Dir
+kind_source (kinds.Com kind _) = com_source kind
+kind_source (kinds.Po _ from _) = from
+kind_source (kinds.Fenced _ _ from _) = from
+kind_source (kinds.Dep _ _ _) = dirs.R
+kind_source (kinds.Data _) = dirs.R
+
 -- what the access does that an edge leaves
 abbrev pub source_of : Edge → Dir
-source_of (edges.Com kind _) = com_source kind
-source_of (edges.Po _ from _) = from
-source_of (edges.Fenced _ _ from _) = from
-source_of (edges.Dep _ _ _) = dirs.R
-source_of (edges.Data _) = dirs.R
+source_of edge = kind_source (kind_of edge)
+
+-- what the access does that an edge enters, by its kind
+abbrev pub kind_target : Kind → Dir
+kind_target (kinds.Com kind _) = com_target kind
+kind_target (kinds.Po _ _ to) = to
+kind_target (kinds.Fenced _ _ _ to) = to
+kind_target (kinds.Dep _ _ to) = to
+kind_target (kinds.Data _) = dirs.W
 
 -- what the access does that an edge enters
 abbrev pub target_of : Edge → Dir
-target_of (edges.Com kind _) = com_target kind
-target_of (edges.Po _ _ to) = to
-target_of (edges.Fenced _ _ _ to) = to
-target_of (edges.Dep _ _ to) = to
-target_of (edges.Data _) = dirs.W
+target_of edge = kind_target (kind_of edge)
+
+-- the mark of the access that an edge leaves
+abbrev pub source_mark : Edge → Mark
+source_mark (edges.Com _ _) = Plain
+source_mark (edges.Po _ _ _) = Plain
+source_mark (edges.Fenced _ _ _ _) = Plain
+source_mark (edges.Dep _ _ _) = Plain
+source_mark (edges.Data _) = Plain
+source_mark (edges.Marked marked) = mark_of (marks_source marked.ends) (kind_source (markable_kind marked.kind))
+
+-- the mark of the access that an edge enters
+abbrev pub target_mark : Edge → Mark
+target_mark (edges.Com _ _) = Plain
+target_mark (edges.Po _ _ _) = Plain
+target_mark (edges.Fenced _ _ _ _) = Plain
+target_mark (edges.Dep _ _ _) = Plain
+target_mark (edges.Data _) = Plain
+target_mark (edges.Marked marked) = mark_of (marks_target marked.ends) (kind_target (markable_kind marked.kind))
+
+-- whether an edge stays in its thread, by its kind
+abbrev pub kind_reach : Kind → Reach
+kind_reach (kinds.Com _ reach) = reach
+kind_reach (kinds.Po _ _ _) = Internal
+kind_reach (kinds.Fenced _ _ _ _) = Internal
+kind_reach (kinds.Dep _ _ _) = Internal
+kind_reach (kinds.Data _) = Internal
 
 -- whether an edge stays in its thread
 abbrev pub reach_of : Edge → Reach
-reach_of (edges.Com _ reach) = reach
-reach_of (edges.Po _ _ _) = Internal
-reach_of (edges.Fenced _ _ _ _) = Internal
-reach_of (edges.Dep _ _ _) = Internal
-reach_of (edges.Data _) = Internal
+reach_of edge = kind_reach (kind_of edge)
+
+-- whether the accesses that an edge joins are at one location, by its kind
+abbrev pub kind_place : Kind → Sd
+kind_place (kinds.Com _ _) = Same
+kind_place (kinds.Po sd _ _) = sd
+kind_place (kinds.Fenced _ sd _ _) = sd
+kind_place (kinds.Dep _ sd _) = sd
+kind_place (kinds.Data sd) = sd
 
 -- whether the accesses that an edge joins are at one location
 abbrev pub place_of : Edge → Sd
-place_of (edges.Com _ _) = Same
-place_of (edges.Po sd _ _) = sd
-place_of (edges.Fenced _ sd _ _) = sd
-place_of (edges.Dep _ sd _) = sd
-place_of (edges.Data sd) = sd
+place_of edge = kind_place (kind_of edge)
 
 -- a fence is of one architecture
 abbrev pub fence_is_of : FenceKind → ArchName → Bool
@@ -92,13 +144,23 @@ abbrev pub data_is_of : ArchName → Bool
 data_is_of X86 = false
 data_is_of _ = true
 
--- whether an edge is of an architecture
+-- whether an edge without its marks is of an architecture
+abbrev pub kind_is_of : Kind → ArchName → Bool
+kind_is_of (kinds.Com _ _) _ = true
+kind_is_of (kinds.Po _ _ _) _ = true
+kind_is_of (kinds.Fenced kind _ _ _) arch = fence_is_of kind arch
+kind_is_of (kinds.Dep kind _ _) arch = dependency_is_of kind arch
+kind_is_of (kinds.Data _) arch = data_is_of arch
+
+-- acquire and release are of AArch64 alone
+abbrev pub mark_is_of : Mark → ArchName → Bool
+mark_is_of Plain _ = true
+mark_is_of _ AArch64 = true
+mark_is_of _ _ = false
+
+-- whether an edge is of an architecture: its marks and what is left without them are
 abbrev pub is_of_arch : Edge → ArchName → Bool
-is_of_arch (edges.Com _ _) _ = true
-is_of_arch (edges.Po _ _ _) _ = true
-is_of_arch (edges.Fenced kind _ _ _) arch = fence_is_of kind arch
-is_of_arch (edges.Dep kind _ _) arch = dependency_is_of kind arch
-is_of_arch (edges.Data _) arch = data_is_of arch
+is_of_arch edge arch = mark_is_of (source_mark edge) arch && mark_is_of (target_mark edge) arch && kind_is_of (kind_of edge) arch
 
 -- one does what the other does
 abbrev pub same_dir : Dir → Dir → Bool
@@ -106,9 +168,23 @@ same_dir dirs.R dirs.R = true
 same_dir dirs.W dirs.W = true
 same_dir _ _ = false
 
--- an edge joins the next where it enters what the next leaves
+-- a read is plain or acquire, a write plain or release
+abbrev pub mark_fits : Dir → Mark → Bool
+mark_fits _ Plain = true
+mark_fits dirs.R Acquire = true
+mark_fits dirs.W Release = true
+mark_fits _ _ = false
+
+-- one mark is the other
+abbrev pub same_mark : Mark → Mark → Bool
+same_mark Plain Plain = true
+same_mark Acquire Acquire = true
+same_mark Release Release = true
+same_mark _ _ = false
+
+-- an edge joins the next where it enters what the next leaves, and the two agree on its mark
 abbrev pub joins_to : Edge → Edge → Bool
-joins_to edge next = same_dir (target_of edge) (source_of next)
+joins_to edge next = same_dir (target_of edge) (source_of next) && same_mark (target_mark edge) (source_mark next)
 
 -- an edge leads to another thread
 abbrev pub is_external : Edge → Bool
@@ -125,3 +201,27 @@ is_diff edge = differs (place_of edge)
     differs : Sd → Bool
     differs Same = false
     differs Diff = true
+
+-- the edge of a kind that marks no access
+abbrev pub unmarked : Kind → Edge
+unmarked (kinds.Com kind reach) = edges.Com kind reach
+unmarked (kinds.Po sd from to) = edges.Po sd from to
+unmarked (kinds.Fenced kind sd from to) = edges.Fenced kind sd from to
+unmarked (kinds.Dep kind sd to) = edges.Dep kind sd to
+unmarked (kinds.Data sd) = edges.Data sd
+
+-- the edge of a kind that may have marks, with some
+abbrev pub marked_by : Option MarkableKind → Option MarkedEnds → Option MarkedEdge
+marked_by (Some kind) (Some ends) = Some (record { kind = kind; ends = ends })
+marked_by _ _ = None
+
+-- the edge of a kind with these marks: none where both are plain, where a mark doesn't fit what its access does, or
+-- where the kind isn't of AArch64
+unfoldable pub marked_of : Kind → Mark → Mark → Option MarkedEdge
+marked_of kind from to =
+    cond (mark_fits (kind_source kind) from && mark_fits (kind_target kind) to) (marked_by (as_markable kind) (ends_marked from to)) None
+
+-- the edge of a kind with these marks, also where both are plain
+unfoldable pub marked_edge : Kind → Mark → Mark → Option Edge
+marked_edge kind Plain Plain = Some (unmarked kind)
+marked_edge kind from to = option_map edges.Marked (marked_of kind from to)

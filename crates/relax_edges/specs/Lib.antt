@@ -1,3 +1,4 @@
+pub mod Marks
 pub mod EdgeTable
 pub mod Order
 pub mod Words

@@ -15,6 +15,11 @@ use Rattle.relax_edges.specs.declared.kinds.FenceKind.{FenceKind}
 use Rattle.relax_edges.specs.declared.kinds.FenceKind.TheVariants as fences
 use Rattle.relax_edges.specs.declared.kinds.DepKind.{DepKind}
 use Rattle.relax_edges.specs.declared.kinds.DepKind.TheVariants as deps
+use Rattle.relax_edges.specs.declared.kinds.Kind.{Kind}
+use Rattle.relax_edges.specs.declared.kinds.Kind.TheVariants as kinds
+use Rattle.relax_edges.specs.declared.marked.MarkedEnds.{MarkedEnds}
+use Rattle.relax_edges.specs.declared.marked.MarkedEnds.TheVariants.{Both, Source, Target}
+use Rattle.relax_edges.specs.Marks.{markable_kind}
 use Rattle.relax_edges.specs.declared.edge.Edge.{Edge}
 use Rattle.relax_edges.specs.declared.edge.Edge.TheVariants as edges
 
@@ -41,33 +46,60 @@ pick_rank picks.W = 2
 
 -- the rank of the first word of a communication
 abbrev pub com_rank : Com → ℕ
-com_rank coms.Fr = 122
-com_rank coms.Rf = 156
-com_rank coms.Ws = 166
+com_rank coms.Fr = 236
+com_rank coms.Rf = 300
+com_rank coms.Ws = 316
 
--- the rank of the first of the eight words of a fence
+-- the rank of the first word of a fence
 abbrev pub fence_rank : FenceKind → ℕ
 fence_rank fences.DmbLd = 0
-fence_rank fences.DmbSt = 8
-fence_rank fences.DmbSy = 16
-fence_rank fences.Eieio = 42
-fence_rank (fences.Fence pred succ) = 50 + 8 * (3 * pick_rank pred + pick_rank succ)
-fence_rank fences.ISync = 124
-fence_rank fences.LwSync = 132
-fence_rank fences.MFence = 140
-fence_rank fences.Sync = 158
+fence_rank fences.DmbSt = 32
+fence_rank fences.DmbSy = 64
+fence_rank fences.Eieio = 156
+fence_rank (fences.Fence pred succ) = 164 + 8 * (3 * pick_rank pred + pick_rank succ)
+fence_rank fences.ISync = 244
+fence_rank fences.LwSync = 252
+fence_rank fences.MFence = 260
+fence_rank fences.Sync = 308
 
--- the rank of the first of the four words of a dependency
+-- how many words a fence has for one choice of place and directions: with marks four
+abbrev pub fence_words : FenceKind → ℕ
+fence_words fences.DmbLd = 4
+fence_words fences.DmbSt = 4
+fence_words fences.DmbSy = 4
+fence_words _ = 1
+
+-- the rank of the first word of a dependency
 abbrev pub dependency_rank : DepKind → ℕ
-dependency_rank deps.Addr = 24
-dependency_rank deps.CtrlIsb = 28
-dependency_rank deps.CtrlIsync = 32
-dependency_rank deps.Ctrl = 36
+dependency_rank deps.Addr = 96
+dependency_rank deps.CtrlIsb = 112
+dependency_rank deps.CtrlIsync = 128
+dependency_rank deps.Ctrl = 132
+
+-- how many words a dependency has for one choice of place and direction: with marks four
+abbrev pub dependency_words : DepKind → ℕ
+dependency_words deps.CtrlIsync = 1
+dependency_words _ = 4
+
+-- the rank of the edge of a kind that marks no access; those with marks follow it
+abbrev pub kind_rank : Kind → ℕ
+kind_rank (kinds.Com kind reach) = com_rank kind + 4 * reach_rank reach
+kind_rank (kinds.Po sd from to) = 268 + 4 * (4 * sd_rank sd + 2 * dir_rank from + dir_rank to)
+kind_rank (kinds.Fenced kind sd from to) = fence_rank kind + fence_words kind * (4 * sd_rank sd + 2 * dir_rank from + dir_rank to)
+kind_rank (kinds.Dep kind sd to) = dependency_rank kind + dependency_words kind * (2 * sd_rank sd + dir_rank to)
+kind_rank (kinds.Data sd) = 148 + 4 * sd_rank sd
+
+-- how far an edge with marks comes after that without: both ends, the source, the target
+abbrev pub ends_rank : MarkedEnds → ℕ
+ends_rank Both = 1
+ends_rank Source = 2
+ends_rank Target = 3
 
 -- the rank of an edge
 unfoldable pub rank_of : Edge → ℕ
-rank_of (edges.Com kind reach) = com_rank kind + reach_rank reach
-rank_of (edges.Po sd from to) = 148 + 4 * sd_rank sd + 2 * dir_rank from + dir_rank to
-rank_of (edges.Fenced kind sd from to) = fence_rank kind + 4 * sd_rank sd + 2 * dir_rank from + dir_rank to
-rank_of (edges.Dep kind sd to) = dependency_rank kind + 2 * sd_rank sd + dir_rank to
-rank_of (edges.Data sd) = 40 + sd_rank sd
+rank_of (edges.Com kind reach) = kind_rank (kinds.Com kind reach)
+rank_of (edges.Po sd from to) = kind_rank (kinds.Po sd from to)
+rank_of (edges.Fenced kind sd from to) = kind_rank (kinds.Fenced kind sd from to)
+rank_of (edges.Dep kind sd to) = kind_rank (kinds.Dep kind sd to)
+rank_of (edges.Data sd) = kind_rank (kinds.Data sd)
+rank_of (edges.Marked marked) = kind_rank (markable_kind marked.kind) + ends_rank marked.ends

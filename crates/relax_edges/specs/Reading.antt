@@ -1,8 +1,8 @@
 -- How a spelling is read from its end: what its last bytes name, and what the text before them names.
 -- Source: own; that it reads what the table spells is a lemma.
-use Rattle.std.specs.Prelude.{ℕ, Bool, true, false, Option, Some, None, List, [], ◌∷◌, reverse, codes}
+use Rattle.std.specs.Prelude.{ℕ, Bool, true, false, cond, Option, Some, None, List, [], ◌∷◌, reverse, codes}
 use Rattle.std.specs.List.{find}
-use Rattle.std.specs.Option.{option_or}
+use Rattle.std.specs.Option.{option_or, option_map}
 use Rattle.std.specs.Str.{bytes_eq}
 use Rattle.relax_edges.specs.declared.kinds.Dir.{Dir}
 use Rattle.relax_edges.specs.declared.kinds.Dir.TheVariants as dirs
@@ -17,9 +17,14 @@ use Rattle.relax_edges.specs.declared.kinds.FenceKind.{FenceKind}
 use Rattle.relax_edges.specs.declared.kinds.FenceKind.TheVariants as fences
 use Rattle.relax_edges.specs.declared.kinds.DepKind.{DepKind}
 use Rattle.relax_edges.specs.declared.kinds.DepKind.TheVariants as deps
+use Rattle.relax_edges.specs.declared.kinds.ArchName.TheVariants.{AArch64}
+use Rattle.relax_edges.specs.declared.kinds.Kind.{Kind}
+use Rattle.relax_edges.specs.declared.kinds.Kind.TheVariants as kinds
+use Rattle.relax_edges.specs.declared.kinds.Mark.{Mark}
+use Rattle.relax_edges.specs.declared.kinds.Mark.TheVariants.{Plain, Acquire, Release}
 use Rattle.relax_edges.specs.declared.edge.Edge.{Edge}
-use Rattle.relax_edges.specs.declared.edge.Edge.TheVariants as edges
-use Rattle.relax_edges.specs.Words.{dir_word, sd_word, reach_word, com_word, fence_word, dependency_word}
+use Rattle.relax_edges.specs.EdgeTable.{kind_is_of, unmarked, marked_edge}
+use Rattle.relax_edges.specs.Words.{dir_word, sd_word, reach_word, com_word, fence_word, dependency_word, mark_word}
 
 -- the first of some kinds whose word is a text
 abbrev pub named : {K : Type 0} → (K → List ℕ) → List K → List ℕ → Option K
@@ -89,51 +94,84 @@ plain_fence_named = named fence_word plain_fences_read
 abbrev pub fence_named : List ℕ → Option FenceKind
 fence_named text = option_or (plain_fence_named text) (riscv_fence_named text)
 
--- the edge of a communication and a reach
-abbrev pub communication : Option Com → Option Reach → Option Edge
-communication (Some kind) (Some reach) = Some (edges.Com kind reach)
+-- the kind of a communication and a reach
+abbrev pub communication : Option Com → Option Reach → Option Kind
+communication (Some kind) (Some reach) = Some (kinds.Com kind reach)
 communication _ _ = None
 
--- the edge that three bytes spell
-unfoldable pub communication_of : ℕ → ℕ → ℕ → Option Edge
+-- the kind that three bytes spell
+unfoldable pub communication_of : ℕ → ℕ → ℕ → Option Kind
 communication_of first second reach = communication (com_named (first ∷ second ∷ [])) (reach_named (reach ∷ []))
 
--- the edge of a place, two directions, and program order or else a fence
-abbrev pub two_sided : Option Sd → Option Dir → Option Dir → Bool → Option FenceKind → Option Edge
-two_sided (Some sd) (Some from) (Some to) true _ = Some (edges.Po sd from to)
-two_sided (Some sd) (Some from) (Some to) false (Some kind) = Some (edges.Fenced kind sd from to)
+-- the kind of a place, two directions, and program order or else a fence
+abbrev pub two_sided : Option Sd → Option Dir → Option Dir → Bool → Option FenceKind → Option Kind
+two_sided (Some sd) (Some from) (Some to) true _ = Some (kinds.Po sd from to)
+two_sided (Some sd) (Some from) (Some to) false (Some kind) = Some (kinds.Fenced kind sd from to)
 two_sided _ _ _ _ _ = None
 
--- the edge that a text spells whose last three bytes name a place and two directions
-unfoldable pub two_sided_of : List ℕ → ℕ → ℕ → ℕ → Option Edge
+-- the kind that a text spells whose last three bytes name a place and two directions
+unfoldable pub two_sided_of : List ℕ → ℕ → ℕ → ℕ → Option Kind
 two_sided_of front sd from to =
     two_sided (sd_named (sd ∷ [])) (dir_named (from ∷ [])) (dir_named (to ∷ [])) (bytes_eq front (codes "Po")) (fence_named front)
 
--- the edge of a place, a direction, and data or else another dependency
-abbrev pub one_sided : Option Sd → Option Dir → Bool → Option DepKind → Option Edge
-one_sided (Some sd) (Some dirs.W) true _ = Some (edges.Data sd)
-one_sided (Some sd) (Some to) false (Some kind) = Some (edges.Dep kind sd to)
+-- the kind of a place, a direction, and data or else another dependency
+abbrev pub one_sided : Option Sd → Option Dir → Bool → Option DepKind → Option Kind
+one_sided (Some sd) (Some dirs.W) true _ = Some (kinds.Data sd)
+one_sided (Some sd) (Some to) false (Some kind) = Some (kinds.Dep kind sd to)
 one_sided _ _ _ _ = None
 
--- the edge that a text spells whose last two bytes name a place and a direction
-unfoldable pub one_sided_of : List ℕ → ℕ → ℕ → Option Edge
+-- the kind that a text spells whose last two bytes name a place and a direction
+unfoldable pub one_sided_of : List ℕ → ℕ → ℕ → Option Kind
 one_sided_of front sd to = one_sided (sd_named (sd ∷ [])) (dir_named (to ∷ [])) (bytes_eq front (codes "DpData")) (dependency_named front)
 
 -- a text of three bytes is read as a communication
-abbrev pub read_as_communication : List ℕ → Option Edge
+abbrev pub read_as_communication : List ℕ → Option Kind
 read_as_communication (first ∷ second ∷ reach ∷ []) = communication_of first second reach
 read_as_communication _ = None
 
 -- a text is read backwards: its last three bytes, and the text before them
-abbrev pub read_back_two_sided : List ℕ → Option Edge
+abbrev pub read_back_two_sided : List ℕ → Option Kind
 read_back_two_sided (to ∷ from ∷ sd ∷ front) = two_sided_of (reverse front) sd from to
 read_back_two_sided _ = None
 
 -- a text is read backwards: its last two bytes, and the text before them
-abbrev pub read_back_one_sided : List ℕ → Option Edge
+abbrev pub read_back_one_sided : List ℕ → Option Kind
 read_back_one_sided (to ∷ sd ∷ front) = one_sided_of (reverse front) sd to
 read_back_one_sided _ = None
 
+-- the edge without marks that a text is read as
+unfoldable pub kind_read : List ℕ → Option Kind
+kind_read text = option_or (read_as_communication text) (option_or (read_back_two_sided (reverse text)) (read_back_one_sided (reverse text)))
+
+-- the marks
+abbrev pub marks_read : List Mark
+marks_read = Plain ∷ Acquire ∷ Release ∷ []
+
+-- the mark that a text names
+abbrev pub mark_named : List ℕ → Option Mark
+mark_named = named mark_word marks_read
+
+-- the edge of a kind with the marks of two letters, of which `PP` stands after the edges of AArch64 alone
+unfoldable pub edge_spelled : Kind → Mark → Mark → Option Edge
+edge_spelled kind Plain Plain = cond (kind_is_of kind AArch64) (Some (unmarked kind)) None
+edge_spelled kind from to = marked_edge kind from to
+
+-- the same, of what is read before the letters
+abbrev pub spelled_by : Option Kind → Mark → Mark → Option Edge
+spelled_by (Some kind) from to = edge_spelled kind from to
+spelled_by None from to = None
+
+-- the edge of a text: of what stands before two letters of marks, or else of the whole
+abbrev pub read_by_marks : Option Mark → Option Mark → Option Kind → Option Kind → Option Edge
+read_by_marks (Some from) (Some to) before whole = spelled_by before from to
+read_by_marks _ _ before whole = option_map unmarked whole
+
+-- a text is read backwards: its last two bytes, and the text before them
+abbrev pub read_back : List ℕ → Option Edge
+read_back (to ∷ from ∷ back) =
+    read_by_marks (mark_named (from ∷ [])) (mark_named (to ∷ [])) (kind_read (reverse back)) (kind_read (reverse (to ∷ from ∷ back)))
+read_back _ = None
+
 -- the edge that a text is read as
 unfoldable pub read_of : List ℕ → Option Edge
-read_of text = option_or (read_as_communication text) (option_or (read_back_two_sided (reverse text)) (read_back_one_sided (reverse text)))
+read_of text = read_back (reverse text)

@@ -15,8 +15,15 @@ use Rattle.relax_edges.specs.declared.kinds.FenceKind.{FenceKind}
 use Rattle.relax_edges.specs.declared.kinds.FenceKind.TheVariants as fences
 use Rattle.relax_edges.specs.declared.kinds.DepKind.{DepKind}
 use Rattle.relax_edges.specs.declared.kinds.DepKind.TheVariants as deps
+use Rattle.relax_edges.specs.declared.kinds.Kind.{Kind}
+use Rattle.relax_edges.specs.declared.kinds.Kind.TheVariants as kinds
+use Rattle.relax_edges.specs.declared.kinds.Mark.{Mark}
+use Rattle.relax_edges.specs.declared.kinds.Mark.TheVariants.{Plain, Acquire, Release}
+use Rattle.relax_edges.specs.declared.marked.MarkedEdge.{MarkedEdge}
+use Rattle.relax_edges.specs.Marks.{markable_kind}
 use Rattle.relax_edges.specs.declared.edge.Edge.{Edge}
 use Rattle.relax_edges.specs.declared.edge.Edge.TheVariants as edges
+use Rattle.relax_edges.specs.EdgeTable.{source_mark, target_mark}
 
 -- `R` or `W`
 abbrev pub dir_word : Dir → List ℕ
@@ -64,10 +71,29 @@ dependency_word deps.Ctrl = codes "DpCtrl"
 dependency_word deps.CtrlIsync = codes "DpCtrlIsync"
 dependency_word deps.CtrlIsb = codes "DpCtrlIsb"
 
--- the printed word of an edge
+-- the printed word of an edge without its marks
+abbrev pub kind_word : Kind → List ℕ
+kind_word (kinds.Com kind reach) = com_word kind ++ reach_word reach
+kind_word (kinds.Po sd from to) = codes "Po" ++ sd_word sd ++ dir_word from ++ dir_word to
+kind_word (kinds.Fenced kind sd from to) = fence_word kind ++ sd_word sd ++ dir_word from ++ dir_word to
+kind_word (kinds.Dep kind sd to) = dependency_word kind ++ sd_word sd ++ dir_word to
+kind_word (kinds.Data sd) = codes "DpData" ++ sd_word sd ++ codes "W"
+
+-- `P`, `A` or `L`: plain, acquire or release
+abbrev pub mark_word : Mark → List ℕ
+mark_word Plain = codes "P"
+mark_word Acquire = codes "A"
+mark_word Release = codes "L"
+
+-- the two letters of the marks at the ends of an edge
+abbrev pub marks_word : MarkedEdge → List ℕ
+marks_word marked = mark_word (source_mark (edges.Marked marked)) ++ mark_word (target_mark (edges.Marked marked))
+
+-- the printed word of an edge: where an access is marked it ends in the letters of the two marks
 abbrev pub word_of : Edge → List ℕ
-word_of (edges.Com kind reach) = com_word kind ++ reach_word reach
-word_of (edges.Po sd from to) = codes "Po" ++ sd_word sd ++ dir_word from ++ dir_word to
-word_of (edges.Fenced kind sd from to) = fence_word kind ++ sd_word sd ++ dir_word from ++ dir_word to
-word_of (edges.Dep kind sd to) = dependency_word kind ++ sd_word sd ++ dir_word to
-word_of (edges.Data sd) = codes "DpData" ++ sd_word sd ++ codes "W"
+word_of (edges.Com kind reach) = kind_word (kinds.Com kind reach)
+word_of (edges.Po sd from to) = kind_word (kinds.Po sd from to)
+word_of (edges.Fenced kind sd from to) = kind_word (kinds.Fenced kind sd from to)
+word_of (edges.Dep kind sd to) = kind_word (kinds.Dep kind sd to)
+word_of (edges.Data sd) = kind_word (kinds.Data sd)
+word_of (edges.Marked marked) = kind_word (markable_kind marked.kind) ++ marks_word marked

@@ -1,7 +1,9 @@
 ghost use Rattle.std.specs.Prelude.{◌≡◌};
-ghost use Rattle.relax_edges.specs.EdgeTable.{source_of, target_of, reach_of, place_of, is_of_arch, joins_to, com_source, com_target, fence_is_of, dependency_is_of, is_external, is_diff};
+ghost use Rattle.relax_edges.specs.Marks.{markable_kind};
+ghost use Rattle.relax_edges.specs.EdgeTable.{unmarked, marked_of, marked_edge, mark_fits, kind_of, kind_source, kind_target, kind_reach, kind_place, kind_is_of, source_of, target_of, reach_of, place_of, source_mark, target_mark, mark_is_of, is_of_arch, joins_to, com_source, com_target, fence_is_of, dependency_is_of, is_external, is_diff};
 
-use crate::kinds::{ArchName, Com, DepKind, Dir, FenceKind, Reach, Sd};
+use crate::kinds::{ArchName, Com, DepKind, Dir, FenceKind, Kind, Mark, Reach, Sd};
+use crate::marked::{MarkedEdge, as_markable, ends_of};
 
 /// An edge of a cycle, from one access to the next.
 ///
@@ -36,6 +38,8 @@ pub enum Edge {
     Data {
         sd: Sd,
     },
+    /// One of these with marks.
+    Marked(MarkedEdge),
 }
 
 impl Default for Edge {
@@ -96,7 +100,196 @@ impl DepKind {
     }
 }
 
+impl Mark {
+    /// Whether an access that does this may have the mark.
+    fn fits(self, dir: Dir) -> bool
+        ensures { result ≡ mark_fits dir self }
+    {
+        match (dir, self) {
+            (_, Mark::Plain) | (Dir::R, Mark::Acquire) | (Dir::W, Mark::Release) => true,
+            _ => false,
+        }
+    }
+
+    fn is_of(self, arch: ArchName) -> bool
+        ensures { result ≡ mark_is_of self arch }
+    {
+        matches!(self, Mark::Plain) || matches!(arch, ArchName::AArch64)
+    }
+}
+
+impl Kind {
+    fn source(self) -> Dir
+        ensures { result ≡ kind_source self }
+    {
+        match self {
+            Kind::Com { com, .. } => com.source(),
+            Kind::Po { from, .. } | Kind::Fenced { from, .. } => from,
+            Kind::Dep { .. } | Kind::Data { .. } => Dir::R,
+        }
+    }
+
+    fn target(self) -> Dir
+        ensures { result ≡ kind_target self }
+    {
+        match self {
+            Kind::Com { com, .. } => com.target(),
+            Kind::Po { to, .. } | Kind::Fenced { to, .. } | Kind::Dep { to, .. } => to,
+            Kind::Data { .. } => Dir::W,
+        }
+    }
+
+    fn reach(self) -> Reach
+        ensures { result ≡ kind_reach self }
+    {
+        match self {
+            Kind::Com { reach, .. } => reach,
+            _ => Reach::Internal,
+        }
+    }
+
+    fn place(self) -> Sd
+        ensures { result ≡ kind_place self }
+    {
+        match self {
+            Kind::Com { .. } => Sd::Same,
+            Kind::Po { sd, .. }
+            | Kind::Fenced { sd, .. }
+            | Kind::Dep { sd, .. }
+            | Kind::Data { sd } => sd,
+        }
+    }
+
+    pub(crate) fn is_of(self, arch: ArchName) -> bool
+        ensures { result ≡ kind_is_of self arch }
+    {
+        match self {
+            Kind::Com { .. } | Kind::Po { .. } => true,
+            Kind::Fenced { fence, .. } => fence.is_of(arch),
+            Kind::Dep { dep, .. } => dep.is_of(arch),
+            Kind::Data { .. } => !matches!(arch, ArchName::X86),
+        }
+    }
+}
+
+impl Kind {
+    /// The edge of this kind that marks no access.
+    pub(crate) fn unmarked(self) -> Edge
+        ensures { result ≡ unmarked self }
+    {
+        match self {
+            Kind::Com { com, reach } => Edge::Com { com, reach },
+            Kind::Po { sd, from, to } => Edge::Po { sd, from, to },
+            Kind::Fenced {
+                fence,
+                sd,
+                from,
+                to,
+            } => Edge::Fenced {
+                fence,
+                sd,
+                from,
+                to,
+            },
+            Kind::Dep { dep, sd, to } => Edge::Dep { dep, sd, to },
+            Kind::Data { sd } => Edge::Data { sd },
+        }
+    }
+}
+
+impl MarkedEdge {
+    /// The edge of a kind with these marks. None where both are plain, where the end that is a
+    /// write has `Acquire` or the end that is a read has `Release`, or where the kind isn't of
+    /// AArch64; else there is one.
+    #[tactic(auto, unfolding(crate::specs::EdgeTable::marked_of))]
+    pub fn new(kind: Kind, from: Mark, to: Mark) -> Option<MarkedEdge>
+        ensures { result ≡ marked_of kind from to }
+    {
+        if !from.fits(kind.source()) || !to.fits(kind.target()) {
+            return None;
+        }
+        let kind = as_markable(kind)?;
+        let ends = ends_of(from, to)?;
+        Some(MarkedEdge { kind, ends })
+    }
+
+    /// The edge without its marks.
+    pub fn kind(self) -> Kind
+        ensures { result ≡ markable_kind self.kind }
+    {
+        self.kind.kind()
+    }
+
+    fn source_mark(self) -> Mark
+        ensures { result ≡ source_mark (Edge.Marked self) }
+    {
+        self.ends.source_mark(self.kind().source())
+    }
+
+    fn target_mark(self) -> Mark
+        ensures { result ≡ target_mark (Edge.Marked self) }
+    {
+        self.ends.target_mark(self.kind().target())
+    }
+}
+
 impl Edge {
+    /// The edge of a kind with these marks. Where both are plain it is the edge without marks; else
+    /// there is one exactly where the kind is of AArch64 and each mark fits what its access does.
+    #[tactic(auto, unfolding(crate::specs::EdgeTable::marked_edge))]
+    pub fn marked(kind: Kind, from: Mark, to: Mark) -> Option<Edge>
+        ensures { result ≡ marked_edge kind from to }
+    {
+        if matches!((from, to), (Mark::Plain, Mark::Plain)) {
+            return Some(kind.unmarked());
+        }
+        Some(Edge::Marked(MarkedEdge::new(kind, from, to)?))
+    }
+
+    /// The edge without its marks.
+    pub fn kind(self) -> Kind
+        ensures { result ≡ kind_of self }
+    {
+        match self {
+            Edge::Com { com, reach } => Kind::Com { com, reach },
+            Edge::Po { sd, from, to } => Kind::Po { sd, from, to },
+            Edge::Fenced {
+                fence,
+                sd,
+                from,
+                to,
+            } => Kind::Fenced {
+                fence,
+                sd,
+                from,
+                to,
+            },
+            Edge::Dep { dep, sd, to } => Kind::Dep { dep, sd, to },
+            Edge::Data { sd } => Kind::Data { sd },
+            Edge::Marked(marked) => marked.kind(),
+        }
+    }
+
+    /// The mark of the access that the edge leaves.
+    pub fn source_mark(self) -> Mark
+        ensures { result ≡ source_mark self }
+    {
+        match self {
+            Edge::Marked(marked) => marked.source_mark(),
+            _ => Mark::Plain,
+        }
+    }
+
+    /// The mark of the access that the edge enters.
+    pub fn target_mark(self) -> Mark
+        ensures { result ≡ target_mark self }
+    {
+        match self {
+            Edge::Marked(marked) => marked.target_mark(),
+            _ => Mark::Plain,
+        }
+    }
+
     /// What the access does that the edge leaves.
     pub fn source(self) -> Dir
         ensures { result ≡ source_of self }
@@ -105,6 +298,7 @@ impl Edge {
             Edge::Com { com, .. } => com.source(),
             Edge::Po { from, .. } | Edge::Fenced { from, .. } => from,
             Edge::Dep { .. } | Edge::Data { .. } => Dir::R,
+            Edge::Marked(marked) => marked.kind().source(),
         }
     }
 
@@ -116,6 +310,7 @@ impl Edge {
             Edge::Com { com, .. } => com.target(),
             Edge::Po { to, .. } | Edge::Fenced { to, .. } | Edge::Dep { to, .. } => to,
             Edge::Data { .. } => Dir::W,
+            Edge::Marked(marked) => marked.kind().target(),
         }
     }
 
@@ -125,6 +320,7 @@ impl Edge {
     {
         match self {
             Edge::Com { reach, .. } => reach,
+            Edge::Marked(marked) => marked.kind().reach(),
             _ => Reach::Internal,
         }
     }
@@ -139,6 +335,7 @@ impl Edge {
             | Edge::Fenced { sd, .. }
             | Edge::Dep { sd, .. }
             | Edge::Data { sd } => sd,
+            Edge::Marked(marked) => marked.kind().place(),
         }
     }
 
@@ -157,22 +354,19 @@ impl Edge {
     }
 
     /// Whether the edge is of the architecture: its fence or dependency is one of that
-    /// architecture's. Communications and program order are of all.
+    /// architecture's, and its marks are. Communications and program order are of all, acquire and
+    /// release of AArch64 alone.
     pub fn of_arch(self, arch: ArchName) -> bool
         ensures { result ≡ is_of_arch self arch }
     {
-        match self {
-            Edge::Com { .. } | Edge::Po { .. } => true,
-            Edge::Fenced { fence, .. } => fence.is_of(arch),
-            Edge::Dep { dep, .. } => dep.is_of(arch),
-            Edge::Data { .. } => !matches!(arch, ArchName::X86),
-        }
+        self.source_mark().is_of(arch) && self.target_mark().is_of(arch) && self.kind().is_of(arch)
     }
 
-    /// Whether `next` can follow the edge: the edge enters what `next` leaves.
+    /// Whether `next` can follow the edge: the edge enters what `next` leaves, and the two agree on
+    /// the mark of that access.
     pub fn joins(self, next: Edge) -> bool
         ensures { result ≡ joins_to self next }
     {
-        self.target() == next.source()
+        self.target() == next.source() && self.target_mark() == next.source_mark()
     }
 }

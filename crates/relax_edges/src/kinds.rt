@@ -76,6 +76,51 @@ pub enum DepKind {
     CtrlIsb,
 }
 
+/// What an access orders by itself: nothing, or what a load-acquire or a store-release of AArch64
+/// does. A read is plain or acquire, a write plain or release.
+#[derive(Clone, Copy, Debug, Default, PartialEq, Eq)]
+pub enum Mark {
+    #[default]
+    Plain,
+    Acquire,
+    Release,
+}
+
+/// An edge of a cycle, whatever the marks of its accesses.
+///
+/// The rules are those of the diy part of the herdtools manual, "Candidate relaxations".
+#[derive(Clone, Copy, Debug)]
+pub enum Kind {
+    /// A communication between two accesses to one location.
+    Com {
+        com: Com,
+        reach: Reach,
+    },
+    /// Program order alone.
+    Po {
+        sd: Sd,
+        from: Dir,
+        to: Dir,
+    },
+    /// Program order with a fence between.
+    Fenced {
+        fence: FenceKind,
+        sd: Sd,
+        from: Dir,
+        to: Dir,
+    },
+    /// An address or control dependency on a load.
+    Dep {
+        dep: DepKind,
+        sd: Sd,
+        to: Dir,
+    },
+    /// A data dependency of a store on a load.
+    Data {
+        sd: Sd,
+    },
+}
+
 /// What a register or a location holds: a number, or the address of the place with this number.
 #[derive(Clone, Copy, Debug, PartialEq, Eq)]
 pub enum Value {

@@ -4,6 +4,7 @@
 mod arch;
 mod edge;
 mod kinds;
+mod marked;
 mod order;
 mod read;
 mod relax;
@@ -18,7 +19,10 @@ mod word;
 
 pub use arch::read_arch;
 pub use edge::Edge;
-pub use kinds::{ArchName, Com, DepKind, Dir, FenceKind, ObsMode, Pick, Reach, Sd, Value};
+pub use kinds::{
+    ArchName, Com, DepKind, Dir, FenceKind, Kind, Mark, ObsMode, Pick, Reach, Sd, Value,
+};
+pub use marked::MarkedEdge;
 pub use order::EDGES;
 pub use read::{UnknownEdge, read_edge, read_edge_bytes};
 pub use relax::{Relax, Relaxes};

@@ -1,21 +1,23 @@
-ghost use Rattle.std.specs.Prelude.{◌≡◌, ◌<◌, ◌+◌, ◌*◌, ◌==◌, ◌↔◌, IsTrue, Some};
+ghost use Rattle.std.specs.Prelude.{◌≡◌, ◌<◌, ◌≤◌, ◌+◌, ◌*◌, ◌==◌, ◌↔◌, IsTrue, Some};
 ghost use Rattle.std.proofs.Common.{rules};
 ghost use Rattle.std.specs.Cmp.{partial_order_from_own_ties};
 ghost use Rattle.std.specs.Cmp.Rules.{comparing};
 ghost use Rattle.std.specs.Cmp.Lexicographic.{slice_cmp};
 ghost use Rattle.std.specs.Ordering.{nat_cmp, on, as_partial_cmp};
-ghost use Rattle.relax_edges.specs.Order.{rank_of, com_rank, dir_rank, sd_rank, reach_rank, pick_rank, fence_rank, dependency_rank};
+ghost use Rattle.relax_edges.specs.Order.{rank_of, kind_rank, ends_rank, com_rank, dir_rank, sd_rank, reach_rank, pick_rank, fence_rank, fence_words, dependency_rank, dependency_words};
+ghost use Rattle.relax_edges.specs.Marks.{markable_kind, markable_fence, markable_dependency};
 ghost use Rattle.relax_edges.specs.Words.{word_of};
 
 use crate::edge::Edge;
 use crate::kinds::{Com, DepKind, Dir, FenceKind, Pick, Reach, Sd};
+use crate::marked::{Dmb, MarkableDep, MarkableKind, MarkedEdge, MarkedEnds};
 use std::cmp::Ordering;
 
 /// The number of edges.
-pub const EDGES: u8 = 168;
+pub const EDGES: u16 = 324;
 
 impl Dir {
-    fn rank(self) -> u8
+    fn rank(self) -> u16
         ensures { result ≡ dir_rank self }
     {
         match self {
@@ -24,7 +26,7 @@ impl Dir {
         }
     }
 
-    fn at_rank(k: u8) -> Dir
+    fn at_rank(k: u16) -> Dir
         requires { k < 2 }
         ensures { dir_rank result ≡ k }
     {
@@ -33,7 +35,7 @@ impl Dir {
 }
 
 impl Sd {
-    fn rank(self) -> u8
+    fn rank(self) -> u16
         ensures { result ≡ sd_rank self }
     {
         match self {
@@ -42,7 +44,7 @@ impl Sd {
         }
     }
 
-    fn at_rank(k: u8) -> Sd
+    fn at_rank(k: u16) -> Sd
         requires { k < 2 }
         ensures { sd_rank result ≡ k }
     {
@@ -51,7 +53,7 @@ impl Sd {
 }
 
 impl Reach {
-    fn rank(self) -> u8
+    fn rank(self) -> u16
         ensures { result ≡ reach_rank self }
     {
         match self {
@@ -60,7 +62,7 @@ impl Reach {
         }
     }
 
-    fn at_rank(k: u8) -> Reach
+    fn at_rank(k: u16) -> Reach
         requires { k < 2 }
         ensures { reach_rank result ≡ k }
     {
@@ -73,7 +75,7 @@ impl Reach {
 }
 
 impl Pick {
-    fn rank(self) -> u8
+    fn rank(self) -> u16
         ensures { result ≡ pick_rank self }
     {
         match self {
@@ -83,7 +85,7 @@ impl Pick {
         }
     }
 
-    fn at_rank(k: u8) -> Pick
+    fn at_rank(k: u16) -> Pick
         requires { k < 3 }
         ensures { pick_rank result ≡ k }
     {
@@ -96,62 +98,158 @@ impl Pick {
 }
 
 impl Com {
-    fn rank(self) -> u8
+    fn rank(self) -> u16
         ensures { result ≡ com_rank self }
     {
         match self {
-            Com::Fr => 122,
-            Com::Rf => 156,
-            Com::Ws => 166,
+            Com::Fr => 236,
+            Com::Rf => 300,
+            Com::Ws => 316,
         }
     }
 }
 
 impl FenceKind {
-    fn rank(self) -> u8
+    fn rank(self) -> u16
         ensures { result ≡ fence_rank self }
     {
         match self {
             FenceKind::DmbLd => 0,
-            FenceKind::DmbSt => 8,
-            FenceKind::DmbSy => 16,
-            FenceKind::Eieio => 42,
-            FenceKind::Fence { pred, succ } => 50 + 8 * (3 * pred.rank() + succ.rank()),
-            FenceKind::ISync => 124,
-            FenceKind::LwSync => 132,
-            FenceKind::MFence => 140,
-            FenceKind::Sync => 158,
+            FenceKind::DmbSt => 32,
+            FenceKind::DmbSy => 64,
+            FenceKind::Eieio => 156,
+            FenceKind::Fence { pred, succ } => 164 + 8 * (3 * pred.rank() + succ.rank()),
+            FenceKind::ISync => 244,
+            FenceKind::LwSync => 252,
+            FenceKind::MFence => 260,
+            FenceKind::Sync => 308,
+        }
+    }
+
+    fn words(self) -> u16
+        ensures { result ≡ fence_words self }
+    {
+        match self {
+            FenceKind::DmbLd | FenceKind::DmbSt | FenceKind::DmbSy => 4,
+            _ => 1,
         }
     }
 }
 
 impl DepKind {
-    fn rank(self) -> u8
+    fn rank(self) -> u16
         ensures { result ≡ dependency_rank self }
     {
         match self {
-            DepKind::Addr => 24,
-            DepKind::CtrlIsb => 28,
-            DepKind::CtrlIsync => 32,
-            DepKind::Ctrl => 36,
+            DepKind::Addr => 96,
+            DepKind::CtrlIsb => 112,
+            DepKind::CtrlIsync => 128,
+            DepKind::Ctrl => 132,
         }
     }
-}
 
-impl Com {
-    #[tactic(auto, unfolding(crate::specs::Order::rank_of))]
-    fn edge_at(self, k: u8) -> Edge
-        requires { k < 2 }
-        ensures { rank_of result ≡ com_rank self + k }
+    fn words(self) -> u16
+        ensures { result ≡ dependency_words self }
     {
-        Edge::Com {
-            com: self,
-            reach: Reach::at_rank(k),
+        match self {
+            DepKind::CtrlIsync => 1,
+            _ => 4,
         }
     }
 }
 
-fn choices_at(k: u8) -> (Sd, Dir, Dir)
+/// The place of a choice of place and directions among the eight.
+fn choice_rank(sd: Sd, from: Dir, to: Dir) -> u16
+    ensures value { result ≡ 4 * sd_rank sd + 2 * dir_rank from + dir_rank to }
+    ensures below { result < 8 }
+{
+    4 * sd.rank() + 2 * from.rank() + to.rank()
+}
+
+impl MarkableKind {
+    fn rank(self) -> u16
+        ensures value { result ≡ kind_rank (markable_kind self) }
+        ensures below { result ≤ 320 }
+    {
+        match self {
+            MarkableKind::Com { com, reach } => com.rank() + 4 * reach.rank(),
+            MarkableKind::Po { sd, from, to } => 268 + 4 * choice_rank(sd, from, to),
+            MarkableKind::Fenced {
+                fence,
+                sd,
+                from,
+                to,
+            } => fence.rank() + 4 * choice_rank(sd, from, to),
+            MarkableKind::Dep { dep, sd, to } => dep.rank() + 4 * (2 * sd.rank() + to.rank()),
+            MarkableKind::Data { sd } => 148 + 4 * sd.rank(),
+        }
+    }
+}
+
+impl Dmb {
+    fn rank(self) -> u16
+        ensures value { result ≡ fence_rank (markable_fence self) }
+        ensures words { fence_words (markable_fence self) ≡ 4 }
+    {
+        match self {
+            Dmb::Ld => 0,
+            Dmb::St => 32,
+            Dmb::Sy => 64,
+        }
+    }
+}
+
+impl MarkableDep {
+    fn rank(self) -> u16
+        ensures value { result ≡ dependency_rank (markable_dependency self) }
+        ensures words { dependency_words (markable_dependency self) ≡ 4 }
+    {
+        match self {
+            MarkableDep::Addr => 96,
+            MarkableDep::CtrlIsb => 112,
+            MarkableDep::Ctrl => 132,
+        }
+    }
+}
+
+impl MarkedEnds {
+    fn rank(self) -> u16
+        ensures { result ≡ ends_rank self }
+    {
+        match self {
+            MarkedEnds::Both => 1,
+            MarkedEnds::Source => 2,
+            MarkedEnds::Target => 3,
+        }
+    }
+}
+
+impl MarkedEdge {
+    #[tactic(auto, unfolding(crate::specs::Order::rank_of))]
+    fn rank(self) -> u16
+        ensures value { result ≡ rank_of (Edge.Marked self) }
+        ensures below { result < EDGES }
+    {
+        self.kind.rank() + self.ends.rank()
+    }
+}
+
+/// The edge of a kind that may have marks, without them or with those of this rank.
+#[tactic(auto, using(crate::proofs::KindRanks::unmarked_rank), unfolding(crate::specs::Order::rank_of))]
+fn edge_at(kind: MarkableKind, ends: u16) -> Edge
+    requires { ends < 4 }
+    ensures { rank_of result ≡ kind_rank (markable_kind kind) + ends }
+{
+    let ends = match ends {
+        0 => return kind.kind().unmarked(),
+        1 => MarkedEnds::Both,
+        2 => MarkedEnds::Source,
+        _ => MarkedEnds::Target,
+    };
+    Edge::Marked(MarkedEdge { kind, ends })
+}
+
+fn choices_at(k: u16) -> (Sd, Dir, Dir)
     requires { k < 8 }
     ensures { 4 * sd_rank result.0 + 2 * dir_rank result.1 + dir_rank result.2 ≡ k }
 {
@@ -162,10 +260,72 @@ fn choices_at(k: u8) -> (Sd, Dir, Dir)
     )
 }
 
+impl Com {
+    fn edge_at(self, k: u16) -> Edge
+        requires { k < 8 }
+        ensures { rank_of result ≡ com_rank self + k }
+    {
+        let kind = MarkableKind::Com {
+            com: self,
+            reach: Reach::at_rank(k / 4),
+        };
+        edge_at(kind, k % 4)
+    }
+}
+
+fn program_order_at(k: u16) -> Edge
+    requires { k < 32 }
+    ensures { rank_of result ≡ 268 + k }
+{
+    let (sd, from, to) = choices_at(k / 4);
+    edge_at(MarkableKind::Po { sd, from, to }, k % 4)
+}
+
+impl Dmb {
+    fn edge_at(self, k: u16) -> Edge
+        requires { k < 32 }
+        ensures { rank_of result ≡ fence_rank (markable_fence self) + k }
+    {
+        let (sd, from, to) = choices_at(k / 4);
+        let kind = MarkableKind::Fenced {
+            fence: self,
+            sd,
+            from,
+            to,
+        };
+        edge_at(kind, k % 4)
+    }
+}
+
+impl MarkableDep {
+    fn edge_at(self, k: u16) -> Edge
+        requires { k < 16 }
+        ensures { rank_of result ≡ dependency_rank (markable_dependency self) + k }
+    {
+        let kind = MarkableKind::Dep {
+            dep: self,
+            sd: Sd::at_rank(k / 8),
+            to: Dir::at_rank(k / 4 % 2),
+        };
+        edge_at(kind, k % 4)
+    }
+}
+
+fn data_at(k: u16) -> Edge
+    requires { k < 8 }
+    ensures { rank_of result ≡ 148 + k }
+{
+    let kind = MarkableKind::Data {
+        sd: Sd::at_rank(k / 4),
+    };
+    edge_at(kind, k % 4)
+}
+
 impl FenceKind {
     #[tactic(auto, unfolding(crate::specs::Order::rank_of))]
-    fn edge_at(self, k: u8) -> Edge
-        requires { k < 8 }
+    fn edge_at(self, k: u16) -> Edge
+        requires few { k < 8 }
+        requires unmarked { fence_words self ≡ 1 }
         ensures { rank_of result ≡ fence_rank self + k }
     {
         let (sd, from, to) = choices_at(k);
@@ -178,33 +338,21 @@ impl FenceKind {
     }
 }
 
-impl DepKind {
-    #[tactic(auto, unfolding(crate::specs::Order::rank_of))]
-    fn edge_at(self, k: u8) -> Edge
-        requires { k < 4 }
-        ensures { rank_of result ≡ dependency_rank self + k }
-    {
-        Edge::Dep {
-            dep: self,
-            sd: Sd::at_rank(k / 2),
-            to: Dir::at_rank(k % 2),
-        }
+#[tactic(auto, unfolding(crate::specs::Order::rank_of))]
+fn power_dependency_at(k: u16) -> Edge
+    requires { k < 4 }
+    ensures { rank_of result ≡ 128 + k }
+{
+    Edge::Dep {
+        dep: DepKind::CtrlIsync,
+        sd: Sd::at_rank(k / 2),
+        to: Dir::at_rank(k % 2),
     }
 }
 
-#[tactic(auto, unfolding(crate::specs::Order::rank_of))]
-fn program_order_at(k: u8) -> Edge
-    requires { k < 8 }
-    ensures { rank_of result ≡ 148 + k }
-{
-    let (sd, from, to) = choices_at(k);
-    Edge::Po { sd, from, to }
-}
-
-#[tactic(auto, unfolding(crate::specs::Order::rank_of))]
-fn riscv_fence_at(k: u8) -> Edge
+fn riscv_fence_at(k: u16) -> Edge
     requires { k < 72 }
-    ensures { rank_of result ≡ 50 + k }
+    ensures { rank_of result ≡ 164 + k }
 {
     let fence = FenceKind::Fence {
         pred: Pick::at_rank(k / 24),
@@ -216,52 +364,50 @@ fn riscv_fence_at(k: u8) -> Edge
 impl Edge {
     /// The place of the edge among all edges, in the byte order of their printed words, from 0.
     #[tactic(auto, unfolding(crate::specs::Order::rank_of))]
-    pub fn rank(self) -> u8
+    pub fn rank(self) -> u16
         ensures value { result ≡ rank_of self }
         ensures below { result < EDGES }
     {
         match self {
-            Edge::Com { com, reach } => com.rank() + reach.rank(),
-            Edge::Po { sd, from, to } => 148 + 4 * sd.rank() + 2 * from.rank() + to.rank(),
+            Edge::Com { com, reach } => com.rank() + 4 * reach.rank(),
+            Edge::Po { sd, from, to } => 268 + 4 * choice_rank(sd, from, to),
             Edge::Fenced {
                 fence,
                 sd,
                 from,
                 to,
-            } => fence.rank() + 4 * sd.rank() + 2 * from.rank() + to.rank(),
-            Edge::Dep { dep, sd, to } => dep.rank() + 2 * sd.rank() + to.rank(),
-            Edge::Data { sd } => 40 + sd.rank(),
+            } => fence.rank() + fence.words() * choice_rank(sd, from, to),
+            Edge::Dep { dep, sd, to } => dep.rank() + dep.words() * (2 * sd.rank() + to.rank()),
+            Edge::Data { sd } => 148 + 4 * sd.rank(),
+            Edge::Marked(marked) => marked.rank(),
         }
     }
 
     /// The edge at a place among all edges, in the byte order of their printed words. The places
     /// from 0 on, below `EDGES`, give each edge once, in that order.
-    #[tactic(auto, unfolding(crate::specs::Order::rank_of))]
-    pub fn at_rank(k: u8) -> Edge
+    pub fn at_rank(k: u16) -> Edge
         requires { k < EDGES }
         ensures { rank_of result ≡ k }
     {
         match k {
-            0..=7 => FenceKind::DmbLd.edge_at(k),
-            8..=15 => FenceKind::DmbSt.edge_at(k - 8),
-            16..=23 => FenceKind::DmbSy.edge_at(k - 16),
-            24..=27 => DepKind::Addr.edge_at(k - 24),
-            28..=31 => DepKind::CtrlIsb.edge_at(k - 28),
-            32..=35 => DepKind::CtrlIsync.edge_at(k - 32),
-            36..=39 => DepKind::Ctrl.edge_at(k - 36),
-            40..=41 => Edge::Data {
-                sd: Sd::at_rank(k - 40),
-            },
-            42..=49 => FenceKind::Eieio.edge_at(k - 42),
-            50..=121 => riscv_fence_at(k - 50),
-            122..=123 => Com::Fr.edge_at(k - 122),
-            124..=131 => FenceKind::ISync.edge_at(k - 124),
-            132..=139 => FenceKind::LwSync.edge_at(k - 132),
-            140..=147 => FenceKind::MFence.edge_at(k - 140),
-            148..=155 => program_order_at(k - 148),
-            156..=157 => Com::Rf.edge_at(k - 156),
-            158..=165 => FenceKind::Sync.edge_at(k - 158),
-            _ => Com::Ws.edge_at(k - 166),
+            0..=31 => Dmb::Ld.edge_at(k),
+            32..=63 => Dmb::St.edge_at(k - 32),
+            64..=95 => Dmb::Sy.edge_at(k - 64),
+            96..=111 => MarkableDep::Addr.edge_at(k - 96),
+            112..=127 => MarkableDep::CtrlIsb.edge_at(k - 112),
+            128..=131 => power_dependency_at(k - 128),
+            132..=147 => MarkableDep::Ctrl.edge_at(k - 132),
+            148..=155 => data_at(k - 148),
+            156..=163 => FenceKind::Eieio.edge_at(k - 156),
+            164..=235 => riscv_fence_at(k - 164),
+            236..=243 => Com::Fr.edge_at(k - 236),
+            244..=251 => FenceKind::ISync.edge_at(k - 244),
+            252..=259 => FenceKind::LwSync.edge_at(k - 252),
+            260..=267 => FenceKind::MFence.edge_at(k - 260),
+            268..=299 => program_order_at(k - 268),
+            300..=307 => Com::Rf.edge_at(k - 300),
+            308..=315 => FenceKind::Sync.edge_at(k - 308),
+            _ => Com::Ws.edge_at(k - 316),
         }
     }
 }

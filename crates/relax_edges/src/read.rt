@@ -1,10 +1,10 @@
 ghost use Rattle.std.specs.Prelude.{◌≡◌, ◌∷◌, [], ◌++◌, reverse};
-ghost use Rattle.relax_edges.specs.Reading.{dir_named, sd_named, reach_named, com_named, dependency_named, riscv_fence_named, plain_fence_named, fence_named, communication_of, two_sided_of, one_sided_of, read_as_communication, read_back_two_sided};
+ghost use Rattle.relax_edges.specs.Reading.{mark_named, kind_read, edge_spelled, dir_named, sd_named, reach_named, com_named, dependency_named, riscv_fence_named, plain_fence_named, fence_named, communication_of, two_sided_of, one_sided_of, read_as_communication, read_back_two_sided};
 ghost use Rattle.relax_edges.specs.Spelling.{edge_of};
 ghost use Rattle.std.specs.Result.{result_ok};
 
 use crate::edge::Edge;
-use crate::kinds::{Com, DepKind, Dir, FenceKind, Pick, Reach, Sd};
+use crate::kinds::{ArchName, Com, DepKind, Dir, FenceKind, Kind, Mark, Pick, Reach, Sd};
 use thiserror::Error;
 
 impl Dir {
@@ -38,6 +38,19 @@ impl Reach {
         match byte {
             b'i' => Some(Reach::Internal),
             b'e' => Some(Reach::External),
+            _ => None,
+        }
+    }
+}
+
+impl Mark {
+    fn named(byte: u8) -> Option<Mark>
+        ensures { result ≡ mark_named (byte ∷ []) }
+    {
+        match byte {
+            b'P' => Some(Mark::Plain),
+            b'A' => Some(Mark::Acquire),
+            b'L' => Some(Mark::Release),
             _ => None,
         }
     }
@@ -135,26 +148,26 @@ impl FenceKind {
 }
 
 #[tactic(auto, unfolding(crate::specs::Reading::communication_of))]
-fn read_communication(first: u8, second: u8, reach: u8) -> Option<Edge>
+fn read_communication(first: u8, second: u8, reach: u8) -> Option<Kind>
     ensures { result ≡ communication_of first second reach }
 {
     let com = Com::named(first, second)?;
     let reach = Reach::named(reach)?;
-    Some(Edge::Com { com, reach })
+    Some(Kind::Com { com, reach })
 }
 
 #[tactic(auto, unfolding(crate::specs::Reading::two_sided_of))]
-fn read_two_sided(front: &[u8], sd: u8, from: u8, to: u8) -> Option<Edge>
+fn read_two_sided(front: &[u8], sd: u8, from: u8, to: u8) -> Option<Kind>
     ensures { result ≡ two_sided_of front.now sd from to }
 {
     let sd = Sd::named(sd)?;
     let from = Dir::named(from)?;
     let to = Dir::named(to)?;
     if front == b"Po".as_slice() {
-        return Some(Edge::Po { sd, from, to });
+        return Some(Kind::Po { sd, from, to });
     }
     let fence = FenceKind::named(front)?;
-    Some(Edge::Fenced {
+    Some(Kind::Fenced {
         fence,
         sd,
         from,
@@ -163,7 +176,7 @@ fn read_two_sided(front: &[u8], sd: u8, from: u8, to: u8) -> Option<Edge>
 }
 
 #[tactic(auto, unfolding(crate::specs::Reading::one_sided_of))]
-fn read_one_sided(front: &[u8], sd: u8, to: u8) -> Option<Edge>
+fn read_one_sided(front: &[u8], sd: u8, to: u8) -> Option<Kind>
     ensures { result ≡ one_sided_of front.now sd to }
 {
     let sd = Sd::named(sd)?;
@@ -171,15 +184,15 @@ fn read_one_sided(front: &[u8], sd: u8, to: u8) -> Option<Edge>
     if front == b"DpData".as_slice() {
         return match to {
             Dir::R => None,
-            Dir::W => Some(Edge::Data { sd }),
+            Dir::W => Some(Kind::Data { sd }),
         };
     }
     let dep = DepKind::named(front)?;
-    Some(Edge::Dep { dep, sd, to })
+    Some(Kind::Dep { dep, sd, to })
 }
 
-#[tactic(auto, using(crate::proofs::Spellings::communication_bare, crate::proofs::Spellings::communication_long))]
-fn end_communication(front: &[u8], before: u8, last: u8) -> Option<Edge>
+#[tactic(auto, using(crate::proofs::KindSpellings::communication_bare, crate::proofs::KindSpellings::communication_long))]
+fn end_communication(front: &[u8], before: u8, last: u8) -> Option<Kind>
     ensures { result ≡ read_as_communication (front.now ++ before ∷ last ∷ []) }
 {
     match front {
@@ -188,8 +201,8 @@ fn end_communication(front: &[u8], before: u8, last: u8) -> Option<Edge>
     }
 }
 
-#[tactic(auto, using(crate::proofs::Spellings::two_sided_end, crate::proofs::Spellings::two_sided_none))]
-fn end_two_sided(front: &[u8], from: u8, to: u8) -> Option<Edge>
+#[tactic(auto, using(crate::proofs::KindSpellings::two_sided_end, crate::proofs::KindSpellings::two_sided_none))]
+fn end_two_sided(front: &[u8], from: u8, to: u8) -> Option<Kind>
     ensures { result ≡ read_back_two_sided (reverse (front.now ++ from ∷ to ∷ [])) }
 {
     match front {
@@ -198,14 +211,55 @@ fn end_two_sided(front: &[u8], from: u8, to: u8) -> Option<Edge>
     }
 }
 
+/// The edge without marks that a text spells that ends with these two bytes.
+#[tactic(auto, using(crate::proofs::KindSpellings::ending_is_read))]
+fn end_kind(front: &[u8], before: u8, last: u8) -> Option<Kind>
+    ensures { result ≡ kind_read (front.now ++ before ∷ last ∷ []) }
+{
+    end_communication(front, before, last)
+        .or_else(|| end_two_sided(front, before, last))
+        .or_else(|| read_one_sided(front, before, last))
+}
+
+/// The edge without marks that a text spells.
+#[tactic(auto, using(crate::proofs::KindSpellings::short_is_none))]
+fn read_kind(text: &[u8]) -> Option<Kind>
+    ensures { result ≡ kind_read text.now }
+{
+    match text {
+        [front @ .., before, last] => end_kind(front, *before, *last),
+        _ => None,
+    }
+}
+
+/// The edge of a kind with the marks of two letters, of which `PP` stands after the edges of
+/// AArch64 alone.
+#[tactic(auto, unfolding(crate::specs::Reading::edge_spelled))]
+fn spelled(kind: Kind, from: Mark, to: Mark) -> Option<Edge>
+    ensures { result ≡ edge_spelled kind from to }
+{
+    if matches!((from, to), (Mark::Plain, Mark::Plain)) {
+        return if kind.is_of(ArchName::AArch64) {
+            Some(kind.unmarked())
+        } else {
+            None
+        };
+    }
+    Edge::marked(kind, from, to)
+}
+
 /// The edge that a text spells that ends with these two bytes.
 #[tactic(auto, using(crate::proofs::Spellings::ending_is_edge_of))]
 pub(crate) fn read_ending(front: &[u8], before: u8, last: u8) -> Option<Edge>
     ensures { result ≡ edge_of (front.now ++ before ∷ last ∷ []) }
 {
-    end_communication(front, before, last)
-        .or_else(|| end_two_sided(front, before, last))
-        .or_else(|| read_one_sided(front, before, last))
+    let Some(from) = Mark::named(before) else {
+        return Some(end_kind(front, before, last)?.unmarked());
+    };
+    let Some(to) = Mark::named(last) else {
+        return Some(end_kind(front, before, last)?.unmarked());
+    };
+    spelled(read_kind(front)?, from, to)
 }
 
 /// No edge has this spelling.
@@ -225,7 +279,8 @@ pub fn read_edge_bytes(text: &[u8]) -> Result<Edge, UnknownEdge>
 }
 
 /// The edge that a text spells: an edge is spelled as it is printed, and `Wsi` and `Wse` are
-/// spelled `Coi` and `Coe` too. `UnknownEdge` comes exactly where no edge has this spelling.
+/// spelled `Coi` and `Coe` too, with the same letters of marks after them. `PP`, which marks
+/// nothing, may stand after each spelling of an edge without marks that AArch64 has. `UnknownEdge` comes exactly where no edge has this spelling.
 ///
 /// The words are those of the diy part of the herdtools manual, "Candidate relaxations".
 pub fn read_edge(text: &str) -> Result<Edge, UnknownEdge>

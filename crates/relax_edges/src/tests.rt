@@ -39,9 +39,44 @@ fn other_spellings_are_no_edges(rt: HostRuntime) {
         "MFenceWR",
         "DMB.SYWW",
         "Fence.rw.rwdRWWWW",
+        "PodWWPA",
+        "PodWRLL",
+        "PodWWP",
+        "PodWWpl",
+        "PodWWPPPP",
+        "PodWWPLPP",
+        "MFencedWRLA",
+        "MFencedWRPP",
+        "DpCtrlIsyncdWPP",
+        "DpDatadWAA",
+        "PLPodWW",
+        "CoePA",
     ];
     for text in texts {
         assert!(rt; read_edge(text).is_err(), "{text}");
+    }
+}
+
+#[test]
+fn letters_of_marks_are_read(rt: HostRuntime) {
+    let mut word = ArrayString::new();
+    for (text, printed) in [
+        ("PodWWPP", "PodWW"),
+        ("CoePP", "Wse"),
+        ("CoeLL", "WseLL"),
+        ("CoiPL", "WsiPL"),
+        ("RfeLA", "RfeLA"),
+        ("FrePL", "FrePL"),
+        ("DMB.LDsRRAP", "DMB.LDsRRAP"),
+        ("DpCtrlIsbdRPA", "DpCtrlIsbdRPA"),
+        ("DpDatasWAL", "DpDatasWAL"),
+    ] {
+        let read = read_edge(text);
+        assert!(rt; read.is_ok(), "{text}");
+        if let Ok(edge) = read {
+            edge.word(&mut word);
+            assert_eq!(rt; word.as_str(), printed);
+        }
     }
 }
 

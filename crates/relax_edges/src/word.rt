@@ -1,9 +1,9 @@
-ghost use Rattle.std.specs.Prelude.{◌≡◌, ◌≤◌, length, []};
+ghost use Rattle.std.specs.Prelude.{◌≡◌, ◌≤◌, ◌+◌, ◌++◌, length, []};
 ghost use Rattle.std.specs.Str.{IsAscii};
-ghost use Rattle.relax_edges.specs.Words.{word_of, com_word, reach_word, sd_word, dir_word, fence_word, dependency_word};
+ghost use Rattle.relax_edges.specs.Words.{word_of, kind_word, mark_word, marks_word, com_word, reach_word, sd_word, dir_word, fence_word, dependency_word};
 
 use crate::edge::Edge;
-use crate::kinds::{Com, DepKind, Dir, FenceKind, Pick, Reach, Sd};
+use crate::kinds::{Com, DepKind, Dir, FenceKind, Kind, Mark, Pick, Reach, Sd};
 use arrayvec::ArrayString;
 
 impl Dir {
@@ -119,17 +119,47 @@ impl Edge {
         ensures { out.new.bytes ≡ word_of self }
     {
         match self {
-            Edge::Com { com, reach } => {
+            Edge::Marked(marked) => {
+                marked.kind().push_word(out);
+                out.push_str(self.source_mark().word());
+                out.push_str(self.target_mark().word());
+            }
+            _ => self.kind().push_word(out),
+        }
+    }
+}
+
+impl Mark {
+    fn word(self) -> &'static str
+        ensures { result.now ≡ mark_word self }
+    {
+        match self {
+            Mark::Plain => "P",
+            Mark::Acquire => "A",
+            Mark::Release => "L",
+        }
+    }
+}
+
+impl Kind {
+    #[tactic(auto, using(crate::proofs::WordBounds::kind_word_short))]
+    fn push_word(self, out: &mut ArrayString<16>)
+        requires { out.old.bytes ≡ [] }
+        ensures word { out.new.bytes ≡ kind_word self }
+        ensures short { length out.new.bytes ≤ 14 }
+    {
+        match self {
+            Kind::Com { com, reach } => {
                 out.push_str(com.word());
                 out.push_str(reach.word());
             }
-            Edge::Po { sd, from, to } => {
+            Kind::Po { sd, from, to } => {
                 out.push_str("Po");
                 out.push_str(sd.word());
                 out.push_str(from.word());
                 out.push_str(to.word());
             }
-            Edge::Fenced {
+            Kind::Fenced {
                 fence,
                 sd,
                 from,
@@ -140,12 +170,12 @@ impl Edge {
                 out.push_str(from.word());
                 out.push_str(to.word());
             }
-            Edge::Dep { dep, sd, to } => {
+            Kind::Dep { dep, sd, to } => {
                 out.push_str(dep.word());
                 out.push_str(sd.word());
                 out.push_str(to.word());
             }
-            Edge::Data { sd } => {
+            Kind::Data { sd } => {
                 out.push_str("DpData");
                 out.push_str(sd.word());
                 out.push_str("W");

@@ -2,11 +2,10 @@
 use Rattle.std.proofs.Common.{◌≡◌, ℕ, zero, suc, ◌+◌, ◌-◌, ◌<◌, true, false, ◌==◌, cond, List, [], ◌∷◌, ◌++◌, length, get_or, refl, sym, ◌∙◌, ap, arith, length-append}
 use Rattle.std.proofs.lemmas.List.{get_or_append_left, get_or_push}
 use Rattle.std.proofs.lemmas.Bool.{eq-eqb, ne_eqb, and_parts, cond-true, cond-false}
-use Rattle.relax_edges.specs.declared.kinds.Dir.{Dir}
-use Rattle.relax_edges.specs.declared.kinds.Dir.TheVariants as dirs
 use Rattle.relax_edges.specs.declared.edge.Edge.{Edge}
-use Rattle.relax_edges.specs.EdgeTable.{source_of, target_of, joins_to, same_dir, is_external, is_diff}
+use Rattle.relax_edges.specs.EdgeTable.{source_of, target_of, source_mark, target_mark, joins_to, is_external, is_diff}
 use Rattle.walk_laws.specs.Composable.{is_joined, IsCycle}
+use Rattle.walk_laws.proofs.Joining.{joined_dirs, joined_marks}
 use Rattle.list_laws.proofs.Cases.{by_same}
 use Rattle.resolution_laws.specs.Resolution.{external_count, edge_at, thread_of, slot_of, location_of, event_after, event_before, IsResolved}
 use Rattle.resolution_laws.proofs.Threads.{thread-zero, thread_out, thread_in, thread_end, slot-zero, slot_out, slot_in}
@@ -60,15 +59,13 @@ joins_after (e ∷ u) i c h =
     (λ l a. let there : get_or ((e ∷ u) ++ e ∷ []) (i + 1) (edge_at [] 0) ≡ e = get_or_push (e ∷ u) e (edge_at [] 0) (i + 1) l in
     rw a (ap (λ x. joins_to x e) (sym here) ∙ ap (λ x. joins_to (get_or ((e ∷ u) ++ e ∷ []) i (edge_at [] 0)) x) (sym there) ∙ j))
 
--- so what an edge enters is what the edge behind it leaves
+-- so what an edge enters is what the next edge leaves
 pub source_after : (es : List Edge) (i : ℕ) → IsCycle es → i < length es → source_of (edge_at es (event_after es i)) ≡ target_of (edge_at es i)
-source_after es i c h = same (target_of (edge_at es i)) (source_of (edge_at es (event_after es i))) (joins_after es i c h)
-  where
-    same : (a b : Dir) → same_dir a b ≡ true → b ≡ a
-    same dirs.R dirs.R e = refl
-    same dirs.W dirs.W e = refl
-    same dirs.R dirs.W e = cc
-    same dirs.W dirs.R e = cc
+source_after es i c h = joined_dirs (edge_at es i) (edge_at es (event_after es i)) (joins_after es i c h)
+
+-- and the two agree on its mark
+pub mark_after : (es : List Edge) (i : ℕ) → IsCycle es → i < length es → source_mark (edge_at es (event_after es i)) ≡ target_mark (edge_at es i)
+mark_after es i c h = joined_marks (edge_at es i) (edge_at es (event_after es i)) (joins_after es i c h)
 
 -- an internal edge leads to the next slot of its thread, which is the next event
 pub record Follows (es : List Edge) (i : ℕ) : Type 0 where

@@ -6,9 +6,11 @@ use Rattle.std.proofs.lemmas.Bool.{eqb-false, ne_eqb, cond-true, cond-false, and
 use Rattle.std.proofs.Math.Nat.{mod-eq_of_lt, mod_self, mod-le, zero-mod}
 use Rattle.relax_edges.specs.declared.kinds.Reach.TheVariants.{Internal}
 use Rattle.relax_edges.specs.declared.kinds.Com.TheVariants.{Rf}
+use Rattle.relax_edges.specs.declared.kinds.Kind.{Kind}
+use Rattle.relax_edges.specs.declared.kinds.Kind.TheVariants as kinds
 use Rattle.relax_edges.specs.declared.edge.Edge.{Edge}
 use Rattle.relax_edges.specs.declared.edge.Edge.TheVariants as edges
-use Rattle.relax_edges.specs.EdgeTable.{is_external, is_diff}
+use Rattle.relax_edges.specs.EdgeTable.{kind_of, is_external, is_diff}
 use Rattle.list_laws.specs.Numbers.{upto}
 use Rattle.list_laws.proofs.Cases.{by_less, by_same}
 use Rattle.list_laws.proofs.Counts.{count_upto-le, count_upto_more, count_upto_up, count_upto_fewer, count_upto_none, count_upto_stays}
@@ -17,13 +19,17 @@ use Rattle.list_laws.proofs.Finds.{any_upto_fails}
 use Rattle.resolution_laws.specs.Resolution.{external_count, move_count, edge_at, ends_outside, thread_of, moves_before, location_of, moves_in, is_coherence_only, IsResolved}
 use Rattle.resolution_laws.proofs.Threads.{thread_up, thread_out}
 
+-- what leads to another thread keeps the location, by the kind of the edge
+keeps_by_kind : (k : Kind) (e : Edge) → kind_of e ≡ k → is_external e ≡ true → is_diff e ≡ false
+keeps_by_kind (kinds.Com c r) e q h = rw q refl
+keeps_by_kind (kinds.Po s f t) e q h = let a = rw q at h in cc
+keeps_by_kind (kinds.Fenced k s f t) e q h = let a = rw q at h in cc
+keeps_by_kind (kinds.Dep k s t) e q h = let a = rw q at h in cc
+keeps_by_kind (kinds.Data s) e q h = let a = rw q at h in cc
+
 -- an edge to another thread keeps the location
 pub external_keeps : (e : Edge) → is_external e ≡ true → is_diff e ≡ false
-external_keeps (edges.Com c r) h = refl
-external_keeps (edges.Po s f t) h = cc
-external_keeps (edges.Fenced k s f t) h = cc
-external_keeps (edges.Dep k s t) h = cc
-external_keeps (edges.Data s) h = cc
+external_keeps e h = keeps_by_kind (kind_of e) e refl h
 
 -- the last edge says whether the list ends outside
 pub ends_with : (es : List Edge) (n : ℕ) → length es ≡ n + 1 → ends_outside es ≡ is_external (edge_at es n)

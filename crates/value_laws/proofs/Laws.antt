@@ -6,11 +6,11 @@ use Rattle.std.proofs.lemmas.Bool.{and_from, lt-ltb, leb-true, le-leb}
 use Rattle.relax_edges.specs.declared.kinds.Dir.TheVariants as dirs
 use Rattle.relax_edges.specs.declared.kinds.Reach.{Reach}
 use Rattle.relax_edges.specs.declared.kinds.Com.TheVariants.{Rf, Fr, Ws}
+use Rattle.relax_edges.specs.declared.kinds.Kind.TheVariants as kinds
 use Rattle.relax_edges.specs.declared.kinds.ObsMode.{ObsMode}
 use Rattle.relax_edges.specs.declared.kinds.ObsMode.TheVariants.{Accept, Avoid, Force}
 use Rattle.relax_edges.specs.declared.edge.Edge.{Edge}
-use Rattle.relax_edges.specs.declared.edge.Edge.TheVariants as edges
-use Rattle.relax_edges.specs.EdgeTable.{target_of, same_dir, is_external, is_diff}
+use Rattle.relax_edges.specs.EdgeTable.{kind_of, kind_target, target_of, same_dir, is_external, is_diff}
 use Rattle.list_laws.specs.Numbers.{upto}
 use Rattle.list_laws.proofs.Cases.{by_less, by_option}
 use Rattle.list_laws.proofs.Counts.{count_upto-le}
@@ -28,28 +28,28 @@ pub enters_write : (es : List Edge) (i : ℕ) → IsResolved es → i < length e
 enters_write es i r h = ap (λ d. same_dir d dirs.W) (source_after es i r.composes h)
 
 -- a read has the value of the write that a reads-from edge leaves
-pub reads_from_value : (es : List Edge) (i : ℕ) (reach : Reach) → IsResolved es → i < length es → edge_at es i ≡ edges.Com Rf reach → value_of es (event_after es i) ≡ value_of es i
+pub reads_from_value : (es : List Edge) (i : ℕ) (reach : Reach) → IsResolved es → i < length es → kind_of (edge_at es i) ≡ kinds.Com Rf reach → value_of es (event_after es i) ≡ value_of es i
 reads_from_value es i reach r h e =
     let v = value_after es i r h in
     let w = enters_write es i r h in
-    let f : is_write es (event_after es i) ≡ false = w ∙ ap (λ x. same_dir (target_of x) dirs.W) e in
-    let d : is_diff (edge_at es i) ≡ false = ap is_diff e in
+    let f : is_write es (event_after es i) ≡ false = w ∙ ap (λ k. same_dir (kind_target k) dirs.W) e in
+    let d : is_diff (edge_at es i) ≡ false = rw e refl in
     omega (arith, rw (d, f) at v)
 
 -- a from-read edge leads from a read to the next write
-pub from_read_value : (es : List Edge) (i : ℕ) (reach : Reach) → IsResolved es → i < length es → edge_at es i ≡ edges.Com Fr reach → value_of es (event_after es i) ≡ value_of es i + 1
+pub from_read_value : (es : List Edge) (i : ℕ) (reach : Reach) → IsResolved es → i < length es → kind_of (edge_at es i) ≡ kinds.Com Fr reach → value_of es (event_after es i) ≡ value_of es i + 1
 from_read_value es i reach r h e =
     let v = value_after es i r h in
-    let f : is_write es (event_after es i) ≡ true = enters_write es i r h ∙ ap (λ x. same_dir (target_of x) dirs.W) e in
-    let d : is_diff (edge_at es i) ≡ false = ap is_diff e in
+    let f : is_write es (event_after es i) ≡ true = enters_write es i r h ∙ ap (λ k. same_dir (kind_target k) dirs.W) e in
+    let d : is_diff (edge_at es i) ≡ false = rw e refl in
     omega (arith, rw (d, f) at v)
 
 -- a write serialization edge leads from a write to the next one
-pub serialization_value : (es : List Edge) (i : ℕ) (reach : Reach) → IsResolved es → i < length es → edge_at es i ≡ edges.Com Ws reach → value_of es (event_after es i) ≡ value_of es i + 1
+pub serialization_value : (es : List Edge) (i : ℕ) (reach : Reach) → IsResolved es → i < length es → kind_of (edge_at es i) ≡ kinds.Com Ws reach → value_of es (event_after es i) ≡ value_of es i + 1
 serialization_value es i reach r h e =
     let v = value_after es i r h in
-    let f : is_write es (event_after es i) ≡ true = enters_write es i r h ∙ ap (λ x. same_dir (target_of x) dirs.W) e in
-    let d : is_diff (edge_at es i) ≡ false = ap is_diff e in
+    let f : is_write es (event_after es i) ≡ true = enters_write es i r h ∙ ap (λ k. same_dir (kind_target k) dirs.W) e in
+    let d : is_diff (edge_at es i) ≡ false = rw e refl in
     omega (arith, rw (d, f) at v)
 
 -- an event with a value above 0 comes behind the write of its location that has this value, and no write is between them

@@ -3,3 +3,4 @@ pub mod Composable
 pub mod Laws
 pub mod Order
 pub mod Rotation
+pub mod EdgeLaws

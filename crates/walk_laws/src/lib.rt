@@ -1,7 +1,11 @@
-//! Laws of lists of edges: composable paths and cycles, rotations, the order and the normal form.
+//! Laws of edges and of lists of edges: words and marks, composable paths and cycles, rotations, the order and the normal form.
 #![tactic(auto)]
 
+mod edges;
+
 ghost use Rattle.walk_laws.specs.Laws.{SameCycleIsEquivalence, RotationsArePlaces, EdgesTurn, RotationsAdd, CyclesTurn, ClosesByPlace, OrderIsStrict, CyclesInOrder, NormalFormsDecide, BeginsNone};
+
+pub use edges::{parts_decide, words_decide};
 
 /// Being the same cycle, a rotation, is an equivalence.
 #[tactic(auto, using(crate::proofs::Laws::same_cycle_is_equivalence))]

@@ -1,4 +1,5 @@
 use Rattle.std.proofs.Common.{◌≡◌, ◌+◌, ◌==◌, ◌&&◌, length, Some, None, sym, ◌∙◌, ap, arith}
+use Rattle.list_laws.proofs.Cases.{by_less}
 use Rattle.list_laws.proofs.Finds.{find_upto_first, find_upto_none}
 use Rattle.resolution_laws.specs.Resolution.{IsResolved}
 use Rattle.value_laws.specs.Values.{Valuation, is_write_at, value_of, write_at}
@@ -19,6 +20,11 @@ returns-then-is_write c =
     (omega (arith, ap length (c.cycle.ensures.value ∙ v)))
     (sym c.is_write.ensures ∙ c.if-is_write.true)
     c.loop-event.invariant
+
+pub loop-event-preserved : goal.loop-event-preserved
+loop-event-preserved c =
+    λ j h. by_less j c.loop-event.event (λ l. c.loop-event.invariant j l) (λ g.
+    let same : j ≡ c.loop-event.event = omega (arith, h, g) in rw same (sym c.is_write.ensures ∙ c.if-is_write.false))
 
 pub unreachable-requires : goal.unreachable-requires
 unfolding write_at

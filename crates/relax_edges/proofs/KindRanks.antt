@@ -1,0 +1,15 @@
+-- The rank of an edge without marks is that of its kind.
+use Rattle.std.specs.Prelude.{◌≡◌}
+use Rattle.std.proofs.Common.{refl}
+use Rattle.relax_edges.specs.declared.kinds.Kind.{Kind}
+use Rattle.relax_edges.specs.declared.kinds.Kind.TheVariants as kinds
+use Rattle.relax_edges.specs.EdgeTable.{unmarked}
+use Rattle.relax_edges.specs.Order.{rank_of, kind_rank}
+
+pub unmarked_rank : (kind : Kind) → rank_of (unmarked kind) ≡ kind_rank kind
+unfolding rank_of
+unmarked_rank (kinds.Com kind reach) = refl
+unmarked_rank (kinds.Po sd from to) = refl
+unmarked_rank (kinds.Fenced kind sd from to) = refl
+unmarked_rank (kinds.Dep kind sd to) = refl
+unmarked_rank (kinds.Data sd) = refl

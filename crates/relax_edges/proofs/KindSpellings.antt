@@ -1,0 +1,247 @@
+-- A text is read as the edge without marks that it spells, and as none where it spells none.
+use Rattle.std.specs.Prelude.{ℕ, ◌≡◌, ◌<◌, ◌⊎◌, ◌==◌, ◌++◌, ◌∷◌, [], Bool, true, false, not, List, length, Option, Some, None, reverse, codes}
+use Rattle.std.specs.List.{list_all, list_any, find}
+use Rattle.std.specs.Option.{option_or}
+use Rattle.std.specs.Str.{bytes_eq}
+use Rattle.std.proofs.Common.{refl, arith, ap, subst, sym, ◌∙◌, inl, inr, append_assoc}
+use Rattle.std.proofs.lemmas.Grind.{reverse_onto}
+use Rattle.std.proofs.lemmas.List.{reverse-reverse, reverse-append}
+use Rattle.std.proofs.lemmas.Slice.Eq.{bytes_eq-Decides}
+use Rattle.relax_edges.specs.declared.kinds.Dir.{Dir}
+use Rattle.relax_edges.specs.declared.kinds.Dir.TheVariants as dirs
+use Rattle.relax_edges.specs.declared.kinds.Sd.{Sd}
+use Rattle.relax_edges.specs.declared.kinds.Reach.{Reach}
+use Rattle.relax_edges.specs.declared.kinds.Reach.TheVariants.{Internal, External}
+use Rattle.relax_edges.specs.declared.kinds.Com.{Com}
+use Rattle.relax_edges.specs.declared.kinds.Com.TheVariants as coms
+use Rattle.relax_edges.specs.declared.kinds.FenceKind.{FenceKind}
+use Rattle.relax_edges.specs.declared.kinds.DepKind.{DepKind}
+use Rattle.relax_edges.specs.declared.kinds.Kind.{Kind}
+use Rattle.relax_edges.specs.declared.kinds.Kind.TheVariants as kinds
+use Rattle.relax_edges.specs.EdgeTable.{kind_of, unmarked}
+use Rattle.relax_edges.specs.Words.{kind_word, com_word, reach_word, sd_word, dir_word, fence_word, dependency_word}
+use Rattle.relax_edges.specs.AllEdges.{edges_in_order}
+use Rattle.relax_edges.specs.Spelling.{kind_spellings}
+use Rattle.relax_edges.specs.Reading.{named, dirs_read, places_read, reaches_read, communications_read, dependencies_read, plain_fences_read, riscv_fences_read, dir_named, sd_named, reach_named, com_named, dependency_named, plain_fence_named, riscv_fence_named, fence_named, communication, communication_of, two_sided, two_sided_of, one_sided, one_sided_of, read_as_communication, read_back_two_sided, read_back_one_sided, kind_read}
+use Rattle.relax_edges.proofs.Ranks.{each_edge}
+use Rattle.relax_edges.proofs.Cases.{by_test, no_true}
+
+-- what `find` finds passes the test
+pub find_passes : {A : Type 0} (test : A → Bool) (xs : List A) (x : A) → find test xs ≡ Some x → test x ≡ true
+find_passes test [] x found = cc
+find_passes {A} test (y ∷ ys) x found =
+    by_test (test y)
+    (λ t. let e : Some y ≡ Some x = rw t at found in let i : y ≡ x = cc in subst (λ z. test z ≡ true) i t)
+    (λ f. find_passes test ys x (rw f at found))
+
+-- what is named so has this word
+pub named_is : {K : Type 0} (word : K → List ℕ) (kinds : List K) (text : List ℕ) (kind : K) → named word kinds text ≡ Some kind → text ≡ word kind
+named_is word kinds text kind found = (bytes_eq-Decides text (word kind)).0 (find_passes (λ k. bytes_eq text (word k)) kinds kind found)
+
+named_in_one : {K : Type 0} (word : K → List ℕ) (one : K) (text : List ℕ) (kind : K) → named word (one ∷ []) text ≡ Some kind → one ≡ kind
+named_in_one word one text kind found =
+    by_test (bytes_eq text (word one))
+    (λ t. let e : Some one ≡ Some kind = rw t at found in cc)
+    (λ f. let e : None ≡ Some kind = rw f at found in cc)
+
+-- whether a text is a spelling of an edge without marks
+abbrev pub is_kind_spelling : Kind → List ℕ → Bool
+is_kind_spelling kind text = list_any (bytes_eq text) (kind_spellings kind)
+
+pub kind_of_unmarked : (kind : Kind) → kind_of (unmarked kind) ≡ kind
+kind_of_unmarked (kinds.Com kind reach) = refl
+kind_of_unmarked (kinds.Po sd from to) = refl
+kind_of_unmarked (kinds.Fenced kind sd from to) = refl
+kind_of_unmarked (kinds.Dep kind sd to) = refl
+kind_of_unmarked (kinds.Data sd) = refl
+
+-- what a test says of the kinds of all edges, it says of each kind
+pub each_kind : (test : Kind → Bool) → list_all (λ edge. test (kind_of edge)) edges_in_order ≡ true → (kind : Kind) → test kind ≡ true
+each_kind test all kind =
+    subst (λ k. test k ≡ true) (kind_of_unmarked kind) (each_edge (λ edge. test (kind_of edge)) all (unmarked kind))
+
+-- a text of another length than three bytes is no communication
+pub communication_bare : (front : List ℕ) (before last : ℕ) → length front < 1 → read_as_communication (front ++ before ∷ last ∷ []) ≡ None
+communication_bare [] before last bare = refl
+communication_bare (a ∷ front) before last bare = absurd (omega arith)
+
+pub communication_long : (front : List ℕ) (before last : ℕ) → 1 < length front → read_as_communication (front ++ before ∷ last ∷ []) ≡ None
+communication_long [] before last long = absurd (omega arith)
+communication_long (a ∷ []) before last long = absurd (omega arith)
+communication_long (a ∷ b ∷ []) before last long = refl
+communication_long (a ∷ b ∷ d ∷ []) before last long = refl
+communication_long (a ∷ b ∷ d ∷ e ∷ front) before last long = refl
+
+-- the end of a text that is read backwards
+pub two_sided_end : (front : List ℕ) (sd from to : ℕ) → read_back_two_sided (reverse ((front ++ sd ∷ []) ++ from ∷ to ∷ [])) ≡ two_sided_of front sd from to
+two_sided_end front sd from to =
+    rw (reverse-append (front ++ sd ∷ []) (from ∷ to ∷ []), reverse-append front (sd ∷ [])) (ap (λ f. two_sided_of f sd from to) (reverse-reverse front))
+
+one_sided_end : (front : List ℕ) (sd to : ℕ) → read_back_one_sided (reverse (front ++ sd ∷ to ∷ [])) ≡ one_sided_of front sd to
+one_sided_end front sd to = rw (reverse-append front (sd ∷ to ∷ [])) (ap (λ f. one_sided_of f sd to) (reverse-reverse front))
+
+pub two_sided_none : (front : List ℕ) (from to : ℕ) → length front < 1 → read_back_two_sided (reverse (front ++ from ∷ to ∷ [])) ≡ None
+two_sided_none [] from to none = refl
+two_sided_none (a ∷ front) from to none = absurd (omega arith)
+
+-- what is read as a kind has its word
+dir_is : (text : List ℕ) (dir : Dir) → dir_named text ≡ Some dir → text ≡ dir_word dir
+dir_is text dir found = named_is dir_word dirs_read text dir found
+
+sd_is : (text : List ℕ) (sd : Sd) → sd_named text ≡ Some sd → text ≡ sd_word sd
+sd_is text sd found = named_is sd_word places_read text sd found
+
+reach_is : (text : List ℕ) (reach : Reach) → reach_named text ≡ Some reach → text ≡ reach_word reach
+reach_is text reach found = named_is reach_word reaches_read text reach found
+
+dependency_is : (text : List ℕ) (kind : DepKind) → dependency_named text ≡ Some kind → text ≡ dependency_word kind
+dependency_is text kind found = named_is dependency_word dependencies_read text kind found
+
+either_is : {K : Type 0} (first second : Option K) (kind : K) → option_or first second ≡ Some kind → (first ≡ Some kind) ⊎ (second ≡ Some kind)
+either_is None second kind found = inr found
+either_is (Some k) second kind found = inl found
+
+fence_is : (text : List ℕ) (kind : FenceKind) → fence_named text ≡ Some kind → text ≡ fence_word kind
+fence_is text kind found =
+    elim (either_is (plain_fence_named text) (riscv_fence_named text) kind found) [
+      | inl f ↦ named_is fence_word plain_fences_read text kind f
+      | inr f ↦ named_is fence_word riscv_fences_read text kind f
+    ]
+
+-- a text that is the word of an edge without marks is a spelling of it
+is_word : Kind → Bool
+is_word kind = is_kind_spelling kind (kind_word kind)
+
+all_words : list_all (λ edge. is_word (kind_of edge)) edges_in_order ≡ true
+unfolding is_word edges_in_order
+all_words = refl
+
+word_is_spelling : (kind : Kind) (text : List ℕ) → text ≡ kind_word kind → is_kind_spelling kind text ≡ true
+unfolding is_word
+word_is_spelling kind text same = rw same (each_kind is_word all_words kind)
+
+-- a text whose last bytes are words of one byte is its parts joined
+three_joined : (front word : List ℕ) (s f t : ℕ) (sd from to : List ℕ) → front ≡ word → s ∷ [] ≡ sd → f ∷ [] ≡ from → t ∷ [] ≡ to
+    → front ++ s ∷ f ∷ t ∷ [] ≡ word ++ sd ++ from ++ to
+three_joined front word s f t sd from to p a b c = rw (← p, ← a, ← b, ← c) (simp append_assoc)
+
+two_joined : (front word : List ℕ) (s t : ℕ) (sd to : List ℕ) → front ≡ word → s ∷ [] ≡ sd → t ∷ [] ≡ to → front ++ s ∷ t ∷ [] ≡ word ++ sd ++ to
+two_joined front word s t sd to p a c = rw (← p, ← a, ← c) (simp append_assoc)
+
+-- what is read as three last bytes and a front has this word
+two_sided_word : (front : List ℕ) (s f t : ℕ) (sd : Option Sd) (from to : Option Dir) (po : Bool) (kind : Option FenceKind) (edge : Kind)
+    → sd_named (s ∷ []) ≡ sd → dir_named (f ∷ []) ≡ from → dir_named (t ∷ []) ≡ to → bytes_eq front (codes "Po") ≡ po → fence_named front ≡ kind
+    → two_sided sd from to po kind ≡ Some edge → front ++ s ∷ f ∷ t ∷ [] ≡ kind_word edge
+two_sided_word front s f t (Some sd) (Some from) (Some to) true kind edge a b c d e found =
+    let p : front ≡ codes "Po" = (bytes_eq-Decides front (codes "Po")).0 d in
+    let x : kinds.Po sd from to ≡ edge = cc in
+    subst (λ y. front ++ s ∷ f ∷ t ∷ [] ≡ kind_word y) x
+    (three_joined front (codes "Po") s f t (sd_word sd) (dir_word from) (dir_word to) p (sd_is (s ∷ []) sd a) (dir_is (f ∷ []) from b) (dir_is (t ∷ []) to c))
+two_sided_word front s f t (Some sd) (Some from) (Some to) false (Some kind) edge a b c d e found =
+    let x : kinds.Fenced kind sd from to ≡ edge = cc in
+    subst (λ y. front ++ s ∷ f ∷ t ∷ [] ≡ kind_word y) x
+    (three_joined front (fence_word kind) s f t (sd_word sd) (dir_word from) (dir_word to)
+    (fence_is front kind e) (sd_is (s ∷ []) sd a) (dir_is (f ∷ []) from b) (dir_is (t ∷ []) to c))
+two_sided_word front s f t _ _ _ _ _ edge a b c d e found = cc
+
+one_sided_word : (front : List ℕ) (s t : ℕ) (sd : Option Sd) (to : Option Dir) (data_word : Bool) (kind : Option DepKind) (edge : Kind)
+    → sd_named (s ∷ []) ≡ sd → dir_named (t ∷ []) ≡ to → bytes_eq front (codes "DpData") ≡ data_word → dependency_named front ≡ kind
+    → one_sided sd to data_word kind ≡ Some edge → front ++ s ∷ t ∷ [] ≡ kind_word edge
+one_sided_word front s t (Some sd) (Some dirs.W) true kind edge a c d e found =
+    let x : kinds.Data sd ≡ edge = cc in
+    subst (λ y. front ++ s ∷ t ∷ [] ≡ kind_word y) x
+    (two_joined front (codes "DpData") s t (sd_word sd) (codes "W") ((bytes_eq-Decides front (codes "DpData")).0 d) (sd_is (s ∷ []) sd a) (dir_is (t ∷ []) dirs.W c))
+one_sided_word front s t (Some sd) (Some to) false (Some kind) edge a c d e found =
+    let x : kinds.Dep kind sd to ≡ edge = cc in
+    subst (λ y. front ++ s ∷ t ∷ [] ≡ kind_word y) x
+    (two_joined front (dependency_word kind) s t (sd_word sd) (dir_word to) (dependency_is front kind e) (sd_is (s ∷ []) sd a) (dir_is (t ∷ []) to c))
+one_sided_word front s t _ _ _ _ edge a c d e found = cc
+
+-- what is read as a communication spells it
+co_is_spelling : (reach : Reach) → is_kind_spelling (kinds.Com coms.Ws reach) (codes "Co" ++ reach_word reach) ≡ true
+co_is_spelling Internal = refl
+co_is_spelling External = refl
+
+communication_spelled : (f s r : ℕ) (kind : Option Com) (reach : Option Reach) (edge : Kind)
+    → com_named (f ∷ s ∷ []) ≡ kind → reach_named (r ∷ []) ≡ reach → communication kind reach ≡ Some edge → is_kind_spelling edge (f ∷ s ∷ r ∷ []) ≡ true
+communication_spelled f s r (Some kind) (Some reach) edge a b found =
+    let x : kinds.Com kind reach ≡ edge = cc in
+    let e : r ∷ [] ≡ reach_word reach = reach_is (r ∷ []) reach b in
+    subst (λ y. is_kind_spelling y (f ∷ s ∷ r ∷ []) ≡ true) x
+    (elim (either_is (named com_word communications_read (f ∷ s ∷ [])) (named (λ _. codes "Co") (coms.Ws ∷ []) (f ∷ s ∷ [])) kind a) [
+      | inl n ↦
+          let w : f ∷ s ∷ [] ≡ com_word kind = named_is com_word communications_read (f ∷ s ∷ []) kind n in
+          word_is_spelling (kinds.Com kind reach) (f ∷ s ∷ r ∷ []) (cc (ap (λ v. v ++ r ∷ []) w, ap (λ v. com_word kind ++ v) e))
+      | inr n ↦
+          let w : f ∷ s ∷ [] ≡ codes "Co" = named_is (λ _. codes "Co") (coms.Ws ∷ []) (f ∷ s ∷ []) kind n in
+          let t : f ∷ s ∷ r ∷ [] ≡ codes "Co" ++ reach_word reach = cc (ap (λ v. v ++ r ∷ []) w, ap (λ v. codes "Co" ++ v) e) in
+          subst (λ k. is_kind_spelling (kinds.Com k reach) (f ∷ s ∷ r ∷ []) ≡ true) (named_in_one (λ _. codes "Co") coms.Ws (f ∷ s ∷ []) kind n)
+          (subst (λ v. is_kind_spelling (kinds.Com coms.Ws reach) v ≡ true) (sym t) (co_is_spelling reach))
+    ])
+communication_spelled f s r _ _ edge a b found = cc
+
+two_sided_spelled : (back : List ℕ) (edge : Kind) → read_back_two_sided back ≡ Some edge → is_kind_spelling edge (reverse back) ≡ true
+unfolding two_sided_of
+two_sided_spelled [] edge found = cc
+two_sided_spelled (t ∷ []) edge found = cc
+two_sided_spelled (t ∷ f ∷ []) edge found = cc
+two_sided_spelled (t ∷ f ∷ s ∷ front) edge found =
+    word_is_spelling edge (reverse (t ∷ f ∷ s ∷ front))
+    (three_reversed t f s front ∙ two_sided_word (reverse front) s f t _ _ _ _ _ edge refl refl refl refl refl found)
+  where
+    three_reversed : (t f s : ℕ) (front : List ℕ) → reverse (t ∷ f ∷ s ∷ front) ≡ reverse front ++ s ∷ f ∷ t ∷ []
+    three_reversed t f s front = reverse_onto front s (f ∷ t ∷ [])
+
+one_sided_spelled : (back : List ℕ) (edge : Kind) → read_back_one_sided back ≡ Some edge → is_kind_spelling edge (reverse back) ≡ true
+unfolding one_sided_of
+one_sided_spelled [] edge found = cc
+one_sided_spelled (t ∷ []) edge found = cc
+one_sided_spelled (t ∷ s ∷ front) edge found =
+    word_is_spelling edge (reverse (t ∷ s ∷ front))
+    (two_reversed t s front ∙ one_sided_word (reverse front) s t _ _ _ _ edge refl refl refl refl found)
+  where
+    two_reversed : (t s : ℕ) (front : List ℕ) → reverse (t ∷ s ∷ front) ≡ reverse front ++ s ∷ t ∷ []
+    two_reversed t s front = reverse_onto front s (t ∷ [])
+
+read_as_communication_spelled : (text : List ℕ) (edge : Kind) → read_as_communication text ≡ Some edge → is_kind_spelling edge text ≡ true
+unfolding communication_of
+read_as_communication_spelled [] edge found = cc
+read_as_communication_spelled (f ∷ []) edge found = cc
+read_as_communication_spelled (f ∷ s ∷ []) edge found = cc
+read_as_communication_spelled (f ∷ s ∷ r ∷ []) edge found = communication_spelled f s r _ _ edge refl refl found
+read_as_communication_spelled (f ∷ s ∷ r ∷ x ∷ rest) edge found = cc
+
+-- a text that is read as an edge is a spelling of it
+pub kind_sound : (text : List ℕ) (edge : Kind) → kind_read text ≡ Some edge → is_kind_spelling edge text ≡ true
+unfolding kind_read
+kind_sound text edge found =
+    let back = reverse text in
+    elim (either_is (read_as_communication text) (option_or (read_back_two_sided back) (read_back_one_sided back)) edge found) [
+      | inl c ↦ read_as_communication_spelled text edge c
+      | inr d ↦
+          elim (either_is (read_back_two_sided back) (read_back_one_sided back) edge d) [
+            | inl t ↦ subst (λ v. is_kind_spelling edge v ≡ true) (reverse-reverse text) (two_sided_spelled back edge t)
+            | inr o ↦ subst (λ v. is_kind_spelling edge v ≡ true) (reverse-reverse text) (one_sided_spelled back edge o)
+          ]
+    ]
+
+-- a text with these last two bytes is read by its end
+pub ending_is_read : (front : List ℕ) (before last : ℕ)
+    → kind_read (front ++ before ∷ last ∷ [])
+    ≡ option_or (option_or (read_as_communication (front ++ before ∷ last ∷ [])) (read_back_two_sided (reverse (front ++ before ∷ last ∷ [])))) (one_sided_of front before last)
+unfolding kind_read
+ending_is_read front before last =
+    let text = front ++ before ∷ last ∷ [] in
+    ap (λ o. option_or (read_as_communication text) (option_or (read_back_two_sided (reverse text)) o)) (one_sided_end front before last)
+    ∙ grouped (read_as_communication text) (read_back_two_sided (reverse text)) (one_sided_of front before last)
+  where
+    grouped : (a b d : Option Kind) → option_or a (option_or b d) ≡ option_or (option_or a b) d
+    grouped None b d = refl
+    grouped (Some x) b d = refl
+
+-- a text of fewer than two bytes is read as none
+pub short_is_none : (text : List ℕ) → length text < 2 → kind_read text ≡ None
+unfolding kind_read
+short_is_none [] short = refl
+short_is_none (a ∷ []) short = refl
+short_is_none (a ∷ b ∷ rest) short = absurd (omega arith)
