@@ -32,5 +32,3 @@ pub use sure_source::SureSource;
 pub use tally_sink::TallySink;
 pub use words::Words;
 
-#[cfg(test)]
-mod tests;

@@ -20,5 +20,3 @@ pub use errors::{LogError, LogKind, SumError};
 pub use law::same_answers;
 pub use summer::{MAX_LINE, Summer};
 
-#[cfg(test)]
-mod tests;
