@@ -12,6 +12,3 @@ pub use held::Held;
 pub use machine::{Machine, Stepped, Stuck};
 pub use operation::{Barrier, Item, Micro};
 pub use run::{RunError, Trace, run_thread};
-
-#[cfg(test)]
-mod tests;

@@ -13,8 +13,6 @@ mod relax_items;
 mod relax_list;
 mod relax_search;
 mod relax_words;
-#[cfg(test)]
-mod tests;
 mod word;
 
 pub use arch::read_arch;
