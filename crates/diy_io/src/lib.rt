@@ -31,4 +31,3 @@ pub use std_source::StdSource;
 pub use sure_source::SureSource;
 pub use tally_sink::TallySink;
 pub use words::Words;
-

@@ -19,4 +19,3 @@ mod texts;
 pub use errors::{LogError, LogKind, SumError};
 pub use law::same_answers;
 pub use summer::{MAX_LINE, Summer};
-
