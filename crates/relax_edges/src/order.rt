@@ -110,50 +110,37 @@ impl Com {
 }
 
 impl FenceKind {
-    fn rank(self) -> u16
-        ensures { result ≡ fence_rank self }
+    /// The rank of the edge without marks of this fence and of this choice of place and directions.
+    fn rank(self, choice: u16) -> u16
+        requires { choice < 8 }
+        ensures { result ≡ fence_rank self + fence_words self * choice }
     {
         match self {
-            FenceKind::DmbLd => 0,
-            FenceKind::DmbSt => 32,
-            FenceKind::DmbSy => 64,
-            FenceKind::Eieio => 156,
-            FenceKind::Fence { pred, succ } => 164 + 8 * (3 * pred.rank() + succ.rank()),
-            FenceKind::ISync => 244,
-            FenceKind::LwSync => 252,
-            FenceKind::MFence => 260,
-            FenceKind::Sync => 308,
-        }
-    }
-
-    fn words(self) -> u16
-        ensures { result ≡ fence_words self }
-    {
-        match self {
-            FenceKind::DmbLd | FenceKind::DmbSt | FenceKind::DmbSy => 4,
-            _ => 1,
+            FenceKind::DmbLd => 4 * choice,
+            FenceKind::DmbSt => 32 + 4 * choice,
+            FenceKind::DmbSy => 64 + 4 * choice,
+            FenceKind::Eieio => 156 + choice,
+            FenceKind::Fence { pred, succ } => 164 + 8 * (3 * pred.rank() + succ.rank()) + choice,
+            FenceKind::ISync => 244 + choice,
+            FenceKind::LwSync => 252 + choice,
+            FenceKind::MFence => 260 + choice,
+            FenceKind::Sync => 308 + choice,
         }
     }
 }
 
 impl DepKind {
-    fn rank(self) -> u16
-        ensures { result ≡ dependency_rank self }
+    /// The rank of the edge without marks of this dependency and of this choice of place and
+    /// direction.
+    fn rank(self, choice: u16) -> u16
+        requires { choice < 4 }
+        ensures { result ≡ dependency_rank self + dependency_words self * choice }
     {
         match self {
-            DepKind::Addr => 96,
-            DepKind::CtrlIsb => 112,
-            DepKind::CtrlIsync => 128,
-            DepKind::Ctrl => 132,
-        }
-    }
-
-    fn words(self) -> u16
-        ensures { result ≡ dependency_words self }
-    {
-        match self {
-            DepKind::CtrlIsync => 1,
-            _ => 4,
+            DepKind::Addr => 96 + 4 * choice,
+            DepKind::CtrlIsb => 112 + 4 * choice,
+            DepKind::CtrlIsync => 128 + choice,
+            DepKind::Ctrl => 132 + 4 * choice,
         }
     }
 }
@@ -376,8 +363,8 @@ impl Edge {
                 sd,
                 from,
                 to,
-            } => fence.rank() + fence.words() * choice_rank(sd, from, to),
-            Edge::Dep { dep, sd, to } => dep.rank() + dep.words() * (2 * sd.rank() + to.rank()),
+            } => fence.rank(choice_rank(sd, from, to)),
+            Edge::Dep { dep, sd, to } => dep.rank(2 * sd.rank() + to.rank()),
             Edge::Data { sd } => 148 + 4 * sd.rank(),
             Edge::Marked(marked) => marked.rank(),
         }
