@@ -1,6 +1,6 @@
 ghost use Rattle.std.specs.Prelude.{◌≡◌};
 ghost use Rattle.relax_edges.specs.Marks.{markable_kind};
-ghost use Rattle.relax_edges.specs.EdgeTable.{unmarked, marked_of, marked_edge, mark_fits, kind_of, kind_source, kind_target, kind_reach, kind_place, kind_is_of, source_of, target_of, reach_of, place_of, source_mark, target_mark, mark_is_of, is_of_arch, joins_to, same_mark, com_source, com_target, fence_is_of, dependency_is_of, is_external, is_diff};
+ghost use Rattle.relax_edges.specs.EdgeTable.{unmarked, marked_of, marked_edge, mark_fits, kind_of, kind_source, kind_target, kind_reach, kind_place, kind_is_of, source_of, target_of, reach_of, place_of, source_mark, target_mark, mark_is_of, is_of_arch, joins_to, com_source, com_target, fence_is_of, dependency_is_of, is_external, is_diff};
 
 use crate::kinds::{ArchName, Com, DepKind, Dir, FenceKind, Kind, Mark, Reach, Sd};
 use crate::marked::{MarkedEdge, as_markable, ends_of};
@@ -367,19 +367,18 @@ impl Edge {
     pub fn joins(self, next: Edge) -> bool
         ensures { result ≡ joins_to self next }
     {
-        self.target() == next.source() && self.shares_mark(next)
+        match (self, next) {
+            (Edge::Marked(_), _) | (_, Edge::Marked(_)) => self.joins_by_marks(next),
+            _ => self.target() == next.source(),
+        }
     }
 
-    /// Whether the mark of the access that the edge enters is the one that `next` gives to the
-    /// access that it leaves.
-    fn shares_mark(self, next: Edge) -> bool
-        ensures { result ≡ same_mark (target_mark self) (source_mark next) }
+    /// The same where one of the two has marks. It is apart so that `joins` is short for edges
+    /// without marks, which are met most often.
+    #[inline(never)]
+    fn joins_by_marks(self, next: Edge) -> bool
+        ensures { result ≡ joins_to self next }
     {
-        match (self, next) {
-            (Edge::Marked(_), _) | (_, Edge::Marked(_)) => {
-                self.target_mark() == next.source_mark()
-            }
-            _ => true,
-        }
+        self.target() == next.source() && self.target_mark() == next.source_mark()
     }
 }
