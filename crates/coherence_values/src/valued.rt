@@ -215,6 +215,3 @@ impl<'a> Valued<'a> {
         written.dir == Dir::W && written.location == location && self.value_of(event) == value
     }
 }
-
-#[cfg(test)]
-mod tests;

@@ -1,3 +1,4 @@
 pub mod Composing
+pub mod Lettering
 pub mod Marking
 pub mod Passing

@@ -1,15 +1,14 @@
 -- Marking the edges of relaxations.
 use Rattle.std.proofs.Common.{◌≡◌, ◌<◌, ◌↔◌, ◌⊎◌, inl, inr, ◌-◌, Bool, true, false, List, [], ◌∷◌, length, take, drop, get_or, set, sym, ◌∙◌, arith}
 use Rattle.std.proofs.lemmas.List.{take_all, get_or-replicate, get_or-set_same, get_or-set_other}
-use Rattle.std.specs.List.{AllByRecursion}
 use Rattle.std.proofs.Math.ListN.{replicate}
 use Rattle.relax_edges.specs.declared.order.TheConstants.{EDGES}
 use Rattle.relax_edges.specs.declared.edge.Edge.{Edge}
 use Rattle.relax_edges.specs.Order.{rank_of}
 use Rattle.relax_edges.proofs.Ranks.{rank_below}
 use Rattle.walk_laws.proofs.Ordering.{by_rank}
-use Rattle.listing_laws.specs.Search.{IsSingle, StandsIn}
-use Rattle.cycle_enum.specs.Marks.{IsMarked, MarksAlso, MarksAlphabet, IsAlphabet}
+use Rattle.listing_laws.specs.Search.{OccursIn, StandsIn}
+use Rattle.cycle_enum.specs.Marks.{IsMarked, MarksAlso, MarksAlphabet}
 
 -- one edge is marked
 marked_one : (old : List Bool) (x e : Edge) → rank_of x < length old → IsMarked (set old (rank_of x) true) e ↔ ((IsMarked old e) ⊎ (x ≡ e))
@@ -46,13 +45,9 @@ marked_first old new (x ∷ u) d some within rest e =
       ],
     )
 
--- marks that are set on none are those of the edges that occur
-pub marked_from_none : (relaxes : List (List Edge)) (marks : List Bool) (all_single : Bool) → MarksAlphabet (replicate EDGES false) relaxes marks
-    → (all_single ≡ true → AllByRecursion IsSingle relaxes) → IsAlphabet relaxes marks all_single
-marked_from_none relaxes marks all_single marked single = record {
-  marked = λ e. (λ m. elim ((marked e).0 m) [ inl none ↦ absurd (unmarked e none) | inr o ↦ o ], λ o. (marked e).1 (inr o));
-  single = single;
-}
+-- behind no marks exactly the edges that occur in relaxations are marked
+pub marked_from_none : (relaxes : List (List Edge)) (marks : List Bool) → MarksAlphabet (replicate EDGES false) relaxes marks → (e : Edge) → IsMarked marks e ↔ OccursIn relaxes e
+marked_from_none relaxes marks marked e = (λ m. elim ((marked e).0 m) [ inl none ↦ absurd (unmarked none) | inr o ↦ o ], λ o. (marked e).1 (inr o))
   where
-    unmarked : (e : Edge) → IsMarked (replicate EDGES false) e → ⊥
-    unmarked e m = let none : get_or (replicate EDGES false) (rank_of e) false ≡ false = get_or-replicate EDGES (rank_of e) false false (rank_below e) in cc
+    unmarked : IsMarked (replicate EDGES false) e → ⊥
+    unmarked m = let none : get_or (replicate EDGES false) (rank_of e) false ≡ false = get_or-replicate EDGES (rank_of e) false false (rank_below e) in cc

@@ -1,33 +1,36 @@
 -- Which edges a walk passes over behind a list.
-use Rattle.std.proofs.Common.{◌≡◌, inl, inr, ℕ, ◌+◌, Bool, true, false, List, [], ◌∷◌, ◌++◌, get_or, sym, ◌∙◌, arith}
+use Rattle.std.proofs.Common.{◌≡◌, ◌<◌, ◌≤◌, inl, inr, ℕ, ◌+◌, Bool, true, false, Option, Some, None, List, [], ◌∷◌, ◌++◌, arith}
 use Rattle.std.proofs.lemmas.Bool.{cases_lt}
+use Rattle.relax_edges.specs.declared.order.TheConstants.{EDGES}
 use Rattle.relax_edges.specs.declared.edge.Edge.{Edge}
 use Rattle.relax_edges.specs.Order.{rank_of}
 use Rattle.relax_edges.proofs.Ranks.{rank_injective}
 use Rattle.walk_laws.specs.Composable.{last_joins}
-use Rattle.listing_laws.specs.Search.{IsCandidate, LeadsNowhere, NoneBetween}
+use Rattle.listing_laws.specs.Search.{IsCandidate, IsNextEdge, LeadsNowhere, NoneBetween, OccursIn}
 use Rattle.listing_laws.proofs.Candidates.{unused_nowhere, unjoined_next, none_smaller}
-use Rattle.cycle_enum.specs.Marks.{IsAlphabet, least_rank}
+use Rattle.cycle_enum.specs.Letters.{NoLetter, IsFirstLetter, least_rank}
 
-module _ (relaxes : List (List Edge)) (front : List Edge) where
-  -- one more rank is passed over
-  pub one_more : (from rank : ℕ) → NoneBetween (IsCandidate relaxes) front from rank
-      → ((e : Edge) → rank_of e ≡ rank → LeadsNowhere (IsCandidate relaxes) (front ++ e ∷ [])) → NoneBetween (IsCandidate relaxes) front from (rank + 1)
-  one_more from rank none here e l h = elim (cases_lt (rank_of e) rank) [ inl less ↦ none e l less | inr more ↦ here e (omega arith) ]
+module _ (relaxes : List (List Edge)) (front : List Edge) (from : ℕ) where
+  -- where no letter is, no candidate goes on
+  pub none_used : (to : ℕ) → NoLetter (OccursIn relaxes) from to → NoneBetween (IsCandidate relaxes) front from to
+  none_used to none e a b = unused_nowhere relaxes front e (none e a b)
 
-  -- that of an edge that isn't marked
-  pub unmarked : (marks : List Bool) (all_single : Bool) (rank : ℕ) → IsAlphabet relaxes marks all_single → get_or marks rank false ≡ false → (e : Edge) → rank_of e ≡ rank
-      → LeadsNowhere (IsCandidate relaxes) (front ++ e ∷ [])
-  unmarked marks all_single rank a fails e is = unused_nowhere relaxes front e (λ o. apart (sym (rw is at ((a.marked e).1 o)) ∙ fails))
-    where
-      apart : true ≡ false → ⊥
-      apart h = cc
+  -- a letter that the last edge doesn't join is passed over
+  passed : (e : Edge) (to : ℕ) → IsFirstLetter (OccursIn relaxes) from e → last_joins front (e ∷ []) ≡ false → NoneBetween (IsCandidate relaxes) front (rank_of e + 1) to
+      → NoneBetween (IsCandidate relaxes) front from to
+  passed e to first fails none f a b =
+      elim (cases_lt (rank_of f) (rank_of e)) [
+        | inl less ↦ none_used (rank_of e) first.first f a less
+        | inr more ↦ elim (cases_lt (rank_of e) (rank_of f)) [
+          | inl greater ↦ none f (omega arith) b
+          | inr same ↦ let s : e ≡ f = rank_injective e f (omega arith) in unjoined_next relaxes front f (rw s at fails)
+        ]
+      ]
 
-  -- that of an edge that the last one doesn't join
-  pub unjoined : (edge : Edge) (rank : ℕ) → rank_of edge ≡ rank → last_joins front (edge ∷ []) ≡ false → (e : Edge) → rank_of e ≡ rank
-      → LeadsNowhere (IsCandidate relaxes) (front ++ e ∷ [])
-  unjoined edge rank at_place fails e is =
-      let same : edge ≡ e = rank_injective edge e (at_place ∙ sym is) in unjoined_next relaxes front e (rw same at fails)
+  pub next_unjoined : (e : Edge) (next : Option Edge) → IsFirstLetter (OccursIn relaxes) from e → last_joins front (e ∷ []) ≡ false
+      → IsNextEdge (IsCandidate relaxes) front (rank_of e + 1) next → IsNextEdge (IsCandidate relaxes) front from next
+  next_unjoined e None first fails none = passed e EDGES first fails none
+  next_unjoined e (Some f) first fails next = (omega (arith, first.at_least, next.0), passed e (rank_of f) first fails next.1)
 
 -- all ranks below the least
 pub none_below_least : (relaxes : List (List Edge)) (u : List Edge) → NoneBetween (IsCandidate relaxes) u 0 (least_rank u)

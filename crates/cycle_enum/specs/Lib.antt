@@ -1,4 +1,4 @@
-pub mod Alternating
 pub mod Ends
+pub mod Letters
 pub mod Marks
 pub mod Walking

@@ -3,15 +3,14 @@ ghost use Rattle.std.specs.List.{AllByRecursion};
 ghost use Rattle.walk_laws.specs.Composable.{last_joins};
 ghost use Rattle.listing_laws.specs.Listing.{IsMadeOf};
 ghost use Rattle.listing_laws.specs.Search.{IsCandidate, IsExtended, IsNextEdge, IsRaised, IsSingle, LeadsNowhere, OccursIn};
-ghost use Rattle.cycle_enum.specs.Marks.{MarksAlphabet, MarksAlso, least_rank};
+ghost use Rattle.cycle_enum.specs.Letters.{least_rank};
 
+use crate::letters::{Letters, letters_of};
 use crate::relaxed::{is_made, may_stand};
 use arrayvec::ArrayVec;
 use edge_algebra::Cycle;
 use relax_edges::{EDGES, Edge, MAX_EDGES, Relax, Relaxes};
 use std::marker::Model;
-
-const RANKS: usize = EDGES as usize;
 
 /// A list of edges that a walk goes through.
 pub(crate) type Edges = ArrayVec<Edge, MAX_EDGES>;
@@ -22,8 +21,7 @@ pub(crate) type Edges = ArrayVec<Edge, MAX_EDGES>;
 #[derive(Drop)]
 pub(crate) struct Alphabet {
     relaxes: Relaxes,
-    /// Whether the edge of a rank occurs in a relaxation.
-    marks: [bool; RANKS],
+    letters: Letters,
     /// Whether each relaxation has one edge, so that lists of edges that occur are concatenations.
     all_single: bool,
 }
@@ -31,13 +29,13 @@ pub(crate) struct Alphabet {
 impl Model for Alphabet {
     ghost use Rattle.std.specs.Prelude.{List};
     ghost use Rattle.relax_edges.specs.declared.edge.Edge.{Edge as EdgeValue};
-    ghost use Rattle.cycle_enum.specs.Marks.{IsAlphabet};
+    ghost use Rattle.cycle_enum.specs.Letters.{IsAlphabet};
 
     ghost Value = { List (List EdgeValue) };
 
     ghost view = { λ a. a.relaxes };
 
-    ghost invariant = { λ a. IsAlphabet a.relaxes a.marks a.all_single };
+    ghost invariant = { λ a. IsAlphabet a.relaxes a.letters a.all_single };
 }
 
 impl Alphabet {
@@ -45,12 +43,11 @@ impl Alphabet {
     pub(crate) fn of(relaxes: Relaxes) -> Alphabet
         ensures { result ≡ relaxes }
     {
-        let mut marks = [false; RANKS];
-        mark_relaxes(&mut marks, relaxes.as_slice());
+        let letters = letters_of(relaxes.as_slice());
         let all_single = are_single(relaxes.as_slice());
         Alphabet {
             relaxes,
-            marks,
+            letters,
             all_single,
         }
     }
@@ -86,21 +83,32 @@ impl Alphabet {
 
     /// The first edge of this rank or a greater one that may stand behind a list: it occurs in a
     /// relaxation, and the last edge of the list joins it.
-    fn next_edge(&self, list: &[Edge], from: u8) -> Option<Edge>
+    fn next_edge(&self, list: &[Edge], from: u16) -> Option<Edge>
         requires { from ≤ EDGES }
         ensures next { IsNextEdge (IsCandidate self.now) list.now from result }
         ensures occurs { IfSome result (OccursIn self.now) }
         ensures joined { IfSome result (λ edge. last_joins list.now (edge ∷ []) ≡ true) }
     {
-        for rank in from..EDGES {
-            if self.marks[usize::from(rank)] {
-                let edge = Edge::at_rank(rank);
+        match self.letters[usize::from(from)] {
+            Some(edge) => {
                 if is_joined_to(list, edge) {
-                    return Some(edge);
+                    Some(edge)
+                } else {
+                    self.next_edge(list, edge.rank() + 1)
                 }
             }
+            None => None,
         }
-        None
+    }
+
+    /// Whether an edge occurs in a relaxation.
+    fn has(&self, edge: Edge) -> bool
+        ensures { IsTrue result ↔ OccursIn self.now edge }
+    {
+        match self.letters[usize::from(edge.rank())] {
+            Some(letter) => letter == edge,
+            None => false,
+        }
     }
 
     /// Whether a list may stand in a concatenation of relaxations, if its edges occur in them.
@@ -128,13 +136,13 @@ impl Alphabet {
     {
         match edges {
             [] => true,
-            [first, rest @ ..] => self.marks[usize::from(first.rank())] && self.has_all(rest),
+            [first, rest @ ..] => self.has(*first) && self.has_all(rest),
         }
     }
 }
 
 /// The least rank of the edges of a normal form that begins with a list: that of its first edge.
-fn least_rank(list: &[Edge]) -> u8
+fn least_rank(list: &[Edge]) -> u16
     ensures value { result ≡ least_rank list.now }
     ensures within { result < EDGES }
 {
@@ -161,31 +169,5 @@ fn are_single(relaxes: &[Relax]) -> bool
     match relaxes {
         [] => true,
         [first, rest @ ..] => first.edges().len() == 1 && are_single(rest),
-    }
-}
-
-/// Marks the edges of relaxations, beside those that are marked.
-fn mark_relaxes(marks: &mut [bool; RANKS], relaxes: &[Relax])
-    ensures { MarksAlphabet marks.old relaxes.now marks.new }
-{
-    match relaxes {
-        [] => {}
-        [first, rest @ ..] => {
-            mark_edges(marks, first.edges());
-            mark_relaxes(marks, rest);
-        }
-    }
-}
-
-/// Marks the edges of a list, beside those that are marked.
-fn mark_edges(marks: &mut [bool; RANKS], edges: &[Edge])
-    ensures { MarksAlso marks.old edges.now marks.new }
-{
-    match edges {
-        [] => {}
-        [first, rest @ ..] => {
-            marks[usize::from(first.rank())] = true;
-            mark_edges(marks, rest);
-        }
     }
 }

@@ -2,12 +2,10 @@
 #![tactic(auto)]
 
 mod alphabet;
+mod letters;
 mod limits;
 mod relaxed;
 mod walk;
 
 pub use limits::Limits;
 pub use walk::Walk;
-
-#[cfg(test)]
-mod tests;

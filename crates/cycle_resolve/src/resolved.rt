@@ -199,6 +199,3 @@ fn events_of(edges: &[Edge], locations: u8) -> ArrayVec<Event, MAX_EDGES>
     }
     events
 }
-
-#[cfg(test)]
-mod tests;

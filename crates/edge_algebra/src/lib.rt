@@ -14,6 +14,3 @@ pub use errors::{CycleError, JoinError, NotClosed};
 pub use laws::{composes_exactly, joining_is_associative};
 pub use normal::may_begin;
 pub use paths::Path;
-
-#[cfg(test)]
-mod tests;

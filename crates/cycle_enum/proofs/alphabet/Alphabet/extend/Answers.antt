@@ -1,6 +1,6 @@
 use Rattle.listing_laws.specs.Search.{IsCandidate}
 use Rattle.listing_laws.proofs.Raising.{extended_by, extended_none}
-use Rattle.cycle_enum.specs.Marks.{least_rank}
+use Rattle.cycle_enum.specs.Letters.{least_rank}
 use Rattle.cycle_enum.proofs.Passing.{none_below_least}
 use Rattle.cycle_enum.proofs.alphabet.Alphabet.extend.Goals as goal
 

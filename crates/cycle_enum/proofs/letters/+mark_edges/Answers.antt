@@ -1,6 +1,6 @@
 use Rattle.std.proofs.Common.{arith}
 use Rattle.cycle_enum.proofs.Marking.{marked_first}
-use Rattle.cycle_enum.proofs.alphabet.+mark_edges.Goals as goal
+use Rattle.cycle_enum.proofs.letters.+mark_edges.Goals as goal
 
 pub returns-in-len1-up : goal.returns-in-len1-up
 returns-in-len1-up t c =

@@ -1,5 +1,5 @@
 use Rattle.std.proofs.Common.{length}
-use Rattle.cycle_enum.proofs.alphabet.+mark_relaxes.Given as goal
+use Rattle.cycle_enum.proofs.letters.+mark_relaxes.Given as goal
 
 abbrev pub decreases-mark_relaxes : goal.decreases-mark_relaxes
 decreases-mark_relaxes l = length l.relaxes.now

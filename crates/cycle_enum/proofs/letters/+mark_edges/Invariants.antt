@@ -1,5 +1,5 @@
 use Rattle.std.proofs.Common.{length}
-use Rattle.cycle_enum.proofs.alphabet.+mark_edges.Given as goal
+use Rattle.cycle_enum.proofs.letters.+mark_edges.Given as goal
 
 abbrev pub decreases-mark_edges : goal.decreases-mark_edges
 decreases-mark_edges l = length l.edges.now

@@ -1,0 +1,6 @@
+use Rattle.cycle_enum.specs.Marks.{IsMarked}
+use Rattle.cycle_enum.specs.Letters.{HasLettersFrom}
+use Rattle.cycle_enum.proofs.letters.first_letters.Given as goal
+
+abbrev pub invariant-loop-rank : goal.invariant-loop-rank
+invariant-loop-rank l = HasLettersFrom (IsMarked l.marks) l.rank l.letters

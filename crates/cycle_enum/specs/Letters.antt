@@ -1,0 +1,38 @@
+-- The letters of a walk: the edges that occur in its relaxations.
+-- Source: own.
+use Rattle.std.specs.Prelude.{◌≡◌, ◌<◌, ◌≤◌, ◌+◌, ℕ, Bool, true, Option, Some, None, List, [], ◌∷◌, length, get_or}
+use Rattle.std.specs.List.{AllByRecursion}
+use Rattle.relax_edges.specs.declared.order.TheConstants.{EDGES}
+use Rattle.relax_edges.specs.declared.edge.Edge.{Edge}
+use Rattle.relax_edges.specs.Order.{rank_of}
+use Rattle.listing_laws.specs.Search.{OccursIn, IsSingle}
+
+-- no letter has rank `from` or more, and below `to`
+abbrev pub NoLetter : (Edge → Type 0) → ℕ → ℕ → Type 0
+NoLetter is_letter from to = (e : Edge) → from ≤ rank_of e → rank_of e < to → is_letter e → ⊥
+
+-- the first letter of rank `from` or more
+pub record IsFirstLetter (is_letter : Edge → Type 0) (from : ℕ) (e : Edge) : Type 0 where
+  pub letter : is_letter e
+  pub at_least : from ≤ rank_of e
+  pub first : NoLetter is_letter from (rank_of e)
+
+-- the answer is the first letter of rank `from` or more, and none exactly where there is none
+abbrev pub IsLetterFrom : (Edge → Type 0) → ℕ → Option Edge → Type 0
+IsLetterFrom is_letter from None = NoLetter is_letter from EDGES
+IsLetterFrom is_letter from (Some e) = IsFirstLetter is_letter from e
+
+-- a table has, at each rank from one on and at the place after the last, the first letter of this rank or a greater one
+pub record HasLettersFrom (is_letter : Edge → Type 0) (rank : ℕ) (table : List (Option Edge)) : Type 0 where
+  pub long : length table ≡ EDGES + 1
+  pub each : (from : ℕ) → rank ≤ from → from ≤ EDGES → IsLetterFrom is_letter from (get_or table from None)
+
+-- what a walk knows of its relaxations: the first letter from each rank on, and if it says so each relaxation has one edge
+pub record IsAlphabet (relaxes : List (List Edge)) (letters : List (Option Edge)) (all_single : Bool) : Type 0 where
+  pub has : HasLettersFrom (OccursIn relaxes) 0 letters
+  pub single : all_single ≡ true → AllByRecursion IsSingle relaxes
+
+-- the least rank of the edges of a normal form that begins with a list: that of its first edge
+abbrev pub least_rank : List Edge → ℕ
+least_rank [] = 0
+least_rank (x ∷ u) = rank_of x
