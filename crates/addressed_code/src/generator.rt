@@ -1,7 +1,7 @@
 ghost use Rattle.std.specs.Prelude.{◌≡◌, ◌≤◌, ◌+◌, ◌++◌, ◌∷◌, [], Some, None, cond, is_some, false};
 ghost use Rattle.arrayvec.specs.ArrayVec.{array_vec_len};
 ghost use Rattle.micro_ops.specs.declared.operation.Micro.TheVariants as ops;
-ghost use Rattle.arch_trait.specs.Addressed.{link_code, puts_of, store_on};
+ghost use Rattle.arch_trait.specs.Addressed.{link_code, puts_of, store_on, load_op, store_op, load_through, store_through};
 ghost use Rattle.arch_trait.specs.Laws.{link_room, access_room};
 ghost use Rattle.arch_trait.specs.Links.{is_data};
 ghost use Rattle.arch_trait.specs.Taking.{took, with_address};
@@ -9,7 +9,7 @@ ghost use Rattle.arch_trait.specs.Taking.{took, with_address};
 use crate::own::OwnInstructions;
 use arch_trait::{Instrs, Link, MAX_INSTRS, Regs, Shape, address_source, data_source};
 use micro_ops::{Barrier, Micro};
-use relax_edges::FenceKind;
+use relax_edges::{FenceKind, Mark};
 
 /// How many registers a thread of this shape takes.
 pub fn registers_needed(shape: &Shape) -> u32
@@ -60,62 +60,61 @@ fn put_branch_code<I: OwnInstructions>(source: u8, label: u8, out: &mut Instrs)
     out.push(Micro::Label { label });
 }
 
-/// Appends the code of a load, and gives the register that it loads to.
+/// Appends the code of a load of the mark, and gives the register that it loads to.
 pub fn put_load<I: OwnInstructions>(
     regs: &mut Regs,
     link: Link,
+    mark: Mark,
     from: Option<u8>,
     place: u8,
     out: &mut Instrs,
 ) -> u8
     requires to_load { is_data link ≡ false }
-    requires left { ((puts_of I.own).load regs.old link from place).regs.next ≤ regs.old.count }
+    requires left { ((puts_of I.own).load regs.old link mark from place).regs.next ≤ regs.old.count }
     requires room { array_vec_len out.old + access_room link ≤ MAX_INSTRS }
     ensures register { result ≡ (puts_of I.own).filled regs.old link from place }
-    ensures taken { regs.new ≡ ((puts_of I.own).load regs.old link from place).regs }
-    ensures code { out.new.items ≡ out.old.items ++ ((puts_of I.own).load regs.old link from place).code }
+    ensures taken { regs.new ≡ ((puts_of I.own).load regs.old link mark from place).regs }
+    ensures code { out.new.items ≡ out.old.items ++ ((puts_of I.own).load regs.old link mark from place).code }
 {
     match address_source(link, from) {
         Some(source) => {
             let taken = regs.take_dependent(place);
             out.push(zero_from(source, taken.dependency));
-            I::put_dependent_load(taken.dependency, taken.value, taken.address, out);
+            put_load_through::<I>(mark, taken.dependency, taken.value, taken.address, out);
             taken.value
         }
         None => {
             let taken = regs.take_plain(place);
-            out.push(Micro::Load {
-                dst: taken.value,
-                base: taken.address,
-                index: None,
-            });
+            out.push(load(mark, taken.value, taken.address));
             taken.value
         }
     }
 }
 
-/// Appends the code of a store of the value.
+/// Appends the code of a store of the mark, of the value.
 pub fn put_store<I: OwnInstructions>(
     regs: &mut Regs,
     link: Link,
+    mark: Mark,
     from: Option<u8>,
     place: u8,
     value: u8,
     out: &mut Instrs,
 )
-    requires left { ((puts_of I.own).store regs.old link from place value).regs.next ≤ regs.old.count }
+    requires left { ((puts_of I.own).store regs.old link mark from place value).regs.next ≤ regs.old.count }
     requires room { array_vec_len out.old + access_room link ≤ MAX_INSTRS }
-    ensures taken { regs.new ≡ ((puts_of I.own).store regs.old link from place value).regs }
-    ensures code { out.new.items ≡ out.old.items ++ ((puts_of I.own).store regs.old link from place value).code }
+    ensures taken { regs.new ≡ ((puts_of I.own).store regs.old link mark from place value).regs }
+    ensures code { out.new.items ≡ out.old.items ++ ((puts_of I.own).store regs.old link mark from place value).code }
 {
     match address_source(link, from) {
-        Some(source) => put_store_dependent::<I>(regs, source, place, value, out),
-        None => put_store_plain::<I>(regs, data_source(link, from), place, value, out),
+        Some(source) => put_store_dependent::<I>(regs, mark, source, place, value, out),
+        None => put_store_plain::<I>(regs, mark, data_source(link, from), place, value, out),
     }
 }
 
 fn put_store_dependent<I: OwnInstructions>(
     regs: &mut Regs,
+    mark: Mark,
     source: u8,
     place: u8,
     value: u8,
@@ -123,8 +122,8 @@ fn put_store_dependent<I: OwnInstructions>(
 )
     requires left { (with_address (took regs.old 2) place).next ≤ regs.old.count }
     requires room { array_vec_len out.old + 4 ≤ MAX_INSTRS }
-    ensures taken { regs.new ≡ (store_on I.own regs.old (Some source) None place value).regs }
-    ensures code { out.new.items ≡ out.old.items ++ (store_on I.own regs.old (Some source) None place value).code }
+    ensures taken { regs.new ≡ (store_on I.own regs.old mark (Some source) None place value).regs }
+    ensures code { out.new.items ≡ out.old.items ++ (store_on I.own regs.old mark (Some source) None place value).code }
 {
     let taken = regs.take_dependent(place);
     out.push(zero_from(source, taken.dependency));
@@ -132,11 +131,12 @@ fn put_store_dependent<I: OwnInstructions>(
         dst: taken.value,
         n: u32::from(value),
     });
-    I::put_dependent_store(taken.dependency, taken.value, taken.address, out);
+    put_store_through::<I>(mark, taken.dependency, taken.value, taken.address, out);
 }
 
 fn put_store_plain<I: OwnInstructions>(
     regs: &mut Regs,
+    mark: Mark,
     source: Option<u8>,
     place: u8,
     value: u8,
@@ -144,8 +144,8 @@ fn put_store_plain<I: OwnInstructions>(
 )
     requires left { (with_address (took regs.old 1) place).next ≤ regs.old.count }
     requires room { array_vec_len out.old + cond (is_some source) 3 2 ≤ MAX_INSTRS }
-    ensures taken { regs.new ≡ (store_on I.own regs.old None source place value).regs }
-    ensures code { out.new.items ≡ out.old.items ++ (store_on I.own regs.old None source place value).code }
+    ensures taken { regs.new ≡ (store_on I.own regs.old mark None source place value).regs }
+    ensures code { out.new.items ≡ out.old.items ++ (store_on I.own regs.old mark None source place value).code }
 {
     let taken = regs.take_plain(place);
     match source {
@@ -158,11 +158,88 @@ fn put_store_plain<I: OwnInstructions>(
             n: u32::from(value),
         }),
     }
-    out.push(Micro::Store {
-        src: taken.value,
-        base: taken.address,
-        index: None,
-    });
+    out.push(store(mark, taken.value, taken.address));
+}
+
+/// A load of the mark at the address in register `base`.
+fn load(mark: Mark, dst: u8, base: u8) -> Micro
+    ensures { result ≡ load_op mark dst base }
+{
+    match mark {
+        Mark::Acquire => Micro::LoadAcq { dst, base },
+        _ => Micro::Load {
+            dst,
+            base,
+            index: None,
+        },
+    }
+}
+
+/// A store of the mark at the address in register `base`.
+fn store(mark: Mark, src: u8, base: u8) -> Micro
+    ensures { result ≡ store_op mark src base }
+{
+    match mark {
+        Mark::Release => Micro::StoreRel { src, base },
+        _ => Micro::Store {
+            src,
+            base,
+            index: None,
+        },
+    }
+}
+
+/// Appends a load of the mark to register `value` at the address in register `address`, so that the
+/// address depends on register `dependency`, which holds 0.
+fn put_load_through<I: OwnInstructions>(
+    mark: Mark,
+    dependency: u8,
+    value: u8,
+    address: u8,
+    out: &mut Instrs,
+)
+    requires { array_vec_len out.old + 2 ≤ MAX_INSTRS }
+    ensures { out.new.items ≡ out.old.items ++ load_through I.own mark dependency value address }
+{
+    match mark {
+        Mark::Acquire => {
+            out.push(address_in(dependency, address));
+            out.push(load(mark, value, dependency));
+        }
+        _ => I::put_dependent_load(dependency, value, address, out),
+    }
+}
+
+/// Appends a store of the mark of register `value` at the address in register `address`, so that the
+/// address depends on register `dependency`, which holds 0.
+fn put_store_through<I: OwnInstructions>(
+    mark: Mark,
+    dependency: u8,
+    value: u8,
+    address: u8,
+    out: &mut Instrs,
+)
+    requires { array_vec_len out.old + 2 ≤ MAX_INSTRS }
+    ensures { out.new.items ≡ out.old.items ++ store_through I.own mark dependency value address }
+{
+    match mark {
+        Mark::Release => {
+            out.push(address_in(dependency, address));
+            out.push(store(mark, value, dependency));
+        }
+        _ => I::put_dependent_store(dependency, value, address, out),
+    }
+}
+
+/// The address in register `address`, in register `dependency`, which holds 0.
+fn address_in(dependency: u8, address: u8) -> Micro
+    ensures { result ≡ ops.Add dependency address dependency }
+{
+    Micro::Add {
+        dst: dependency,
+        a: address,
+        b: dependency,
+    }
 }
 
 /// The number 0 in `dst`, which depends on `source`.

@@ -16,5 +16,5 @@ makes_one_access = accesses_once instructions (record {
   branch = λ s n rest. refl;
   load = λ d v a. refl;
   store = λ d v a. refl;
-  joins = λ d n a. refl;
+  joins = λ d n. refl;
 })

@@ -15,6 +15,10 @@ use Rattle.form_laws.specs.Tables.{PieceText, FormText, TableText, piece, fixed,
 abbrev pub w : PieceText
 w = piece (codes "W") (holes.Register 0 28) []
 
+-- a register by all its 64 bits: X0 to X27
+abbrev pub x : PieceText
+x = piece (codes "X") (holes.Register 0 28) []
+
 -- the address in a register: [X0] to [X27]; and the first part of one with an index: [X0,W1,SXTW]
 abbrev pub address : PieceText
 address = piece (codes "[X") (holes.Register 0 28) (codes "]")
@@ -43,7 +47,10 @@ forms =
     form (codes "DMB") (fixed (codes "SY") ∷ []) (kinds.Order (barriers.Fence fences.DmbSy)) ∷
     form (codes "DMB") (fixed (codes "LD") ∷ []) (kinds.Order (barriers.Fence fences.DmbLd)) ∷
     form (codes "DMB") (fixed (codes "ST") ∷ []) (kinds.Order (barriers.Fence fences.DmbSt)) ∷
-    form (codes "ISB") [] (kinds.Order barriers.Isb) ∷ []
+    form (codes "ISB") [] (kinds.Order barriers.Isb) ∷
+    form (codes "LDAR") (w ∷ address ∷ []) kinds.LoadAcquire ∷
+    form (codes "STLR") (w ∷ address ∷ []) kinds.StoreRelease ∷
+    form (codes "ADD") (x ∷ x ∷ w ∷ fixed (codes "SXTW") ∷ []) kinds.Sum ∷ []
 
 -- the table, in which labels stand too
 abbrev pub table : TableText

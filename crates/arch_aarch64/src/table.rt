@@ -32,6 +32,8 @@ const REGISTERS: Hole = Hole::Register {
 
 const W: Piece = piece!("W", REGISTERS, "");
 
+const X: Piece = piece!("X", REGISTERS, "");
+
 const ADDRESS: Piece = piece!("[X", REGISTERS, "]");
 
 const BASE: Piece = piece!("[X", REGISTERS, "");
@@ -53,6 +55,9 @@ const FORMS: &[Form] = &[
     form!("DMB", [piece!("LD")], fence!(DmbLd)),
     form!("DMB", [piece!("ST")], fence!(DmbSt)),
     form!("ISB", [], Kind::Order(Barrier::Isb)),
+    form!("LDAR", [W, ADDRESS], Kind::LoadAcquire),
+    form!("STLR", [W, ADDRESS], Kind::StoreRelease),
+    form!("ADD", [X, X, W, piece!("SXTW")], Kind::Sum),
 ];
 
 /// AArch64's instructions, in the order in which the forms are tried.

@@ -19,7 +19,7 @@ use arrayvec::ArrayString;
 use final_cond::RegName;
 use instruction_forms::{has_by, print_by, read_by};
 use micro_ops::Micro;
-use relax_edges::ArchName;
+use relax_edges::{ArchName, Mark};
 
 /// The architecture Power.
 pub struct Power;
@@ -49,19 +49,27 @@ impl Arch for Power {
         put_link::<Power>(link, from, label, out);
     }
 
-    fn put_load(regs: &mut Regs, link: Link, from: Option<u8>, place: u8, out: &mut Instrs) -> u8 {
-        put_load::<Power>(regs, link, from, place, out)
+    fn put_load(
+        regs: &mut Regs,
+        link: Link,
+        mark: Mark,
+        from: Option<u8>,
+        place: u8,
+        out: &mut Instrs,
+    ) -> u8 {
+        put_load::<Power>(regs, link, mark, from, place, out)
     }
 
     fn put_store(
         regs: &mut Regs,
         link: Link,
+        mark: Mark,
         from: Option<u8>,
         place: u8,
         value: u8,
         out: &mut Instrs,
     ) {
-        put_store::<Power>(regs, link, from, place, value, out);
+        put_store::<Power>(regs, link, mark, from, place, value, out);
     }
 
     #[tactic(auto, using(crate::specs::Clear::is_clear_table))]

@@ -101,12 +101,13 @@ keeps = record {
   store_short = λ d v a. record { room = omega arith; labels = refl; lands = refl; no_place = λ p. refl };
   store_has = λ d v a h k l. grind (arith, nat_tests);
   joins_runs = joins_runs;
-  joins_short = λ d n a. record { room = omega arith; labels = refl; lands = refl; no_place = λ p. refl };
+  joins_short = λ d n. record { room = omega arith; labels = refl; lands = refl; no_place = λ p. refl };
   joins_has = λ d n h small. grind (arith, nat_tests);
   xor_has = λ d s h k. grind (arith, nat_tests);
   imm_has = λ d n h small. grind (arith, nat_tests);
   plain_load_has = λ v a h k. grind (arith, nat_tests);
   plain_store_has = λ v a h k. grind (arith, nat_tests);
+  marked_has = λ e. cc;
 }
 
 pub laws : IsArch puts

@@ -24,6 +24,6 @@ no_access links.CtrlIsb from n = refl
 pub makes_one_access : MakesOneAccess puts
 makes_one_access = record {
   link = no_access;
-  load = λ g link from p. refl;
-  store = λ g link from p v. refl;
+  load = λ g link mark from p. refl;
+  store = λ g link mark from p v. refl;
 }

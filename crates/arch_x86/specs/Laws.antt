@@ -5,6 +5,9 @@ use Rattle.std.proofs.lemmas.Bool.Decides.{nat_tests}
 use Rattle.std.proofs.lemmas.Bool.{and_from, eq-eqb}
 use Rattle.relax_edges.specs.declared.kinds.Dir.TheVariants as dirs
 use Rattle.relax_edges.specs.declared.kinds.ArchName.TheVariants as archs
+use Rattle.relax_edges.specs.declared.kinds.Mark.{Mark}
+use Rattle.relax_edges.specs.declared.kinds.Mark.TheVariants.{Plain, Acquire, Release}
+use Rattle.relax_edges.specs.EdgeTable.{mark_is_of}
 use Rattle.micro_ops.specs.declared.operation.Micro.TheVariants as ops
 use Rattle.micro_ops.specs.Running.{Run, labels_of, lands}
 use Rattle.micro_ops.proofs.Rules.{run_load_at, run_load_at_wants, run_store_at, run_barrier, after_barrier}
@@ -57,6 +60,11 @@ no_data links.Data e = cc
 no_data links.Ctrl e = refl
 no_data links.CtrlIsync e = refl
 no_data links.CtrlIsb e = refl
+
+no_mark : (mark : Mark) → mark_is_of mark archs.X86 ≡ true → mark ≡ Plain
+no_mark Plain e = refl
+no_mark Acquire e = cc
+no_mark Release e = cc
 
 link_short : (link : Link) (from : Option ℕ) (n : ℕ) → length (link_code link from n) ≤ link_room link
 link_short links.Plain from n = omega arith
@@ -130,48 +138,50 @@ makes_links = record {
 
 load_access : MakesAccess puts dirs.R load
 load_access = record {
-  room = λ g link from p. omega (arith, two_fit link);
-  takes = λ g link from p. record { count = refl; more = omega arith; links = inl refl };
-  addressed = λ g link from p e. cc;
-  need = λ g link from p is_new h given fresh. omega arith;
-  no_label = λ g link from p. refl;
-  no_jump = λ g link from p. refl;
-  at_place = λ g link from p. and_from (p == p) true (eq-eqb p p refl) refl;
-  has = λ g link from p given usable taken left. and_from _ true (load_has g.next p (omega arith)) refl;
+  room = λ g link mark from p. omega (arith, two_fit link);
+  takes = λ g link mark from p. record { count = refl; more = omega arith; links = inl refl };
+  addressed = λ g link mark from p e. cc;
+  need = λ g link mark from p is_new h given fresh. omega arith;
+  no_label = λ g link mark from p. refl;
+  no_jump = λ g link mark from p. refl;
+  at_place = λ g link mark from p. and_from (p == p) true (eq-eqb p p refl) refl;
+  has = λ g link mark from p given marked usable taken left. and_from _ true (load_has g.next p (omega arith)) refl;
 }
 
 makes_loads : MakesLoads puts
 makes_loads = record {
   access = load_access;
-  runs = λ g link from p r k v vs e d ready reads.
+  runs = λ g link mark from p r k v vs e d marked ready reads.
       let a = no_addr link e in
-      rw a (did_load (load g link from p).code r r g (take_next g) g.next p v 0 vs
+      let plain = no_mark mark marked.of_arch in
+      rw (a, plain) (did_load Plain (load g link mark from p).code r r g (take_next g) g.next p v 0 vs
       (run_load_at g.next p v vs r reads) (writes_none r g (take_next g) ready.places) refl refl refl
       (spare_plain g (take_next g) g.next ready.taken refl (omega arith) (omega arith)));
-  wants = λ g link from p r k e d ready reads.
+  wants = λ g link mark from p r k e d marked ready reads.
       record { run = r; is = run_load_at_wants g.next p r reads };
-  fills = λ g link from p. (omega arith, omega arith);
+  fills = λ g link mark from p. (omega arith, omega arith);
 }
 
-store_access : (v : ℕ) → v < 256 → MakesAccess puts dirs.W (λ g link from p. store g link from p v)
+store_access : (v : ℕ) → v < 256 → MakesAccess puts dirs.W (λ g link mark from p. store g link mark from p v)
 store_access v h = record {
-  room = λ g link from p. omega (arith, two_fit link);
-  takes = λ g link from p. record { count = refl; more = omega arith; links = inl refl };
-  addressed = λ g link from p e. cc;
-  need = λ g link from p is_new h given fresh. omega arith;
-  no_label = λ g link from p. refl;
-  no_jump = λ g link from p. refl;
-  at_place = λ g link from p. and_from (p == p) true (eq-eqb p p refl) refl;
-  has = λ g link from p given usable taken left. and_from _ true (store_has p v (omega arith)) refl;
+  room = λ g link mark from p. omega (arith, two_fit link);
+  takes = λ g link mark from p. record { count = refl; more = omega arith; links = inl refl };
+  addressed = λ g link mark from p e. cc;
+  need = λ g link mark from p is_new h given fresh. omega arith;
+  no_label = λ g link mark from p. refl;
+  no_jump = λ g link mark from p. refl;
+  at_place = λ g link mark from p. and_from (p == p) true (eq-eqb p p refl) refl;
+  has = λ g link mark from p given marked usable taken left. and_from _ true (store_has p v (omega arith)) refl;
 }
 
 makes_stores : MakesStores puts
 makes_stores = record {
   access = store_access;
-  runs = λ g link from p v r k h e ready.
+  runs = λ g link mark from p v r k h e marked ready.
       let a = no_addr link e in
       let b = no_data link e in
-      rw (a, b) (did_store (store g link from p v).code r r g g p v 0 0 (run_store_at p v r)
+      let plain = no_mark mark marked.of_arch in
+      rw (a, b, plain) (did_store Plain (store g link mark from p v).code r r g g p v 0 0 (run_store_at p v r)
       (writes_none r g g ready.places) refl refl refl refl);
 }
 

@@ -2,6 +2,7 @@
 -- Source: the diy tools' tests for x86.
 use Rattle.std.specs.Prelude.{ℕ, false, List, [], ◌∷◌, Option}
 use Rattle.relax_edges.specs.declared.kinds.ArchName.TheVariants as archs
+use Rattle.relax_edges.specs.declared.kinds.Mark.{Mark}
 use Rattle.micro_ops.specs.declared.operation.Micro.{Micro}
 use Rattle.micro_ops.specs.declared.operation.Micro.TheVariants as ops
 use Rattle.micro_ops.specs.declared.operation.Barrier.TheVariants as barriers
@@ -18,16 +19,16 @@ abbrev pub link_code : Link → Option ℕ → ℕ → List Micro
 link_code (links.Fence kind) _ _ = ops.Barrier (barriers.Fence kind) ∷ []
 link_code _ _ _ = []
 
--- a load takes a register
-abbrev pub load : Taken → Link → Option ℕ → ℕ → Put
-load g _ _ place = record { code = ops.LoadAt g.next place ∷ []; regs = take_next g }
+-- a load, which has no mark, takes a register
+abbrev pub load : Taken → Link → Mark → Option ℕ → ℕ → Put
+load g _ _ _ place = record { code = ops.LoadAt g.next place ∷ []; regs = take_next g }
 
 abbrev pub filled : Taken → Link → Option ℕ → ℕ → ℕ
 filled g _ _ _ = g.next
 
 -- a store takes none
-abbrev pub store : Taken → Link → Option ℕ → ℕ → ℕ → Put
-store g _ _ place value = record { code = ops.StoreAt place value ∷ []; regs = g }
+abbrev pub store : Taken → Link → Mark → Option ℕ → ℕ → ℕ → Put
+store g _ _ _ place value = record { code = ops.StoreAt place value ∷ []; regs = g }
 
 -- X86, as an architecture
 abbrev pub puts : Puts

@@ -17,7 +17,7 @@ use arrayvec::ArrayString;
 use final_cond::RegName;
 use instruction_forms::{has_by, print_by, read_by};
 use micro_ops::{Barrier, Micro};
-use relax_edges::ArchName;
+use relax_edges::{ArchName, Mark};
 
 /// The architecture X86.
 pub struct X86;
@@ -56,6 +56,7 @@ impl Arch for X86 {
     fn put_load(
         regs: &mut Regs,
         _link: Link,
+        _mark: Mark,
         _from: Option<u8>,
         place: u8,
         out: &mut Instrs,
@@ -68,6 +69,7 @@ impl Arch for X86 {
     fn put_store(
         _regs: &mut Regs,
         _link: Link,
+        _mark: Mark,
         _from: Option<u8>,
         place: u8,
         value: u8,

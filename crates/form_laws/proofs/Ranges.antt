@@ -83,10 +83,12 @@ op_in_range (kinds.LoadInto r) (ops.LoadAt d p) small some h = by_test (d == r)
     (λ e. let f : d ≡ r = eqb-true d r e in let g : r < 32 = ltb-true r 32 small in omega arith)
     (λ e. let f : is_some (cond (d == r) (Some (operands.Place p ∷ [])) None) ≡ true = some in
     let g : is_some (cond {A = Option (List Operand)} false (Some (operands.Place p ∷ [])) None) ≡ true = ap (λ b. is_some (cond {A = Option (List Operand)} b (Some (operands.Place p ∷ [])) None)) (sym e) ∙ f in cc)
+op_in_range kinds.LoadAcquire (ops.LoadAcq d a) small some h = two d a [] h
 op_in_range kinds.Store (ops.Store s a None) small some h = let p = two s a [] h in (p.0, p.1, tt)
 op_in_range kinds.StoreIndexed (ops.Store s a (Some i)) small some h = three s a i h
 op_in_range kinds.StoreIndexFirst (ops.Store s a (Some i)) small some h = let p = three s i a h in (p.0, p.2, p.1)
 op_in_range kinds.StoreNumber (ops.StoreAt p n) small some h = tt
+op_in_range kinds.StoreRelease (ops.StoreRel s a) small some h = two s a [] h
 op_in_range kinds.Compare (ops.Cmp a b) small some h = two a b [] h
 op_in_range kinds.BranchEqual (ops.BranchEq l) small some h = tt
 op_in_range kinds.BranchNotZero (ops.BranchNz a l) small some h = (one a (operands.Label l ∷ []) h).0

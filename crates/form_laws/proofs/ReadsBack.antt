@@ -8,10 +8,11 @@ use Rattle.std.proofs.lemmas.Bool.{and_parts, leb-true}
 use Rattle.text_laws.specs.Names.{is_register_name}
 use Rattle.micro_ops.specs.declared.operation.Micro.{Micro}
 use Rattle.micro_ops.specs.declared.operation.Micro.TheVariants as ops
-use Rattle.arch_trait.specs.Forms.{label_alone}
+use Rattle.arch_trait.specs.declared.numbered.Numbered.{Numbered}
+use Rattle.arch_trait.specs.Forms.{label_alone, register_names}
 use Rattle.arch_trait.specs.Threads.{Puts}
 use Rattle.arch_trait.specs.Writing.{WritesBack, Written, none, RawInstr, name_of, is_named, raw_of, is_plain, all_plain, label_word}
-use Rattle.arch_laws.proofs.FormBacks.{label_word_plain}
+use Rattle.arch_laws.proofs.FormBacks.{IsNumbered, names_count, names_formed, names_once, label_word_plain}
 use Rattle.arch_trait.proofs.PlainTexts.{label_back}
 use Rattle.form_laws.specs.declared.form.Labels.{Labels}
 use Rattle.form_laws.specs.declared.form.Labels.TheVariants as labels
@@ -111,3 +112,13 @@ writes_back a t registers clear covers names = record {
   formed = names.formed;
   once = names.once;
 }
+
+-- numbered registers have such names
+pub numbered_back : (a : Puts) (t : TableText) (n : Numbered) → is_clear t.forms ≡ true →
+    ((op : Micro) → a.has op ≡ true → table_has t op ≡ true) → IsNumbered n → n.count ≡ a.registers →
+    WritesBack a (table_writing t (register_names n))
+numbered_back a t n clear covers numbered count = writes_back a t (register_names n) clear covers (record {
+  count = names_count n ∙ count;
+  formed = names_formed n numbered;
+  once = names_once n numbered;
+})

@@ -21,6 +21,8 @@ pub enum Kind {
     LoadIndexFirst,
     /// `LoadAt` into this register: the place.
     LoadInto(u8),
+    /// `LoadAcq`: the register that is set, the base.
+    LoadAcquire,
     /// `Store` without an index: the register that is stored, the base.
     Store,
     /// `Store` with an index: the register that is stored, the base, the index.
@@ -29,6 +31,8 @@ pub enum Kind {
     StoreIndexFirst,
     /// `StoreAt`: the place, the number.
     StoreNumber,
+    /// `StoreRel`: the register that is stored, the base.
+    StoreRelease,
     /// `Cmp`: the two registers.
     Compare,
     /// `BranchEq`: the label.

@@ -40,10 +40,12 @@ operands_short names kinds.Load (ops.Load d a None) h = tt
 operands_short names kinds.LoadIndexed (ops.Load d a (Some i)) h = tt
 operands_short names kinds.LoadIndexFirst (ops.Load d a (Some i)) h = tt
 operands_short names (kinds.LoadInto r) (ops.LoadAt d p) h = place_here names p h (d == r)
+operands_short names kinds.LoadAcquire (ops.LoadAcq d a) h = tt
 operands_short names kinds.Store (ops.Store s a None) h = tt
 operands_short names kinds.StoreIndexed (ops.Store s a (Some i)) h = tt
 operands_short names kinds.StoreIndexFirst (ops.Store s a (Some i)) h = tt
 operands_short names kinds.StoreNumber (ops.StoreAt p n) h = (leb-true (length (names p)) 16 h, tt)
+operands_short names kinds.StoreRelease (ops.StoreRel s a) h = tt
 operands_short names kinds.Compare (ops.Cmp a b) h = tt
 operands_short names kinds.BranchEqual (ops.BranchEq l) h = tt
 operands_short names kinds.BranchNotZero (ops.BranchNz a l) h = tt

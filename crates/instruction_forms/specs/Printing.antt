@@ -8,6 +8,8 @@ use Rattle.form_laws.specs.declared.kind.Kind.TheVariants as kinds
 use Rattle.form_laws.specs.declared.kind.Operand.{Operand}
 use Rattle.form_laws.specs.declared.kind.Operand.TheVariants as operands
 use Rattle.instruction_forms.specs.declared.operand_list.OperandList.{OperandList}
+use Rattle.instruction_forms.specs.declared.sorts.Sort.{Sort}
+use Rattle.instruction_forms.specs.declared.sorts.Sort.TheVariants as sorts
 use Rattle.form_laws.specs.Tables.{PieceText, filled, after_hole}
 use Rattle.form_laws.specs.Clear.{is_piece_good, most_in, most_of}
 use Rattle.std.specs.List.{list_all}
@@ -59,40 +61,44 @@ place_short names (ops.LoadAt _ p) = nat_le (length (names p)) 16
 place_short names (ops.StoreAt p _) = nat_le (length (names p)) 16
 place_short names _ = true
 
--- a number of what a kind does, but for the order of operands, and of what an operation does
-abbrev pub kind_sort : Kind → ℕ
-kind_sort kinds.SetNumber = 0
-kind_sort kinds.ExclusiveOr = 1
-kind_sort kinds.AddNumber = 2
-kind_sort kinds.OrNumber = 3
-kind_sort kinds.Sum = 4
-kind_sort kinds.Load = 5
-kind_sort kinds.LoadIndexed = 6
-kind_sort kinds.LoadIndexFirst = 6
-kind_sort (kinds.LoadInto _) = 7
-kind_sort kinds.Store = 8
-kind_sort kinds.StoreIndexed = 9
-kind_sort kinds.StoreIndexFirst = 9
-kind_sort kinds.StoreNumber = 10
-kind_sort kinds.Compare = 11
-kind_sort kinds.BranchEqual = 12
-kind_sort kinds.BranchNotZero = 13
-kind_sort (kinds.Order _) = 14
+-- what a kind does, but for the order of operands, and what an operation does
+abbrev pub kind_sort : Kind → Sort
+kind_sort kinds.SetNumber = sorts.Imm
+kind_sort kinds.ExclusiveOr = sorts.Xor
+kind_sort kinds.AddNumber = sorts.AddImm
+kind_sort kinds.OrNumber = sorts.OrImm
+kind_sort kinds.Sum = sorts.Add
+kind_sort kinds.Load = sorts.Load
+kind_sort kinds.LoadIndexed = sorts.LoadIndexed
+kind_sort kinds.LoadIndexFirst = sorts.LoadIndexed
+kind_sort (kinds.LoadInto _) = sorts.LoadAt
+kind_sort kinds.LoadAcquire = sorts.LoadAcq
+kind_sort kinds.Store = sorts.Store
+kind_sort kinds.StoreIndexed = sorts.StoreIndexed
+kind_sort kinds.StoreIndexFirst = sorts.StoreIndexed
+kind_sort kinds.StoreNumber = sorts.StoreAt
+kind_sort kinds.StoreRelease = sorts.StoreRel
+kind_sort kinds.Compare = sorts.Cmp
+kind_sort kinds.BranchEqual = sorts.BranchEq
+kind_sort kinds.BranchNotZero = sorts.BranchNz
+kind_sort (kinds.Order _) = sorts.Barrier
 
-abbrev pub op_sort : Micro → ℕ
-op_sort (ops.Imm _ _) = 0
-op_sort (ops.Xor _ _ _) = 1
-op_sort (ops.AddImm _ _ _) = 2
-op_sort (ops.OrImm _ _ _) = 3
-op_sort (ops.Add _ _ _) = 4
-op_sort (ops.Load _ _ None) = 5
-op_sort (ops.Load _ _ (Some _)) = 6
-op_sort (ops.LoadAt _ _) = 7
-op_sort (ops.Store _ _ None) = 8
-op_sort (ops.Store _ _ (Some _)) = 9
-op_sort (ops.StoreAt _ _) = 10
-op_sort (ops.Cmp _ _) = 11
-op_sort (ops.BranchEq _) = 12
-op_sort (ops.BranchNz _ _) = 13
-op_sort (ops.Barrier _) = 14
-op_sort (ops.Label _) = 15
+abbrev pub op_sort : Micro → Sort
+op_sort (ops.Imm _ _) = sorts.Imm
+op_sort (ops.Xor _ _ _) = sorts.Xor
+op_sort (ops.AddImm _ _ _) = sorts.AddImm
+op_sort (ops.OrImm _ _ _) = sorts.OrImm
+op_sort (ops.Add _ _ _) = sorts.Add
+op_sort (ops.Load _ _ None) = sorts.Load
+op_sort (ops.Load _ _ (Some _)) = sorts.LoadIndexed
+op_sort (ops.LoadAt _ _) = sorts.LoadAt
+op_sort (ops.LoadAcq _ _) = sorts.LoadAcq
+op_sort (ops.Store _ _ None) = sorts.Store
+op_sort (ops.Store _ _ (Some _)) = sorts.StoreIndexed
+op_sort (ops.StoreAt _ _) = sorts.StoreAt
+op_sort (ops.StoreRel _ _) = sorts.StoreRel
+op_sort (ops.Cmp _ _) = sorts.Cmp
+op_sort (ops.BranchEq _) = sorts.BranchEq
+op_sort (ops.BranchNz _ _) = sorts.BranchNz
+op_sort (ops.Barrier _) = sorts.Barrier
+op_sort (ops.Label _) = sorts.Label

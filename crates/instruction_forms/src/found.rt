@@ -117,11 +117,13 @@ fn raw_of_registers(kind: Kind, a: u8, b: u8) -> Option<Raw<'static>>
             base: b,
             index: None,
         }),
+        Kind::LoadAcquire => unnamed(Micro::LoadAcq { dst: a, base: b }),
         Kind::Store => unnamed(Micro::Store {
             src: a,
             base: b,
             index: None,
         }),
+        Kind::StoreRelease => unnamed(Micro::StoreRel { src: a, base: b }),
         Kind::Compare => unnamed(Micro::Cmp { a, b }),
         _ => None,
     }

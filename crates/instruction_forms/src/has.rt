@@ -4,7 +4,7 @@ ghost use Rattle.form_laws.specs.Tables.{form_seen, table_seen, does, table_has}
 ghost use Rattle.instruction_forms.specs.Printing.{op_sort};
 
 use crate::fits::does;
-use crate::sorts::{kind_sort, op_sort};
+use crate::sorts::{Sort, kind_sort, op_sort};
 use form_laws::{Form, Labels, Table};
 use micro_ops::Micro;
 
@@ -18,8 +18,8 @@ pub fn has_by(table: &Table, op: &Micro) -> bool
     }
 }
 
-/// Whether a form does the operation. `sort` is the number of what the operation does.
-fn any_does(forms: &[Form], op: &Micro, sort: u8) -> bool
+/// Whether a form does the operation. `sort` is that of the operation.
+fn any_does(forms: &[Form], op: &Micro, sort: Sort) -> bool
     requires sort { sort ≡ op_sort op.now }
     ensures { result ≡ list_any (does op.now) (map form_seen forms.now) }
 {
@@ -32,7 +32,7 @@ fn any_does(forms: &[Form], op: &Micro, sort: u8) -> bool
 /// Whether an instruction of this form does the operation.
 #[inline(always)]
 #[tactic(auto, using(crate::proofs::OtherSorts::other_sort))]
-fn does_of_sort(form: &Form, op: &Micro, sort: u8) -> bool
+fn does_of_sort(form: &Form, op: &Micro, sort: Sort) -> bool
     requires sort { sort ≡ op_sort op.now }
     ensures { result ≡ does op.now (form_seen form.now) }
 {

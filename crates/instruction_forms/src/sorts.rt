@@ -4,54 +4,81 @@ ghost use Rattle.instruction_forms.specs.Printing.{kind_sort, op_sort};
 use form_laws::Kind;
 use micro_ops::Micro;
 
-/// A number of what a kind does, but for the order of operands: only an operation of the same number
-/// is of the kind.
+/// What an operation does, but for its operands, and what a kind does, but for their order: only an operation
+/// of the same sort is of the kind.
+#[derive(Clone, Copy, Debug, PartialEq, Eq)]
+pub(crate) enum Sort {
+    Imm,
+    Xor,
+    AddImm,
+    OrImm,
+    Add,
+    Load,
+    LoadIndexed,
+    LoadAt,
+    LoadAcq,
+    Store,
+    StoreIndexed,
+    StoreAt,
+    StoreRel,
+    Cmp,
+    BranchEq,
+    BranchNz,
+    Barrier,
+    Label,
+}
+
+/// The sort of what a kind does.
 #[inline]
-pub(crate) fn kind_sort(kind: &Kind) -> u8
+pub(crate) fn kind_sort(kind: &Kind) -> Sort
     ensures { result ≡ kind_sort kind.now }
 {
     match *kind {
-        Kind::SetNumber => 0,
-        Kind::ExclusiveOr => 1,
-        Kind::AddNumber => 2,
-        Kind::OrNumber => 3,
-        Kind::Sum => 4,
-        Kind::Load => 5,
-        Kind::LoadIndexed => 6,
-        Kind::LoadIndexFirst => 6,
-        Kind::LoadInto(_) => 7,
-        Kind::Store => 8,
-        Kind::StoreIndexed => 9,
-        Kind::StoreIndexFirst => 9,
-        Kind::StoreNumber => 10,
-        Kind::Compare => 11,
-        Kind::BranchEqual => 12,
-        Kind::BranchNotZero => 13,
-        Kind::Order(_) => 14,
+        Kind::SetNumber => Sort::Imm,
+        Kind::ExclusiveOr => Sort::Xor,
+        Kind::AddNumber => Sort::AddImm,
+        Kind::OrNumber => Sort::OrImm,
+        Kind::Sum => Sort::Add,
+        Kind::Load => Sort::Load,
+        Kind::LoadIndexed => Sort::LoadIndexed,
+        Kind::LoadIndexFirst => Sort::LoadIndexed,
+        Kind::LoadInto(_) => Sort::LoadAt,
+        Kind::LoadAcquire => Sort::LoadAcq,
+        Kind::Store => Sort::Store,
+        Kind::StoreIndexed => Sort::StoreIndexed,
+        Kind::StoreIndexFirst => Sort::StoreIndexed,
+        Kind::StoreNumber => Sort::StoreAt,
+        Kind::StoreRelease => Sort::StoreRel,
+        Kind::Compare => Sort::Cmp,
+        Kind::BranchEqual => Sort::BranchEq,
+        Kind::BranchNotZero => Sort::BranchNz,
+        Kind::Order(_) => Sort::Barrier,
     }
 }
 
-/// A number of what an operation does.
+/// The sort of what an operation does.
 #[inline]
-pub(crate) fn op_sort(op: &Micro) -> u8
+pub(crate) fn op_sort(op: &Micro) -> Sort
     ensures { result ≡ op_sort op.now }
 {
     match *op {
-        Micro::Imm { .. } => 0,
-        Micro::Xor { .. } => 1,
-        Micro::AddImm { .. } => 2,
-        Micro::OrImm { .. } => 3,
-        Micro::Add { .. } => 4,
-        Micro::Load { index: None, .. } => 5,
-        Micro::Load { index: Some(_), .. } => 6,
-        Micro::LoadAt { .. } => 7,
-        Micro::Store { index: None, .. } => 8,
-        Micro::Store { index: Some(_), .. } => 9,
-        Micro::StoreAt { .. } => 10,
-        Micro::Cmp { .. } => 11,
-        Micro::BranchEq { .. } => 12,
-        Micro::BranchNz { .. } => 13,
-        Micro::Barrier { .. } => 14,
-        Micro::Label { .. } => 15,
+        Micro::Imm { .. } => Sort::Imm,
+        Micro::Xor { .. } => Sort::Xor,
+        Micro::AddImm { .. } => Sort::AddImm,
+        Micro::OrImm { .. } => Sort::OrImm,
+        Micro::Add { .. } => Sort::Add,
+        Micro::Load { index: None, .. } => Sort::Load,
+        Micro::Load { index: Some(_), .. } => Sort::LoadIndexed,
+        Micro::LoadAt { .. } => Sort::LoadAt,
+        Micro::LoadAcq { .. } => Sort::LoadAcq,
+        Micro::Store { index: None, .. } => Sort::Store,
+        Micro::Store { index: Some(_), .. } => Sort::StoreIndexed,
+        Micro::StoreAt { .. } => Sort::StoreAt,
+        Micro::StoreRel { .. } => Sort::StoreRel,
+        Micro::Cmp { .. } => Sort::Cmp,
+        Micro::BranchEq { .. } => Sort::BranchEq,
+        Micro::BranchNz { .. } => Sort::BranchNz,
+        Micro::Barrier { .. } => Sort::Barrier,
+        Micro::Label { .. } => Sort::Label,
     }
 }

@@ -18,7 +18,7 @@ use arch_x86::X86;
 use arrayvec::ArrayString;
 use final_cond::RegName;
 use micro_ops::Micro;
-use relax_edges::Edge;
+use relax_edges::{Edge, Mark};
 use std::process::Abort;
 
 /// What the texts of an architecture's instructions are read as.
@@ -127,6 +127,7 @@ fn threads_have_their_code(rt: HostRuntime) {
     x86::try_threads(&rt);
     power::try_threads(&rt);
     aarch64::try_threads(&rt);
+    aarch64::try_marks(&rt);
     riscv::try_threads(&rt);
 }
 
@@ -172,5 +173,9 @@ fn architectures_have_their_edges(rt: HostRuntime) {
     supports::<X86>(&rt, steps::RFE, steps::DATA);
     supports::<Power>(&rt, steps::DATA, steps::CTRL_ISB);
     supports::<A64>(&rt, steps::DATA, steps::CTRL_ISYNC);
+    let release = Edge::marked(steps::WRITES, Mark::Plain, Mark::Release)
+        .expect(&rt, "AArch64 has this edge");
+    supports::<A64>(&rt, release, steps::CTRL_ISYNC);
+    supports::<Power>(&rt, steps::DATA, release);
     supports::<Riscv>(&rt, steps::DATA, steps::CTRL_ISYNC);
 }

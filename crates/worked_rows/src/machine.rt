@@ -1,7 +1,7 @@
 use arch_power::Power;
 use litmus_text::read_test;
 use micro_ops::{Item, Micro, RunError, run_thread};
-use relax_edges::{Dir, Value};
+use relax_edges::{Dir, Mark, Value};
 use std::test::Fail;
 
 /// Message passing on Power, as it is printed.
@@ -33,10 +33,11 @@ const REGISTERS: [(u8, Value); 3] = [
     (4, Value::Place(0)),
 ];
 
-/// A read by the reader, on whose address the reads of the mask bear.
+/// A plain read by the reader, on whose address the reads of the mask bear.
 fn read(place: u8, value: u32, addr_mask: u64) -> Item {
     Item::Access {
         dir: Dir::R,
+        mark: Mark::Plain,
         place,
         value,
         addr_mask,

@@ -6,7 +6,7 @@ use super::{Texts, compiles};
 use arch_aarch64::A64;
 use arch_trait::{Link, Step};
 use micro_ops::Micro;
-use relax_edges::FenceKind;
+use relax_edges::{FenceKind, Mark};
 use std::process::Abort;
 
 const WRITE_Y_SY: Step = Step {
@@ -27,6 +27,31 @@ const WRITE_X_ST: Step = Step {
 const READ_X_BEHIND_BRANCH: Step = Step {
     link: Link::CtrlIsb,
     ..READ_X
+};
+
+const READ_Y_ACQUIRE: Step = Step {
+    mark: Mark::Acquire,
+    ..READ_Y
+};
+
+const READ_X_ACQUIRE_BY_ADDRESS: Step = Step {
+    mark: Mark::Acquire,
+    ..READ_X_BY_ADDRESS
+};
+
+const WRITE_Y_RELEASE: Step = Step {
+    mark: Mark::Release,
+    ..WRITE_Y
+};
+
+const WRITE_X_RELEASE_BY_ADDRESS: Step = Step {
+    mark: Mark::Release,
+    ..WRITE_X_BY_ADDRESS
+};
+
+const WRITE_X_RELEASE_BY_VALUE: Step = Step {
+    mark: Mark::Release,
+    ..WRITE_X_BY_VALUE
 };
 
 /// The threads of worked tests, then each dependency and fence.
@@ -99,6 +124,51 @@ pub fn try_threads(rt: &impl Abort) {
     );
 }
 
+/// The same with acquire and release marks.
+pub fn try_marks(rt: &impl Abort) {
+    compiles::<A64>(
+        rt,
+        &[WRITE_X, WRITE_Y_RELEASE],
+        &["MOV W0,#1", "STR W0,[X1]", "MOV W2,#1", "STLR W2,[X3]"],
+        &[(1, 0), (3, 1)],
+    );
+    compiles::<A64>(
+        rt,
+        &[READ_Y_ACQUIRE, READ_X],
+        &["LDAR W0,[X1]", "LDR W2,[X3]"],
+        &[(1, 1), (3, 0)],
+    );
+    compiles::<A64>(
+        rt,
+        &[READ_Y_ACQUIRE, READ_X_ACQUIRE_BY_ADDRESS],
+        &[
+            "LDAR W0,[X1]",
+            "EOR W2,W0,W0",
+            "ADD X2,X4,W2,SXTW",
+            "LDAR W3,[X2]",
+        ],
+        &[(1, 1), (4, 0)],
+    );
+    compiles::<A64>(
+        rt,
+        &[READ_Y, WRITE_X_RELEASE_BY_ADDRESS],
+        &[
+            "LDR W0,[X1]",
+            "EOR W2,W0,W0",
+            "MOV W3,#1",
+            "ADD X2,X4,W2,SXTW",
+            "STLR W3,[X2]",
+        ],
+        &[(1, 1), (4, 0)],
+    );
+    compiles::<A64>(
+        rt,
+        &[READ_Y, WRITE_X_RELEASE_BY_VALUE],
+        &["LDR W0,[X1]", "EOR W2,W0,W0", "ADD W2,W2,#1", "STLR W2,[X3]"],
+        &[(1, 1), (3, 0)],
+    );
+}
+
 const LOAD: Micro = Micro::Load {
     dst: 0,
     base: 27,
@@ -122,6 +192,11 @@ pub const TEXTS: Texts<'static> = Texts {
         ("MOV W0,#0", Micro::Imm { dst: 0, n: 0 }),
         ("CBNZ W3,there", Micro::BranchNz { a: 3, label: 0 }),
         ("CBNZ W3 , LC00", Micro::BranchNz { a: 3, label: 1 }),
+        ("LDAR W0,[X27]", Micro::LoadAcq { dst: 0, base: 27 }),
+        (" LDAR\tW0 , [X27] ", Micro::LoadAcq { dst: 0, base: 27 }),
+        ("STLR W9,[X4]", Micro::StoreRel { src: 9, base: 4 }),
+        ("ADD X2,X4,W3,SXTW", Micro::Add { dst: 2, a: 4, b: 3 }),
+        ("ADD X2, X4 ,W3 , SXTW", Micro::Add { dst: 2, a: 4, b: 3 }),
         (" there: ", Micro::Label { label: 0 }),
         ("ISB:", Micro::Label { label: 2 }),
     ],
@@ -142,6 +217,19 @@ pub const TEXTS: Texts<'static> = Texts {
         "EOR W0,W1",
         "EOR W0,W1,X2",
         "ADD W0,W1,W2",
+        "ADD X0,X1,#1",
+        "ADD X0,X1,W2",
+        "ADD X0,X1,X2,SXTW",
+        "ADD X0,W1,W2,SXTW",
+        "ADD W0,X1,W2,SXTW",
+        "ADD X0,X1,W2,SXTW]",
+        "ADD X0,X1,W2,SXTX",
+        "LDAR X0,[X1]",
+        "LDAR W0,[X1",
+        "LDAR W0,[X1,W2,SXTW]",
+        "STLR W28,[X1]",
+        "STLR W0,[X1,W2,SXTW]",
+        "ldar W0,[X1]",
         "LDR X0,[X1]",
         "LDR W0,[W1]",
         "LDR W0,[ X1]",

@@ -1,8 +1,9 @@
 use arch_trait::{Link, Step};
-use relax_edges::{Com, DepKind, Dir, Edge, Reach, Sd};
+use relax_edges::{Com, DepKind, Dir, Edge, Kind, Mark, Reach, Sd};
 
 pub const READ_X: Step = Step {
     dir: Dir::R,
+    mark: Mark::Plain,
     place: 0,
     value: 0,
     link: Link::Plain,
@@ -12,6 +13,7 @@ pub const READ_Y: Step = Step { place: 1, ..READ_X };
 
 pub const WRITE_X: Step = Step {
     dir: Dir::W,
+    mark: Mark::Plain,
     place: 0,
     value: 1,
     link: Link::Plain,
@@ -98,6 +100,12 @@ pub const FOURTEEN_READS: [Step; 14] = [
 pub const RFE: Edge = Edge::Com {
     com: Com::Rf,
     reach: Reach::External,
+};
+
+pub const WRITES: Kind = Kind::Po {
+    sd: Sd::Diff,
+    from: Dir::W,
+    to: Dir::W,
 };
 
 pub const DATA: Edge = Edge::Data { sd: Sd::Diff };
