@@ -7,14 +7,15 @@ use crate::text::TestText;
 use arch_trait::Arch;
 use diy_io::{Failed, Page};
 use edge_algebra::Cycle;
-use litmus_text::{Test, print_test_by};
+use litmus_text::{KeptCells, Test, print_test_by};
 use relax_edges::ObsMode;
 use test_maker::make_into;
 
-/// Where tests are made, one after another: a test, the page that it is printed to, and its text.
+/// Where tests are made, one after another: a test, room for its cells, the page that it is printed to, and its text.
 #[derive(Drop)]
 pub(crate) struct Desk {
     pub(crate) test: Test,
+    pub(crate) cells: KeptCells,
     pub(crate) page: Page,
     pub(crate) text: TestText,
 }
@@ -23,6 +24,7 @@ impl Desk {
     pub(crate) fn new() -> Desk {
         Desk {
             test: Test::new(),
+            cells: KeptCells::new(),
             page: Page::new(),
             text: TestText::new(),
         }
@@ -41,7 +43,13 @@ impl Desk {
         }
         self.text.clear();
         self.page.clear();
-        match print_test_by::<A, TestText>(&self.test, name, &mut self.page, &mut self.text) {
+        match print_test_by::<A, TestText>(
+            &self.test,
+            name,
+            &mut self.cells,
+            &mut self.page,
+            &mut self.text,
+        ) {
             Ok(()) => {}
             Err(Failed) => unreachable!(),
         }

@@ -30,3 +30,4 @@ pub mod TermLoops
 pub mod ItemLaws
 pub mod PartLoops
 pub mod GiveLaws
+pub mod KeptLaws

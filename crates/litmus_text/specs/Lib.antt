@@ -20,3 +20,4 @@ pub mod Reread
 pub mod Mentioned
 pub mod Gives
 pub mod Views
+pub mod KeptCells

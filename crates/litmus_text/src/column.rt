@@ -1,13 +1,15 @@
-ghost use Rattle.std.specs.Prelude.{◌≡◌, ◌≤◌, ◌+◌, [], map, length, max, slice_index_or};
+ghost use Rattle.std.specs.Prelude.{◌≡◌, ◌≤◌, ◌+◌, ◌*◌, ◌∷◌, ◌++◌, [], map, length, max, slice_index_or, take, IsTrue, ◌<◌};
 ghost use Rattle.std.specs.List.{All, fold};
 ghost use Rattle.litmus_text.specs.TestText.{column_of, columns_of, width_of};
 ghost use Rattle.litmus_text.specs.Tests.{IsPrintable};
+ghost use Rattle.litmus_text.specs.KeptCells.{all_texts, HoldsColumn};
 ghost use Rattle.arch_trait.specs.Codes.{thread_of};
 
-use arch_trait::{Arch, Code, MAX_TEXT, Places};
+use arch_trait::{Arch, Code, MAX_INSTRS, MAX_TEXT, Places};
 use arrayvec::{ArrayString, ArrayVec};
 use itoa::Buffer;
 use relax_edges::MAX_EDGES;
+use std::marker::Model;
 
 /// The text of one cell.
 pub(crate) type Cell = ArrayString<MAX_TEXT>;
@@ -32,33 +34,149 @@ pub(crate) fn set_cell<A: Arch>(
     }
 }
 
-/// The width of a thread's column.
-pub(crate) fn width_of<A: Arch>(thread: usize, code: &Code, places: &Places) -> usize
-    requires { IsPrintable A.puts.has A.REGISTERS (length places.now) code.now }
+/// How many cells of a table are kept.
+const KEPT_CELLS: usize = 128;
+
+/// Room for the first cells of a table, column by column. A cell is printed to find how wide its column is, and put into
+/// its row from here. The room can be lent again and again, and what it held doesn't count.
+///
+/// Contracts see the texts that are kept.
+#[derive(Drop)]
+pub struct KeptCells {
+    texts: ArrayVec<Cell, KEPT_CELLS>,
+}
+
+impl Model for KeptCells {
+    ghost use Rattle.std.specs.Prelude.{ℕ, List, map};
+
+    ghost Value = { List (List ℕ) };
+
+    ghost view = { λ c. map (λ text. text.bytes) c.texts.items };
+}
+
+impl Default for KeptCells {
+    fn default() -> KeptCells {
+        KeptCells::new()
+    }
+}
+
+impl KeptCells {
+    /// Room in which nothing is kept yet.
+    pub fn new() -> KeptCells
+        ensures { result ≡ [] }
+    {
+        KeptCells {
+            texts: ArrayVec::new(),
+        }
+    }
+
+    fn clear(&mut self)
+        ensures { self.new ≡ [] }
+    {
+        self.texts.clear();
+    }
+
+    /// Keeps one more text, where there is room.
+    fn keep(&mut self, cell: &Cell)
+        ensures { self.new ≡ take KEPT_CELLS (self.old ++ cell.now.bytes ∷ []) }
+    {
+        keep_text(&mut self.texts, cell);
+    }
+
+    /// Makes `cell` the text that is kept at a place, and says whether there is one.
+    fn copy_to(&self, place: usize, cell: &mut Cell) -> bool
+        ensures within { IsTrue result → place < length self.now }
+        ensures kept { IsTrue result → cell.new.bytes ≡ slice_index_or self.now place [] }
+    {
+        match self.texts.as_slice().get(place) {
+            Some(kept) => {
+                *cell = *kept;
+                true
+            }
+            None => false,
+        }
+    }
+}
+
+fn keep_text(texts: &mut ArrayVec<Cell, KEPT_CELLS>, cell: &Cell)
+    ensures { map (λ text. text.bytes) texts.new.items ≡ take KEPT_CELLS (map (λ text. text.bytes) texts.old.items ++ cell.now.bytes ∷ []) }
+{
+    if texts.len() < KEPT_CELLS {
+        texts.push(*cell);
+    }
+}
+
+/// The width of a column that is as wide as this, with one more cell.
+fn widened(width: usize, cell: &Cell) -> usize
+    ensures value { result ≡ max width (length cell.now.bytes) }
+    ensures short { width ≤ MAX_TEXT → result ≤ MAX_TEXT }
+{
+    width.max(cell.len())
+}
+
+/// The width of a thread's column, whose cells are kept after the others.
+pub(crate) fn width_of<A: Arch>(
+    thread: usize,
+    code: &Code,
+    places: &Places,
+    cells: &mut KeptCells,
+) -> usize
+    requires printable { IsPrintable A.puts.has A.REGISTERS (length places.now) code.now }
+    requires few { length cells.old ≤ KEPT_CELLS }
     ensures width { result ≡ width_of (column_of A.writing places.now (thread, thread_of code.now)) }
     ensures short { result ≤ MAX_TEXT }
+    ensures kept { cells.new ≡ take KEPT_CELLS (cells.old ++ column_of A.writing places.now (thread, thread_of code.now)) }
 {
     let mut cell = Cell::new();
     let mut width = 0;
     for row in 0..code.instrs.len() + 1 {
         set_cell::<A>(row, thread, code, places, &mut cell);
-        width = width.max(cell.len());
+        width = widened(width, &cell);
+        cells.keep(&cell);
     }
     width
 }
 
-/// The widths of all columns.
-pub(crate) fn widths_of<A: Arch>(threads: &[Code], places: &Places) -> ArrayVec<usize, MAX_EDGES>
+/// The widths of all columns, whose cells are kept.
+pub(crate) fn widths_of<A: Arch>(
+    threads: &[Code],
+    places: &Places,
+    cells: &mut KeptCells,
+) -> ArrayVec<usize, MAX_EDGES>
     requires printable { All (λ code. IsPrintable A.puts.has A.REGISTERS (length places.now) code) threads.now }
     requires few { length threads.now ≤ MAX_EDGES }
     ensures widths { result.items ≡ map width_of (columns_of A.writing places.now (map thread_of threads.now)) }
     ensures short { All (λ width. width ≤ MAX_TEXT) result.items }
+    ensures kept { cells.new ≡ take KEPT_CELLS (all_texts (columns_of A.writing places.now (map thread_of threads.now))) }
 {
+    cells.clear();
     let mut widths = ArrayVec::new();
     for (thread, code) in threads.iter().enumerate() {
-        widths.push(width_of::<A>(thread, code, places));
+        widths.push(width_of::<A>(thread, code, places, cells));
     }
     widths
+}
+
+/// Makes `cell` the text of a thread's column in a row, from the cells that are kept, where the first of the column is at
+/// place `first`, or printed anew.
+pub(crate) fn take_cell<A: Arch>(
+    row: usize,
+    thread: usize,
+    first: usize,
+    code: &Code,
+    places: &Places,
+    cells: &KeptCells,
+    cell: &mut Cell,
+)
+    requires printable { IsPrintable A.puts.has A.REGISTERS (length places.now) code.now }
+    requires near { first ≤ MAX_EDGES * (MAX_INSTRS + 1) }
+    requires kept { HoldsColumn cells.now first (column_of A.writing places.now (thread, thread_of code.now)) }
+    ensures { cell.new.bytes ≡ slice_index_or (column_of A.writing places.now (thread, thread_of code.now)) row [] }
+{
+    if row <= code.instrs.len() && cells.copy_to(first + row, cell) {
+        return;
+    }
+    set_cell::<A>(row, thread, code, places, cell);
 }
 
 /// How many rows the longest column has, with its header.

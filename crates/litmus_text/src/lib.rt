@@ -13,6 +13,7 @@ mod separators;
 mod table;
 mod test;
 
+pub use column::KeptCells;
 pub use errors::{ReadError, TestKind, TextError};
 pub use law::printed_reads_back;
 pub use limits::{MAX_ACCESSES, MAX_NAME, MAX_ROWS, MAX_TEXT, MAX_THREADS};

@@ -8,6 +8,7 @@ ghost use Rattle.litmus_text.specs.TestText.{test_text, ended};
 ghost use Rattle.litmus_text.specs.Tests.{IsPrintable, test_seen};
 ghost use Rattle.litmus_text.specs.Parts.{code_text};
 
+use crate::column::KeptCells;
 use crate::head::{send_edges, send_header};
 use crate::initial::send_initial;
 use crate::table::send_table;
@@ -25,13 +26,14 @@ pub fn print_test<A: Arch, O: Sink>(test: &Test, name: &str, out: &mut O) -> Res
     ensures { Wrote (O.seen out.old) (O.seen out.new) (test_text A.NAME A.writing name.now (test_seen test.now)) result }
 {
     let mut page = Page::new();
-    print_test_by::<A, O>(test, name, &mut page, out)
+    print_test_by::<A, O>(test, name, &mut KeptCells::new(), &mut page, out)
 }
 
-/// The same by way of a page that is empty before and, where the sink didn't fail, after.
+/// The same by way of a page that is empty before and, where the sink didn't fail, after, and of room for cells.
 pub fn print_test_by<A: Arch, O: Sink>(
     test: &Test,
     name: &str,
+    cells: &mut KeptCells,
     page: &mut Page,
     out: &mut O,
 ) -> Result<(), Failed>
@@ -40,13 +42,14 @@ pub fn print_test_by<A: Arch, O: Sink>(
     ensures wrote { Wrote (O.seen out.old) (O.seen out.new) (test_text A.NAME A.writing name.now (test_seen test.now)) result }
     ensures empty { OnOk result (page.new ≡ []) }
 {
-    send_test::<A, O>(test, name, page, out)?;
+    send_test::<A, O>(test, name, cells, page, out)?;
     page.flush(out)
 }
 
 fn send_test<A: Arch, O: Sink>(
     test: &Test,
     name: &str,
+    cells: &mut KeptCells,
     page: &mut Page,
     out: &mut O,
 ) -> Result<(), Failed>
@@ -55,17 +58,22 @@ fn send_test<A: Arch, O: Sink>(
 {
     send_header(A::NAME, name, page, out)?;
     send_edges(test.edges.as_slice(), page, out)?;
-    send_code::<A, O>(test, page, out)
+    send_code::<A, O>(test, cells, page, out)
 }
 
 /// Sends what stands after the line of the edges.
-fn send_code<A: Arch, O: Sink>(test: &Test, page: &mut Page, out: &mut O) -> Result<(), Failed>
+fn send_code<A: Arch, O: Sink>(
+    test: &Test,
+    cells: &mut KeptCells,
+    page: &mut Page,
+    out: &mut O,
+) -> Result<(), Failed>
     requires { All (λ code. IsPrintable A.puts.has A.REGISTERS (length test.now.places) code) test.now.threads.items }
     ensures { Sends (O.seen out.old) page.old (O.seen out.new) page.new (code_text A.writing (test_seen test.now)) result }
 {
     let threads = test.threads.as_slice();
     send_initial::<A, O>(threads, &test.places, page, out)?;
-    send_table::<A, O>(threads, &test.places, page, out)?;
+    send_table::<A, O>(threads, &test.places, cells, page, out)?;
     send_condition(&test.cond, page, out)
 }
 

@@ -1,4 +1,6 @@
-ghost use Rattle.std.specs.Prelude.{◌≡◌, ◌≤◌, ◌-◌, ◌*◌, ◌++◌, map, length, codes};
+ghost use Rattle.std.specs.Prelude.{◌≡◌, ◌≤◌, ◌-◌, ◌*◌, ◌++◌, map, length, codes, take};
+ghost use Rattle.litmus_text.specs.KeptCells.{all_texts};
+ghost use Rattle.litmus_text.specs.declared.column.TheConstants.{KEPT_CELLS};
 ghost use Rattle.std.proofs.Math.ListN.{replicate};
 ghost use Rattle.std.specs.List.{All, flat_map, join_by};
 ghost use Rattle.diy_io.specs.Page.{page_after, Sends};
@@ -7,7 +9,7 @@ ghost use Rattle.litmus_text.specs.TestText.{columns_of, width_of, cell_text, ro
 ghost use Rattle.litmus_text.specs.Tests.{IsPrintable};
 ghost use Rattle.litmus_text.specs.Separators.{separator_at};
 
-use crate::column::{Cell, row_count, set_cell, widths_of};
+use crate::column::{Cell, KeptCells, row_count, take_cell, widths_of};
 use crate::separators::separator;
 use arch_trait::{Arch, Code, MAX_TEXT, Places};
 use diy_io::{Failed, LINE_ROOM, Page, Sink};
@@ -22,6 +24,7 @@ const CELL_ROOM: usize = MAX_TEXT + 3;
 pub(crate) fn send_table<A: Arch, O: Sink>(
     threads: &[Code],
     places: &Places,
+    cells: &mut KeptCells,
     page: &mut Page,
     out: &mut O,
 ) -> Result<(), Failed>
@@ -30,9 +33,9 @@ pub(crate) fn send_table<A: Arch, O: Sink>(
     ensures { Sends (O.seen out.old) page.old (O.seen out.new) page.new
         (flat_map ended (table_lines (columns_of A.writing places.now (map thread_of threads.now)))) result }
 {
-    let widths = widths_of::<A>(threads, places);
+    let widths = widths_of::<A>(threads, places, cells);
     for row in 0..row_count(threads) {
-        send_row::<A, O>(row, threads, widths.as_slice(), places, page, out)?;
+        send_row::<A, O>(row, threads, widths.as_slice(), places, cells, page, out)?;
     }
     Ok(())
 }
@@ -42,18 +45,20 @@ fn send_row<A: Arch, O: Sink>(
     threads: &[Code],
     widths: &[usize],
     places: &Places,
+    cells: &KeptCells,
     page: &mut Page,
     out: &mut O,
 ) -> Result<(), Failed>
     requires printable { All (λ code. IsPrintable A.puts.has A.REGISTERS (length places.now) code) threads.now }
     requires few { length threads.now ≤ MAX_EDGES }
+    requires kept { cells.now ≡ take KEPT_CELLS (all_texts (columns_of A.writing places.now (map thread_of threads.now))) }
     requires widths { widths.now ≡ map width_of (columns_of A.writing places.now (map thread_of threads.now)) }
     requires short { All (λ width. width ≤ MAX_TEXT) widths.now }
     ensures { Sends (O.seen out.old) page.old (O.seen out.new) page.new
         (ended (row_line (columns_of A.writing places.now (map thread_of threads.now)) row)) result }
 {
     page.spill(out)?;
-    print_row::<A>(row, threads, widths, places, page);
+    print_row::<A>(row, threads, widths, places, cells, page);
     Ok(())
 }
 
@@ -62,17 +67,19 @@ fn print_row<A: Arch>(
     threads: &[Code],
     widths: &[usize],
     places: &Places,
+    cells: &KeptCells,
     page: &mut Page,
 )
     requires printable { All (λ code. IsPrintable A.puts.has A.REGISTERS (length places.now) code) threads.now }
     requires few { length threads.now ≤ MAX_EDGES }
+    requires kept { cells.now ≡ take KEPT_CELLS (all_texts (columns_of A.writing places.now (map thread_of threads.now))) }
     requires widths { widths.now ≡ map width_of (columns_of A.writing places.now (map thread_of threads.now)) }
     requires short { All (λ width. width ≤ MAX_TEXT) widths.now }
     ensures text { page.new ≡ page_after page.old (ended (row_line (columns_of A.writing places.now (map thread_of threads.now)) row)) }
     ensures short { length (ended (row_line (columns_of A.writing places.now (map thread_of threads.now)) row)) ≤ LINE_ROOM }
 {
     page.put(b" ");
-    print_cells::<A>(row, threads, widths, places, page);
+    print_cells::<A>(row, threads, widths, places, cells, page);
     page.put(b" ;\n");
 }
 
@@ -81,9 +88,12 @@ fn print_cells<A: Arch>(
     threads: &[Code],
     widths: &[usize],
     places: &Places,
+    cells: &KeptCells,
     page: &mut Page,
 )
     requires printable { All (λ code. IsPrintable A.puts.has A.REGISTERS (length places.now) code) threads.now }
+    requires few { length threads.now ≤ MAX_EDGES }
+    requires kept { cells.now ≡ take KEPT_CELLS (all_texts (columns_of A.writing places.now (map thread_of threads.now))) }
     requires widths { widths.now ≡ map width_of (columns_of A.writing places.now (map thread_of threads.now)) }
     requires short { All (λ width. width ≤ MAX_TEXT) widths.now }
     ensures text { page.new ≡ page_after page.old (join_by (cell_text row) (codes " | ") (columns_of A.writing places.now (map thread_of threads.now))) }
@@ -91,9 +101,11 @@ fn print_cells<A: Arch>(
         ≤ CELL_ROOM * length threads.now }
 {
     let mut cell = Cell::new();
+    let mut first = 0;
     for (thread, code) in threads.iter().enumerate() {
-        set_cell::<A>(row, thread, code, places, &mut cell);
+        take_cell::<A>(row, thread, first, code, places, cells, &mut cell);
         print_cell(thread, cell.as_str().as_bytes(), widths[thread], page);
+        first += code.instrs.len() + 1;
     }
 }
 

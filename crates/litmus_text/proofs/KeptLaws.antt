@@ -1,0 +1,115 @@
+-- Cells that are kept are those of the columns, one column after the other.
+use Rattle.std.proofs.Common.{◌≡◌, ◌<◌, ◌≤◌, ◌+◌, ◌*◌, ℕ, zero, suc, List, [], ◌∷◌, ◌++◌, length, map, take, get_or, max}
+use Rattle.std.proofs.Common.{refl, sym, ap, ◌∙◌, arith, append_assoc, append-nil}
+use Rattle.std.proofs.lemmas.List.{get_or-take, get_or_append_left, get_or-append-add, length-append, length-map, map-append, take-append-le, take_more, take_all}
+use Rattle.arch_trait.specs.declared.code.Code.{Code}
+use Rattle.arch_trait.specs.Writing.{Writing}
+use Rattle.arch_trait.specs.Codes.{thread_of}
+use Rattle.litmus_text.specs.TestText.{column_of, columns_of}
+use Rattle.litmus_text.specs.KeptCells.{all_texts, HoldsColumn}
+use Rattle.litmus_text.proofs.TableLaws.{column_at, length_columns, length-column_of, widest, widest_more}
+
+take_again : (n : ℕ) (a b : List (List ℕ)) → take n (take n a ++ b) ≡ take n (a ++ b)
+take_again zero a b = refl
+take_again (suc n) [] b = refl
+take_again (suc n) (x ∷ a) b = ap (λ rest. x ∷ rest) (take_again n a b)
+
+-- a text is kept where there is room
+pub text_kept : {A : Type 0} (f : A → List ℕ) (n : ℕ) (old new : List A) (x : A) → length old < n → new ≡ old ++ x ∷ [] → map f new ≡ take n (map f old ++ f x ∷ [])
+text_kept f n old new x room e =
+    let all : length (map f old ++ f x ∷ []) ≤ n = omega (arith, length-append (map f old) (f x ∷ []), length-map old f) in
+    ap (map f) e ∙ map-append f old (x ∷ []) ∙ sym (take_all n (map f old ++ f x ∷ []) all)
+
+-- and not where there is none
+pub text_lost : {A : Type 0} (f : A → List ℕ) (n : ℕ) (old new : List A) (x : A) → n ≡ length old → new ≡ old → map f new ≡ take n (map f old ++ f x ∷ [])
+text_lost f n old new x full e =
+    let all : length (map f old) ≤ n = omega (arith, full, length-map old f) in
+    let cut : n ≤ length (map f old) = omega (arith, full, length-map old f) in
+    ap (map f) e ∙ sym (take_all n (map f old) all) ∙ sym (take-append-le n (map f old) (f x ∷ []) cut)
+
+-- before the first text of a list
+pub kept_none : (n : ℕ) (start : List (List ℕ)) → length start ≤ n → start ≡ take n (start ++ [])
+kept_none n start h = sym (ap (take n) (append-nil start) ∙ take_all n start h)
+
+-- one more text is kept after those of a list
+pub kept_more : (n : ℕ) (start texts old new : List (List ℕ)) (i : ℕ) (text : List ℕ) → i < length texts → text ≡ get_or texts i []
+    → old ≡ take n (start ++ take i texts) → new ≡ take n (old ++ text ∷ []) → new ≡ take n (start ++ take (i + 1) texts)
+kept_more n start texts old new i text h is old_is new_is =
+    new_is ∙ ap (λ old. take n (old ++ text ∷ [])) old_is ∙ take_again n (start ++ take i texts) (text ∷ [])
+    ∙ ap (take n) (append_assoc start (take i texts) (text ∷ []) ∙ ap (λ more. start ++ (take i texts ++ more ∷ [])) is ∙ ap (λ all. start ++ all) (sym (take_more texts i [] h)))
+
+-- the widest text of one row more
+pub wider : (column : List (List ℕ)) (row width new : ℕ) (text : List ℕ) → row < length column → text ≡ get_or column row []
+    → width ≡ widest (take row column) → new ≡ max width (length text) → new ≡ widest (take (row + 1) column)
+wider column row width new text h is e f =
+    f ∙ ap (λ width. max width (length text)) e ∙ ap (λ text. max (widest (take row column)) (length text)) is ∙ sym (widest_more column row h)
+
+-- all of them are
+pub kept_whole : (n : ℕ) (start texts kept : List (List ℕ)) (i : ℕ) → length texts ≤ i → kept ≡ take n (start ++ take i texts) → kept ≡ take n (start ++ texts)
+kept_whole n start texts kept i h e = e ∙ ap (λ all. take n (start ++ all)) (take_all i texts h)
+
+all_texts_more : (columns : List (List (List ℕ))) (column : List (List ℕ)) → all_texts (columns ++ column ∷ []) ≡ all_texts columns ++ column
+all_texts_more [] column = append-nil column
+all_texts_more (c ∷ columns) column = ap (λ rest. c ++ rest) (all_texts_more columns column) ∙ sym (append_assoc c (all_texts columns) column)
+
+texts_more : (columns : List (List (List ℕ))) (i : ℕ) → i < length columns → all_texts (take (i + 1) columns) ≡ all_texts (take i columns) ++ get_or columns i []
+texts_more columns i h = ap all_texts (take_more columns i [] h) ∙ all_texts_more (take i columns) (get_or columns i [])
+
+length_take : (n : ℕ) (xs : List (List ℕ)) → length (take n xs) ≤ n
+length_take zero xs = omega arith
+length_take (suc n) [] = omega arith
+length_take (suc n) (x ∷ xs) = let rest = length_take n xs in omega arith
+
+-- no more texts are kept than there is room for
+pub kept_few : (n : ℕ) (kept texts : List (List ℕ)) → kept ≡ take n texts → length kept ≤ n
+kept_few n kept texts e = omega (arith, ap length e, length_take n texts)
+
+-- one more column is kept
+pub column_more : (n : ℕ) (w : Writing) (places : List (List ℕ)) (threads : List Code) (i : ℕ) (code : Code) (old new : List (List ℕ)) → i < length threads → code ≡ get_or threads i code
+    → old ≡ take n (all_texts (take i (columns_of w places (map thread_of threads)))) → new ≡ take n (old ++ column_of w places (i, thread_of code))
+    → new ≡ take n (all_texts (take (i + 1) (columns_of w places (map thread_of threads))))
+column_more n w places threads i code old new h is old_is new_is =
+    let columns = columns_of w places (map thread_of threads) in
+    let long : i < length columns = omega (arith, length_columns w places threads) in
+    new_is ∙ ap (λ old. take n (old ++ column_of w places (i, thread_of code))) old_is ∙ take_again n (all_texts (take i columns)) (column_of w places (i, thread_of code))
+    ∙ ap (λ column. take n (all_texts (take i columns) ++ column)) (sym (column_at w places threads i code h is)) ∙ ap (take n) (sym (texts_more columns i long))
+
+-- all columns are
+pub columns_whole : (n : ℕ) (w : Writing) (places : List (List ℕ)) (threads : List Code) (i : ℕ) (kept : List (List ℕ)) → length threads ≤ i
+    → kept ≡ take n (all_texts (take i (columns_of w places (map thread_of threads)))) → kept ≡ take n (all_texts (columns_of w places (map thread_of threads)))
+columns_whole n w places threads i kept h e =
+    e ∙ ap (λ columns. take n (all_texts columns)) (take_all i (columns_of w places (map thread_of threads)) (omega (arith, length_columns w places threads)))
+
+-- where the next column begins
+pub first_more : (w : Writing) (places : List (List ℕ)) (threads : List Code) (i : ℕ) (code : Code) (old new : ℕ) → i < length threads → code ≡ get_or threads i code
+    → old ≡ length (all_texts (take i (columns_of w places (map thread_of threads)))) → new ≡ old + (length code.instrs.items + 1)
+    → new ≡ length (all_texts (take (i + 1) (columns_of w places (map thread_of threads))))
+first_more w places threads i code old new h is old_is new_is =
+    let columns = columns_of w places (map thread_of threads) in
+    let long : i < length columns = omega (arith, length_columns w places threads) in
+    let more = ap length (texts_more columns i long ∙ ap (λ column. all_texts (take i columns) ++ column) (column_at w places threads i code h is)) in
+    omega (arith, more, old_is, new_is, length-append (all_texts (take i columns)) (column_of w places (i, thread_of code)), length-column_of w places (i, thread_of code))
+
+in_column : (columns : List (List (List ℕ))) (i row : ℕ) → i < length columns → row < length (get_or columns i [])
+    → get_or (all_texts columns) (length (all_texts (take i columns)) + row) [] ≡ get_or (get_or columns i []) row []
+in_column [] i row h g = absurd (omega arith)
+in_column (c ∷ cs) zero row h g =
+    let e : 0 + row ≡ row = omega arith in
+    rw e (get_or_append_left c (all_texts cs) [] row g)
+in_column (c ∷ cs) (suc i) row h g =
+    let e : length (c ++ all_texts (take i cs)) + row ≡ length c + (length (all_texts (take i cs)) + row) = omega (arith, length-append c (all_texts (take i cs))) in
+    rw e (get_or-append-add c (all_texts cs) (length (all_texts (take i cs)) + row) [] ∙ in_column cs i row (omega arith) g)
+
+-- the texts of a thread's column that are kept are at its places
+pub holds_column : (n : ℕ) (w : Writing) (places : List (List ℕ)) (threads : List Code) (i first : ℕ) (code : Code) (kept : List (List ℕ)) → i < length threads → code ≡ get_or threads i code
+    → kept ≡ take n (all_texts (columns_of w places (map thread_of threads))) → first ≡ length (all_texts (take i (columns_of w places (map thread_of threads))))
+    → HoldsColumn kept first (column_of w places (i, thread_of code))
+holds_column n w places threads i first code kept h is kept_is first_is row inside within =
+    let columns = columns_of w places (map thread_of threads) in
+    let whole = all_texts columns in
+    let long : i < length columns = omega (arith, length_columns w places threads) in
+    let column = column_at w places threads i code h is in
+    let near : first + row < n = omega (arith, within, ap length kept_is, length_take n whole) in
+    let inner : row < length (get_or columns i []) = rw column inside in
+    ap (λ kept. get_or kept (first + row) []) kept_is ∙ get_or-take n whole (first + row) [] near
+    ∙ ap (λ first. get_or whole (first + row) []) first_is ∙ in_column columns i row long inner ∙ ap (λ column. get_or column row []) column
