@@ -139,8 +139,8 @@ store_op_runs Plain fits v a p n mask data_mask r e holds = run_store v a p n ma
 store_op_runs Release fits v a p n mask data_mask r e holds = run_store_release v a p n mask data_mask r e holds
 store_op_runs Acquire fits v a p n mask data_mask r e holds = cc
 
--- a register other than the address's is as it was after the address was added
-but_address : (d p mask : ℕ) (r : Run) → IsBut d r (holding r d (address p mask))
+-- once the address is in a register, the others are as they were
+pub but_address : (d p mask : ℕ) (r : Run) → IsBut d r (holding r d (address p mask))
 but_address d p mask r = record {
   regs = λ s e. written_other r.state.regs d s (address p mask) e;
   made = refl;

@@ -1,5 +1,5 @@
 -- The parts of which the texts of instructions are made stand in cells.
-use Rattle.std.proofs.Common.{◌≡◌, ◌<◌, ◌+◌, ◌^◌, ℕ, List, [], ◌∷◌, ◌++◌, true, length, length-append, refl, ◌∙◌, arith}
+use Rattle.std.proofs.Common.{◌≡◌, ◌<◌, ◌^◌, ℕ, List, [], ◌∷◌, ◌++◌, true, refl, ◌∙◌, arith}
 use Rattle.std.specs.Prelude.{Bool}
 use Rattle.std.specs.Char.{is_ascii_digit}
 use Rattle.std.specs.Fmt.{decimal}
@@ -10,7 +10,6 @@ use Rattle.std.proofs.lemmas.List.Folds.{list_all-append}
 use Rattle.text_laws.specs.Names.{is_place_name, is_place_byte}
 use Rattle.final_cond.proofs.BackLaws.{digits_of, place_bytes}
 use Rattle.arch_trait.specs.Cells.{is_cell_byte}
-use Rattle.arch_trait.specs.Writing.{bracketed}
 
 pub all_both : (p : ℕ → Bool) (xs ys : List ℕ) → list_all p xs ≡ true → list_all p ys ≡ true → list_all p (xs ++ ys) ≡ true
 all_both p xs ys h k = list_all-append p xs ys ∙ and_from (list_all p xs) (list_all p ys) h k
@@ -33,10 +32,3 @@ place_cell name h = weaker is_place_byte is_cell_byte place_in_cell name (place_
 -- a number
 pub decimal_cell : (n : ℕ) → n < 2 ^ 32 → list_all is_cell_byte (decimal n) ≡ true
 decimal_cell n h = weaker is_ascii_digit is_cell_byte digit_in_cell (decimal n) (digits_of n h).all
-
--- a text in brackets
-pub bracketed_cell : (text : List ℕ) → list_all is_cell_byte text ≡ true → list_all is_cell_byte (bracketed text) ≡ true
-bracketed_cell text h = and_from true (list_all is_cell_byte (text ++ 93 ∷ [])) refl (all_both is_cell_byte text (93 ∷ []) h refl)
-
-pub length-bracketed : (text : List ℕ) → length (bracketed text) ≡ length text + 2
-length-bracketed text = omega (arith, length-append text (93 ∷ []))

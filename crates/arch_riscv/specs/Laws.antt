@@ -3,6 +3,7 @@ use Rattle.std.proofs.Common.{ℕ, ◌<◌, ◌≡◌, ◌==◌, refl, false, bi
 use Rattle.std.proofs.lemmas.Bool.Decides.{nat_tests}
 use Rattle.std.proofs.lemmas.Bool.{and_from, or_left, eq-eqb}
 use Rattle.relax_edges.specs.declared.kinds.ArchName.TheVariants as archs
+use Rattle.relax_edges.specs.declared.kinds.Mark.TheVariants.{Plain}
 use Rattle.micro_ops.specs.declared.operation.Micro.TheVariants as ops
 use Rattle.micro_ops.specs.Machine.{num, address, at_place, bit}
 use Rattle.micro_ops.specs.Running.{Run, At, go, exec}
@@ -10,7 +11,7 @@ use Rattle.micro_ops.proofs.Masks.{zero_or}
 use Rattle.micro_ops.proofs.Rules.{holding, after_branch, run_or_imm, run_add_address, run_load, run_load_wants, run_store, run_branch_nz}
 use Rattle.arch_trait.specs.Laws.{DidLink, IsWanting, IsArch}
 use Rattle.arch_trait.proofs.Accesses.{written_same, written_other}
-use Rattle.arch_laws.proofs.Addressed.{IsBut, LoadsBy, StoresBy, KeepsInstructions, keeps_laws}
+use Rattle.arch_laws.proofs.Addressed.{LoadsBy, StoresBy, KeepsInstructions, but_address, keeps_laws}
 use Rattle.form_laws.specs.Tables.{fits}
 use Rattle.form_laws.proofs.Barriers.{fences_had}
 use Rattle.arch_riscv.specs.Table.{forms, table}
@@ -28,18 +29,8 @@ branch_runs s n v k r e = record {
   regs_is = refl;
 }
 
--- the dependency register holds the address, which depends on its loads, before the access
-added : (d p mask : ℕ) (r : Run) → IsBut d r (holding r d (address p mask))
-added d p mask r = record {
-  regs = λ s e. written_other r.state.regs d s (address p mask) e;
-  made = refl;
-  control = refl;
-  loads = refl;
-  reads = refl;
-}
-
 load_runs : (d v a p n mask : ℕ) (vs : List ℕ) (r : Run) → r.state.regs a ≡ at_place p →
-    r.state.regs d ≡ num 0 mask → r.reads ≡ n ∷ vs → LoadsBy (instructions.load d v a) r d v p n mask vs
+    r.state.regs d ≡ num 0 mask → r.reads ≡ n ∷ vs → LoadsBy Plain (instructions.load d v a) r d v p n mask vs
 load_runs d v a p n mask vs r e g reads =
     let u = holding r d (address p mask) in
     record {
@@ -47,7 +38,7 @@ load_runs d v a p n mask vs r e g reads =
       ran =
           ap (λ x. go (ops.Load v d None) x) (run_add_address d d a p mask r g e) ∙
           run_load v d p n mask vs u (written_same r.state.regs d (address p mask)) reads;
-      same = added d p mask r;
+      same = but_address d p mask r;
     }
 
 load_wants : (d v a p mask : ℕ) (r : Run) → r.state.regs a ≡ at_place p →
@@ -63,7 +54,7 @@ load_wants d v a p mask r e g reads =
 
 store_runs : (d v a p n mask : ℕ) (r : Run) → r.state.regs a ≡ at_place p →
     r.state.regs d ≡ num 0 mask → r.state.regs v ≡ num n 0 → (v == d) ≡ false →
-    StoresBy (instructions.store d v a) r d p n mask
+    StoresBy Plain (instructions.store d v a) r d p n mask
 store_runs d v a p n mask r e g holds apart =
     let u = holding r d (address p mask) in
     record {
@@ -72,7 +63,7 @@ store_runs d v a p n mask r e g holds apart =
           ap (λ x. go (ops.Store v d None) x) (run_add_address d d a p mask r g e) ∙
           run_store v d p n mask 0 u (written_same r.state.regs d (address p mask))
           (written_other r.state.regs d v (address p mask) apart ∙ holds);
-      same = added d p mask r;
+      same = but_address d p mask r;
     }
 
 joins_runs : (d n mask : ℕ) (r : Run) → n < 256 → r.state.regs d ≡ num 0 mask →

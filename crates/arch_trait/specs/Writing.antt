@@ -165,12 +165,6 @@ register_at first count None = None
 register_at first count (Some n) =
     cond (nat_le first n && nat_lt (n - first) count) (Some (n - first)) None
 
--- the register that a text names by a letter and a number
-unfoldable pub register_read : ℕ → ℕ → ℕ → List ℕ → Option ℕ
-register_read letter first count [] = None
-register_read letter first count (b ∷ digits) =
-    cond (b == letter) (register_at first count (number_of digits)) None
-
 -- each operation of an architecture reads back from its text, and its registers have names of their
 -- own
 pub record WritesBack (a : Puts) (w : Writing) : Type 0 where

@@ -33,10 +33,12 @@ pub struct TooManyRegisters;
 
 /// The code of a thread that makes these accesses in order. A thread has at most `MAX_STEPS`; each
 /// link is one of the architecture's, a dependency follows a load, a data dependency leads to a
-/// store, and each mark fits what its access does and is one of the architecture's. Refused exactly where the thread needs more registers than the architecture has.
+/// store, and each mark is one of the architecture's and fits what its access does. Refused exactly
+/// where the thread needs more registers than the architecture has.
 ///
-/// On any numbers that its loads read, the code makes these accesses, each with its mark, and with the barriers and the
-/// dependencies of its link and no others, and leaves the numbers in the registers of the loads.
+/// On any numbers that its loads read, the code makes these accesses, each with its mark and with the
+/// barriers and the dependencies of its link and no others, and leaves the numbers in the registers of
+/// the loads.
 pub fn compile_thread<A: Arch>(steps: &[Step]) -> Result<Code, TooManyRegisters>
     requires fit { FitSteps A.puts.name false steps.now }
     requires few { length steps.now ≤ MAX_STEPS }

@@ -21,10 +21,7 @@ pub use cells::{read_cell, register_named};
 pub use code::{Code, TooManyRegisters, compile_into, compile_thread};
 pub use link::{Link, link_of};
 pub use numbered::Numbered;
-pub use operand::{
-    MAX_IMMEDIATE, immediate, inside_brackets, inside_pointed, push_label, read_bare, read_label,
-    read_label_alone, read_to_label,
-};
+pub use operand::{MAX_IMMEDIATE, immediate, push_label, read_label_alone};
 pub use places::{MAX_PLACES, Places};
 pub use reading::{
     InstrError, Named, Operands, Raw, after_blanks, before_blanks, split_word, trimmed,

@@ -1,7 +1,7 @@
-ghost use Rattle.std.specs.Prelude.{◌≡◌, ◌<◌, ◌≤◌, ◌+◌, ◌++◌, ◌∷◌, [], length, option_map};
-ghost use Rattle.arch_trait.specs.Writing.{immediate, inside_brackets, label_raw, label_name};
+ghost use Rattle.std.specs.Prelude.{◌≡◌, ◌<◌, ◌≤◌, ◌+◌, ◌++◌, ◌∷◌, [], length};
+ghost use Rattle.arch_trait.specs.Writing.{immediate, label_raw, label_name};
 ghost use Rattle.arch_trait.specs.Pieces.{raw_seen, texts_of};
-ghost use Rattle.arch_trait.specs.Forms.{inside_pointed, bare, to_label, label_alone};
+ghost use Rattle.arch_trait.specs.Forms.{label_alone};
 
 use crate::reading::{Named, Operands, Raw};
 use arrayvec::ArrayString;
@@ -23,51 +23,6 @@ pub fn immediate(digits: &[u8]) -> Option<u32>
     }
 }
 
-/// What stands in square brackets, where the text begins and ends with them.
-#[tactic(auto, unfolding(crate::specs::Writing::inside_brackets))]
-pub fn inside_brackets(text: &[u8]) -> Option<&[u8]>
-    ensures { option_map (λ name. name.now) result ≡ inside_brackets text.now }
-{
-    match text {
-        [b'[', name @ .., b']'] => Some(name),
-        _ => None,
-    }
-}
-
-/// What stands in the parentheses of an address without a displacement, as `0(r1)`.
-#[tactic(auto, unfolding(crate::specs::Forms::inside_pointed))]
-pub fn inside_pointed(text: &[u8]) -> Option<&[u8]>
-    ensures { option_map (λ name. name.now) result ≡ inside_pointed text.now }
-{
-    match text {
-        [b'0', b'(', name @ .., b')'] => Some(name),
-        _ => None,
-    }
-}
-
-/// The instruction of an operation that names neither a place nor a label, where it has no operands.
-pub fn read_bare<'a>(op: Micro, operands: Operands<'a>) -> Option<Raw<'a>>
-    ensures { raw_seen result ≡ bare op (texts_of operands.entry) }
-{
-    match operands {
-        Operands::None => Some(Raw::unnamed(op)),
-        _ => None,
-    }
-}
-
-/// The instruction of an operation that names a label, where this is its operand.
-pub fn read_to_label<'a>(op: Micro, operands: Operands<'a>) -> Option<Raw<'a>>
-    ensures { raw_seen result ≡ to_label op (texts_of operands.entry) }
-{
-    match operands {
-        Operands::One(name) => Some(Raw {
-            op,
-            name: Named::Label(name),
-        }),
-        _ => None,
-    }
-}
-
 /// A label as an instruction of its own, where the word ends with a colon and stands alone.
 pub fn read_label_alone<'a>(word: &'a [u8], operands: Operands<'a>) -> Option<Raw<'a>>
     ensures { raw_seen result ≡ label_alone word.now (texts_of operands.entry) }
@@ -80,7 +35,7 @@ pub fn read_label_alone<'a>(word: &'a [u8], operands: Operands<'a>) -> Option<Ra
 
 /// A label as an instruction of its own, where the word ends with a colon.
 #[tactic(auto, unfolding(crate::specs::Writing::label_raw))]
-pub fn read_label(word: &[u8]) -> Option<Raw<'_>>
+fn read_label(word: &[u8]) -> Option<Raw<'_>>
     ensures { raw_seen result ≡ label_raw word.now }
 {
     match word {

@@ -4,7 +4,7 @@ ghost use Rattle.form_laws.specs.Tables.{form_seen, table_seen, does, table_has}
 ghost use Rattle.instruction_forms.specs.Printing.{op_sort};
 
 use crate::fits::does;
-use crate::sorts::{Sort, kind_sort, op_sort};
+use crate::sorts::{Sort, may_do, op_sort};
 use form_laws::{Form, Labels, Table};
 use micro_ops::Micro;
 
@@ -31,10 +31,9 @@ fn any_does(forms: &[Form], op: &Micro, sort: Sort) -> bool
 
 /// Whether an instruction of this form does the operation.
 #[inline(always)]
-#[tactic(auto, using(crate::proofs::OtherSorts::other_sort))]
 fn does_of_sort(form: &Form, op: &Micro, sort: Sort) -> bool
     requires sort { sort ≡ op_sort op.now }
     ensures { result ≡ does op.now (form_seen form.now) }
 {
-    kind_sort(&form.kind) == sort && does(form, op)
+    may_do(form, op, sort) && does(form, op)
 }

@@ -9,7 +9,7 @@ ghost use Rattle.instruction_forms.specs.Printing.{piece_text, byte_before, join
 use crate::fits::{after_hole, fits_first};
 use crate::operands::operands_of;
 use crate::push::{Text, push_label, push_number, push_place, push_short, push_word};
-use crate::sorts::{Sort, kind_sort, op_sort};
+use crate::sorts::{Sort, may_do, op_sort};
 use arch_trait::{MAX_TEXT, Places};
 use arrayvec::ArrayString;
 use form_laws::{Form, Hole, Operand, Piece, Table};
@@ -76,7 +76,6 @@ fn print_first(forms: &[Form], op: &Micro, places: &Places, out: &mut Text)
 
 /// The same as `print_if`. `sort` is that of the operation.
 #[inline(always)]
-#[tactic(auto, using(crate::proofs::OtherSorts::other_sort))]
 fn print_of_sort(form: &Form, op: &Micro, sort: Sort, places: &Places, out: &mut Text) -> bool
     requires sort { sort ≡ op_sort op.now }
     requires good { is_form_good (form_seen form.now) ≡ true }
@@ -86,7 +85,7 @@ fn print_of_sort(form: &Form, op: &Micro, sort: Sort, places: &Places, out: &mut
     ensures printed { result ≡ true → out.new.bytes ≡ form_text (name_in places.now) form.now.word.now (map piece_seen form.now.pieces.now) (given (operands_of form.now.kind op.now)) }
     ensures kept { result ≡ false → out.new.bytes ≡ [] }
 {
-    if kind_sort(&form.kind) == sort {
+    if may_do(form, op, sort) {
         print_if(form, op, places, out)
     } else {
         false

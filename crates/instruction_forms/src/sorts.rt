@@ -1,7 +1,8 @@
-ghost use Rattle.std.specs.Prelude.{◌≡◌};
+ghost use Rattle.std.specs.Prelude.{◌≡◌, false};
+ghost use Rattle.form_laws.specs.Tables.{form_seen, does};
 ghost use Rattle.instruction_forms.specs.Printing.{kind_sort, op_sort};
 
-use form_laws::Kind;
+use form_laws::{Form, Kind};
 use micro_ops::Micro;
 
 /// What an operation does, but for its operands, and what a kind does, but for their order: only an operation
@@ -28,9 +29,18 @@ pub(crate) enum Sort {
     Label,
 }
 
+/// Whether a form may do an operation of this sort: false only where it doesn't.
+#[inline(always)]
+pub(crate) fn may_do(form: &Form, op: &Micro, sort: Sort) -> bool
+    requires sort { sort ≡ op_sort op.now }
+    ensures { result ≡ false → does op.now (form_seen form.now) ≡ false }
+{
+    kind_sort(&form.kind) == sort
+}
+
 /// The sort of what a kind does.
 #[inline]
-pub(crate) fn kind_sort(kind: &Kind) -> Sort
+fn kind_sort(kind: &Kind) -> Sort
     ensures { result ≡ kind_sort kind.now }
 {
     match *kind {

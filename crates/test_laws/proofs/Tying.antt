@@ -41,8 +41,8 @@ use Rattle.test_laws.proofs.Making.{candidate_enough, candidate_lists}
 
 -- an edge to another thread ties nothing
 external_ties : (kind : Kind) (edge : Edge) (threads : List (List Access)) (e f : Named) → kind_of edge ≡ kind → is_external edge ≡ true → TiesBy kind threads e f
-external_ties (kinds.Com com Internal) edge threads e f q h = let a = rw q at h in cc
-external_ties (kinds.Com com External) edge threads e f q h = tt
+external_ties (kinds.Com which Internal) edge threads e f q h = let a = rw q at h in cc
+external_ties (kinds.Com which External) edge threads e f q h = tt
 external_ties (kinds.Po sd from to) edge threads e f q h = let a = rw q at h in cc
 external_ties (kinds.Fenced fence sd from to) edge threads e f q h = let a = rw q at h in cc
 external_ties (kinds.Dep dep sd to) edge threads e f q h = let a = rw q at h in cc
@@ -157,7 +157,7 @@ event_mark codes es mode number x i e r m c h u =
         let d = thread_did codes es mode number x (event_thread es i) m c (record { steps = thread_steps es number (event_thread es i); reads = t.reads; steps_at = stands; reads_at = t.reads_at }) in
         let visit = event_visit es (visits_in (program_of codes (move_count es)) x) i e (event_thread es i) (slot_of es i) (thread_visits (thread_steps es number (event_thread es i)) 0 0 (values_read t.reads)) u refl refl d.visits_are in
         let made = visit_at (thread_steps es number (event_thread es i)) 0 0 (values_read t.reads) (slot_of es i) (event_step es number i) e.visit
-            (got_map (event_step es number) (events_in es (event_thread es i)) (slot_of es i) i (event_in_slot es i h)) visit in
+        (got_map (event_step es number) (events_in es (event_thread es i)) (slot_of es i) i (event_in_slot es i h)) visit in
         ap (λ (y : Visit). y.mark) made.is
 
 -- the marks of the accesses of the program of a cycle's test, and what stands between them, are what the edges say, and

@@ -164,7 +164,12 @@ pub fn try_marks(rt: &impl Abort) {
     compiles::<A64>(
         rt,
         &[READ_Y, WRITE_X_RELEASE_BY_VALUE],
-        &["LDR W0,[X1]", "EOR W2,W0,W0", "ADD W2,W2,#1", "STLR W2,[X3]"],
+        &[
+            "LDR W0,[X1]",
+            "EOR W2,W0,W0",
+            "ADD W2,W2,#1",
+            "STLR W2,[X3]",
+        ],
         &[(1, 1), (3, 0)],
     );
 }
