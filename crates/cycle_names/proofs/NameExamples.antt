@@ -1,5 +1,7 @@
 -- Names of cycles, computed from the definition.
-use Rattle.std.proofs.Common.{◌≡◌, [], ◌∷◌, refl}
+use Rattle.std.proofs.Common.{◌≡◌, ℕ, List, [], ◌∷◌, Option, Some, refl}
+use Rattle.std.specs.List.{slice_split}
+use Rattle.std.specs.Option.{option_map}
 use Rattle.std.specs.Prelude.{codes}
 use Rattle.relax_edges.specs.declared.kinds.Dir.TheVariants.{R, W}
 use Rattle.relax_edges.specs.declared.kinds.Sd.TheVariants.{Diff}
@@ -9,9 +11,12 @@ use Rattle.relax_edges.specs.declared.kinds.DepKind.TheVariants as deps
 use Rattle.relax_edges.specs.declared.kinds.Com.TheVariants as coms
 use Rattle.relax_edges.specs.declared.edge.Edge.TheVariants as edges
 use Rattle.relax_edges.specs.Order.{rank_of}
+use Rattle.relax_edges.specs.AllEdges.{edges_in_order}
+use Rattle.relax_edges.specs.Spelling.{edge_of}
 use Rattle.cycle_names.specs.Families.{pod, rfe, fre, wse}
 use Rattle.cycle_names.specs.Rotations.{found_family, named_rotation}
 use Rattle.cycle_names.specs.Names.{links_text, name_from, name_of}
+use Rattle.cycle_names.specs.Reading.{is_dash, edges_spelled}
 
 -- `LwSyncdWW Rfe DpAddrdR Fre`, and its rotation by one
 mp_lwsync_addr : name_of (edges.Fenced fences.LwSync Diff W W ∷ rfe ∷ edges.Dep deps.Addr Diff R ∷ fre ∷ []) ≡ codes "MP+lwsync+addr"
@@ -67,3 +72,34 @@ three_writes = refl
 four_sb : name_of (pod W R ∷ fre ∷ pod W R ∷ fre ∷ pod W R ∷ fre ∷ pod W R ∷ fre ∷ []) ≡ codes "C+Fre-PodWR-Fre-PodWR-Fre-PodWR-Fre-PodWR"
 unfolding rank_of found_family named_rotation links_text name_from name_of
 four_sb = refl
+
+-- the name of a cycle by the words of its edges
+named_by : List ℕ → Option (List ℕ)
+named_by words = option_map name_of (edges_spelled (slice_split is_dash words))
+
+-- marks: of links, and of the external edges beside them
+mp_marked : named_by (codes "PodWWPL-RfeLA-PodRRAP-Fre") ≡ Some (codes "MP+popl+poap")
+unfolding named_by edge_of edges_in_order rank_of found_family named_rotation links_text name_from name_of
+mp_marked = refl
+
+turned_mp_marked : named_by (codes "Fre-PodWWPL-RfeLA-PodRRAP") ≡ Some (codes "MP+popl+poap")
+unfolding named_by edge_of edges_in_order rank_of found_family named_rotation links_text name_from name_of
+turned_mp_marked = refl
+
+sb_marked : named_by (codes "FreAL-PodWRLA-FreAL-PodWRLA") ≡ Some (codes "SB+polas")
+unfolding named_by edge_of edges_in_order rank_of found_family named_rotation links_text name_from name_of
+sb_marked = refl
+
+-- `ctrlisb` before `ctrlpl`
+lb_marked : named_by (codes "DpCtrldWPL-RfeLP-DpCtrlIsbdW-Rfe") ≡ Some (codes "LB+ctrlisb+ctrlpl")
+unfolding named_by edge_of edges_in_order rank_of found_family named_rotation links_text name_from name_of
+lb_marked = refl
+
+wrc_marked : named_by (codes "PodRRAP-Fre-RfePA-PodRWAL-RfeLA") ≡ Some (codes "WRC+poal+poap")
+unfolding named_by edge_of edges_in_order rank_of found_family named_rotation links_text name_from name_of
+wrc_marked = refl
+
+-- no family has a marked event between two external edges
+wrc_marked_outside : named_by (codes "RfeLP-PodRW-Rfe-PodRR-FrePL") ≡ Some (codes "C+FrePL-RfeLP-PodRW-Rfe-PodRR")
+unfolding named_by edge_of edges_in_order rank_of found_family named_rotation links_text name_from name_of
+wrc_marked_outside = refl
