@@ -44,7 +44,7 @@ external_ties : (kind : Kind) (edge : Edge) (threads : List (List Access)) (e f 
 external_ties (kinds.Com which Internal) edge threads e f q h = let a = rw q at h in cc
 external_ties (kinds.Com which External) edge threads e f q h = tt
 external_ties (kinds.Po sd from to) edge threads e f q h = let a = rw q at h in cc
-external_ties (kinds.Fenced fence sd from to) edge threads e f q h = let a = rw q at h in cc
+external_ties (kinds.Fenced _ sd from to) edge threads e f q h = let a = rw q at h in cc
 external_ties (kinds.Dep dep sd to) edge threads e f q h = let a = rw q at h in cc
 external_ties (kinds.Data sd) edge threads e f q h = let a = rw q at h in cc
 
