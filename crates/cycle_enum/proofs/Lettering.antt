@@ -1,6 +1,5 @@
 -- The table of letters by another test of which edges are letters.
-use Rattle.std.proofs.Common.{◌≤◌, ◌↔◌, ℕ, Option, Some, None, List, get_or}
-use Rattle.relax_edges.specs.declared.order.TheConstants.{EDGES}
+use Rattle.std.proofs.Common.{◌↔◌, ℕ, Option, Some, None, List, get_or}
 use Rattle.relax_edges.specs.declared.edge.Edge.{Edge}
 use Rattle.cycle_enum.specs.Letters.{IsLetterFrom, HasLettersFrom}
 

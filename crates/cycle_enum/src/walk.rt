@@ -6,7 +6,7 @@ ghost use Rattle.walk_laws.specs.Order.{IsLeast};
 ghost use Rattle.listing_laws.specs.Search.{IsCut, IsFirst, LeadsNowhere, LongerThan, OfLength};
 ghost use Rattle.cycle_enum.specs.Walking.{KnowsOf, Lists, Says, Walking};
 
-use crate::alphabet::{Alphabet, Edges};
+use crate::alphabet::{Alphabet, Edges, closes};
 use crate::limits::Limits;
 use arrayvec::ArrayVec;
 use edge_algebra::{Cycle, cycle, may_begin};
@@ -234,6 +234,9 @@ impl<K: Fn(&[Edge]) -> bool, P: Fn(&Cycle) -> bool> Walk<K, P> {
         ensures some { IfSome result (λ cycle. (cycle ≡ list.now) × Lists P.Fn.post self.now cycle) }
         ensures none { IfNone result (Lists P.Fn.post self.now list.now → ⊥) }
     {
+        if !closes(list) {
+            return None;
+        }
         match cycle(list) {
             Ok(cycle) => {
                 if self.is_listed(&cycle) {
