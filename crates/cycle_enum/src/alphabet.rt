@@ -105,8 +105,9 @@ impl Alphabet {
     fn has(&self, edge: Edge) -> bool
         ensures { IsTrue result ↔ OccursIn self.now edge }
     {
-        match self.letters[usize::from(edge.rank())] {
-            Some(letter) => letter == edge,
+        let rank = edge.rank();
+        match self.letters[usize::from(rank)] {
+            Some(letter) => letter.rank() == rank,
             None => false,
         }
     }
