@@ -6,18 +6,23 @@ use Rattle.list_laws.proofs.Cases.{by_option}
 use Rattle.relax_edges.specs.declared.edge.Edge.{Edge}
 use Rattle.relax_edges.specs.Order.{rank_of}
 use Rattle.relax_edges.proofs.Ranks.{rank_injective}
+use Rattle.walk_laws.specs.Composable.{IsCycle}
 use Rattle.walk_laws.specs.Rotation.{IsRotation, rotated}
 use Rattle.walk_laws.specs.Order.{ranks_below, IsLeast}
+use Rattle.walk_laws.proofs.Laws.{cycle_of_rotation}
 use Rattle.walk_laws.proofs.Rotating.{rotation_same, rotation_back, rotation_on, rotation_length, place_of_rotation, rotation_of_place}
 use Rattle.walk_laws.proofs.Ordering.{above_of_ranks}
 use Rattle.cycle_names.specs.declared.family.Family.{Family}
 use Rattle.cycle_names.specs.Families.{family_edges, all_families}
-use Rattle.cycle_names.specs.Links.{slot_of, outline, link_rank}
+use Rattle.cycle_names.specs.Links.{slot_of, outline}
+use Rattle.cycle_names.specs.Fitting.{word_place}
+use Rattle.cycle_names.specs.Reading.{marked_around}
 use Rattle.cycle_names.specs.Rotations.{rotations, fits, is_of_family, found_family, words_below, edges_below, rotation_in, named_rotation}
 use Rattle.cycle_names.proofs.Members.{Member, any_of_member, member_of_any, member_upto, upto_member, find_same, filter_among, filter_passes, filter_member}
 use Rattle.cycle_names.proofs.Below.{below_irreflexive, below_transitive, neither_below, IsFirst, HasFirst, has_first, first_is_least}
-use Rattle.cycle_names.proofs.Outlines.{outline_of_fits, fits_of_outline, words_by_ranks, same_lists}
-use Rattle.cycle_names.proofs.Families.{fitting, found_is_of}
+use Rattle.cycle_names.proofs.Marks.{told_of, around_back}
+use Rattle.cycle_names.proofs.Outlines.{outline_of_fits, plain_of_fits, words_by_ranks, same_lists}
+use Rattle.cycle_names.proofs.Families.{fitting, found_is_of, fits_either}
 
 -- the members of the list of rotations are the rotations
 pub rotation_of_member : (u v : List Edge) → Member v (rotations u) → IsRotation u v
@@ -43,9 +48,9 @@ rotations_same u v x some r m =
 abbrev pub candidates : Family → List Edge → List (List Edge)
 candidates f u = filter (fits f) (rotations u)
 
--- the order of the ranks of words
+-- the order of the places of words
 abbrev pub links_below : List Edge → List Edge → Bool
-links_below v w = ranks_below (map link_rank v) (map link_rank w)
+links_below v w = ranks_below (map word_place v) (map word_place w)
 
 pub candidate_joins : (f : Family) (u v : List Edge) → Member v (candidates f u) → outline v ≡ family_edges f
 candidate_joins f u v m = outline_of_fits f v (filter_passes (fits f) (rotations u) v m)
@@ -60,31 +65,43 @@ first_by_words f u v h = record { member = h.member; none = λ w m b. h.none w m
 first_by_ranks : (f : Family) (u v : List Edge) → IsFirst words_below (candidates f u) v → IsFirst links_below (candidates f u) v
 first_by_ranks f u v h = record { member = h.member; none = λ w m b. h.none w m (by_words f u w v m h.member ∙ b) }
 
-only_by_words : (f : Family) (u v w : List Edge) → IsFirst words_below (candidates f u) v → IsFirst words_below (candidates f u) w → w ≡ v
-only_by_words f u v w h k =
+-- a cycle that fits a family is what its name tells
+pub fit_back : (f : Family) (v : List Edge) → IsCycle v → fits f v ≡ true → marked_around (map told_of v) ≡ Some v
+fit_back f v c h = around_back v c.closed (plain_of_fits f v h) (fits_either f v h)
+
+candidate_back : (f : Family) (u v : List Edge) → IsCycle u → Member v (candidates f u) → marked_around (map told_of v) ≡ Some v
+candidate_back f u v c m =
+    fit_back f v (cycle_of_rotation u v (rotation_of_member u v (filter_among (fits f) (rotations u) v m)) c) (filter_passes (fits f) (rotations u) v m)
+
+some_list : (u v : List Edge) → Some u ≡ Some v → u ≡ v
+some_list u v e = cc
+
+only_by_words : (f : Family) (u v w : List Edge) → IsCycle u → IsFirst words_below (candidates f u) v → IsFirst words_below (candidates f u) w → w ≡ v
+only_by_words f u v w c h k =
     let a = first_by_ranks f u v h in
     let b = first_by_ranks f u w k in
     let joins : outline w ≡ outline v = candidate_joins f u w k.member ∙ sym (candidate_joins f u v h.member) in
-    let long : length (map link_rank w) ≡ length (map link_rank v) =
-    omega (arith, length-map w link_rank, length-map v link_rank, ap length joins, length-map w slot_of, length-map v slot_of) in
-    same_lists w v joins (neither_below (map link_rank w) (map link_rank v) long (a.none w b.member) (b.none v a.member))
+    let long : length (map word_place w) ≡ length (map word_place v) =
+    omega (arith, length-map w word_place, length-map v word_place, ap length joins, length-map w slot_of, length-map v slot_of) in
+    let told : map told_of w ≡ map told_of v = same_lists w v joins (neither_below (map word_place w) (map word_place v) long (a.none w b.member) (b.none v a.member)) in
+    some_list w v (sym (candidate_back f u w c k.member) ∙ ap marked_around told ∙ candidate_back f u v c h.member)
 
 -- the rotation that a cycle of a family is named from
-pub named_in_family : (f : Family) (u v : List Edge) → found_family u ≡ Some f → IsFirst words_below (candidates f u) v → named_rotation u ≡ v
+pub named_in_family : (f : Family) (u v : List Edge) → IsCycle u → found_family u ≡ Some f → IsFirst words_below (candidates f u) v → named_rotation u ≡ v
 unfolding named_rotation
-named_in_family f u v h k =
+named_in_family f u v c h k =
     ap (λ o. unwrap_or (rotation_in o u) u) h
-    ∙ ap (λ o. unwrap_or o u) (first_is_least words_below (candidates f u) v k (λ w i. only_by_words f u v w k i))
+    ∙ ap (λ o. unwrap_or o u) (first_is_least words_below (candidates f u) v k (λ w i. only_by_words f u v w c k i))
 
 some_first : (xs : List (List Edge)) (x : List Edge) → Member x xs → HasFirst links_below xs
 some_first [] x m = absurd m
-some_first (y ∷ ys) x m = has_first links_below (λ u. below_irreflexive (map link_rank u)) (λ u v w. below_transitive (map link_rank u) (map link_rank v) (map link_rank w)) y ys
+some_first (y ∷ ys) x m = has_first links_below (λ u. below_irreflexive (map word_place u)) (λ u v w. below_transitive (map word_place u) (map word_place v) (map word_place w)) y ys
 
 pub has_named_in_family : (f : Family) (u : List Edge) → found_family u ≡ Some f → HasFirst words_below (candidates f u)
 has_named_in_family f u h =
     let w = fitting u f (found_is_of u f h) in
     let v : List Edge = rotated w.place u in
-    let m : Member v (candidates f u) = filter_member (fits f) (rotations u) v (member_upto (λ k. rotated k u) (length u) w.place w.within) (fits_of_outline f v w.joins) in
+    let m : Member v (candidates f u) = filter_member (fits f) (rotations u) v (member_upto (λ k. rotated k u) (length u) w.place w.within) w.fit in
     let r = some_first (candidates f u) v m in
     record { one = r.one; is = first_by_words f u r.one r.is }
 
@@ -160,8 +177,9 @@ candidates_turned f u v x some r m =
     filter_member (fits f) (rotations v) x (rotations_same u v x some r (filter_among (fits f) (rotations u) x m)) (filter_passes (fits f) (rotations u) x m)
 
 -- rotations of one cycle are named from one rotation
-pub named_turned : (u v : List Edge) → 0 < length u → IsRotation u v → named_rotation u ≡ named_rotation v
-named_turned u v some r =
+pub named_turned : (u v : List Edge) → IsCycle u → IsRotation u v → named_rotation u ≡ named_rotation v
+named_turned u v c r =
+    let some : 0 < length u = c.some in
     let back : IsRotation v u = rotation_back u v r in
     let more : 0 < length v = rotation_some u v some r in
     let same : found_family u ≡ found_family v = family_turned u v some r in
@@ -173,24 +191,24 @@ named_turned u v some r =
     (same_first edges_below (rotations u) (rotations v) w.one (λ x. rotations_same u v x some r) (λ x. rotations_same v u x more back) w.is)))
     (λ f h.
     let w = has_named_in_family f u h in
-    named_in_family f u w.one h w.is
-    ∙ sym (named_in_family f v w.one (sym same ∙ h)
+    named_in_family f u w.one c h w.is
+    ∙ sym (named_in_family f v w.one (cycle_of_rotation u v r c) (sym same ∙ h)
     (same_first words_below (candidates f u) (candidates f v) w.one (λ x. candidates_turned f u v x some r) (λ x. candidates_turned f v u x more back) w.is)))
 
 -- the rotation that a cycle is named from is a rotation of it
-pub named_rotates : (u : List Edge) → 0 < length u → IsRotation u (named_rotation u)
-named_rotates u some =
+pub named_rotates : (u : List Edge) → IsCycle u → IsRotation u (named_rotation u)
+named_rotates u c =
     let P : List Edge → Type 0 = λ v. IsRotation u v in
     by_option (found_family u)
     (λ h.
-    let w = has_named_in_none u some in
+    let w = has_named_in_none u c.some in
     subst P (sym (named_in_none u w.one h w.is)) (rotation_of_member u w.one w.is.member))
     (λ f h.
     let w = has_named_in_family f u h in
-    subst P (sym (named_in_family f u w.one h w.is)) (rotation_of_member u w.one (filter_among (fits f) (rotations u) w.one w.is.member)))
+    subst P (sym (named_in_family f u w.one c h w.is)) (rotation_of_member u w.one (filter_among (fits f) (rotations u) w.one w.is.member)))
 
 -- and fits the family that the cycle is of
-pub named_joins : (u : List Edge) (f : Family) → found_family u ≡ Some f → outline (named_rotation u) ≡ family_edges f
-named_joins u f h =
+pub named_fits : (u : List Edge) (f : Family) → IsCycle u → found_family u ≡ Some f → fits f (named_rotation u) ≡ true
+named_fits u f c h =
     let w = has_named_in_family f u h in
-    ap outline (named_in_family f u w.one h w.is) ∙ candidate_joins f u w.one w.is.member
+    ap (fits f) (named_in_family f u w.one c h w.is) ∙ filter_passes (fits f) (rotations u) w.one w.is.member

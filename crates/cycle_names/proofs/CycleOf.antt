@@ -1,13 +1,16 @@
 -- What is read is the cycle of the name, and what is refused is no name.
-use Rattle.std.specs.Prelude.{◌≡◌, ◌≤◌, ℕ, true, false, Option, Some, None, nat_lt, Result, Ok, Err, IsOk, List, [], ◌∷◌, ◌++◌, length, drop, codes}
+use Rattle.std.specs.Prelude.{◌≡◌, ◌≤◌, ℕ, suc, true, false, Option, Some, None, nat_lt, Result, Ok, Err, IsOk, List, [], ◌∷◌, ◌++◌, length, drop, codes}
 use Rattle.std.specs.Str.{bytes_eq}
 use Rattle.std.specs.Cmp.Lexicographic.{bytes_decides}
-use Rattle.std.proofs.Common.{sym, ◌∙◌, ap, arith}
+use Rattle.std.proofs.Common.{refl, sym, ◌∙◌, ap, arith}
 use Rattle.std.proofs.lemmas.Bool.{and_parts, cond-true, cond-false}
-use Rattle.list_laws.proofs.Cases.{by_test}
+use Rattle.list_laws.proofs.Cases.{by_test, by_option}
 use Rattle.relax_edges.specs.declared.TheConstants.{MAX_EDGES}
 use Rattle.relax_edges.specs.declared.kinds.ArchName.{ArchName}
+use Rattle.relax_edges.specs.declared.kinds.Mark.{Mark}
+use Rattle.relax_edges.specs.declared.kinds.Mark.TheVariants.{Plain}
 use Rattle.relax_edges.specs.declared.edge.Edge.{Edge}
+use Rattle.relax_edges.specs.EdgeTable.{target_mark}
 use Rattle.relax_edges.specs.Words.{word_of}
 use Rattle.std.specs.List.{join_by}
 use Rattle.walk_laws.specs.Composable.{IsCycle, first_break}
@@ -24,7 +27,7 @@ use Rattle.cycle_names.specs.Links.{link_words}
 use Rattle.cycle_names.specs.Rotations.{found_family, named_rotation}
 use Rattle.cycle_names.specs.Names.{links_text, name_from, name_of}
 use Rattle.cycle_names.specs.Fitting.{IsNamedAt}
-use Rattle.cycle_names.specs.Reading.{begins_with, named_family, filled, words_read, read_in, edges_read, Adds}
+use Rattle.cycle_names.specs.Reading.{begins_with, named_family, before, marked_between, first_mark, last_mark, marked_along, marked_around, marked_if, filled, words_read, read_in, edges_read, Adds}
 use Rattle.cycle_names.specs.Laws.{are_of_arch, IsNamed, NamesNone}
 use Rattle.cycle_names.proofs.Members.{found_passes}
 use Rattle.cycle_names.proofs.Chosen.{named_rotates, least_named}
@@ -51,8 +54,8 @@ pub record ReadAs (u edges : List Edge) (E : Type 0) (result : Result (Unit {0})
 pub read_as : {E : Type 0} (name text : List ℕ) (old edges : List Edge) (result : Result (Unit {0}) E) → text ≡ name → old ≡ [] → Adds (edges_read text) old edges result
     → (u : List Edge) → IsCycle u → name_of u ≡ name → ReadAs u edges E result
 read_as name text old edges result i e a u c h =
-    let found : edges_read text ≡ Some (named_rotation u) = ap edges_read (i ∙ sym h) ∙ name_back u c.some in
-    let r = a (named_rotation u) found (omega (arith, ap length e, c.few, rotation_length u (named_rotation u) (named_rotates u c.some))) in
+    let found : edges_read text ≡ Some (named_rotation u) = ap edges_read (i ∙ sym h) ∙ name_back u c in
+    let r = a (named_rotation u) found (omega (arith, ap length e, c.few, rotation_length u (named_rotation u) (named_rotates u c))) in
     record { done = r.0; edges_are = r.1 ∙ ap (λ w. w ++ named_rotation u) e }
 
 -- nothing is read: no name
@@ -89,7 +92,7 @@ pub none_of_arch : {E : Type 0} (name text : List ℕ) (arch : ArchName) (old ed
     → are_of_arch arch edges ≡ false → NamesNone name arch
 none_of_arch name text arch old edges result i e a k u c o h =
     let r = read_as name text old edges result i e a u c h in
-    let t : are_of_arch arch edges ≡ true = ap (are_of_arch arch) r.edges_are ∙ sym (arch_turned arch u (named_rotation u) (named_rotates u c.some)) ∙ o in
+    let t : are_of_arch arch edges ≡ true = ap (are_of_arch arch) r.edges_are ∙ sym (arch_turned arch u (named_rotation u) (named_rotates u c)) ∙ o in
     let z : true ≡ false = sym t ∙ k in
     cc
 
@@ -110,14 +113,61 @@ begins_long (b ∷ word) (c ∷ text) h = omega (arith, begins_long word text (a
 pub word_fits : (families : List Family) (text word : List ℕ) (f : Family) → Some f ≡ named_family families text → word ≡ family_word f → length word ≤ length text
 word_fits families text word f h w = rw w (begins_long (family_word f) text (found_passes (λ f. begins_with (family_word f) text) families f (sym h)))
 
+-- where there is a list of edges there is the rest of it
+record HasRest (p : Option (List Edge)) (v : List Edge) : Type 0 where
+  rest : List Edge
+  is : p ≡ Some rest
+  long : length v ≡ suc (length rest)
+
+some_edges : (u v : List Edge) → Some u ≡ Some v → u ≡ v
+some_edges u v z = cc
+
+before_long : (o : Option Edge) (p : Option (List Edge)) (v : List Edge) → before o p ≡ Some v → HasRest p v
+before_long (Some e) (Some w) v h = record { rest = w; is = refl; long = ap length (some_edges v (e ∷ w) (sym h)) }
+before_long (Some e) None v h = cc
+before_long None p v h = cc
+
+along_long : (from : Mark) (u : List Edge) (to : Mark) (v : List Edge) → marked_along from u to ≡ Some v → length v ≡ length u
+along_long from [] to v h = ap length (some_edges v [] (sym h))
+along_long from (e ∷ u) to v h =
+    let r = before_long (marked_between from e (first_mark u to)) (marked_along (target_mark e) u to) v h in
+    r.long ∙ ap suc (along_long (target_mark e) u to r.rest r.is)
+
 -- what is read where the text begins with a family's name, and where it doesn't
-pub read_family : {E : Type 0} (families : List Family) (text word behind : List ℕ) (f : Family) (slots old new : List Edge) (result : Result (Unit {0}) E) → families ≡ all_families → Some f ≡ named_family families text
-    → word ≡ family_word f → slots ≡ family_edges f → behind ≡ drop (length word) text → Adds (filled slots behind) old new result → Adds (edges_read text) old new result
+read_same : (families : List Family) (text word behind : List ℕ) (f : Family) (slots : List Edge) → families ≡ all_families → Some f ≡ named_family families text
+    → word ≡ family_word f → slots ≡ family_edges f → behind ≡ drop (length word) text → edges_read text ≡ marked_if (filled slots behind)
 unfolding edges_read
-read_family families text word behind f slots old new result e h w s b a edges found fits =
-    let same : edges_read text ≡ filled slots behind =
-    ap (λ fs. read_in (named_family fs text) text) (sym e) ∙ ap (λ o. read_in o text) (sym h) ∙ ap (λ x. filled (family_edges f) (drop (length x) text)) (sym w) ∙ ap (filled (family_edges f)) (sym b) ∙ ap (λ u. filled u behind) (sym s) in
-    a edges (sym same ∙ found) fits
+read_same families text word behind f slots e h w s b =
+    ap (λ fs. read_in (named_family fs text) text) (sym e) ∙ ap (λ o. read_in o text) (sym h) ∙ ap (λ x. marked_if (filled (family_edges f) (drop (length x) text))) (sym w) ∙ ap (λ x. marked_if (filled (family_edges f) x)) (sym b) ∙ ap (λ u. marked_if (filled u behind)) (sym s)
+
+-- the edges that a name of a family tells, and none where it tells nothing
+module _ {E : Type 0} where
+  pub family_marked : (families : List Family) (text word behind : List ℕ) (f : Family) (slots old new start unmarked given : List Edge) (told result : Result (Unit {0}) E) → families ≡ all_families → Some f ≡ named_family families text →
+      word ≡ family_word f → slots ≡ family_edges f → behind ≡ drop (length word) text → old ≡ [] → start ≡ [] → Adds (filled slots behind) start unmarked told → given ≡ unmarked → Adds (marked_around given) old new result → Adds (edges_read text) old new result
+  family_marked families text word behind f slots old new start unmarked given told result e h w s b o n a g m edges found fit =
+      let same : edges_read text ≡ marked_if (filled slots behind) = read_same families text word behind f slots e h w s b in
+      by_option (filled slots behind)
+      (λ n. let z : None ≡ Some edges = sym (same ∙ ap marked_if n) ∙ found in cc)
+      (λ raw r.
+      let made : marked_around raw ≡ Some edges = sym (same ∙ ap marked_if r) ∙ found in
+      let long : length edges ≡ length raw = along_long (last_mark Plain raw) raw (first_mark raw Plain) edges made in
+      let got = a raw r (omega (arith, fit, long, ap length n)) in
+      let given_is : given ≡ raw = g ∙ got.1 ∙ ap (λ v. v ++ raw) n in
+      m edges (ap marked_around given_is ∙ made) fit)
+
+  pub family_none : (families : List Family) (text word behind : List ℕ) (f : Family) (slots old new start unmarked : List Edge) (error : E) (result : Result (Unit {0}) E) → families ≡ all_families → Some f ≡ named_family families text →
+      word ≡ family_word f → slots ≡ family_edges f → behind ≡ drop (length word) text → old ≡ [] → start ≡ [] → Adds (filled slots behind) start unmarked (Err error) → Adds (edges_read text) old new result
+  family_none families text word behind f slots old new start unmarked error result e h w s b o n a edges found fit =
+      let same : edges_read text ≡ marked_if (filled slots behind) = read_same families text word behind f slots e h w s b in
+      by_option (filled slots behind)
+      (λ n. let z : None ≡ Some edges = sym (same ∙ ap marked_if n) ∙ found in cc)
+      (λ raw r.
+      let made : marked_around raw ≡ Some edges = sym (same ∙ ap marked_if r) ∙ found in
+      let long : length edges ≡ length raw = along_long (last_mark Plain raw) raw (first_mark raw Plain) edges made in
+      absurd (not_ok (a raw r (omega (arith, fit, long, ap length n))).0))
+    where
+      not_ok : false ≡ true → ⊥
+      not_ok z = cc
 
 pub read_none : {E : Type 0} (families : List Family) (text : List ℕ) (old new : List Edge) (result : Result (Unit {0}) E) → families ≡ all_families → None ≡ named_family families text
     → Adds (words_read text) old new result → Adds (edges_read text) old new result

@@ -1,7 +1,7 @@
 -- The table of families: no rotation of one is another, each has two links or more and at most six edges, and no name begins another.
 use Rattle.std.specs.Prelude.{◌≡◌, ◌<◌, ◌≤◌, ◌==◌, ◌&&◌, ◌||◌, ℕ, Bool, true, false, not, Some, None, List, [], ◌∷◌, ◌++◌, length, filter, nat_le, slice_get}
 use Rattle.std.specs.List.{list_any, list_all}
-use Rattle.std.proofs.Common.{refl, ◌∙◌, ap, subst, arith, inl, inr}
+use Rattle.std.proofs.Common.{refl, sym, ◌∙◌, ap, subst, arith, inl, inr}
 use Rattle.std.proofs.lemmas.Bool.{eqb-true, eq-eqb, leb-true, and_parts, or_cases}
 use Rattle.std.proofs.lemmas.List.{length-map}
 use Rattle.relax_edges.specs.declared.edge.Edge.{Edge}
@@ -15,10 +15,12 @@ use Rattle.cycle_names.specs.declared.family.Family.TheVariants as families
 use Rattle.cycle_names.specs.Families.{family_edges, family_word, all_families}
 use Rattle.cycle_names.specs.Links.{slot_of, outline}
 use Rattle.cycle_names.specs.Rotations.{rotations, fits, is_of_family, found_family}
-use Rattle.cycle_names.specs.Fitting.{family_sum}
+use Rattle.cycle_names.specs.Fitting.{counted}
 use Rattle.cycle_names.specs.Names.{is_name_byte}
 use Rattle.cycle_names.specs.Reading.{named_family}
 use Rattle.cycle_names.proofs.Members.{Member, any_of_member, member_of_any, member_upto, upto_member, find_none, find_only, found_passes, map_rotated}
+use Rattle.cycle_names.proofs.Tables.{slot_is_diff, slot_is_external}
+use Rattle.cycle_names.proofs.Marks.{is_either}
 use Rattle.cycle_names.proofs.Outlines.{edges_told, outline_of_fits}
 
 -- the place of a family in the table
@@ -139,13 +141,16 @@ same_cycle_family f g some r =
 pub record Fitting (u : List Edge) (f : Family) : Type 0 where
   pub place : ℕ
   pub within : place < length u
+  pub fit : fits f (rotated place u) ≡ true
   pub joins : outline (rotated place u) ≡ family_edges f
 
 pub fitting : (u : List Edge) (f : Family) → is_of_family u f ≡ true → Fitting u f
 fitting u f h =
     let r = member_of_any (fits f) (rotations u) h in
     let n = upto_member (λ k. rotated k u) (length u) r.member r.among in
-    record { place = n.number; within = n.below; joins = outline_of_fits f (rotated n.number u) (let P : List Edge → Type 0 = λ v. fits f v ≡ true in subst P n.is r.passes) }
+    let P : List Edge → Type 0 = λ v. fits f v ≡ true in
+    let fit : fits f (rotated n.number u) ≡ true = subst P n.is r.passes in
+    record { place = n.number; within = n.below; fit = fit; joins = outline_of_fits f (rotated n.number u) fit }
 
 pub is_of_fitting : (u : List Edge) (f : Family) (k : ℕ) → k < length u → fits f (rotated k u) ≡ true → is_of_family u f ≡ true
 is_of_fitting u f k l h = any_of_member (fits f) (rotations u) (rotated k u) (member_upto (λ k. rotated k u) (length u) k l) h
@@ -197,6 +202,18 @@ family_found u f h = find_only (is_of_family u) all_families f (listed f (never_
 pub found_is_of : (u : List Edge) (f : Family) → found_family u ≡ Some f → is_of_family u f ≡ true
 unfolding found_family
 found_is_of u f h = found_passes (is_of_family u) all_families f h
+
+-- each edge of a family's cycle is a link or external, and so is each edge of a cycle of the family
+all_either : list_all (λ f. list_all is_either (family_edges f)) every_family ≡ true
+all_either = refl
+
+either_slots : (v : List Edge) → list_all is_either (outline v) ≡ list_all is_either v
+either_slots [] = refl
+either_slots (e ∷ v) = rw (slot_is_diff e, slot_is_external e, either_slots v) refl
+
+pub fits_either : (f : Family) (v : List Edge) → fits f v ≡ true → list_all is_either v ≡ true
+fits_either f v h =
+    sym (either_slots v) ∙ ap (list_all is_either) (outline_of_fits f v h) ∙ each_family (λ f. list_all is_either (family_edges f)) all_either f
 
 -- a family's cycle has two links or more
 has_links : Family → Bool
@@ -272,19 +289,19 @@ word_before families.LB3 text n = refl
 word_before families.W3 text n = refl
 word_before families.Other text n = absurd (n refl)
 
--- no two families have one sum
-sums_apart : Family → Family → Bool
-sums_apart f g = (family_place f == family_place g) || not (family_sum f == family_sum g)
+-- no two families have as many links and external edges of each communication
+counts_apart : Family → Family → Bool
+counts_apart f g = (family_place f == family_place g) || not (counted (family_edges f) == counted (family_edges g))
 
-all_sums_apart : list_all (λ f. list_all (sums_apart f) every_family) every_family ≡ true
-unfolding sums_apart family_place rank_of
-all_sums_apart = refl
+all_counts_apart : list_all (λ f. list_all (counts_apart f) every_family) every_family ≡ true
+unfolding counts_apart family_place
+all_counts_apart = refl
 
-pub sums_differ : (f g : Family) → family_sum f ≡ family_sum g → f ≡ g
-unfolding sums_apart
-sums_differ f g e =
-    let t : sums_apart f g ≡ true = each_family (sums_apart f) (each_family (λ f. list_all (sums_apart f) every_family) all_sums_apart f) g in
-    family_same f g (eqb-true (family_place f) (family_place g) (one_of (family_place f == family_place g) (family_sum f == family_sum g) t (eq-eqb _ _ e)))
+pub counts_differ : (f g : Family) → counted (family_edges f) ≡ counted (family_edges g) → f ≡ g
+unfolding counts_apart
+counts_differ f g e =
+    let t : counts_apart f g ≡ true = each_family (counts_apart f) (each_family (λ f. list_all (counts_apart f) every_family) all_counts_apart f) g in
+    family_same f g (eqb-true (family_place f) (family_place g) (one_of (family_place f == family_place g) (counted (family_edges f) == counted (family_edges g)) t (eq-eqb _ _ e)))
   where
     one_of : (b c : Bool) → (b || not c) ≡ true → c ≡ true → b ≡ true
     one_of true c t a = refl

@@ -2,6 +2,8 @@ mod NameExamples
 pub mod Tables
 pub mod Members
 pub mod Below
+pub mod Marks
+pub mod Plain
 pub mod Outlines
 pub mod Families
 pub mod Chosen

@@ -34,19 +34,19 @@ some_same u v e = cc
 
 -- cycles with one name are named from one rotation
 pub one_rotation : (u v : List Edge) → IsCycle u → IsCycle v → name_of u ≡ name_of v → named_rotation u ≡ named_rotation v
-one_rotation u v c d e = some_same _ _ (sym (name_back u c.some) ∙ ap edges_read e ∙ name_back v d.some)
+one_rotation u v c d e = some_same _ _ (sym (name_back u c) ∙ ap edges_read e ∙ name_back v d)
 
 -- rotations of a cycle have one name
 pub one_name : (u v : List Edge) → IsCycle u → IsRotation u v → name_of u ≡ name_of v
 unfolding name_of
 one_name u v c r =
-    ap (λ o. name_from o (named_rotation u)) (family_turned u v c.some r) ∙ ap (name_from (found_family v)) (named_turned u v c.some r)
+    ap (λ o. name_from o (named_rotation u)) (family_turned u v c.some r) ∙ ap (name_from (found_family v)) (named_turned u v c r)
 
 pub decide_names : NamesDecide
 decide_names u v c d =
     let same : name_of u ≡ name_of v → IsRotation u v = λ e.
     let P : List Edge → Type 0 = λ w. IsRotation u w in
-    rotation_on u (named_rotation v) v (subst P (one_rotation u v c d e) (named_rotates u c.some)) (rotation_back v (named_rotation v) (named_rotates v d.some)) in
+    rotation_on u (named_rotation v) v (subst P (one_rotation u v c d e) (named_rotates u c)) (rotation_back v (named_rotation v) (named_rotates v d)) in
     (same, one_name u v c)
 
 and_swaps : (a b : Bool) → (a && b) ≡ (b && a)
@@ -73,19 +73,19 @@ pub record Named (u : List Edge) : Type 0 where
 
 pub named : (u : List Edge) → IsCycle u → Named u
 named u c =
-    let r = named_rotates u c.some in
+    let r = named_rotates u c in
     record {
       composable = cycle_of_rotation u (named_rotation u) r c;
       has_name = sym (one_name u (named_rotation u) c r);
-      rotation = sym (named_turned u (named_rotation u) c.some r);
+      rotation = sym (named_turned u (named_rotation u) c r);
     }
 
 pub read_names_back : NamesReadBack
 read_names_back = record {
-  rotation = λ u c. named_rotates u c.some;
+  rotation = λ u c. named_rotates u c;
   back = λ u arch c a.
       let n = named u c in
-      record { composable = n.composable; of_arch = sym (arch_turned arch u (named_rotation u) (named_rotates u c.some)) ∙ a; has_name = n.has_name; rotation = n.rotation };
+      record { composable = n.composable; of_arch = sym (arch_turned arch u (named_rotation u) (named_rotates u c)) ∙ a; has_name = n.has_name; rotation = n.rotation };
   alone = λ u v arch c n. sym n.rotation ∙ one_rotation v u n.composable c n.has_name;
 }
 
@@ -192,4 +192,4 @@ name_from_is (Some f) v few = record {
 pub names_of_cycles : NamesAreNames
 unfolding name_of
 names_of_cycles u c =
-    name_from_is (found_family u) (named_rotation u) (omega (arith, c.few, rotation_length u (named_rotation u) (named_rotates u c.some)))
+    name_from_is (found_family u) (named_rotation u) (omega (arith, c.few, rotation_length u (named_rotation u) (named_rotates u c)))

@@ -1,6 +1,5 @@
--- Rotations that fit: their slots, and that slots and words of links make a list.
+-- Rotations that fit: their slots, and that slots and words of links are what a name tells.
 use Rattle.std.specs.Prelude.{◌≡◌, ◌==◌, ◌&&◌, ℕ, Bool, true, false, cond, Some, List, [], ◌∷◌, length, map, nat_eq, nat_lt, ◌||◌}
-use Rattle.std.specs.Str.{bytes_eq}
 use Rattle.std.specs.declared.cmp.Ordering.{Ordering}
 use Rattle.std.specs.declared.cmp.Ordering.TheVariants.{Less, Equal, Greater}
 use Rattle.std.specs.Ordering.{nat_cmp, is_lt, ordering_then}
@@ -17,11 +16,12 @@ use Rattle.relax_edges.proofs.Ranks.{rank_injective}
 use Rattle.walk_laws.specs.Order.{ranks_below}
 use Rattle.cycle_names.specs.declared.family.Family.{Family}
 use Rattle.cycle_names.specs.Families.{family_edges}
-use Rattle.cycle_names.specs.Links.{slot_of, outline, link_word, link_words, link_rank}
-use Rattle.cycle_names.specs.Rotations.{fits, words_below}
-use Rattle.cycle_names.specs.Fitting.{slot_rank}
+use Rattle.cycle_names.specs.Links.{slot_of, outline, link_word, link_words}
+use Rattle.cycle_names.specs.Rotations.{joins_as, is_plain_outside, fits, words_below}
+use Rattle.cycle_names.specs.Fitting.{word_place}
 use Rattle.cycle_names.specs.Reading.{link_with}
-use Rattle.cycle_names.proofs.Tables.{link_words_order, link_words_equal, link_back, slot_is_diff, slot_not_diff}
+use Rattle.cycle_names.proofs.Tables.{link_words_order, link_words_equal, link_back, slot_is_diff, no_place}
+use Rattle.cycle_names.proofs.Marks.{told_of, told_link, told_slot}
 
 -- two lists of edges are told to be one exactly where they are
 pub same_edges : (u v : List Edge) → is_same u v ≡ true → u ≡ v
@@ -41,31 +41,19 @@ edges_same (x ∷ u) = rw (eq-eqb (rank_of x) (rank_of x) refl) (edges_same u)
 pub edges_told : (u v : List Edge) → u ≡ v → is_same u v ≡ true
 edges_told u v e = rw e (edges_same v)
 
--- the code compares the ranks of slots
-pub slots_told : (u v : List Edge) → is_same (outline u) v ≡ bytes_eq (map slot_rank u) (map rank_of v)
-slots_told [] [] = refl
-slots_told [] (y ∷ v) = refl
-slots_told (x ∷ u) [] = refl
-slots_told (x ∷ u) (y ∷ v) = ap (λ b. (rank_of (slot_of x) == rank_of y) && b) (slots_told u v)
-
--- what a rotation that fits joins
+-- what a rotation that fits joins, and that it is plain between external edges
 pub outline_of_fits : (f : Family) (v : List Edge) → fits f v ≡ true → outline v ≡ family_edges f
-outline_of_fits f v h = same_edges (outline v) (family_edges f) h
+outline_of_fits f v h = same_edges (outline v) (family_edges f) (and_parts (joins_as f v) (is_plain_outside v) h).0
 
-pub fits_of_outline : (f : Family) (v : List Edge) → outline v ≡ family_edges f → fits f v ≡ true
-fits_of_outline f v e = edges_told (outline v) (family_edges f) e
+pub plain_of_fits : (f : Family) (v : List Edge) → fits f v ≡ true → is_plain_outside v ≡ true
+plain_of_fits f v h = (and_parts (joins_as f v) (is_plain_outside v) h).1
 
 -- edges that join the same lead to another location alike
 pub diff_alike : (a b : Edge) → slot_of a ≡ slot_of b → is_diff a ≡ is_diff b
 diff_alike a b e = sym (slot_is_diff a) ∙ ap is_diff e ∙ slot_is_diff b
 
--- edges that are no links and join the same are one
-plain_alike : (a b : Edge) → slot_of a ≡ slot_of b → is_diff a ≡ false → a ≡ b
-plain_alike a b e f =
-    sym (slot_not_diff a f) ∙ e ∙ slot_not_diff b (sym (diff_alike a b e) ∙ f)
-
--- links of one rank have one word
-words_same : (a b : Edge) → link_rank a ≡ link_rank b → link_word a ≡ link_word b
+-- links whose words have one place have one word
+words_same : (a b : Edge) → word_place a ≡ word_place b → link_word a ≡ link_word b
 words_same a b r = (bytes_decides (link_word a) (link_word b)).0 (link_words_equal a b ∙ eq-eqb _ _ r)
 
 -- the link of a slot and a word depends on these alone
@@ -75,12 +63,16 @@ link_depends s t u v d e = rw (d, e) refl
 some_same : (a b : Edge) → Some a ≡ Some b → a ≡ b
 some_same a b h = cc
 
--- edges that join the same, with the same word, are one
-same_links : (a b : Edge) → slot_of a ≡ slot_of b → link_rank a ≡ link_rank b → a ≡ b
+-- a name tells of edges that join the same, with the same word, as one
+same_links : (a b : Edge) → slot_of a ≡ slot_of b → word_place a ≡ word_place b → told_of a ≡ told_of b
 same_links a b e r =
     by_test (is_diff a)
-    (λ t. some_same a b (sym (link_back a t) ∙ link_depends (slot_of a) (slot_of b) (link_word a) (link_word b) e (words_same a b r) ∙ link_back b (sym (diff_alike a b e) ∙ t)))
-    (λ f. plain_alike a b e f)
+    (λ t.
+    let d : is_diff b ≡ true = sym (diff_alike a b e) ∙ t in
+    told_link a t
+    ∙ some_same a b (sym (link_back a t) ∙ link_depends (slot_of a) (slot_of b) (link_word a) (link_word b) e (words_same a b r) ∙ link_back b d)
+    ∙ sym (told_link b d))
+    (λ f. told_slot a f ∙ e ∙ sym (told_slot b (sym (diff_alike a b e) ∙ f)))
 
 heads : (x y : Edge) (u v : List Edge) → outline (x ∷ u) ≡ outline (y ∷ v) → slot_of x ≡ slot_of y
 heads x y u v e = head_same (slot_of x) (slot_of y) (outline u) (outline v) e
@@ -97,14 +89,14 @@ tails x y u v e = tail_same (slot_of x) (slot_of y) (outline u) (outline v) e
 outline_long : (u v : List Edge) → outline u ≡ outline v → length u ≡ length v
 outline_long u v e = sym (length-map u slot_of) ∙ ap length e ∙ length-map v slot_of
 
--- lists that join the same, with the same words, are one
-pub same_lists : (u v : List Edge) → outline u ≡ outline v → map link_rank u ≡ map link_rank v → u ≡ v
+-- a name tells of lists that join the same, with the same words, as one
+pub same_lists : (u v : List Edge) → outline u ≡ outline v → map word_place u ≡ map word_place v → map told_of u ≡ map told_of v
 same_lists [] [] e r = refl
 same_lists [] (y ∷ v) e r = absurd (omega (arith, outline_long [] (y ∷ v) e))
 same_lists (x ∷ u) [] e r = absurd (omega (arith, outline_long (x ∷ u) [] e))
 same_lists (x ∷ u) (y ∷ v) e r =
-    let one : x ≡ y = same_links x y (heads x y u v e) (number_same (link_rank x) (link_rank y) (map link_rank u) (map link_rank v) r) in
-    let rest : u ≡ v = same_lists u v (tails x y u v e) (numbers_same (link_rank x) (link_rank y) (map link_rank u) (map link_rank v) r) in
+    let one : told_of x ≡ told_of y = same_links x y (heads x y u v e) (number_same (word_place x) (word_place y) (map word_place u) (map word_place v) r) in
+    let rest : map told_of u ≡ map told_of v = same_lists u v (tails x y u v e) (numbers_same (word_place x) (word_place y) (map word_place u) (map word_place v) r) in
     rw (one, rest) refl
   where
     number_same : (a b : ℕ) (c d : List ℕ) → a ∷ c ≡ b ∷ d → a ≡ b
@@ -137,23 +129,23 @@ words_of_plain x u f = rw f refl
 abbrev words_before : List (List ℕ) → List (List ℕ) → Bool
 words_before a b = is_lt (slice_cmp (slice_cmp nat_cmp) a b)
 
--- of rotations that join the same, the words of one come before those of the other where the ranks of their words are below
-pub words_by_ranks : (u v : List Edge) → outline u ≡ outline v → words_below u v ≡ ranks_below (map link_rank u) (map link_rank v)
+-- of rotations that join the same, the words of one come before those of the other where the places of their words are below
+pub words_by_ranks : (u v : List Edge) → outline u ≡ outline v → words_below u v ≡ ranks_below (map word_place u) (map word_place v)
 words_by_ranks [] [] e = refl
 words_by_ranks [] (y ∷ v) e = absurd (omega (arith, outline_long [] (y ∷ v) e))
 words_by_ranks (x ∷ u) [] e = absurd (omega (arith, outline_long (x ∷ u) [] e))
 words_by_ranks (x ∷ u) (y ∷ v) e =
     let slots : slot_of x ≡ slot_of y = heads x y u v e in
     let both : is_diff x ≡ is_diff y = diff_alike x y slots in
-    let behind : words_before (link_words u) (link_words v) ≡ ranks_below (map link_rank u) (map link_rank v) = words_by_ranks u v (tails x y u v e) in
+    let behind : words_before (link_words u) (link_words v) ≡ ranks_below (map word_place u) (map word_place v) = words_by_ranks u v (tails x y u v e) in
     by_test (is_diff x)
     (λ t.
     ap (λ a. words_before a (link_words (y ∷ v))) (words_of_link x u t)
     ∙ ap (words_before (link_word x ∷ link_words u)) (words_of_link y v (sym both ∙ t))
     ∙ ap (λ o. is_lt (ordering_then o (slice_cmp (slice_cmp nat_cmp) (link_words u) (link_words v)))) (link_words_order x y)
-    ∙ one_more (nat_lt (link_rank x) (link_rank y)) (nat_eq (link_rank x) (link_rank y)) _ _ behind)
+    ∙ one_more (nat_lt (word_place x) (word_place y)) (nat_eq (word_place x) (word_place y)) _ _ behind)
     (λ f.
     ap (λ a. words_before a (link_words (y ∷ v))) (words_of_plain x u f)
     ∙ ap (words_before (link_words u)) (words_of_plain y v (sym both ∙ f))
     ∙ behind
-    ∙ sym (equal_first (link_rank x) (link_rank y) _ (ap link_rank (plain_alike x y slots f))))
+    ∙ sym (equal_first (word_place x) (word_place y) _ (no_place x f ∙ sym (no_place y (sym both ∙ f)))))

@@ -15,18 +15,21 @@ use Rattle.relax_edges.specs.Words.{word_of}
 use Rattle.relax_edges.specs.Spelling.{edge_of}
 use Rattle.relax_edges.proofs.Spellings.{edge_of-word_of}
 use Rattle.relax_edges.proofs.RelaxWords.{before_first-no}
+use Rattle.walk_laws.specs.Composable.{IsCycle}
+use Rattle.walk_laws.proofs.Laws.{cycle_of_rotation}
 use Rattle.walk_laws.proofs.Rotating.{rotation_length}
 use Rattle.cycle_names.specs.declared.family.Family.{Family}
 use Rattle.cycle_names.specs.declared.family.Family.TheVariants as families
 use Rattle.cycle_names.specs.Families.{family_word, family_edges, all_families}
 use Rattle.cycle_names.specs.Links.{slot_of, outline, link_word, link_words}
-use Rattle.cycle_names.specs.Rotations.{found_family, named_rotation}
+use Rattle.cycle_names.specs.Rotations.{fits, found_family, named_rotation}
 use Rattle.cycle_names.specs.Names.{added, all_equal, plural, links_text, name_from, name_of}
-use Rattle.cycle_names.specs.Reading.{is_plus, is_dash, named_family, link_with, slot_with, before, filled_alike, first_word, behind_word, filled_each, but_last, filled, edges_spelled, read_in, edges_read}
-use Rattle.cycle_names.proofs.Tables.{slot_is_diff, slot_not_diff, link_back, link_word_whole, word_whole}
-use Rattle.cycle_names.proofs.Outlines.{words_of_link, words_of_plain}
+use Rattle.cycle_names.specs.Reading.{is_plus, is_dash, named_family, link_with, slot_with, before, filled_alike, first_word, behind_word, filled_each, but_last, filled, marked_if, edges_spelled, read_in, edges_read}
+use Rattle.cycle_names.proofs.Tables.{slot_is_diff, link_back, link_word_whole, word_whole}
+use Rattle.cycle_names.proofs.Marks.{told_of, told_link, told_slot}
+use Rattle.cycle_names.proofs.Outlines.{outline_of_fits, words_of_link, words_of_plain}
 use Rattle.cycle_names.proofs.Families.{never_other, found_is_of, family_links, word_alone, word_before}
-use Rattle.cycle_names.proofs.Chosen.{named_joins, named_rotates}
+use Rattle.cycle_names.proofs.Chosen.{fit_back, named_fits, named_rotates}
 
 no_of : (b : Bool) → not b ≡ true → b ≡ false
 no_of true h = cc
@@ -46,20 +49,20 @@ until_end p (b ∷ word) h =
     before_first-no p b word (no_of (p b) both.0) ∙ ap (λ w. b ∷ w) (until_end p word both.1)
 
 -- the edge of a slot, with the word of the edge
-slot_back : (e : Edge) (word : List ℕ) → (is_diff e ≡ true → word ≡ link_word e) → slot_with (slot_of e) word ≡ Some e
+slot_back : (e : Edge) (word : List ℕ) → (is_diff e ≡ true → word ≡ link_word e) → slot_with (slot_of e) word ≡ Some (told_of e)
 slot_back e word h =
     by_test (is_diff e)
-    (λ t. cond-true (is_diff (slot_of e)) (link_with (slot_of e) word) (Some (slot_of e)) (slot_is_diff e ∙ t) ∙ ap (link_with (slot_of e)) (h t) ∙ link_back e t)
-    (λ f. cond-false (is_diff (slot_of e)) (link_with (slot_of e) word) (Some (slot_of e)) (slot_is_diff e ∙ f) ∙ ap Some (slot_not_diff e f))
+    (λ t. cond-true (is_diff (slot_of e)) (link_with (slot_of e) word) (Some (slot_of e)) (slot_is_diff e ∙ t) ∙ ap (link_with (slot_of e)) (h t) ∙ link_back e t ∙ ap Some (sym (told_link e t)))
+    (λ f. cond-false (is_diff (slot_of e)) (link_with (slot_of e) word) (Some (slot_of e)) (slot_is_diff e ∙ f) ∙ ap Some (sym (told_slot e f)))
 
 both_there : (o : Option Edge) (p : Option (List Edge)) (e : Edge) (v : List Edge) → o ≡ Some e → p ≡ Some v → before o p ≡ Some (e ∷ v)
 both_there o p e v a b = rw (a, b) refl
 
 -- where all links have one word
-alike_back : (v : List Edge) (word : List ℕ) → list_all (bytes_eq word) (link_words v) ≡ true → filled_alike (outline v) word ≡ Some v
+alike_back : (v : List Edge) (word : List ℕ) → list_all (bytes_eq word) (link_words v) ≡ true → filled_alike (outline v) word ≡ Some (map told_of v)
 alike_back [] word h = refl
 alike_back (e ∷ v) word h =
-    both_there (slot_with (slot_of e) word) (filled_alike (outline v) word) e v
+    both_there (slot_with (slot_of e) word) (filled_alike (outline v) word) (told_of e) (map told_of v)
     (slot_back e word (λ t.
     let a : list_all (bytes_eq word) (link_word e ∷ link_words v) ≡ true = sym (ap (list_all (bytes_eq word)) (words_of_link e v t)) ∙ h in
     (bytes_decides word (link_word e)).0 (and_parts (bytes_eq word (link_word e)) (list_all (bytes_eq word) (link_words v)) a).0))
@@ -78,7 +81,7 @@ behind_word_is : (word : List ℕ) (words : List (List ℕ)) → list_all (λ b.
 behind_word_is word words h =
     ap (λ w. drop (length w) (word ++ flat_map added words)) (first_word_is word words h) ∙ drop-append_seam word (flat_map added words)
 
-each_back : (v : List Edge) → filled_each (outline v) (flat_map added (link_words v)) ≡ Some v
+each_back : (v : List Edge) → filled_each (outline v) (flat_map added (link_words v)) ≡ Some (map told_of v)
 each_back [] = refl
 each_back (e ∷ v) =
     by_test (is_diff e)
@@ -86,14 +89,14 @@ each_back (e ∷ v) =
     let text : List ℕ = 43 ∷ (link_word e ++ flat_map added (link_words v)) in
     ap (filled_each (slot_of e ∷ outline v)) (ap (flat_map added) (words_of_link e v t))
     ∙ cond-true (is_diff (slot_of e)) (before (link_with (slot_of e) (first_word text)) (filled_each (outline v) (behind_word text))) (before (Some (slot_of e)) (filled_each (outline v) text)) (slot_is_diff e ∙ t)
-    ∙ both_there (link_with (slot_of e) (first_word text)) (filled_each (outline v) (behind_word text)) e v
-    (ap (link_with (slot_of e)) (first_word_is (link_word e) (link_words v) (link_word_whole e)) ∙ link_back e t)
+    ∙ both_there (link_with (slot_of e) (first_word text)) (filled_each (outline v) (behind_word text)) (told_of e) (map told_of v)
+    (ap (link_with (slot_of e)) (first_word_is (link_word e) (link_words v) (link_word_whole e)) ∙ link_back e t ∙ ap Some (sym (told_link e t)))
     (ap (filled_each (outline v)) (behind_word_is (link_word e) (link_words v) (link_word_whole e)) ∙ each_back v))
     (λ f.
     let text : List ℕ = flat_map added (link_words v) in
     ap (filled_each (slot_of e ∷ outline v)) (ap (flat_map added) (words_of_plain e v f))
     ∙ cond-false (is_diff (slot_of e)) (before (link_with (slot_of e) (first_word text)) (filled_each (outline v) (behind_word text))) (before (Some (slot_of e)) (filled_each (outline v) text)) (slot_is_diff e ∙ f)
-    ∙ both_there (Some (slot_of e)) (filled_each (outline v) text) e v (ap Some (slot_not_diff e f)) (each_back v))
+    ∙ both_there (Some (slot_of e)) (filled_each (outline v) text) (told_of e) (map told_of v) (ap Some (sym (told_slot e f))) (each_back v))
 
 -- no word of a link has a `+`
 words_whole : (v : List Edge) → list_all (list_all (λ b. not (is_plus b))) (link_words v) ≡ true
@@ -113,7 +116,7 @@ none_of p (x ∷ xs) h =
 but_last_is : (word : List ℕ) (byte : ℕ) → but_last (word ++ byte ∷ []) ≡ word
 but_last_is word byte = take_at word (byte ∷ []) (length (word ++ byte ∷ []) - 1) (omega (arith, length-append word (byte ∷ [])))
 
-plural_back : (v : List Edge) (words : List (List ℕ)) → words ≡ link_words v → 0 < length words → all_equal words ≡ true → filled (outline v) (plural words) ≡ Some v
+plural_back : (v : List Edge) (words : List (List ℕ)) → words ≡ link_words v → 0 < length words → all_equal words ≡ true → filled (outline v) (plural words) ≡ Some (map told_of v)
 plural_back v [] e l h = absurd (omega arith)
 plural_back v (word ∷ words) e l h =
     let whole : list_all (λ b. not (is_plus b)) word ≡ true =
@@ -125,7 +128,7 @@ plural_back v (word ∷ words) e l h =
     ∙ ap (filled_alike (outline v)) (but_last_is word 115)
     ∙ alike_back v word alike
 
-words_back : (v : List Edge) (words : List (List ℕ)) → words ≡ link_words v → 2 ≤ length words → filled (outline v) (flat_map added words) ≡ Some v
+words_back : (v : List Edge) (words : List (List ℕ)) → words ≡ link_words v → 2 ≤ length words → filled (outline v) (flat_map added words) ≡ Some (map told_of v)
 words_back v [] e l = absurd (omega arith)
 words_back v (word ∷ []) e l = absurd (omega arith)
 words_back v (word ∷ next ∷ words) e l =
@@ -136,7 +139,7 @@ words_back v (word ∷ next ∷ words) e l =
     ∙ ap (filled_each (outline v)) (ap (flat_map added) e)
     ∙ each_back v
 
-links_back : (v : List Edge) → 2 ≤ length (link_words v) → filled (outline v) (links_text (link_words v)) ≡ Some v
+links_back : (v : List Edge) → 2 ≤ length (link_words v) → filled (outline v) (links_text (link_words v)) ≡ Some (map told_of v)
 unfolding links_text
 links_back v l =
     let words : List (List ℕ) = link_words v in
@@ -196,16 +199,18 @@ count_links (e ∷ v) =
     no_more s u f = rw f refl
 
 -- the name of a cycle of a family
-family_back : (f : Family) (v : List Edge) → (f ≡ families.Other → ⊥) → outline v ≡ family_edges f → edges_read (name_from (Some f) v) ≡ Some v
+family_back : (f : Family) (v : List Edge) → (f ≡ families.Other → ⊥) → IsCycle v → fits f v ≡ true → edges_read (name_from (Some f) v) ≡ Some v
 unfolding edges_read name_from
-family_back f v n e =
+family_back f v n c h =
+    let e : outline v ≡ family_edges f = outline_of_fits f v h in
     let words : List (List ℕ) = link_words v in
     let text : List ℕ = family_word f ++ links_text words in
     let many : 2 ≤ length words = omega (arith, count_links v, ap (λ u. length (filter is_diff u)) e, family_links f n) in
     ap (λ o. read_in o text) (family_named f (links_text words) n (links_start words))
-    ∙ ap (filled (family_edges f)) (drop-append_seam (family_word f) (links_text words))
-    ∙ ap (λ u. filled u (links_text words)) (sym e)
-    ∙ links_back v many
+    ∙ ap (λ t. marked_if (filled (family_edges f) t)) (drop-append_seam (family_word f) (links_text words))
+    ∙ ap (λ u. marked_if (filled u (links_text words))) (sym e)
+    ∙ ap marked_if (links_back v many)
+    ∙ fit_back f v c h
 
 -- a list cut at a byte
 cut_first : (p : ℕ → Bool) (word : List ℕ) (byte : ℕ) (rest : List ℕ) → list_all (λ b. not (p b)) word ≡ true → p byte ≡ true → slice_split p (word ++ byte ∷ rest) ≡ word ∷ slice_split p rest
@@ -236,13 +241,13 @@ other_back [] l = absurd (omega arith)
 other_back (e ∷ v) l = ap edges_spelled (split_words e v) ∙ spelled_back (e ∷ v)
 
 -- the name of a cycle is read as the rotation that it was made from
-pub name_back : (u : List Edge) → 0 < length u → edges_read (name_of u) ≡ Some (named_rotation u)
+pub name_back : (u : List Edge) → IsCycle u → edges_read (name_of u) ≡ Some (named_rotation u)
 unfolding name_of
-name_back u some =
+name_back u c =
     by_option (found_family u)
     (λ h.
     ap (λ o. edges_read (name_from o (named_rotation u))) h
-    ∙ other_back (named_rotation u) (omega (arith, rotation_length u (named_rotation u) (named_rotates u some))))
+    ∙ other_back (named_rotation u) (omega (arith, c.some, rotation_length u (named_rotation u) (named_rotates u c))))
     (λ f h.
     ap (λ o. edges_read (name_from o (named_rotation u))) h
-    ∙ family_back f (named_rotation u) (never_other u f (found_is_of u f h)) (named_joins u f h))
+    ∙ family_back f (named_rotation u) (never_other u f (found_is_of u f h)) (cycle_of_rotation u (named_rotation u) (named_rotates u c) c) (named_fits u f c h))

@@ -1,24 +1,28 @@
 -- Steps of reading a name and of looking at its links: what one edge more means.
-use Rattle.std.specs.Prelude.{◌≡◌, ◌<◌, ◌≤◌, ◌+◌, ◌-◌, ◌&&◌, ◌||◌, ◌==◌, ℕ, suc, zero, Bool, true, false, not, Option, Some, None, Result, IsOk, List, [], ◌∷◌, ◌++◌, length, map, take, drop}
+use Rattle.std.specs.Prelude.{◌≡◌, ◌<◌, ◌≤◌, ◌+◌, ◌-◌, ◌&&◌, ◌||◌, ℕ, suc, Bool, true, false, not, Option, Some, None, Result, IsOk, List, [], ◌∷◌, ◌++◌, length, take, drop}
 use Rattle.std.specs.List.{list_all, slice_split, position_or_len, onto_first}
 use Rattle.std.proofs.Common.{refl, sym, ◌∙◌, ap, arith, get_or, append_assoc, length-append}
-use Rattle.std.proofs.lemmas.Bool.{and_parts, cond-true, cond-false, eqb-true}
+use Rattle.std.proofs.lemmas.Bool.{and_parts, cond-true, cond-false}
 use Rattle.std.proofs.lemmas.List.{take_all, append-nil}
 use Rattle.std.proofs.Math.ListN.{drop_of_length-le}
 use Rattle.std.specs.Str.{bytes_eq}
 use Rattle.std.specs.Cmp.Lexicographic.{bytes_decides}
 use Rattle.list_laws.proofs.Cases.{by_test, by_option, by_less}
 use Rattle.relax_edges.specs.declared.TheConstants.{MAX_EDGES}
+use Rattle.relax_edges.specs.declared.order.TheConstants.{EDGES}
+use Rattle.relax_edges.specs.declared.kinds.Dir.{Dir}
+use Rattle.relax_edges.specs.declared.kinds.Dir.TheVariants.{R, W}
+use Rattle.relax_edges.specs.declared.kinds.Mark.{Mark}
 use Rattle.relax_edges.specs.declared.edge.Edge.{Edge}
-use Rattle.relax_edges.specs.EdgeTable.{is_diff}
+use Rattle.relax_edges.specs.EdgeTable.{source_of, target_of, target_mark, is_diff, same_dir}
 use Rattle.relax_edges.specs.Order.{rank_of}
 use Rattle.relax_edges.specs.Spelling.{edge_of}
 use Rattle.relax_edges.specs.AllEdges.{edges_in_order}
 use Rattle.relax_edges.proofs.Ranks.{rank_injective, rank_below}
 use Rattle.relax_edges.proofs.RelaxWords.{position_or_len-no}
-use Rattle.cycle_names.specs.Links.{slot_of, link_word, link_words}
-use Rattle.cycle_names.specs.Reading.{is_dash, is_link, link_with, before, first_word, behind_word, filled_each, edges_spelled, Adds}
-use Rattle.cycle_names.proofs.Tables.{link_back}
+use Rattle.cycle_names.specs.Links.{link_word, link_words}
+use Rattle.cycle_names.specs.Reading.{is_dash, is_link, link_between, link_with, first_mark, marked_between, marked_along, before, first_word, behind_word, filled_each, edges_spelled, Adds}
+use Rattle.cycle_names.proofs.Tables.{link_found_back}
 use Rattle.cycle_names.proofs.Members.{find_none}
 use Rattle.cycle_names.proofs.Texts.{all_links_cons}
 
@@ -138,6 +142,16 @@ module _ {E : Type 0} where
       ∙ ap (λ u. before (Some s) (filled_each u links)) (sym (rest_is s slots)))
       (adds_before (Some s) (filled_each (rest_of (s ∷ slots)) links) s old pushed new result refl k a)
 
+  -- one edge more, with its marks
+  pub mark_more : (from to mark : Mark) (unmarked : List Edge) (d e : Edge) (old pushed new : List Edge) (result : Result (Unit {0}) E) →
+      1 ≤ length unmarked → mark ≡ first_mark (rest_of unmarked) to → Some e ≡ marked_between from (get_or unmarked 0 d) mark → pushed ≡ old ++ e ∷ [] →
+      Adds (marked_along (target_mark (get_or unmarked 0 d)) (rest_of unmarked) to) pushed new result → Adds (marked_along from unmarked to) old new result
+  mark_more from to mark [] d e old pushed new result h m o k a = absurd (omega arith)
+  mark_more from to mark (x ∷ unmarked) d e old pushed new result h m o k a =
+      adds_same (marked_along from (x ∷ unmarked) to) (before (marked_between from x mark) (marked_along (target_mark x) (rest_of (x ∷ unmarked)) to)) old new result
+      (rw (m, rest_is x unmarked) refl)
+      (adds_before (marked_between from x mark) (marked_along (target_mark x) (rest_of (x ∷ unmarked)) to) e old pushed new result (sym o) k a)
+
   -- one word more
   pub spell_more : (text word behind : List ℕ) (n : ℕ) (e : Edge) (old pushed new : List Edge) (result : Result (Unit {0}) E) →
       n ≡ position_or_len is_dash text → word ≡ take n text → behind ≡ drop n text → 1 ≤ length behind → Some e ≡ edge_of word → pushed ≡ old ++ e ∷ [] →
@@ -172,45 +186,36 @@ module _ {E : Type 0} where
       (adds_full (edge_of (take n text)) (edges_spelled (parts_behind (drop n text))) old new result h)
 
 -- the link that is found is the one
-pub link_found : (slot e : Edge) (word : List ℕ) → is_link slot word e ≡ true → link_with slot word ≡ Some e
-link_found slot e word h =
-    let a = and_parts (is_diff e) ((rank_of (slot_of e) == rank_of slot) && bytes_eq (link_word e) word) h in
-    let b = and_parts (rank_of (slot_of e) == rank_of slot) (bytes_eq (link_word e) word) a.1 in
-    let s : slot ≡ slot_of e = sym (rank_injective (slot_of e) slot (eqb-true _ _ b.0)) in
-    let w : word ≡ link_word e = sym ((bytes_decides (link_word e) word).0 b.1) in
-    ap (λ s. link_with s word) s ∙ ap (link_with (slot_of e)) w ∙ link_back e a.0
+same_dir_is : (a b : Dir) → same_dir a b ≡ true → a ≡ b
+same_dir_is R R e = refl
+same_dir_is W W e = refl
+same_dir_is R W e = cc
+same_dir_is W R e = cc
 
-pub link_missing : (slot : Edge) (word : List ℕ) → ((e : Edge) → rank_of e < 168 → is_link slot word e ≡ false) → link_with slot word ≡ None
-unfolding link_with
-link_missing slot word h = find_none (is_link slot word) edges_in_order (λ e m t. let z : true ≡ false = sym t ∙ h e (rank_below e) in cc)
+pub link_found : (from to : Dir) (e : Edge) (word : List ℕ) → is_link from to word e ≡ true → link_between from to word ≡ Some e
+link_found from to e word h =
+    let a = and_parts (is_diff e) (same_dir (source_of e) from && (same_dir (target_of e) to && bytes_eq (link_word e) word)) h in
+    let b = and_parts (same_dir (source_of e) from) (same_dir (target_of e) to && bytes_eq (link_word e) word) a.1 in
+    let c = and_parts (same_dir (target_of e) to) (bytes_eq (link_word e) word) b.1 in
+    ap (λ d. link_between d to word) (sym (same_dir_is (source_of e) from b.0))
+    ∙ ap (λ d. link_between (source_of e) d word) (sym (same_dir_is (target_of e) to c.0))
+    ∙ ap (link_between (source_of e) (target_of e)) (sym ((bytes_decides (link_word e) word).0 c.1))
+    ∙ link_found_back e a.0
+
+pub link_missing : (from to : Dir) (word : List ℕ) → ((e : Edge) → rank_of e < EDGES → is_link from to word e ≡ false) → link_between from to word ≡ None
+unfolding link_between
+link_missing from to word h = find_none (is_link from to word) edges_in_order (λ e m t. let z : true ≡ false = sym t ∙ h e (rank_below e) in cc)
 
 -- an edge of the rank at hand is the one looked at
-pub link_at : (slot e : Edge) (word : List ℕ) (k : ℕ) → rank_of e ≡ k → is_link slot word e ≡ false → ((d : Edge) → rank_of d < k → is_link slot word d ≡ false) → (d : Edge) → rank_of d < k + 1 → is_link slot word d ≡ false
-link_at slot e word k r f before d l =
+pub link_at : (from to : Dir) (e : Edge) (word : List ℕ) (k : ℕ) → rank_of e ≡ k → is_link from to word e ≡ false → ((d : Edge) → rank_of d < k → is_link from to word d ≡ false) → (d : Edge) → rank_of d < k + 1 → is_link from to word d ≡ false
+link_at from to e word k r f before d l =
     by_less (rank_of d) k
     (λ less. before d less)
-    (λ more. let same : d ≡ e = rank_injective d e (omega arith) in ap (is_link slot word) same ∙ f)
+    (λ more. let same : d ≡ e = rank_injective d e (omega arith) in ap (is_link from to word) same ∙ f)
 
--- the edges of a family are those of its ranks
-pub ranks_told : (u v : List Edge) → map rank_of u ≡ map rank_of v → u ≡ v
-ranks_told [] [] e = refl
-ranks_told [] (y ∷ v) e = cc
-ranks_told (x ∷ u) [] e = cc
-ranks_told (x ∷ u) (y ∷ v) e =
-    let one : x ≡ y = rank_injective x y (head_of (rank_of x) (rank_of y) (map rank_of u) (map rank_of v) e) in
-    let rest : u ≡ v = ranks_told u v (tail_of (rank_of x) (rank_of y) (map rank_of u) (map rank_of v) e) in
-    rw (one, rest) refl
-  where
-    head_of : (a b : ℕ) (c d : List ℕ) → a ∷ c ≡ b ∷ d → a ≡ b
-    head_of a b c d e = cc
+pub pushed_all : {A : Type 0} (a b rest : List A) (i : ℕ) → a ++ drop i rest ≡ b → length rest ≤ i → a ≡ b
+pushed_all a b rest i e h = sym (append-nil a) ∙ ap (λ w. a ++ w) (sym (drop_of_length-le rest h)) ∙ e
 
-    tail_of : (a b : ℕ) (c d : List ℕ) → a ∷ c ≡ b ∷ d → c ≡ d
-    tail_of a b c d e = cc
-
-pub rank_small : (u : List Edge) (i d : ℕ) → i < length (map rank_of u) → get_or (map rank_of u) i d < 168
-rank_small [] i d h = absurd (omega arith)
-rank_small (x ∷ u) zero d h = rank_below x
-rank_small (x ∷ u) (suc i) d h = rank_small u i d (omega arith)
-
-pub pushed_all : (a b ranks : List ℕ) (i : ℕ) → a ++ drop i ranks ≡ b → length ranks ≤ i → a ≡ b
-pushed_all a b ranks i e h = sym (append-nil a) ∙ ap (λ w. a ++ w) (sym (drop_of_length-le ranks h)) ∙ e
+-- what the code looks for, by what the slot joins
+pub link_seen : (slot : Edge) (from to : Dir) (word : List ℕ) (e : Edge) → from ≡ source_of slot → to ≡ target_of slot → is_link from to word e ≡ is_link (source_of slot) (target_of slot) word e
+link_seen slot from to word e s t = ap (λ d. is_link d to word e) s ∙ ap (λ d. is_link (source_of slot) d word e) t

@@ -1,27 +1,35 @@
 -- Facts about all edges, each computed once over the list of all.
-use Rattle.std.specs.Prelude.{◌≡◌, ◌≤◌, ◌==◌, Bool, true, false, not, cond, Option, Some, None, length, nat_le}
+use Rattle.std.specs.Prelude.{◌≡◌, ◌≤◌, ◌+◌, ◌==◌, ◌||◌, ℕ, Bool, true, false, not, Option, Some, None, List, [], ◌++◌, length, nat_le}
 use Rattle.std.specs.Ordering.{nat_cmp, ordering_index}
 use Rattle.std.specs.Cmp.Lexicographic.{slice_cmp}
 use Rattle.std.specs.List.{list_all}
 use Rattle.std.specs.Str.{bytes_eq}
 use Rattle.std.specs.declared.cmp.Ordering.{Ordering}
 use Rattle.std.specs.declared.cmp.Ordering.TheVariants.{Less, Equal, Greater}
-use Rattle.std.proofs.Common.{refl, ap, arith}
+use Rattle.std.proofs.Common.{refl, sym, ◌∙◌, ap, arith, length-append}
 use Rattle.std.proofs.lemmas.Bool.{eqb-true, leb-true}
-use Rattle.list_laws.proofs.Cases.{by_test}
+use Rattle.std.proofs.lemmas.List.{append-nil}
+use Rattle.relax_edges.specs.declared.kinds.Dir.TheVariants as dirs
+use Rattle.relax_edges.specs.declared.kinds.Sd.TheVariants.{Same, Diff}
+use Rattle.relax_edges.specs.declared.kinds.Com.TheVariants as coms
+use Rattle.relax_edges.specs.declared.kinds.Kind.{Kind}
+use Rattle.relax_edges.specs.declared.kinds.Kind.TheVariants as kinds
 use Rattle.relax_edges.specs.declared.edge.Edge.{Edge}
-use Rattle.relax_edges.specs.EdgeTable.{is_diff}
+use Rattle.relax_edges.specs.EdgeTable.{kind_of, source_of, target_of, source_mark, target_mark, is_external, is_diff, unmarked}
 use Rattle.relax_edges.specs.Order.{rank_of}
 use Rattle.relax_edges.specs.Words.{word_of}
 use Rattle.relax_edges.specs.AllEdges.{edges_in_order}
 use Rattle.relax_edges.proofs.Ranks.{each_edge, rank_injective}
-use Rattle.cycle_names.specs.Links.{slot_of, link_word, link_rank}
+use Rattle.cycle_names.specs.declared.slot.Slot.{Slot}
+use Rattle.cycle_names.specs.declared.slot.Slot.TheVariants as slots
+use Rattle.cycle_names.specs.Links.{slot_of, fence_link, dependency_link, mark_letters, kind_link, link_word}
+use Rattle.cycle_names.specs.Fitting.{slot_edge, is_kind_slot, edge_count, word_place}
 use Rattle.cycle_names.specs.Names.{is_name_byte}
-use Rattle.cycle_names.specs.Reading.{is_plus, is_dash, link_with}
+use Rattle.cycle_names.specs.Reading.{is_plus, is_dash, link_between, link_with}
 
 -- the words of links compare as their ranks do
 words_alike : Edge → Edge → Bool
-words_alike a b = ordering_index (slice_cmp nat_cmp (link_word a) (link_word b)) == ordering_index (nat_cmp (link_rank a) (link_rank b))
+words_alike a b = ordering_index (slice_cmp nat_cmp (link_word a) (link_word b)) == ordering_index (nat_cmp (word_place a) (word_place b))
 
 all_words_alike : list_all (λ a. list_all (words_alike a) edges_in_order) edges_in_order ≡ true
 unfolding edges_in_order words_alike
@@ -33,7 +41,7 @@ same_index Equal Equal e = refl
 same_index Greater Greater e = refl
 same_index _ _ e = absurd (omega arith)
 
-pub link_words_order : (a b : Edge) → slice_cmp nat_cmp (link_word a) (link_word b) ≡ nat_cmp (link_rank a) (link_rank b)
+pub link_words_order : (a b : Edge) → slice_cmp nat_cmp (link_word a) (link_word b) ≡ nat_cmp (word_place a) (word_place b)
 unfolding words_alike
 link_words_order a b =
     same_index _ _ (eqb-true _ _ (each_edge (words_alike a) (each_edge (λ a. list_all (words_alike a) edges_in_order) all_words_alike a) b))
@@ -52,23 +60,86 @@ agreed false false e = refl
 
 -- the words of links are equal where their ranks are
 ranks_alike : Edge → Edge → Bool
-ranks_alike a b = agree (bytes_eq (link_word a) (link_word b)) (link_rank a == link_rank b)
+ranks_alike a b = agree (bytes_eq (link_word a) (link_word b)) (word_place a == word_place b)
 
 all_ranks_alike : list_all (λ a. list_all (ranks_alike a) edges_in_order) edges_in_order ≡ true
 unfolding edges_in_order ranks_alike agree
 all_ranks_alike = refl
 
-pub link_words_equal : (a b : Edge) → bytes_eq (link_word a) (link_word b) ≡ (link_rank a == link_rank b)
+pub link_words_equal : (a b : Edge) → bytes_eq (link_word a) (link_word b) ≡ (word_place a == word_place b)
 unfolding ranks_alike
 link_words_equal a b =
     agreed _ _ (each_edge (ranks_alike a) (each_edge (λ a. list_all (ranks_alike a) edges_in_order) all_ranks_alike a) b)
 
--- a slot leads to another location where the edge does, and else is the edge
-pub slot_is_diff : (e : Edge) → is_diff (slot_of e) ≡ is_diff e
-slot_is_diff e = by_test (is_diff e) (λ t. rw t refl) (λ f. rw f f)
+-- a fact that holds of an edge where a test does
+if_so : Bool → Bool → Bool
+if_so b c = not b || c
 
-pub slot_not_diff : (e : Edge) → is_diff e ≡ false → slot_of e ≡ e
-slot_not_diff e f = rw f refl
+so : (b c : Bool) → if_so b c ≡ true → b ≡ true → c ≡ true
+unfolding if_so
+so true c h t = h
+so false c h t = cc
+
+-- a slot leads to another location where the edge does, and to another thread
+pub slot_is_diff : (e : Edge) → is_diff (slot_of e) ≡ is_diff e
+unfolding agree edges_in_order
+slot_is_diff e = agreed _ _ (each_edge (λ e. agree (is_diff (slot_of e)) (is_diff e)) all e)
+  where
+    all : list_all (λ e. agree (is_diff (slot_of e)) (is_diff e)) edges_in_order ≡ true
+    all = refl
+
+pub slot_is_external : (e : Edge) → is_external (slot_of e) ≡ is_external e
+unfolding agree edges_in_order
+slot_is_external e = agreed _ _ (each_edge (λ e. agree (is_external (slot_of e)) (is_external e)) all e)
+  where
+    all : list_all (λ e. agree (is_external (slot_of e)) (is_external e)) edges_in_order ≡ true
+    all = refl
+
+-- an external edge keeps the location
+pub external_same : (e : Edge) → is_external e ≡ true → is_diff e ≡ false
+unfolding if_so edges_in_order
+external_same e t = no_of (is_diff e) (so (is_external e) (not (is_diff e)) (each_edge (λ e. if_so (is_external e) (not (is_diff e))) all e) t)
+  where
+    all : list_all (λ e. if_so (is_external e) (not (is_diff e))) edges_in_order ≡ true
+    all = refl
+
+    no_of : (b : Bool) → not b ≡ true → b ≡ false
+    no_of true h = cc
+    no_of false h = refl
+
+-- the word of an edge that is no link has no place
+pub no_place : (e : Edge) → is_diff e ≡ false → word_place e ≡ 0
+unfolding if_so edges_in_order
+no_place e f = eqb-true _ _ (so (not (is_diff e)) (word_place e == 0) (each_edge (λ e. if_so (not (is_diff e)) (word_place e == 0)) all e) (rw f refl))
+  where
+    all : list_all (λ e. if_so (not (is_diff e)) (word_place e == 0)) edges_in_order ≡ true
+    all = refl
+
+-- an edge counts what its slot does
+pub edge_counts : (e : Edge) → edge_count (slot_of e) ≡ edge_count e
+unfolding edges_in_order
+edge_counts e = eqb-true _ _ (each_edge (λ e. edge_count (slot_of e) == edge_count e) all e)
+  where
+    all : list_all (λ e. edge_count (slot_of e) == edge_count e) edges_in_order ≡ true
+    all = refl
+
+-- whether a slot stands for an edge
+slot_agrees : Slot → Edge → Bool
+slot_agrees slot e = agree (is_kind_slot slot (kind_of e)) (rank_of (slot_of e) == rank_of (slot_edge slot))
+
+all_slots_agree : (slot : Slot) → list_all (slot_agrees slot) edges_in_order ≡ true
+unfolding slot_agrees agree rank_of edges_in_order
+all_slots_agree (slots.External coms.Rf) = refl
+all_slots_agree (slots.External coms.Fr) = refl
+all_slots_agree (slots.External coms.Ws) = refl
+all_slots_agree (slots.Link dirs.R dirs.R) = refl
+all_slots_agree (slots.Link dirs.R dirs.W) = refl
+all_slots_agree (slots.Link dirs.W dirs.R) = refl
+all_slots_agree (slots.Link dirs.W dirs.W) = refl
+
+pub slot_is_of : (slot : Slot) (e : Edge) → is_kind_slot slot (kind_of e) ≡ (rank_of (slot_of e) == rank_of (slot_edge slot))
+unfolding slot_agrees
+slot_is_of slot e = agreed _ _ (each_edge (slot_agrees slot) (all_slots_agree slot) e)
 
 -- a link is the one that joins what it joins, with its word
 is_the : Edge → Option Edge → Bool
@@ -76,10 +147,10 @@ is_the e None = false
 is_the e (Some d) = rank_of d == rank_of e
 
 is_found : Edge → Bool
-is_found e = cond (is_diff e) (is_the e (link_with (slot_of e) (link_word e))) true
+is_found e = if_so (is_diff e) (is_the e (link_between (source_of e) (target_of e) (link_word e)))
 
 all_found : list_all is_found edges_in_order ≡ true
-unfolding is_found is_the rank_of link_with edges_in_order
+unfolding is_found if_so is_the rank_of link_between edges_in_order
 all_found = refl
 
 the_one : (e : Edge) (o : Option Edge) → is_the e o ≡ true → o ≡ Some e
@@ -87,15 +158,22 @@ unfolding is_the
 the_one e None h = cc
 the_one e (Some d) h = ap Some (rank_injective d e (eqb-true _ _ h))
 
-pub link_back : (e : Edge) → is_diff e ≡ true → link_with (slot_of e) (link_word e) ≡ Some e
+pub link_found_back : (e : Edge) → is_diff e ≡ true → link_between (source_of e) (target_of e) (link_word e) ≡ Some e
 unfolding is_found
+link_found_back e t =
+    the_one e (link_between (source_of e) (target_of e) (link_word e)) (so (is_diff e) (is_the e (link_between (source_of e) (target_of e) (link_word e))) (each_edge is_found all_found e) t)
+
+slot_source : (e : Edge) → is_diff e ≡ true → source_of (slot_of e) ≡ source_of e
+slot_source e t = rw t refl
+
+slot_target : (e : Edge) → is_diff e ≡ true → target_of (slot_of e) ≡ target_of e
+slot_target e t = rw t refl
+
+pub link_back : (e : Edge) → is_diff e ≡ true → link_with (slot_of e) (link_word e) ≡ Some e
 link_back e t =
-    let h : cond (is_diff e) (is_the e (link_with (slot_of e) (link_word e))) true ≡ true = each_edge is_found all_found e in
-    the_one e (link_with (slot_of e) (link_word e)) (taken (is_diff e) _ t h)
-  where
-    taken : (b c : Bool) → b ≡ true → cond b c true ≡ true → c ≡ true
-    taken true c t h = h
-    taken false c t h = cc
+    ap (λ d. link_between d (target_of (slot_of e)) (link_word e)) (slot_source e t)
+    ∙ ap (λ d. link_between (source_of e) d (link_word e)) (slot_target e t)
+    ∙ link_found_back e t
 
 -- a link's word has at most 11 bytes, all of them bytes of names and none of them `+`
 is_short : Edge → Bool
@@ -108,6 +186,35 @@ all_short = refl
 pub link_word_short : (e : Edge) → length (link_word e) ≤ 11
 unfolding is_short
 link_word_short e = leb-true (length (link_word e)) 11 (each_edge is_short all_short e)
+
+-- it is the word of the link without letters, and the letters
+kind_letters : (kind : Kind) (letters : List ℕ) → is_diff (unmarked kind) ≡ true → kind_link kind letters ≡ kind_link kind [] ++ letters
+kind_letters (kinds.Com _ _) letters h = cc
+kind_letters (kinds.Po Diff _ _) letters h = refl
+kind_letters (kinds.Po Same _ _) letters h = cc
+kind_letters (kinds.Fenced kind Diff _ _) letters h = ap (λ w. w ++ letters) (sym (append-nil (fence_link kind)))
+kind_letters (kinds.Fenced kind Same _ _) letters h = cc
+kind_letters (kinds.Dep kind Diff _) letters h = ap (λ w. w ++ letters) (sym (append-nil (dependency_link kind)))
+kind_letters (kinds.Dep kind Same _) letters h = cc
+kind_letters (kinds.Data Diff) letters h = refl
+kind_letters (kinds.Data Same) letters h = cc
+
+kind_diff : (e : Edge) → is_diff e ≡ true → is_diff (unmarked (kind_of e)) ≡ true
+unfolding if_so edges_in_order
+kind_diff e t = so (is_diff e) (is_diff (unmarked (kind_of e))) (each_edge (λ e. if_so (is_diff e) (is_diff (unmarked (kind_of e)))) all e) t
+  where
+    all : list_all (λ e. if_so (is_diff e) (is_diff (unmarked (kind_of e)))) edges_in_order ≡ true
+    all = refl
+
+pub record WordParts (e : Edge) : Type 0 where
+  pub joined : link_word e ≡ kind_link (kind_of e) [] ++ mark_letters (source_mark e) (target_mark e)
+  pub short : length (kind_link (kind_of e) []) + length (mark_letters (source_mark e) (target_mark e)) ≤ 11
+
+pub word_parts : (e : Edge) → is_diff e ≡ true → WordParts e
+word_parts e t =
+    let letters : List ℕ = mark_letters (source_mark e) (target_mark e) in
+    let j : link_word e ≡ kind_link (kind_of e) [] ++ letters = kind_letters (kind_of e) letters (kind_diff e t) in
+    record { joined = j; short = omega (arith, ap length j, link_word_short e, length-append (kind_link (kind_of e) []) letters) }
 
 pub link_word_bytes : (e : Edge) → list_all is_name_byte (link_word e) ≡ true
 unfolding edges_in_order

@@ -1,51 +1,107 @@
--- How the rotations of a cycle are compared with the table: by the ranks of their slots.
+-- How the code finds the family of a cycle and the rotation that it is named from.
 -- Source: own.
-use Rattle.std.specs.Prelude.{◌≡◌, ◌<◌, ℕ, ◌==◌, cond, Bool, true, false, sum, Option, Some, List, [], ◌++◌, length, map}
+use Rattle.std.specs.Prelude.{◌≡◌, ◌<◌, ℕ, ◌+◌, ◌*◌, ◌==◌, ◌&&◌, nat_lt, cond, Bool, true, false, sum, Option, Some, List, [], ◌++◌, length, map}
 use Rattle.std.specs.List.{find}
-use Rattle.std.specs.Str.{bytes_eq}
+use Rattle.relax_edges.specs.declared.kinds.Dir.{Dir}
+use Rattle.relax_edges.specs.declared.kinds.Dir.TheVariants.{R, W}
+use Rattle.relax_edges.specs.declared.kinds.Sd.{Sd}
+use Rattle.relax_edges.specs.declared.kinds.Sd.TheVariants.{Diff}
+use Rattle.relax_edges.specs.declared.kinds.Reach.{Reach}
+use Rattle.relax_edges.specs.declared.kinds.Reach.TheVariants.{External}
+use Rattle.relax_edges.specs.declared.kinds.Com.{Com}
+use Rattle.relax_edges.specs.declared.kinds.Com.TheVariants as coms
+use Rattle.relax_edges.specs.declared.kinds.FenceKind.{FenceKind}
+use Rattle.relax_edges.specs.declared.kinds.FenceKind.TheVariants as fences
+use Rattle.relax_edges.specs.declared.kinds.DepKind.{DepKind}
+use Rattle.relax_edges.specs.declared.kinds.DepKind.TheVariants as deps
+use Rattle.relax_edges.specs.declared.kinds.Kind.{Kind}
+use Rattle.relax_edges.specs.declared.kinds.Kind.TheVariants as kinds
+use Rattle.relax_edges.specs.declared.kinds.Mark.{Mark}
+use Rattle.relax_edges.specs.declared.kinds.Mark.TheVariants.{Plain, Acquire, Release}
 use Rattle.relax_edges.specs.declared.edge.Edge.{Edge}
-use Rattle.relax_edges.specs.EdgeTable.{is_diff}
-use Rattle.relax_edges.specs.Order.{rank_of}
+use Rattle.relax_edges.specs.declared.edge.Edge.TheVariants as edges
+use Rattle.relax_edges.specs.EdgeTable.{kind_of, source_mark, target_mark, is_diff, same_dir}
+use Rattle.relax_edges.specs.Order.{pick_rank}
+use Rattle.relax_edges.specs.Relaxations.{is_same}
 use Rattle.walk_laws.specs.Rotation.{rotated}
+use Rattle.cycle_names.specs.declared.slot.Slot.{Slot}
+use Rattle.cycle_names.specs.declared.slot.Slot.TheVariants as slots
 use Rattle.cycle_names.specs.declared.family.Family.{Family}
 use Rattle.cycle_names.specs.Families.{family_edges, all_families}
-use Rattle.cycle_names.specs.Links.{slot_of, link_word}
-use Rattle.cycle_names.specs.Rotations.{found_family, named_rotation}
+use Rattle.cycle_names.specs.Links.{outline, link_word}
+use Rattle.cycle_names.specs.Rotations.{is_plain_outside, found_family, named_rotation}
 use Rattle.cycle_names.specs.Names.{added}
 
--- the rank of a slot
-abbrev pub slot_rank : Edge → ℕ
-slot_rank edge = rank_of (slot_of edge)
+-- the edge of a family's cycle for which a slot stands
+abbrev pub slot_edge : Slot → Edge
+slot_edge (slots.External kind) = edges.Com kind External
+slot_edge (slots.Link from to) = edges.Po Diff from to
 
--- a list twice over
-abbrev pub twice : List ℕ → List ℕ
-twice ranks = ranks ++ ranks
+-- whether a slot stands for an edge of a kind, whatever its marks
+abbrev pub same_com : Com → Com → Bool
+same_com coms.Rf coms.Rf = true
+same_com coms.Fr coms.Fr = true
+same_com coms.Ws coms.Ws = true
+same_com _ _ = false
 
--- the sum of the ranks of the slots of a cycle, the same for all its rotations
-abbrev pub slot_sum : List Edge → ℕ
-slot_sum u = sum (map slot_rank u)
+abbrev pub is_com_slot : Slot → Com → Reach → Bool
+is_com_slot (slots.External external) kind External = same_com kind external
+is_com_slot _ _ _ = false
 
--- the sum of the ranks of the edges of a family's cycle, which no other family has
-abbrev pub family_sum : Family → ℕ
-family_sum family = sum (map rank_of (family_edges family))
+abbrev pub is_link_slot : Slot → Sd → Dir → Dir → Bool
+is_link_slot (slots.Link source target) Diff from to = same_dir from source && same_dir to target
+is_link_slot _ _ _ _ = false
 
--- the family with this sum
-unfoldable pub family_of_sum : ℕ → Option Family
-family_of_sum total = find (λ family. family_sum family == total) all_families
+abbrev pub is_kind_slot : Slot → Kind → Bool
+is_kind_slot slot (kinds.Com kind reach) = is_com_slot slot kind reach
+is_kind_slot slot (kinds.Po sd from to) = is_link_slot slot sd from to
+is_kind_slot slot (kinds.Fenced _ sd from to) = is_link_slot slot sd from to
+is_kind_slot slot (kinds.Dep _ sd to) = is_link_slot slot sd R to
+is_kind_slot slot (kinds.Data sd) = is_link_slot slot sd R W
 
--- the rotation from place k fits a family
-abbrev pub fits_at : Family → List Edge → ℕ → Bool
-fits_at family u k = bytes_eq (rotated k (map slot_rank u)) (map rank_of (family_edges family))
+-- what an edge counts: the digits of base 8 are the links and the external edges of each communication
+abbrev pub com_count : Com → ℕ
+com_count coms.Rf = 1
+com_count coms.Fr = 8
+com_count coms.Ws = 64
 
--- the rotation from no place below n fits a family
-abbrev pub FitsNone : List Edge → Family → ℕ → Type 0
-FitsNone u family n = (k : ℕ) → k < n → fits_at family u k ≡ false
+abbrev pub kind_count : Kind → ℕ
+kind_count (kinds.Com kind External) = com_count kind
+kind_count (kinds.Po Diff _ _) = 512
+kind_count (kinds.Fenced _ Diff _ _) = 512
+kind_count (kinds.Dep _ Diff _) = 512
+kind_count (kinds.Data Diff) = 512
+kind_count _ = 4096
+
+abbrev pub edge_count : Edge → ℕ
+edge_count edge = kind_count (kind_of edge)
+
+-- how many links and external edges of each communication a cycle has, the same for all its rotations
+abbrev pub counted : List Edge → ℕ
+counted u = sum (map edge_count u)
+
+-- the family whose cycle has as many
+unfoldable pub family_counted : ℕ → Option Family
+family_counted count = find (λ family. counted (family_edges family) == count) all_families
+
+-- the rotation from place k joins what these edges do
+abbrev pub joins_at : List Edge → List Edge → ℕ → Bool
+joins_at slots u k = is_same (outline (rotated k u)) slots
+
+-- the rotation from no place below n joins what these edges do
+abbrev pub JoinsNone : List Edge → List Edge → ℕ → Type 0
+JoinsNone slots u n = (k : ℕ) → k < n → joins_at slots u k ≡ false
+
+-- the first place from which a rotation joins what these edges do
+pub record JoinsFirst (slots u : List Edge) (place : ℕ) : Type 0 where
+  pub within : place < length u
+  pub joins : joins_at slots u place ≡ true
+  pub before : JoinsNone slots u place
 
 -- the first place from which a rotation fits a family
 pub record FitsFirst (u : List Edge) (family : Family) (place : ℕ) : Type 0 where
-  pub within : place < length u
-  pub fits : fits_at family u place ≡ true
-  pub before : FitsNone u family place
+  pub first : JoinsFirst (family_edges family) u place
+  pub plain : is_plain_outside u ≡ true
 
 -- a cycle is of this family, and named from the rotation from this place
 pub record IsNamedAt (u : List Edge) (family : Family) (place : ℕ) : Type 0 where
@@ -56,3 +112,49 @@ pub record IsNamedAt (u : List Edge) (family : Family) (place : ℕ) : Type 0 wh
 -- what an edge adds to a name: a link its word, another edge nothing
 abbrev pub link_text : Edge → List ℕ
 link_text edge = cond (is_diff edge) (added (link_word edge)) []
+
+-- a list twice over
+abbrev pub twice : List ℕ → List ℕ
+twice places = places ++ places
+
+-- the place of the letters of two marks in byte order, 0 for none
+abbrev pub letters_place : Mark → Mark → ℕ
+letters_place Plain Plain = 0
+letters_place Acquire Acquire = 1
+letters_place Acquire Release = 2
+letters_place Acquire Plain = 3
+letters_place Release Acquire = 4
+letters_place Release Release = 5
+letters_place Release Plain = 6
+letters_place Plain Acquire = 7
+letters_place Plain Release = 8
+
+-- the place of a fence's word without letters among the words of links
+abbrev pub fence_place : FenceKind → ℕ
+fence_place fences.DmbLd = 54
+fence_place fences.DmbSt = 63
+fence_place fences.DmbSy = 72
+fence_place fences.Eieio = 81
+fence_place (fences.Fence pred succ) = 90 + 3 * pick_rank pred + pick_rank succ
+fence_place fences.ISync = 99
+fence_place fences.LwSync = 108
+fence_place fences.MFence = 117
+fence_place fences.Sync = 135
+
+-- the place of a dependency's word with the letters of this place; `ctrlpa` and `ctrlpl` come behind `ctrlisync`
+abbrev pub dependency_place : DepKind → ℕ → ℕ
+dependency_place deps.Addr letters = 9 + letters
+dependency_place deps.Ctrl letters = cond (nat_lt letters 7) (18 + letters) (36 + letters)
+dependency_place deps.CtrlIsb letters = 27 + letters
+dependency_place deps.CtrlIsync letters = 36 + letters
+
+abbrev pub kind_place : Kind → ℕ → ℕ
+kind_place (kinds.Po Diff _ _) letters = 126 + letters
+kind_place (kinds.Fenced fence Diff _ _) letters = fence_place fence + letters
+kind_place (kinds.Dep dep Diff _) letters = dependency_place dep letters
+kind_place (kinds.Data Diff) letters = 45 + letters
+kind_place _ _ = 0
+
+-- the place of a link's word among the words of links, in byte order, and 0 for an edge that is no link
+abbrev pub word_place : Edge → ℕ
+word_place edge = kind_place (kind_of edge) (letters_place (source_mark edge) (target_mark edge))

@@ -1,20 +1,23 @@
 -- The links of a cycle, its edges to another location: what each joins, and its word in a name.
 -- Source: the names of litmus tests in the diy part of the herdtools manual.
-use Rattle.std.specs.Prelude.{ℕ, ◌+◌, ◌*◌, cond, List, [], ◌++◌, map, filter, codes}
+use Rattle.std.specs.Prelude.{ℕ, cond, List, [], ◌++◌, map, filter, codes}
 use Rattle.relax_edges.specs.declared.kinds.Sd.TheVariants.{Diff}
 use Rattle.relax_edges.specs.declared.kinds.FenceKind.{FenceKind}
 use Rattle.relax_edges.specs.declared.kinds.FenceKind.TheVariants as fences
 use Rattle.relax_edges.specs.declared.kinds.DepKind.{DepKind}
 use Rattle.relax_edges.specs.declared.kinds.DepKind.TheVariants as deps
+use Rattle.relax_edges.specs.declared.kinds.Kind.{Kind}
+use Rattle.relax_edges.specs.declared.kinds.Kind.TheVariants as kinds
+use Rattle.relax_edges.specs.declared.kinds.Mark.{Mark}
+use Rattle.relax_edges.specs.declared.kinds.Mark.TheVariants.{Plain, Acquire, Release}
 use Rattle.relax_edges.specs.declared.edge.Edge.{Edge}
 use Rattle.relax_edges.specs.declared.edge.Edge.TheVariants as edges
-use Rattle.relax_edges.specs.EdgeTable.{source_of, target_of, is_diff}
-use Rattle.relax_edges.specs.Order.{pick_rank}
+use Rattle.relax_edges.specs.EdgeTable.{kind_of, source_of, target_of, source_mark, target_mark, is_diff, unmarked}
 use Rattle.relax_edges.specs.Words.{pick_word}
 
--- what an edge joins: a link as program order from and to the same accesses, each other edge as itself
+-- what an edge joins, whatever its marks: a link as program order from and to the same accesses, each other edge as itself
 abbrev pub slot_of : Edge → Edge
-slot_of edge = cond (is_diff edge) (edges.Po Diff (source_of edge) (target_of edge)) edge
+slot_of edge = cond (is_diff edge) (edges.Po Diff (source_of edge) (target_of edge)) (unmarked (kind_of edge))
 
 -- what the edges of a cycle join
 abbrev pub outline : List Edge → List Edge
@@ -39,41 +42,29 @@ dependency_link deps.Ctrl = codes "ctrl"
 dependency_link deps.CtrlIsync = codes "ctrlisync"
 dependency_link deps.CtrlIsb = codes "ctrlisb"
 
--- the word of a link in a name; a communication is no link, and has none
+-- `p`, `a` or `l`: plain, acquire or release
+abbrev pub mark_letter : Mark → List ℕ
+mark_letter Plain = codes "p"
+mark_letter Acquire = codes "a"
+mark_letter Release = codes "l"
+
+-- the letters of two marks, none where both are plain
+abbrev pub mark_letters : Mark → Mark → List ℕ
+mark_letters Plain Plain = []
+mark_letters from to = mark_letter from ++ mark_letter to
+
+-- the word of a link of a kind, with the letters of its marks; another edge is no link, and has none
+abbrev pub kind_link : Kind → List ℕ → List ℕ
+kind_link (kinds.Po Diff _ _) letters = codes "po" ++ letters
+kind_link (kinds.Fenced fence Diff _ _) letters = fence_link fence ++ letters
+kind_link (kinds.Dep dep Diff _) letters = dependency_link dep ++ letters
+kind_link (kinds.Data Diff) letters = codes "data" ++ letters
+kind_link _ _ = []
+
+-- the word of a link in a name
 abbrev pub link_word : Edge → List ℕ
-link_word (edges.Com _ _) = []
-link_word (edges.Po _ _ _) = codes "po"
-link_word (edges.Fenced kind _ _ _) = fence_link kind
-link_word (edges.Dep kind _ _) = dependency_link kind
-link_word (edges.Data _) = codes "data"
+link_word edge = kind_link (kind_of edge) (mark_letters (source_mark edge) (target_mark edge))
 
 -- the words of the links of a cycle, in order
 abbrev pub link_words : List Edge → List (List ℕ)
 link_words v = map link_word (filter is_diff v)
-
--- the place of a fence's word among the words of links, in byte order, from 1
-abbrev pub fence_link_rank : FenceKind → ℕ
-fence_link_rank fences.DmbLd = 6
-fence_link_rank fences.DmbSt = 7
-fence_link_rank fences.DmbSy = 8
-fence_link_rank fences.Eieio = 9
-fence_link_rank (fences.Fence pred succ) = 10 + 3 * pick_rank pred + pick_rank succ
-fence_link_rank fences.ISync = 19
-fence_link_rank fences.LwSync = 20
-fence_link_rank fences.MFence = 21
-fence_link_rank fences.Sync = 23
-
--- the place of a dependency's word
-abbrev pub dependency_link_rank : DepKind → ℕ
-dependency_link_rank deps.Addr = 1
-dependency_link_rank deps.Ctrl = 2
-dependency_link_rank deps.CtrlIsb = 3
-dependency_link_rank deps.CtrlIsync = 4
-
--- the place of a link's word among the words of links, in byte order, from 1
-abbrev pub link_rank : Edge → ℕ
-link_rank (edges.Com _ _) = 0
-link_rank (edges.Po _ _ _) = 22
-link_rank (edges.Fenced kind _ _ _) = fence_link_rank kind
-link_rank (edges.Dep kind _ _) = dependency_link_rank kind
-link_rank (edges.Data _) = 5

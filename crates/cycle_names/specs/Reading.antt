@@ -4,14 +4,16 @@ use Rattle.std.specs.Prelude.{◌≡◌, ◌≤◌, ℕ, ◌+◌, ◌-◌, ◌==
 use Rattle.std.specs.List.{find, list_any, before_first, slice_split, starts_with}
 use Rattle.std.specs.Str.{bytes_eq}
 use Rattle.relax_edges.specs.declared.TheConstants.{MAX_EDGES}
+use Rattle.relax_edges.specs.declared.kinds.Dir.{Dir}
+use Rattle.relax_edges.specs.declared.kinds.Mark.{Mark}
+use Rattle.relax_edges.specs.declared.kinds.Mark.TheVariants.{Plain}
 use Rattle.relax_edges.specs.declared.edge.Edge.{Edge}
-use Rattle.relax_edges.specs.EdgeTable.{is_diff}
-use Rattle.relax_edges.specs.Order.{rank_of}
+use Rattle.relax_edges.specs.EdgeTable.{kind_of, source_of, target_of, source_mark, target_mark, is_external, is_diff, same_dir, marked_edge}
 use Rattle.relax_edges.specs.AllEdges.{edges_in_order}
 use Rattle.relax_edges.specs.Spelling.{edge_of}
 use Rattle.cycle_names.specs.declared.family.Family.{Family}
 use Rattle.cycle_names.specs.Families.{family_word, family_edges, all_families}
-use Rattle.cycle_names.specs.Links.{slot_of, link_word}
+use Rattle.cycle_names.specs.Links.{link_word}
 
 -- `+`
 abbrev pub is_plus : ℕ → Bool
@@ -32,13 +34,17 @@ begins_with (first ∷ word) (byte ∷ text) = (first == byte) && begins_with wo
 abbrev pub named_family : List Family → List ℕ → Option Family
 named_family families text = find (λ family. begins_with (family_word family) text) families
 
--- whether an edge is a link that joins what a slot joins, with this word
-abbrev pub is_link : Edge → List ℕ → Edge → Bool
-is_link slot word edge = is_diff edge && ((rank_of (slot_of edge) == rank_of slot) && bytes_eq (link_word edge) word)
+-- whether an edge is a link from an access to another, with this word
+abbrev pub is_link : Dir → Dir → List ℕ → Edge → Bool
+is_link from to word edge = is_diff edge && (same_dir (source_of edge) from && (same_dir (target_of edge) to && bytes_eq (link_word edge) word))
+
+-- the link from an access to another with this word
+unfoldable pub link_between : Dir → Dir → List ℕ → Option Edge
+link_between from to word = find (is_link from to word) edges_in_order
 
 -- the link that joins what a slot joins, with this word
-unfoldable pub link_with : Edge → List ℕ → Option Edge
-link_with slot word = find (is_link slot word) edges_in_order
+abbrev pub link_with : Edge → List ℕ → Option Edge
+link_with slot word = link_between (source_of slot) (target_of slot) word
 
 -- the edge of a slot: itself, or if it is a link the one with this word
 abbrev pub slot_with : Edge → List ℕ → Option Edge
@@ -72,10 +78,37 @@ filled_each (slot ∷ slots) text =
 abbrev pub but_last : List ℕ → List ℕ
 but_last text = take (length text - 1) text
 
--- the edges of slots, with the links of which a name tells
+-- the edges of slots, with the links of which a name tells, and no marks but theirs
 abbrev pub filled : List Edge → List ℕ → Option (List Edge)
 filled slots [] = filled_alike slots (codes "po")
 filled slots (plus ∷ text) = cond (list_any is_plus text) (filled_each slots (plus ∷ text)) (filled_alike slots (but_last text))
+
+-- the mark of the access before some edges, where it is `mark` before none
+abbrev pub first_mark : List Edge → Mark → Mark
+first_mark [] mark = mark
+first_mark (edge ∷ _) mark = source_mark edge
+
+-- the mark of the access behind some edges, where it is `mark` behind none
+abbrev pub last_mark : Mark → List Edge → Mark
+last_mark mark [] = mark
+last_mark mark (edge ∷ edges) = last_mark (target_mark edge) edges
+
+-- an external edge takes the marks of the accesses beside it, another edge has its own
+abbrev pub marked_between : Mark → Edge → Mark → Option Edge
+marked_between from edge to = cond (is_external edge) (marked_edge (kind_of edge) from to) (Some edge)
+
+-- the external edges take the marks that the edges beside them have, the outer ones these marks
+abbrev pub marked_along : Mark → List Edge → Mark → Option (List Edge)
+marked_along from [] to = Some []
+marked_along from (edge ∷ edges) to = before (marked_between from edge (first_mark edges to)) (marked_along (target_mark edge) edges to)
+
+-- the edges of a cycle, of which the external ones have no marks yet, with those that the edges beside them have
+abbrev pub marked_around : List Edge → Option (List Edge)
+marked_around edges = marked_along (last_mark Plain edges) edges (first_mark edges Plain)
+
+abbrev pub marked_if : Option (List Edge) → Option (List Edge)
+marked_if None = None
+marked_if (Some edges) = marked_around edges
 
 -- the edges that some words spell
 abbrev pub edges_spelled : List (List ℕ) → Option (List Edge)
@@ -88,7 +121,7 @@ words_read text = cond (starts_with nat_eq text (codes "C+")) (edges_spelled (sl
 
 -- the edges that a text would name, by the family whose name it begins with
 abbrev pub read_in : Option Family → List ℕ → Option (List Edge)
-read_in (Some family) text = filled (family_edges family) (drop (length (family_word family)) text)
+read_in (Some family) text = marked_if (filled (family_edges family) (drop (length (family_word family)) text))
 read_in None text = words_read text
 
 -- the edges that a text would name

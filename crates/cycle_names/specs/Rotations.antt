@@ -1,10 +1,12 @@
 -- The family of a cycle, and the rotation of a cycle from which it is named.
 -- Source: own, after the names of litmus tests in the diy part of the herdtools manual.
-use Rattle.std.specs.Prelude.{Bool, not, Option, Some, None, List, map, filter, length, unwrap_or}
+use Rattle.std.specs.Prelude.{Bool, true, not, ◌&&◌, ◌||◌, Option, Some, None, List, [], ◌∷◌, ◌++◌, take, map, filter, length, unwrap_or}
 use Rattle.std.specs.List.{find, list_any}
 use Rattle.std.specs.Cmp.Lexicographic.{slice_cmp}
 use Rattle.std.specs.Ordering.{nat_cmp, is_lt}
+use Rattle.relax_edges.specs.declared.kinds.Mark.TheVariants.{Plain}
 use Rattle.relax_edges.specs.declared.edge.Edge.{Edge}
+use Rattle.relax_edges.specs.EdgeTable.{target_mark, same_mark, is_external}
 use Rattle.relax_edges.specs.Order.{rank_of}
 use Rattle.relax_edges.specs.Relaxations.{is_same}
 use Rattle.list_laws.specs.Numbers.{upto}
@@ -19,9 +21,28 @@ use Rattle.cycle_names.specs.Links.{outline, link_words}
 abbrev pub rotations : List Edge → List (List Edge)
 rotations u = map (λ k. rotated k u) (upto (length u))
 
--- a rotation fits a family that has the same external edges at the same places, and at the other places links from and to the same accesses
+-- the edges of a rotation join what those of a family's cycle do, each in its place
+abbrev pub joins_as : Family → List Edge → Bool
+joins_as family v = is_same (outline v) (family_edges family)
+
+-- the access between an edge and the next is plain, if both are external
+abbrev pub is_plain_before : Edge → List Edge → Bool
+is_plain_before _ [] = true
+is_plain_before edge (next ∷ _) = same_mark (target_mark edge) Plain || not (is_external edge && is_external next)
+
+-- each access between two external edges of a list is plain
+abbrev pub all_plain : List Edge → Bool
+all_plain [] = true
+all_plain (edge ∷ v) = is_plain_before edge v && all_plain v
+
+-- each event of a cycle between two external edges is plain
+abbrev pub is_plain_outside : List Edge → Bool
+is_plain_outside v = all_plain (v ++ take 1 v)
+
+-- a rotation fits a family that has the same external edges at the same places, whatever their marks, and at the other places links from
+-- and to the same accesses, whatever theirs, where each event between two external edges is plain
 abbrev pub fits : Family → List Edge → Bool
-fits family v = is_same (outline v) (family_edges family)
+fits family v = joins_as family v && is_plain_outside v
 
 -- a cycle is of a family that some rotation of it fits
 abbrev pub is_of_family : List Edge → Family → Bool

@@ -1,51 +1,65 @@
 ghost use Rattle.std.specs.Prelude.{◌≡◌, map};
 ghost use Rattle.std.specs.List.{find};
 ghost use Rattle.std.specs.Str.{bytes_eq};
-ghost use Rattle.relax_edges.specs.Order.{rank_of};
 ghost use Rattle.cycle_names.specs.Families.{family_word, family_edges, all_families};
+ghost use Rattle.cycle_names.specs.Fitting.{slot_edge};
 
-/// The ranks of the edges of which the cycles of the families are made.
-const POD_RR: u8 = 148;
+use crate::slot::Slot;
+use relax_edges::{Com, Dir};
 
-const POD_RW: u8 = 149;
+const RR: Slot = Slot::Link {
+    from: Dir::R,
+    to: Dir::R,
+};
 
-const POD_WR: u8 = 150;
+const RW: Slot = Slot::Link {
+    from: Dir::R,
+    to: Dir::W,
+};
 
-const POD_WW: u8 = 151;
+const WR: Slot = Slot::Link {
+    from: Dir::W,
+    to: Dir::R,
+};
 
-const FRE: u8 = 122;
+const WW: Slot = Slot::Link {
+    from: Dir::W,
+    to: Dir::W,
+};
 
-const RFE: u8 = 156;
+const RFE: Slot = Slot::External(Com::Rf);
 
-const WSE: u8 = 166;
+const FRE: Slot = Slot::External(Com::Fr);
 
-const SB: [u8; 4] = [POD_WR, FRE, POD_WR, FRE];
+const WSE: Slot = Slot::External(Com::Ws);
 
-const MP: [u8; 4] = [POD_WW, RFE, POD_RR, FRE];
+const SB: [Slot; 4] = [WR, FRE, WR, FRE];
 
-const LB: [u8; 4] = [POD_RW, RFE, POD_RW, RFE];
+const MP: [Slot; 4] = [WW, RFE, RR, FRE];
 
-const R: [u8; 4] = [POD_WW, WSE, POD_WR, FRE];
+const LB: [Slot; 4] = [RW, RFE, RW, RFE];
 
-const S: [u8; 4] = [POD_WW, RFE, POD_RW, WSE];
+const R: [Slot; 4] = [WW, WSE, WR, FRE];
 
-const W2: [u8; 4] = [POD_WW, WSE, POD_WW, WSE];
+const S: [Slot; 4] = [WW, RFE, RW, WSE];
 
-const WRC: [u8; 5] = [RFE, POD_RW, RFE, POD_RR, FRE];
+const W2: [Slot; 4] = [WW, WSE, WW, WSE];
 
-const RWC: [u8; 5] = [RFE, POD_RR, FRE, POD_WR, FRE];
+const WRC: [Slot; 5] = [RFE, RW, RFE, RR, FRE];
 
-const ISA2: [u8; 6] = [POD_WW, RFE, POD_RW, RFE, POD_RR, FRE];
+const RWC: [Slot; 5] = [RFE, RR, FRE, WR, FRE];
 
-const IRIW: [u8; 6] = [RFE, POD_RR, FRE, RFE, POD_RR, FRE];
+const ISA2: [Slot; 6] = [WW, RFE, RW, RFE, RR, FRE];
 
-const WRWC: [u8; 6] = [POD_WW, RFE, POD_RR, FRE, POD_WR, FRE];
+const IRIW: [Slot; 6] = [RFE, RR, FRE, RFE, RR, FRE];
 
-const SB3: [u8; 6] = [POD_WR, FRE, POD_WR, FRE, POD_WR, FRE];
+const WRWC: [Slot; 6] = [WW, RFE, RR, FRE, WR, FRE];
 
-const LB3: [u8; 6] = [POD_RW, RFE, POD_RW, RFE, POD_RW, RFE];
+const SB3: [Slot; 6] = [WR, FRE, WR, FRE, WR, FRE];
 
-const W3: [u8; 6] = [POD_WW, WSE, POD_WW, WSE, POD_WW, WSE];
+const LB3: [Slot; 6] = [RW, RFE, RW, RFE, RW, RFE];
+
+const W3: [Slot; 6] = [WW, WSE, WW, WSE, WW, WSE];
 
 /// The most edges of a family's cycle.
 pub(crate) const LONGEST: usize = 6;
@@ -125,10 +139,9 @@ impl Family {
         }
     }
 
-    /// The ranks of the edges of the family's cycle; none for `Other`.
-    #[tactic(auto, unfolding(relax_edges::specs::Order::rank_of))]
-    pub(crate) fn ranks(self) -> &'static [u8]
-        ensures { result.now ≡ map rank_of (family_edges self) }
+    /// What the edges of the family's cycle join; nothing for `Other`.
+    pub(crate) fn slots(self) -> &'static [Slot]
+        ensures { map slot_edge result.now ≡ family_edges self }
     {
         match self {
             Family::SB => &SB,

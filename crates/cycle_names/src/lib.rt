@@ -7,8 +7,7 @@ mod laws;
 mod link;
 mod name;
 mod read;
-#[cfg(test)]
-mod tests;
+mod slot;
 mod words;
 
 pub use family::{FAMILIES, Family};

@@ -1,8 +1,12 @@
-ghost use Rattle.std.specs.Prelude.{◌≡◌, ◌<◌};
-ghost use Rattle.relax_edges.specs.Order.{dir_rank, pick_rank, rank_of};
-ghost use Rattle.cycle_names.specs.Links.{slot_of, link_word, link_rank, fence_link, fence_link_rank, dependency_link, dependency_link_rank};
+ghost use Rattle.std.specs.Prelude.{◌≡◌, ◌≤◌, [], true};
+ghost use Rattle.std.specs.Str.{bytes_eq};
+ghost use Rattle.relax_edges.specs.EdgeTable.{is_diff};
+ghost use Rattle.relax_edges.specs.Order.{pick_rank};
+ghost use Rattle.cycle_names.specs.Links.{link_word, fence_link, dependency_link, mark_letters, kind_link};
+ghost use Rattle.cycle_names.specs.Fitting.{letters_place, fence_place, dependency_place, kind_place, word_place};
 
-use relax_edges::{DepKind, Dir, Edge, FenceKind, Pick};
+use arrayvec::ArrayString;
+use relax_edges::{DepKind, Edge, FenceKind, Kind, Mark, Pick, Sd};
 
 fn pick_rank(pick: Pick) -> u8
     ensures { result ≡ pick_rank pick }
@@ -14,38 +18,77 @@ fn pick_rank(pick: Pick) -> u8
     }
 }
 
-fn fence_rank(fence: FenceKind) -> u8
-    ensures { result ≡ fence_link_rank fence }
+fn fence_place(fence: FenceKind) -> u8
+    ensures { result ≡ fence_place fence }
 {
     match fence {
-        FenceKind::DmbLd => 6,
-        FenceKind::DmbSt => 7,
-        FenceKind::DmbSy => 8,
-        FenceKind::Eieio => 9,
-        FenceKind::Fence { pred, succ } => 10 + 3 * pick_rank(pred) + pick_rank(succ),
-        FenceKind::ISync => 19,
-        FenceKind::LwSync => 20,
-        FenceKind::MFence => 21,
-        FenceKind::Sync => 23,
+        FenceKind::DmbLd => 54,
+        FenceKind::DmbSt => 63,
+        FenceKind::DmbSy => 72,
+        FenceKind::Eieio => 81,
+        FenceKind::Fence { pred, succ } => 90 + 3 * pick_rank(pred) + pick_rank(succ),
+        FenceKind::ISync => 99,
+        FenceKind::LwSync => 108,
+        FenceKind::MFence => 117,
+        FenceKind::Sync => 135,
     }
 }
 
-/// The place of a link's word among the words of links, in byte order, from 1, and 0 for a
-/// communication.
-pub(crate) fn link_rank(edge: Edge) -> u8
-    ensures { result ≡ link_rank edge }
+fn dependency_place(dep: DepKind, letters: u8) -> u8
+    requires { letters ≤ 8 }
+    ensures { result ≡ dependency_place dep letters }
 {
-    match edge {
-        Edge::Com { .. } => 0,
-        Edge::Po { .. } => 22,
-        Edge::Fenced { fence, .. } => fence_rank(fence),
-        Edge::Dep { dep, .. } => match dep {
-            DepKind::Addr => 1,
-            DepKind::Ctrl => 2,
-            DepKind::CtrlIsb => 3,
-            DepKind::CtrlIsync => 4,
-        },
-        Edge::Data { .. } => 5,
+    match dep {
+        DepKind::Addr => 9 + letters,
+        DepKind::Ctrl => {
+            if letters < 7 {
+                18 + letters
+            } else {
+                36 + letters
+            }
+        }
+        DepKind::CtrlIsb => 27 + letters,
+        DepKind::CtrlIsync => 36 + letters,
+    }
+}
+
+fn letters_place(from: Mark, to: Mark) -> u8
+    ensures value { result ≡ letters_place from to }
+    ensures small { result ≤ 8 }
+{
+    match (from, to) {
+        (Mark::Plain, Mark::Plain) => 0,
+        (Mark::Acquire, Mark::Acquire) => 1,
+        (Mark::Acquire, Mark::Release) => 2,
+        (Mark::Acquire, Mark::Plain) => 3,
+        (Mark::Release, Mark::Acquire) => 4,
+        (Mark::Release, Mark::Release) => 5,
+        (Mark::Release, Mark::Plain) => 6,
+        (Mark::Plain, Mark::Acquire) => 7,
+        (Mark::Plain, Mark::Release) => 8,
+    }
+}
+
+/// The place of a link's word among the words of links, in byte order, and 0 for an edge that is no
+/// link.
+pub(crate) fn word_place(edge: Edge) -> u8
+    ensures { result ≡ word_place edge }
+{
+    let letters = letters_place(edge.source_mark(), edge.target_mark());
+    match edge.kind() {
+        Kind::Po { sd: Sd::Diff, .. } => 126 + letters,
+        Kind::Fenced {
+            fence,
+            sd: Sd::Diff,
+            ..
+        } => fence_place(fence) + letters,
+        Kind::Dep {
+            dep,
+            sd: Sd::Diff,
+            ..
+        } => dependency_place(dep, letters),
+        Kind::Data { sd: Sd::Diff } => 45 + letters,
+        _ => 0,
     }
 }
 
@@ -92,37 +135,51 @@ fn dependency_word(dep: DepKind) -> &'static str
     }
 }
 
-/// The word of a link in a name.
-pub(crate) fn link_word(edge: Edge) -> &'static str
-    ensures { result.now ≡ link_word edge }
+/// The letters of two marks, none where both are plain.
+pub(crate) fn mark_letters(from: Mark, to: Mark) -> &'static str
+    ensures { result.now ≡ mark_letters from to }
 {
-    match edge {
-        Edge::Com { .. } => "",
-        Edge::Po { .. } => "po",
-        Edge::Fenced { fence, .. } => fence_word(fence),
-        Edge::Dep { dep, .. } => dependency_word(dep),
-        Edge::Data { .. } => "data",
+    match (from, to) {
+        (Mark::Plain, Mark::Plain) => "",
+        (Mark::Acquire, Mark::Acquire) => "aa",
+        (Mark::Acquire, Mark::Release) => "al",
+        (Mark::Acquire, Mark::Plain) => "ap",
+        (Mark::Release, Mark::Acquire) => "la",
+        (Mark::Release, Mark::Release) => "ll",
+        (Mark::Release, Mark::Plain) => "lp",
+        (Mark::Plain, Mark::Acquire) => "pa",
+        (Mark::Plain, Mark::Release) => "pl",
     }
 }
 
-/// What an edge joins, as the rank of program order between the same accesses where the edge is a
-/// link, and of the edge itself where it is none.
-#[tactic(auto, unfolding(relax_edges::specs::Order::rank_of))]
-pub(crate) fn slot_rank(edge: Edge) -> u8
-    ensures { result ≡ rank_of (slot_of edge) }
+/// The word of a link of a kind without letters.
+pub(crate) fn kind_link(kind: Kind) -> &'static str
+    ensures { result.now ≡ kind_link kind [] }
 {
-    if edge.is_diff() {
-        148 + 2 * dir_rank(edge.source()) + dir_rank(edge.target())
-    } else {
-        edge.rank()
+    match kind {
+        Kind::Po { sd: Sd::Diff, .. } => "po",
+        Kind::Fenced {
+            fence,
+            sd: Sd::Diff,
+            ..
+        } => fence_word(fence),
+        Kind::Dep {
+            dep,
+            sd: Sd::Diff,
+            ..
+        } => dependency_word(dep),
+        Kind::Data { sd: Sd::Diff } => "data",
+        _ => "",
     }
 }
 
-fn dir_rank(dir: Dir) -> u8
-    ensures { result ≡ dir_rank dir }
+/// Whether a text is the word of a link.
+pub(crate) fn is_spelled(edge: Edge, text: &[u8]) -> bool
+    requires { is_diff edge ≡ true }
+    ensures { result ≡ bytes_eq (link_word edge) text.now }
 {
-    match dir {
-        Dir::R => 0,
-        Dir::W => 1,
-    }
+    let mut word: ArrayString<16> = ArrayString::new();
+    word.push_str(kind_link(edge.kind()));
+    word.push_str(mark_letters(edge.source_mark(), edge.target_mark()));
+    word.as_str().as_bytes() == text
 }

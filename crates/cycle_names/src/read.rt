@@ -4,15 +4,15 @@ ghost use Rattle.std.specs.Str.{bytes_eq};
 ghost use Rattle.std.specs.Result.{result_ok};
 ghost use Rattle.cycle_names.specs.Families.{family_edges};
 ghost use Rattle.cycle_names.specs.Names.{name_of};
-ghost use Rattle.cycle_names.specs.Reading.{begins_with, named_family, is_link, link_with, slot_with, first_word, behind_word, but_last, filled_alike, filled_each, filled, is_dash, edges_spelled, words_read, edges_read, Adds};
+ghost use Rattle.cycle_names.specs.Reading.{begins_with, named_family, is_link, link_with, first_mark, last_mark, marked_between, marked_along, marked_around, slot_with, first_word, behind_word, but_last, filled_alike, filled_each, filled, is_dash, edges_spelled, words_read, edges_read, Adds};
 ghost use Rattle.cycle_names.specs.Laws.{are_of_arch, IsNamed, NamesNone};
 
 use crate::family::{FAMILIES, Family};
-use crate::link::{link_word, slot_rank};
+use crate::link::is_spelled;
 use crate::name::{MAX_NAME, name_of};
 use arrayvec::{ArrayString, ArrayVec};
 use edge_algebra::{Cycle, cycle};
-use relax_edges::{ArchName, EDGES, Edge, MAX_EDGES, read_edge_bytes};
+use relax_edges::{ArchName, Dir, EDGES, Edge, MAX_EDGES, Mark, read_edge_bytes};
 use thiserror::Error;
 
 type Edges = ArrayVec<Edge, MAX_EDGES>;
@@ -69,7 +69,9 @@ fn read_edges(text: &[u8], edges: &mut Edges) -> Result<(), NotAName>
         Some(family) => {
             let slots = edges_of(family);
             let (_, links) = text.split_at(family.word().len());
-            fill(slots.as_slice(), links, edges)
+            let mut unmarked = Edges::new();
+            fill(slots.as_slice(), links, &mut unmarked)?;
+            mark_around(unmarked.as_slice(), edges)
         }
         None => read_other(text, edges),
     }
@@ -111,11 +113,11 @@ fn begins_with(word: &[u8], text: &[u8]) -> bool
 pub fn edges_of(family: Family) -> Edges
     ensures { result.items ≡ family_edges family }
 {
-    let mut slots = Edges::new();
-    for rank in family.ranks() {
-        slots.push(Edge::at_rank(*rank));
+    let mut edges = Edges::new();
+    for slot in family.slots() {
+        edges.push(slot.edge());
     }
-    slots
+    edges
 }
 
 /// Adds the edges of slots, with the links of which a name tells.
@@ -221,19 +223,79 @@ fn edge_with(slot: Edge, word: &[u8]) -> Result<Edge, NotAName>
 fn link_with(slot: Edge, word: &[u8]) -> Result<Edge, NotAName>
     ensures { result_ok result ≡ link_with slot word.now }
 {
+    let from = slot.source();
+    let to = slot.target();
     for rank in 0..EDGES {
         let edge = Edge::at_rank(rank);
-        if is_link(slot, word, edge) {
+        if is_link(from, to, word, edge) {
             return Ok(edge);
         }
     }
     Err(NotAName)
 }
 
-fn is_link(slot: Edge, word: &[u8], edge: Edge) -> bool
-    ensures { result ≡ is_link slot word.now edge }
+fn is_link(from: Dir, to: Dir, word: &[u8], edge: Edge) -> bool
+    ensures { result ≡ is_link from to word.now edge }
 {
-    edge.is_diff() && slot_rank(edge) == slot.rank() && link_word(edge).as_bytes() == word
+    edge.is_diff() && edge.source() == from && edge.target() == to && is_spelled(edge, word)
+}
+
+/// Adds the edges of a cycle, of which the external ones have no marks yet, with those that the
+/// edges beside them have.
+fn mark_around(unmarked: &[Edge], edges: &mut Edges) -> Result<(), NotAName>
+    requires { length edges.old.items + length unmarked.now ≤ MAX_EDGES }
+    ensures { Adds (marked_around unmarked.now) edges.old.items edges.new.items result }
+{
+    let before = last_mark(Mark::Plain, unmarked);
+    let behind = first_mark(unmarked, Mark::Plain);
+    mark_along(before, unmarked, behind, edges)
+}
+
+/// The mark of the access behind some edges, where it is `mark` behind none.
+fn last_mark(mark: Mark, edges: &[Edge]) -> Mark
+    ensures { result ≡ last_mark mark edges.now }
+{
+    match edges {
+        [] => mark,
+        [edge, rest @ ..] => last_mark(edge.target_mark(), rest),
+    }
+}
+
+/// The mark of the access before some edges, where it is `mark` before none.
+fn first_mark(edges: &[Edge], mark: Mark) -> Mark
+    ensures { result ≡ first_mark edges.now mark }
+{
+    match edges {
+        [] => mark,
+        [edge, ..] => edge.source_mark(),
+    }
+}
+
+/// Adds edges, the external ones with the marks that the edges beside them have, the outer ones
+/// with these marks.
+fn mark_along(from: Mark, unmarked: &[Edge], to: Mark, edges: &mut Edges) -> Result<(), NotAName>
+    requires { length edges.old.items + length unmarked.now ≤ MAX_EDGES }
+    ensures { Adds (marked_along from unmarked.now to) edges.old.items edges.new.items result }
+{
+    match unmarked {
+        [] => Ok(()),
+        [edge, rest @ ..] => {
+            let next = first_mark(rest, to);
+            edges.push(marked_between(from, *edge, next)?);
+            mark_along(edge.target_mark(), rest, to, edges)
+        }
+    }
+}
+
+/// An external edge with the marks of the accesses beside it, another edge with its own.
+fn marked_between(from: Mark, edge: Edge, to: Mark) -> Result<Edge, NotAName>
+    ensures { result_ok result ≡ marked_between from edge to }
+{
+    if edge.is_external() {
+        Edge::marked(edge.kind(), from, to).ok_or(NotAName)
+    } else {
+        Ok(edge)
+    }
 }
 
 /// Adds the edges whose words a text has behind `C+`, joined by `-`.

@@ -7,7 +7,7 @@ ghost use Rattle.cycle_names.specs.Links.{link_word, link_words};
 ghost use Rattle.cycle_names.specs.Names.{links_text};
 ghost use Rattle.cycle_names.specs.Fitting.{link_text};
 
-use crate::link::{link_rank, link_word};
+use crate::link::{kind_link, mark_letters, word_place};
 use crate::name::MAX_NAME;
 use arrayvec::ArrayString;
 use relax_edges::{Dir, Edge, MAX_EDGES, Sd};
@@ -73,7 +73,7 @@ fn are_alike(link: Edge, edges: &[Edge]) -> bool
 fn is_alike(link: Edge, edge: Edge) -> bool
     ensures { result ≡ (not (is_diff edge) || bytes_eq (link_word link) (link_word edge)) }
 {
-    !edge.is_diff() || link_rank(link) == link_rank(edge)
+    !edge.is_diff() || word_place(link) == word_place(edge)
 }
 
 /// Adds the word of an edge behind a `+`, if the edge is a link.
@@ -84,7 +84,8 @@ fn push_link(edge: Edge, name: &mut Name)
 {
     if edge.is_diff() {
         name.push_str("+");
-        name.push_str(link_word(edge));
+        name.push_str(kind_link(edge.kind()));
+        name.push_str(mark_letters(edge.source_mark(), edge.target_mark()));
     }
 }
 

@@ -2,4 +2,4 @@ use Rattle.std.proofs.Common.{length}
 use Rattle.cycle_names.proofs.fit.+is_below.Given as goal
 
 abbrev pub decreases-is_below : goal.decreases-is_below
-decreases-is_below l = length l.ranks.now
+decreases-is_below l = length l.places.now

@@ -1,0 +1,42 @@
+-- Events between external edges: whether they are plain is the same for all rotations of a cycle.
+use Rattle.std.specs.Prelude.{◌≡◌, ◌&&◌, ℕ, Bool, true, false, List, [], ◌∷◌, ◌++◌, take, drop}
+use Rattle.std.proofs.Common.{refl, sym, ◌∙◌, ap, append_assoc}
+use Rattle.std.proofs.lemmas.List.{append-nil, take-append-drop}
+use Rattle.relax_edges.specs.declared.edge.Edge.{Edge}
+use Rattle.walk_laws.specs.Rotation.{rotated}
+use Rattle.cycle_names.specs.Rotations.{is_plain_before, all_plain, is_plain_outside}
+
+and_assoc : (x y z : Bool) → ((x && y) && z) ≡ (x && (y && z))
+and_assoc true y z = refl
+and_assoc false y z = refl
+
+and_comm : (x y : Bool) → (x && y) ≡ (y && x)
+and_comm true true = refl
+and_comm true false = refl
+and_comm false true = refl
+and_comm false false = refl
+
+plain_front : (e m : Edge) (a b : List Edge) → is_plain_before e (a ++ m ∷ b) ≡ is_plain_before e (a ++ m ∷ [])
+plain_front e m [] b = refl
+plain_front e m (f ∷ a) b = refl
+
+-- accesses are plain where they are up to an edge and from that edge on
+plain_at : (a : List Edge) (m : Edge) (b : List Edge) → all_plain (a ++ m ∷ b) ≡ (all_plain (a ++ m ∷ []) && all_plain (m ∷ b))
+plain_at [] m b = refl
+plain_at (e ∷ a) m b =
+    ap (λ x. x && all_plain (a ++ m ∷ b)) (plain_front e m a b)
+    ∙ ap (λ x. is_plain_before e (a ++ m ∷ []) && x) (plain_at a m b)
+    ∙ sym (and_assoc (is_plain_before e (a ++ m ∷ [])) (all_plain (a ++ m ∷ [])) (all_plain (m ∷ b)))
+
+plain_turned : (front back : List Edge) → is_plain_outside (front ++ back) ≡ is_plain_outside (back ++ front)
+plain_turned [] back = ap is_plain_outside (sym (append-nil back))
+plain_turned (f ∷ fs) [] = ap is_plain_outside (append-nil (f ∷ fs))
+plain_turned (f ∷ fs) (g ∷ gs) =
+    let one : all_plain (((f ∷ fs) ++ g ∷ gs) ++ f ∷ []) ≡ (all_plain ((f ∷ fs) ++ g ∷ []) && all_plain ((g ∷ gs) ++ f ∷ [])) =
+    ap all_plain (append_assoc (f ∷ fs) (g ∷ gs) (f ∷ [])) ∙ plain_at (f ∷ fs) g (gs ++ f ∷ []) in
+    let two : all_plain (((g ∷ gs) ++ f ∷ fs) ++ g ∷ []) ≡ (all_plain ((g ∷ gs) ++ f ∷ []) && all_plain ((f ∷ fs) ++ g ∷ [])) =
+    ap all_plain (append_assoc (g ∷ gs) (f ∷ fs) (g ∷ [])) ∙ plain_at (g ∷ gs) f (fs ++ g ∷ []) in
+    one ∙ and_comm (all_plain ((f ∷ fs) ++ g ∷ [])) (all_plain ((g ∷ gs) ++ f ∷ [])) ∙ sym two
+
+pub plain_rotated : (k : ℕ) (u : List Edge) → is_plain_outside (rotated k u) ≡ is_plain_outside u
+plain_rotated k u = plain_turned (drop k u) (take k u) ∙ ap is_plain_outside (take-append-drop k u)
