@@ -3,7 +3,13 @@
 use Rattle.std.proofs.Common.{ℕ, ◌+◌, ◌<◌, ◌≤◌, ◌≡◌, ◌==◌, ◌||◌, refl, Bool, true, false, cond, not, bit_or, List, [], ◌∷◌, ◌++◌, Option, Some, None, is_some, length, length-append, ◌∙◌, ap, append-nil, append_assoc, subst, arith}
 use Rattle.std.specs.List.{list_all}
 use Rattle.std.proofs.lemmas.Bool.{and_from, ne_eqb}
-use Rattle.relax_edges.specs.EdgeTable.{fence_is_of}
+use Rattle.std.proofs.lemmas.List.Folds.{list_all-append}
+use Rattle.std.proofs.lemmas.List.Sums.{sum_by-cons}
+use Rattle.relax_edges.specs.EdgeTable.{fence_is_of, mark_fits, mark_is_of}
+use Rattle.relax_edges.specs.declared.kinds.ArchName.{ArchName}
+use Rattle.relax_edges.specs.declared.kinds.ArchName.TheVariants as archs
+use Rattle.relax_edges.specs.declared.kinds.Mark.{Mark}
+use Rattle.relax_edges.specs.declared.kinds.Mark.TheVariants.{Plain, Acquire, Release}
 use Rattle.relax_edges.specs.declared.kinds.FenceKind.{FenceKind}
 use Rattle.relax_edges.specs.declared.kinds.Dir.TheVariants as dirs
 use Rattle.relax_edges.specs.declared.kinds.FenceKind.TheVariants as fences
@@ -12,17 +18,17 @@ use Rattle.micro_ops.specs.declared.operation.Micro.TheVariants as ops
 use Rattle.micro_ops.specs.declared.operation.Item.TheVariants as items
 use Rattle.micro_ops.specs.declared.operation.Barrier.{Barrier}
 use Rattle.micro_ops.specs.declared.operation.Barrier.TheVariants as barriers
-use Rattle.micro_ops.specs.Machine.{num, at_place, bit}
-use Rattle.micro_ops.specs.Running.{Run, At, go, exec, labels_of, lands}
-use Rattle.micro_ops.proofs.Rules.{holding, after_load, after_store, after_barrier, run_load, run_load_wants, run_store, run_barrier}
-use Rattle.micro_ops.proofs.Laws.{exec_append}
+use Rattle.micro_ops.specs.Machine.{num, address, at_place, bit}
+use Rattle.micro_ops.specs.Running.{Run, At, Wants, go, exec, labels_of, lands}
+use Rattle.micro_ops.proofs.Rules.{holding, after_load, after_store, after_barrier, run_load, run_load_wants, run_load_acquire, run_load_acquire_wants, run_store, run_store_release, run_add_to_address, run_barrier}
+use Rattle.micro_ops.proofs.Laws.{exec_append, labels_append, lands_append}
 use Rattle.arch_trait.specs.declared.link.Link.{Link}
 use Rattle.arch_trait.specs.declared.link.Link.TheVariants as links
 use Rattle.arch_trait.specs.Links.{link_is_of, depends, is_addr, is_data, mask_if, source_if, link_control, link_items}
 use Rattle.arch_trait.specs.Taking.{Taken, took, has_address, address_of, with_address}
-use Rattle.arch_trait.specs.Laws.{HoldsPlaces, HasSource, Did, DidLoad, DidLink, IsWanting, IsTaken, Takes, HasLink, IsUsable, MakesLinks, MakesAccess, MakesLoads, MakesStores, IsArch, link_room, link_labels, is_at}
-use Rattle.arch_trait.specs.Cells.{accesses_in, MakesOneAccess}
-use Rattle.arch_trait.specs.Addressed.{Instructions, puts_of, branch_code, link_code, load_on, filled_on, store_on}
+use Rattle.arch_trait.specs.Laws.{HoldsPlaces, HasSource, Did, DidLoad, DidLink, IsWanting, IsTaken, Takes, HasLink, HasMark, IsUsable, MakesLinks, MakesAccess, MakesLoads, MakesStores, IsArch, link_room, link_labels, is_at}
+use Rattle.arch_trait.specs.Cells.{is_access, accesses_in, MakesOneAccess}
+use Rattle.arch_trait.specs.Addressed.{Instructions, puts_of, load_op, store_op, load_through, store_through, branch_code, link_code, load_on, filled_on, store_on}
 use Rattle.arch_trait.proofs.Taking.{takes_address, address_there}
 use Rattle.arch_trait.proofs.Accesses.{Writes, IsSpare, writes_none, writes_more, written_same, spare_with, address_is, address_below, did_load, did_store, did_nothing, on_source, xor_runs, written_other, addr_depends, data_depends, addr_no_data, address_next, fresh_counts}
 
@@ -43,16 +49,16 @@ same_run d r = record {
   reads = refl;
 }
 
--- a run of code ends with a load, and changes one register before it
-pub record LoadsBy (code : List Micro) (r : Run) (d v p n mask : ℕ) (vs : List ℕ) : Type 0 where
+-- a run of code ends with a load of a mark, and changes one register before it
+pub record LoadsBy (mark : Mark) (code : List Micro) (r : Run) (d v p n mask : ℕ) (vs : List ℕ) : Type 0 where
   pub before : Run
-  pub ran : exec code (At r) ≡ At (after_load before v p n mask vs)
+  pub ran : exec code (At r) ≡ At (after_load mark before v p n mask vs)
   pub same : IsBut d r before
 
--- a run of code ends with a store, and changes one register before it
-pub record StoresBy (code : List Micro) (r : Run) (d p n mask : ℕ) : Type 0 where
+-- a run of code ends with a store of a mark, and changes one register before it
+pub record StoresBy (mark : Mark) (code : List Micro) (r : Run) (d p n mask : ℕ) : Type 0 where
   pub before : Run
-  pub ran : exec code (At r) ≡ At (after_store before p n mask 0)
+  pub ran : exec code (At r) ≡ At (after_store mark before p n mask 0)
   pub same : IsBut d r before
 
 -- code of at most two operations without a label, a branch or a place
@@ -61,6 +67,12 @@ pub record IsShort (code : List Micro) : Type 0 where
   pub labels : labels_of code ≡ []
   pub lands : lands code ≡ true
   pub no_place : (p : ℕ) → list_all (is_at p) code ≡ true
+
+-- the instructions of accesses that have a mark are the architecture's
+pub record HasMarked (own : Instructions) : Type 0 where
+  pub acquire : (v a : ℕ) → v < own.registers → a < own.registers → own.has (ops.LoadAcq v a) ≡ true
+  pub release : (v a : ℕ) → v < own.registers → a < own.registers → own.has (ops.StoreRel v a) ≡ true
+  pub sum : (d a : ℕ) → d < own.registers → a < own.registers → own.has (ops.Add d a d) ≡ true
 
 -- what the instructions of an architecture keep
 pub record KeepsInstructions (own : Instructions) : Type 0 where
@@ -82,7 +94,7 @@ pub record KeepsInstructions (own : Instructions) : Type 0 where
       own.has (ops.Barrier (barriers.Fence fences.ISync)) ≡ true
   pub isb_has : link_is_of links.CtrlIsb own.name ≡ true → own.has (ops.Barrier barriers.Isb) ≡ true
   pub load_runs : (d v a p n mask : ℕ) (vs : List ℕ) (r : Run) → r.state.regs a ≡ at_place p →
-      r.state.regs d ≡ num 0 mask → r.reads ≡ n ∷ vs → LoadsBy (own.load d v a) r d v p n mask vs
+      r.state.regs d ≡ num 0 mask → r.reads ≡ n ∷ vs → LoadsBy Plain (own.load d v a) r d v p n mask vs
   pub load_wants : (d v a p mask : ℕ) (r : Run) → r.state.regs a ≡ at_place p →
       r.state.regs d ≡ num 0 mask → r.reads ≡ [] → IsWanting (exec (own.load d v a) (At r))
   pub load_short : (d v a : ℕ) → IsShort (own.load d v a)
@@ -90,13 +102,13 @@ pub record KeepsInstructions (own : Instructions) : Type 0 where
       list_all own.has (own.load d v a) ≡ true
   pub store_runs : (d v a p n mask : ℕ) (r : Run) → r.state.regs a ≡ at_place p →
       r.state.regs d ≡ num 0 mask → r.state.regs v ≡ num n 0 → (v == d) ≡ false →
-      StoresBy (own.store d v a) r d p n mask
+      StoresBy Plain (own.store d v a) r d p n mask
   pub store_short : (d v a : ℕ) → IsShort (own.store d v a)
   pub store_has : (d v a : ℕ) → d < own.registers → v < own.registers → a < own.registers →
       list_all own.has (own.store d v a) ≡ true
   pub joins_runs : (d n mask : ℕ) (r : Run) → n < 256 → r.state.regs d ≡ num 0 mask →
       go (own.joins d n) (At r) ≡ At (holding r d (num n mask))
-  pub joins_short : (d n a : ℕ) → IsShort (own.joins d n ∷ ops.Store d a None ∷ [])
+  pub joins_short : (d n : ℕ) → IsShort (own.joins d n ∷ [])
   pub joins_has : (d n : ℕ) → d < own.registers → n < 256 → own.has (own.joins d n) ≡ true
   pub xor_has : (d s : ℕ) → d < own.registers → s < own.registers → own.has (ops.Xor d s s) ≡ true
   pub imm_has : (d n : ℕ) → d < own.registers → n < 256 → own.has (ops.Imm d n) ≡ true
@@ -104,6 +116,164 @@ pub record KeepsInstructions (own : Instructions) : Type 0 where
       own.has (ops.Load v a None) ≡ true
   pub plain_store_has : (v a : ℕ) → v < own.registers → a < own.registers →
       own.has (ops.Store v a None) ≡ true
+  pub marked_has : mark_is_of Acquire own.name ≡ true → HasMarked own
+
+-- a load of a mark at the address in a register, and a store
+load_op_runs : (mark : Mark) → mark_fits dirs.R mark ≡ true → (v a p n mask : ℕ) (vs : List ℕ) (r : Run) →
+    r.state.regs a ≡ address p mask → r.reads ≡ n ∷ vs →
+    go (load_op mark v a) (At r) ≡ At (after_load mark r v p n mask vs)
+load_op_runs Plain fits v a p n mask vs r e reads = run_load v a p n mask vs r e reads
+load_op_runs Acquire fits v a p n mask vs r e reads = run_load_acquire v a p n mask vs r e reads
+load_op_runs Release fits v a p n mask vs r e reads = cc
+
+load_op_wants : (mark : Mark) (v a p mask : ℕ) (r : Run) → r.state.regs a ≡ address p mask → r.reads ≡ [] →
+    go (load_op mark v a) (At r) ≡ Wants r
+load_op_wants Plain v a p mask r e reads = run_load_wants v a p mask r e reads
+load_op_wants Acquire v a p mask r e reads = run_load_acquire_wants v a p mask r e reads
+load_op_wants Release v a p mask r e reads = run_load_wants v a p mask r e reads
+
+store_op_runs : (mark : Mark) → mark_fits dirs.W mark ≡ true → (v a p n mask data_mask : ℕ) (r : Run) →
+    r.state.regs a ≡ address p mask → r.state.regs v ≡ num n data_mask →
+    go (store_op mark v a) (At r) ≡ At (after_store mark r p n mask data_mask)
+store_op_runs Plain fits v a p n mask data_mask r e holds = run_store v a p n mask data_mask r e holds
+store_op_runs Release fits v a p n mask data_mask r e holds = run_store_release v a p n mask data_mask r e holds
+store_op_runs Acquire fits v a p n mask data_mask r e holds = cc
+
+-- a register other than the address's is as it was after the address was added
+but_address : (d p mask : ℕ) (r : Run) → IsBut d r (holding r d (address p mask))
+but_address d p mask r = record {
+  regs = λ s e. written_other r.state.regs d s (address p mask) e;
+  made = refl;
+  control = refl;
+  loads = refl;
+  reads = refl;
+}
+
+-- the same at an address that depends on a register
+load_through_runs : (own : Instructions) → KeepsInstructions own → (mark : Mark) → mark_fits dirs.R mark ≡ true →
+    (d v a p n mask : ℕ) (vs : List ℕ) (r : Run) → r.state.regs a ≡ at_place p →
+    r.state.regs d ≡ num 0 mask → r.reads ≡ n ∷ vs → LoadsBy mark (load_through own mark d v a) r d v p n mask vs
+load_through_runs own keeps Plain fits d v a p n mask vs r e g reads = keeps.load_runs d v a p n mask vs r e g reads
+load_through_runs own keeps Acquire fits d v a p n mask vs r e g reads =
+    let u = holding r d (address p mask) in
+    record {
+      before = u;
+      ran =
+          ap (λ x. go (ops.LoadAcq v d) x) (run_add_to_address d a d p mask r e g) ∙
+          run_load_acquire v d p n mask vs u (written_same r.state.regs d (address p mask)) reads;
+      same = but_address d p mask r;
+    }
+load_through_runs own keeps Release fits d v a p n mask vs r e g reads = cc
+
+load_through_wants : (own : Instructions) → KeepsInstructions own → (mark : Mark) (d v a p mask : ℕ) (r : Run) →
+    r.state.regs a ≡ at_place p → r.state.regs d ≡ num 0 mask → r.reads ≡ [] →
+    IsWanting (exec (load_through own mark d v a) (At r))
+load_through_wants own keeps Plain d v a p mask r e g reads = keeps.load_wants d v a p mask r e g reads
+load_through_wants own keeps Release d v a p mask r e g reads = keeps.load_wants d v a p mask r e g reads
+load_through_wants own keeps Acquire d v a p mask r e g reads =
+    let u = holding r d (address p mask) in
+    record {
+      run = u;
+      is =
+          ap (λ x. go (ops.LoadAcq v d) x) (run_add_to_address d a d p mask r e g) ∙
+          run_load_acquire_wants v d p mask u (written_same r.state.regs d (address p mask)) reads;
+    }
+
+store_through_runs : (own : Instructions) → KeepsInstructions own → (mark : Mark) → mark_fits dirs.W mark ≡ true →
+    (d v a p n mask : ℕ) (r : Run) → r.state.regs a ≡ at_place p → r.state.regs d ≡ num 0 mask →
+    r.state.regs v ≡ num n 0 → (v == d) ≡ false → StoresBy mark (store_through own mark d v a) r d p n mask
+store_through_runs own keeps Plain fits d v a p n mask r e g holds apart =
+    keeps.store_runs d v a p n mask r e g holds apart
+store_through_runs own keeps Release fits d v a p n mask r e g holds apart =
+    let u = holding r d (address p mask) in
+    record {
+      before = u;
+      ran =
+          ap (λ x. go (ops.StoreRel v d) x) (run_add_to_address d a d p mask r e g) ∙
+          run_store_release v d p n mask 0 u (written_same r.state.regs d (address p mask))
+          (written_other r.state.regs d v (address p mask) apart ∙ holds);
+      same = but_address d p mask r;
+    }
+store_through_runs own keeps Acquire fits d v a p n mask r e g holds apart = cc
+
+load_through_short : (own : Instructions) → KeepsInstructions own → (mark : Mark) (d v a : ℕ) →
+    IsShort (load_through own mark d v a)
+load_through_short own keeps Plain d v a = keeps.load_short d v a
+load_through_short own keeps Release d v a = keeps.load_short d v a
+load_through_short own keeps Acquire d v a =
+    record { room = omega arith; labels = refl; lands = refl; no_place = λ p. refl }
+
+store_through_short : (own : Instructions) → KeepsInstructions own → (mark : Mark) (d v a : ℕ) →
+    IsShort (store_through own mark d v a)
+store_through_short own keeps Plain d v a = keeps.store_short d v a
+store_through_short own keeps Acquire d v a = keeps.store_short d v a
+store_through_short own keeps Release d v a =
+    record { room = omega arith; labels = refl; lands = refl; no_place = λ p. refl }
+
+load_op_short : (mark : Mark) (v a : ℕ) → IsShort (load_op mark v a ∷ [])
+load_op_short Plain v a = record { room = omega arith; labels = refl; lands = refl; no_place = λ p. refl }
+load_op_short Acquire v a = record { room = omega arith; labels = refl; lands = refl; no_place = λ p. refl }
+load_op_short Release v a = record { room = omega arith; labels = refl; lands = refl; no_place = λ p. refl }
+
+store_op_short : (mark : Mark) (v a : ℕ) → IsShort (store_op mark v a ∷ [])
+store_op_short Plain v a = record { room = omega arith; labels = refl; lands = refl; no_place = λ p. refl }
+store_op_short Acquire v a = record { room = omega arith; labels = refl; lands = refl; no_place = λ p. refl }
+store_op_short Release v a = record { room = omega arith; labels = refl; lands = refl; no_place = λ p. refl }
+
+-- an operation and a store
+both_short : (first : Micro) (mark : Mark) (v a : ℕ) → IsShort (first ∷ []) → IsShort (first ∷ store_op mark v a ∷ [])
+both_short first mark v a short =
+    let store = store_op_short mark v a in
+    let store_code = store_op mark v a ∷ [] in
+    record {
+      room = omega arith;
+      labels =
+          labels_append (first ∷ []) store_code ∙ (ap (λ l. l ++ labels_of store_code) short.labels ∙ store.labels);
+      lands = lands_append (first ∷ []) store_code short.lands store.lands;
+      no_place = λ p.
+          list_all-append (is_at p) (first ∷ []) store_code ∙
+          and_from _ _ (short.no_place p) (store.no_place p);
+    }
+
+imm_short : (d n : ℕ) → IsShort (ops.Imm d n ∷ [])
+imm_short d n = record { room = omega arith; labels = refl; lands = refl; no_place = λ p. refl }
+
+-- an architecture that has store-releases has load-acquires
+release_acquire : (arch : ArchName) → mark_is_of Release arch ≡ true → mark_is_of Acquire arch ≡ true
+release_acquire archs.X86 e = e
+release_acquire archs.PPC e = e
+release_acquire archs.AArch64 e = e
+release_acquire archs.RISCV e = e
+
+load_op_has : (own : Instructions) → KeepsInstructions own → (mark : Mark) → mark_is_of mark own.name ≡ true →
+    (v a : ℕ) → v < own.registers → a < own.registers → own.has (load_op mark v a) ≡ true
+load_op_has own keeps Plain e v a h k = keeps.plain_load_has v a h k
+load_op_has own keeps Acquire e v a h k = (keeps.marked_has e).acquire v a h k
+load_op_has own keeps Release e v a h k = keeps.plain_load_has v a h k
+
+store_op_has : (own : Instructions) → KeepsInstructions own → (mark : Mark) → mark_is_of mark own.name ≡ true →
+    (v a : ℕ) → v < own.registers → a < own.registers → own.has (store_op mark v a) ≡ true
+store_op_has own keeps Plain e v a h k = keeps.plain_store_has v a h k
+store_op_has own keeps Acquire e v a h k = keeps.plain_store_has v a h k
+store_op_has own keeps Release e v a h k = (keeps.marked_has (release_acquire own.name e)).release v a h k
+
+load_through_has : (own : Instructions) → KeepsInstructions own → (mark : Mark) → mark_is_of mark own.name ≡ true →
+    (d v a : ℕ) → d < own.registers → v < own.registers → a < own.registers →
+    list_all own.has (load_through own mark d v a) ≡ true
+load_through_has own keeps Plain e d v a h k l = keeps.load_has d v a h k l
+load_through_has own keeps Release e d v a h k l = keeps.load_has d v a h k l
+load_through_has own keeps Acquire e d v a h k l =
+    let has = keeps.marked_has e in
+    and_from _ _ (has.sum d a h l) (and_from _ true (has.acquire v d k h) refl)
+
+store_through_has : (own : Instructions) → KeepsInstructions own → (mark : Mark) → mark_is_of mark own.name ≡ true →
+    (d v a : ℕ) → d < own.registers → v < own.registers → a < own.registers →
+    list_all own.has (store_through own mark d v a) ≡ true
+store_through_has own keeps Plain e d v a h k l = keeps.store_has d v a h k l
+store_through_has own keeps Acquire e d v a h k l = keeps.store_has d v a h k l
+store_through_has own keeps Release e d v a h k l =
+    let has = keeps.marked_has (release_acquire own.name e) in
+    and_from _ _ (has.sum d a h l) (and_from _ true (has.release v d k h) refl)
 
 -- registers of which one more was changed
 writes_but : (r u : Run) (w : Run) (g h : Taken) (d : ℕ) → Writes r.state.regs u.state.regs g h →
@@ -172,110 +342,110 @@ link_runs own keeps links.CtrlIsb from n r k source =
     (source refl) (λ s v h. did_behind own barriers.Isb s n r _ (keeps.branch_runs s n v k r h))
 
 -- what is to be shown of a load
-abbrev pub LoadRuns : Instructions → Taken → Run → ℕ → ℕ → ℕ → List ℕ → Bool → Option ℕ → Type 0
-LoadRuns own g r p k v vs on o =
-    HoldsPlaces r (load_on own g o p).regs →
-    DidLoad (load_on own g o p).code r g (load_on own g o p).regs
-    (items.Access dirs.R p v (mask_if on k) 0 r.state.control ∷ [])
+abbrev pub LoadRuns : Instructions → Taken → Mark → Run → ℕ → ℕ → ℕ → List ℕ → Bool → Option ℕ → Type 0
+LoadRuns own g mark r p k v vs on o =
+    HoldsPlaces r (load_on own g mark o p).regs →
+    DidLoad (load_on own g mark o p).code r g (load_on own g mark o p).regs
+    (items.Access dirs.R mark p v (mask_if on k) 0 r.state.control ∷ [])
     r.state.control (r.state.loads + 1) vs (filled_on g o) v
 
-load_plain : (own : Instructions) (g : Taken) (r : Run) (p k v : ℕ) (vs : List ℕ) → IsTaken g →
-    r.reads ≡ v ∷ vs → LoadRuns own g r p k v vs false None
-load_plain own g r p k v vs taken reads places =
+load_plain : (own : Instructions) (g : Taken) (mark : Mark) → mark_fits dirs.R mark ≡ true → (r : Run) (p k v : ℕ) (vs : List ℕ) → IsTaken g →
+    r.reads ≡ v ∷ vs → LoadRuns own g mark r p k v vs false None
+load_plain own g mark fits r p k v vs taken reads places =
     let i = took g 1 in
-    did_load (load_on own g None p).code r r g (with_address i p) g.next p v 0 vs
-    (run_load g.next (address_of i p) p v 0 vs r (places p (address_of i p) (address_is i p)) reads)
+    did_load mark (load_on own g mark None p).code r r g (with_address i p) g.next p v 0 vs
+    (load_op_runs mark fits g.next (address_of i p) p v 0 vs r (places p (address_of i p) (address_is i p)) reads)
     (writes_none r g (with_address i p) places) refl refl refl
     (spare_with g i p g.next taken refl refl (omega arith) (omega arith))
 
-load_dependent : (own : Instructions) → KeepsInstructions own → (g : Taken) (r : Run) (p k v : ℕ) (vs : List ℕ) →
+load_dependent : (own : Instructions) → KeepsInstructions own → (g : Taken) (mark : Mark) → mark_fits dirs.R mark ≡ true → (r : Run) (p k v : ℕ) (vs : List ℕ) →
     IsTaken g → r.reads ≡ v ∷ vs → (s n : ℕ) → r.state.regs s ≡ num n (bit k) →
-    LoadRuns own g r p k v vs true (Some s)
-load_dependent own keeps g r p k v vs taken reads s n e places =
+    LoadRuns own g mark r p k v vs true (Some s)
+load_dependent own keeps g mark fits r p k v vs taken reads s n e places =
     let i = took g 2 in
     let h = with_address i p in
     let u = holding r g.next (num 0 (bit k)) in
     let spare = spare_with g i p g.next taken refl refl (omega arith) (omega arith) in
     let w = writes_more r.state.regs r.state.regs g h g.next (num 0 (bit k)) (writes_none r g h places) spare in
-    let l = keeps.load_runs g.next (g.next + 1) (address_of i p) p v (bit k) vs u
+    let l = load_through_runs own keeps mark fits g.next (g.next + 1) (address_of i p) p v (bit k) vs u
     (w.places p (address_of i p) (address_is i p))
     (written_same r.state.regs g.next (num 0 (bit k))) reads in
-    did_load (load_on own g (Some s) p).code r l.before g h (g.next + 1) p v (bit k) vs
-    (ap (λ x. exec (own.load g.next (g.next + 1) (address_of i p)) x) (xor_runs g.next s n k r e) ∙ l.ran)
+    did_load mark (load_on own g mark (Some s) p).code r l.before g h (g.next + 1) p v (bit k) vs
+    (ap (λ x. exec (load_through own mark g.next (g.next + 1) (address_of i p)) x) (xor_runs g.next s n k r e) ∙ l.ran)
     (writes_but r u l.before g h g.next w spare l.same) l.same.made l.same.control l.same.loads
     (spare_with g i p (g.next + 1) taken refl refl (omega arith) (omega arith))
 
-load_runs : (own : Instructions) → KeepsInstructions own → (g : Taken) (r : Run) (p k v : ℕ) (vs : List ℕ) (on : Bool)
+load_runs : (own : Instructions) → KeepsInstructions own → (g : Taken) (mark : Mark) → mark_fits dirs.R mark ≡ true → (r : Run) (p k v : ℕ) (vs : List ℕ) (on : Bool)
     (from : Option ℕ) → IsTaken g → r.reads ≡ v ∷ vs → (on ≡ true → HasSource r from k) →
-    LoadRuns own g r p k v vs on (source_if on from)
-load_runs own keeps g r p k v vs true from taken reads source =
-    on_source r from k (λ o. LoadRuns own g r p k v vs true o) (source refl)
-    (λ s n e. load_dependent own keeps g r p k v vs taken reads s n e)
-load_runs own keeps g r p k v vs false from taken reads source =
-    load_plain own g r p k v vs taken reads
+    LoadRuns own g mark r p k v vs on (source_if on from)
+load_runs own keeps g mark fits r p k v vs true from taken reads source =
+    on_source r from k (λ o. LoadRuns own g mark r p k v vs true o) (source refl)
+    (λ s n e. load_dependent own keeps g mark fits r p k v vs taken reads s n e)
+load_runs own keeps g mark fits r p k v vs false from taken reads source =
+    load_plain own g mark fits r p k v vs taken reads
 
 -- with nothing to read a load wants a number
-abbrev pub LoadWants : Instructions → Taken → Run → ℕ → Option ℕ → Type 0
-LoadWants own g r p o =
-    HoldsPlaces r (load_on own g o p).regs → IsWanting (exec (load_on own g o p).code (At r))
+abbrev pub LoadWants : Instructions → Taken → Mark → Run → ℕ → Option ℕ → Type 0
+LoadWants own g mark r p o =
+    HoldsPlaces r (load_on own g mark o p).regs → IsWanting (exec (load_on own g mark o p).code (At r))
 
-wants_plain : (own : Instructions) (g : Taken) (r : Run) (p : ℕ) → r.reads ≡ [] → LoadWants own g r p None
-wants_plain own g r p reads places =
+wants_plain : (own : Instructions) (g : Taken) (mark : Mark) (r : Run) (p : ℕ) → r.reads ≡ [] → LoadWants own g mark r p None
+wants_plain own g mark r p reads places =
     let i = took g 1 in
     record {
       run = r;
-      is = run_load_wants g.next (address_of i p) p 0 r (places p (address_of i p) (address_is i p)) reads;
+      is = load_op_wants mark g.next (address_of i p) p 0 r (places p (address_of i p) (address_is i p)) reads;
     }
 
-wants_dependent : (own : Instructions) → KeepsInstructions own → (g : Taken) (r : Run) (p k : ℕ) → IsTaken g →
-    r.reads ≡ [] → (s n : ℕ) → r.state.regs s ≡ num n (bit k) → LoadWants own g r p (Some s)
-wants_dependent own keeps g r p k taken reads s n e places =
+wants_dependent : (own : Instructions) → KeepsInstructions own → (g : Taken) (mark : Mark) (r : Run) (p k : ℕ) → IsTaken g →
+    r.reads ≡ [] → (s n : ℕ) → r.state.regs s ≡ num n (bit k) → LoadWants own g mark r p (Some s)
+wants_dependent own keeps g mark r p k taken reads s n e places =
     let i = took g 2 in
     let h = with_address i p in
     let u = holding r g.next (num 0 (bit k)) in
     let w = writes_more r.state.regs r.state.regs g h g.next (num 0 (bit k)) (writes_none r g h places)
     (spare_with g i p g.next taken refl refl (omega arith) (omega arith)) in
-    let l = keeps.load_wants g.next (g.next + 1) (address_of i p) p (bit k) u
+    let l = load_through_wants own keeps mark g.next (g.next + 1) (address_of i p) p (bit k) u
     (w.places p (address_of i p) (address_is i p))
     (written_same r.state.regs g.next (num 0 (bit k))) reads in
     record {
       run = l.run;
-      is = ap (λ x. exec (own.load g.next (g.next + 1) (address_of i p)) x) (xor_runs g.next s n k r e) ∙ l.is;
+      is = ap (λ x. exec (load_through own mark g.next (g.next + 1) (address_of i p)) x) (xor_runs g.next s n k r e) ∙ l.is;
     }
 
-load_wants : (own : Instructions) → KeepsInstructions own → (g : Taken) (r : Run) (p k : ℕ) (on : Bool)
+load_wants : (own : Instructions) → KeepsInstructions own → (g : Taken) (mark : Mark) (r : Run) (p k : ℕ) (on : Bool)
     (from : Option ℕ) → IsTaken g → r.reads ≡ [] → (on ≡ true → HasSource r from k) →
-    LoadWants own g r p (source_if on from)
-load_wants own keeps g r p k true from taken reads source =
-    on_source r from k (λ o. LoadWants own g r p o) (source refl)
-    (λ s n e. wants_dependent own keeps g r p k taken reads s n e)
-load_wants own keeps g r p k false from taken reads source = wants_plain own g r p reads
+    LoadWants own g mark r p (source_if on from)
+load_wants own keeps g mark r p k true from taken reads source =
+    on_source r from k (λ o. LoadWants own g mark r p o) (source refl)
+    (λ s n e. wants_dependent own keeps g mark r p k taken reads s n e)
+load_wants own keeps g mark r p k false from taken reads source = wants_plain own g mark r p reads
 
 -- what is to be shown of a store
-abbrev pub StoreRuns : Instructions → Taken → Run → ℕ → ℕ → ℕ → Bool → Bool → Option ℕ → Option ℕ → Type 0
-StoreRuns own g r p v k addr data_on o d =
-    HoldsPlaces r (store_on own g o d p v).regs →
-    Did (store_on own g o d p v).code r g (store_on own g o d p v).regs
-    (items.Access dirs.W p v (mask_if addr k) (mask_if data_on k) r.state.control ∷ [])
+abbrev pub StoreRuns : Instructions → Taken → Mark → Run → ℕ → ℕ → ℕ → Bool → Bool → Option ℕ → Option ℕ → Type 0
+StoreRuns own g mark r p v k addr data_on o d =
+    HoldsPlaces r (store_on own g mark o d p v).regs →
+    Did (store_on own g mark o d p v).code r g (store_on own g mark o d p v).regs
+    (items.Access dirs.W mark p v (mask_if addr k) (mask_if data_on k) r.state.control ∷ [])
     r.state.control r.state.loads r.reads
 
-store_plain : (own : Instructions) (g : Taken) (r : Run) (p v k : ℕ) → IsTaken g →
-    StoreRuns own g r p v k false false None None
-store_plain own g r p v k taken places =
+store_plain : (own : Instructions) (g : Taken) (mark : Mark) → mark_fits dirs.W mark ≡ true → (r : Run) (p v k : ℕ) → IsTaken g →
+    StoreRuns own g mark r p v k false false None None
+store_plain own g mark fits r p v k taken places =
     let i = took g 1 in
     let h = with_address i p in
     let u = holding r g.next (num v 0) in
     let w = writes_more r.state.regs r.state.regs g h g.next (num v 0) (writes_none r g h places)
     (spare_with g i p g.next taken refl refl (omega arith) (omega arith)) in
-    did_store (store_on own g None None p v).code r u g h p v 0 0
-    (run_store g.next (address_of i p) p v 0 0 u (w.places p (address_of i p) (address_is i p))
+    did_store mark (store_on own g mark None None p v).code r u g h p v 0 0
+    (store_op_runs mark fits g.next (address_of i p) p v 0 0 u (w.places p (address_of i p) (address_is i p))
     (written_same r.state.regs g.next (num v 0)))
     w refl refl refl refl
 
-store_dependent : (own : Instructions) → KeepsInstructions own → (g : Taken) (r : Run) (p v k : ℕ) → IsTaken g →
+store_dependent : (own : Instructions) → KeepsInstructions own → (g : Taken) (mark : Mark) → mark_fits dirs.W mark ≡ true → (r : Run) (p v k : ℕ) → IsTaken g →
     (d : Option ℕ) (s n : ℕ) → r.state.regs s ≡ num n (bit k) →
-    StoreRuns own g r p v k true false (Some s) d
-store_dependent own keeps g r p v k taken d s n e places =
+    StoreRuns own g mark r p v k true false (Some s) d
+store_dependent own keeps g mark fits r p v k taken d s n e places =
     let i = took g 2 in
     let h = with_address i p in
     let u = holding r g.next (num 0 (bit k)) in
@@ -286,19 +456,19 @@ store_dependent own keeps g r p v k taken d s n e places =
     (spare_with g i p (g.next + 1) taken refl refl (omega arith) (omega arith)) in
     let other : (g.next == g.next + 1) ≡ false = ne_eqb g.next (g.next + 1) (λ q. omega arith) in
     let apart : (g.next + 1 == g.next) ≡ false = ne_eqb (g.next + 1) g.next (λ q. omega arith) in
-    let l = keeps.store_runs g.next (g.next + 1) (address_of i p) p v (bit k) t
+    let l = store_through_runs own keeps mark fits g.next (g.next + 1) (address_of i p) p v (bit k) t
     (x.places p (address_of i p) (address_is i p))
     (written_other u.state.regs (g.next + 1) g.next (num v 0) other ∙
     written_same r.state.regs g.next (num 0 (bit k)))
     (written_same u.state.regs (g.next + 1) (num v 0)) apart in
-    did_store (store_on own g (Some s) d p v).code r l.before g h p v (bit k) 0
-    (ap (λ q. exec (own.store g.next (g.next + 1) (address_of i p)) (go (ops.Imm (g.next + 1) v) q))
+    did_store mark (store_on own g mark (Some s) d p v).code r l.before g h p v (bit k) 0
+    (ap (λ q. exec (store_through own mark g.next (g.next + 1) (address_of i p)) (go (ops.Imm (g.next + 1) v) q))
     (xor_runs g.next s n k r e) ∙ l.ran)
     (writes_but r t l.before g h g.next x spare l.same) l.same.made l.same.control l.same.loads l.same.reads
 
-store_of_sum : (own : Instructions) → KeepsInstructions own → (g : Taken) (r : Run) (p v k : ℕ) → IsTaken g → v < 256 →
-    (s n : ℕ) → r.state.regs s ≡ num n (bit k) → StoreRuns own g r p v k false true None (Some s)
-store_of_sum own keeps g r p v k taken small s n e places =
+store_of_sum : (own : Instructions) → KeepsInstructions own → (g : Taken) (mark : Mark) → mark_fits dirs.W mark ≡ true → (r : Run) (p v k : ℕ) → IsTaken g → v < 256 →
+    (s n : ℕ) → r.state.regs s ≡ num n (bit k) → StoreRuns own g mark r p v k false true None (Some s)
+store_of_sum own keeps g mark fits r p v k taken small s n e places =
     let i = took g 1 in
     let h = with_address i p in
     let u = holding r g.next (num 0 (bit k)) in
@@ -306,175 +476,178 @@ store_of_sum own keeps g r p v k taken small s n e places =
     let spare = spare_with g i p g.next taken refl refl (omega arith) (omega arith) in
     let w = writes_more r.state.regs r.state.regs g h g.next (num 0 (bit k)) (writes_none r g h places) spare in
     let x = writes_more r.state.regs u.state.regs g h g.next (num v (bit k)) w spare in
-    did_store (store_on own g None (Some s) p v).code r t g h p v 0 (bit k)
-    (ap (λ q. go (ops.Store g.next (address_of i p) None) (go (own.joins g.next v) q))
+    did_store mark (store_on own g mark None (Some s) p v).code r t g h p v 0 (bit k)
+    (ap (λ q. go (store_op mark g.next (address_of i p)) (go (own.joins g.next v) q))
     (xor_runs g.next s n k r e) ∙
-    (ap (λ q. go (ops.Store g.next (address_of i p) None) q)
+    (ap (λ q. go (store_op mark g.next (address_of i p)) q)
     (keeps.joins_runs g.next v (bit k) u small (written_same r.state.regs g.next (num 0 (bit k)))) ∙
-    run_store g.next (address_of i p) p v 0 (bit k) t (x.places p (address_of i p) (address_is i p))
+    store_op_runs mark fits g.next (address_of i p) p v 0 (bit k) t (x.places p (address_of i p) (address_is i p))
     (written_same u.state.regs g.next (num v (bit k)))))
     x refl refl refl refl
 
-store_runs : (own : Instructions) → KeepsInstructions own → (g : Taken) (r : Run) (p v k : ℕ) (addr data_on : Bool)
+store_runs : (own : Instructions) → KeepsInstructions own → (g : Taken) (mark : Mark) → mark_fits dirs.W mark ≡ true → (r : Run) (p v k : ℕ) (addr data_on : Bool)
     (from : Option ℕ) → IsTaken g → v < 256 → (addr ≡ true → HasSource r from k) →
     (data_on ≡ true → HasSource r from k) → (addr ≡ true → data_on ≡ false) →
-    StoreRuns own g r p v k addr data_on (source_if addr from) (source_if data_on from)
-store_runs own keeps g r p v k true false from taken small source other apart =
-    on_source r from k (λ o. StoreRuns own g r p v k true false o None) (source refl)
-    (λ s n e. store_dependent own keeps g r p v k taken None s n e)
-store_runs own keeps g r p v k true true from taken small source other apart =
+    StoreRuns own g mark r p v k addr data_on (source_if addr from) (source_if data_on from)
+store_runs own keeps g mark fits r p v k true false from taken small source other apart =
+    on_source r from k (λ o. StoreRuns own g mark r p v k true false o None) (source refl)
+    (λ s n e. store_dependent own keeps g mark fits r p v k taken None s n e)
+store_runs own keeps g mark fits r p v k true true from taken small source other apart =
     let q : true ≡ false = apart refl in cc
-store_runs own keeps g r p v k false true from taken small source other apart =
-    on_source r from k (λ o. StoreRuns own g r p v k false true None o) (other refl)
-    (λ s n e. store_of_sum own keeps g r p v k taken small s n e)
-store_runs own keeps g r p v k false false from taken small source other apart =
-    store_plain own g r p v k taken
+store_runs own keeps g mark fits r p v k false true from taken small source other apart =
+    on_source r from k (λ o. StoreRuns own g mark r p v k false true None o) (other refl)
+    (λ s n e. store_of_sum own keeps g mark fits r p v k taken small s n e)
+store_runs own keeps g mark fits r p v k false false from taken small source other apart =
+    store_plain own g mark fits r p v k taken
 
-load_takes : (own : Instructions) (g : Taken) (p : ℕ) (o : Option ℕ) → Takes g (load_on own g o p).regs p
-load_takes own g p None = takes_address g (took g 1) p refl refl (omega arith)
-load_takes own g p (Some s) = takes_address g (took g 2) p refl refl (omega arith)
+load_takes : (own : Instructions) (g : Taken) (mark : Mark) (p : ℕ) (o : Option ℕ) → Takes g (load_on own g mark o p).regs p
+load_takes own g mark p None = takes_address g (took g 1) p refl refl (omega arith)
+load_takes own g mark p (Some s) = takes_address g (took g 2) p refl refl (omega arith)
 
-load_room : (own : Instructions) → KeepsInstructions own → (g : Taken) (p : ℕ) (a : Bool) (from : Option ℕ) (b : Bool) →
-    length (load_on own g (source_if a from) p).code ≤ cond (a || b) 4 2
-load_room own keeps g p true None b = omega arith
-load_room own keeps g p true (Some s) b =
-    omega (arith, (keeps.load_short g.next (g.next + 1) (address_of (took g 2) p)).room)
-load_room own keeps g p false from true = omega arith
-load_room own keeps g p false from false = omega arith
+load_room : (own : Instructions) → KeepsInstructions own → (g : Taken) (mark : Mark) (p : ℕ) (a : Bool) (from : Option ℕ) (b : Bool) →
+    length (load_on own g mark (source_if a from) p).code ≤ cond (a || b) 4 2
+load_room own keeps g mark p true None b = omega arith
+load_room own keeps g mark p true (Some s) b =
+    omega (arith, (load_through_short own keeps mark g.next (g.next + 1) (address_of (took g 2) p)).room)
+load_room own keeps g mark p false from true = omega arith
+load_room own keeps g mark p false from false = omega arith
 
-load_addressed : (own : Instructions) (g : Taken) (p : ℕ) (o : Option ℕ) →
-    has_address (load_on own g o p).regs p ≡ true
-load_addressed own g p None = address_there (took g 1) p
-load_addressed own g p (Some s) = address_there (took g 2) p
+load_addressed : (own : Instructions) (g : Taken) (mark : Mark) (p : ℕ) (o : Option ℕ) →
+    has_address (load_on own g mark o p).regs p ≡ true
+load_addressed own g mark p None = address_there (took g 1) p
+load_addressed own g mark p (Some s) = address_there (took g 2) p
 
-load_need : (own : Instructions) (g : Taken) (p : ℕ) (a : Bool) (from : Option ℕ) (is_new : Bool) (h : ℕ) →
+load_need : (own : Instructions) (g : Taken) (mark : Mark) (p : ℕ) (a : Bool) (from : Option ℕ) (is_new : Bool) (h : ℕ) →
     (a ≡ true → is_some from ≡ true) → is_new ≡ not (has_address g p) →
-    (load_on own g (source_if a from) p).regs.next + h ≡ g.next + (h + 1 + cond a 1 0 + cond is_new 1 0)
-load_need own g p true None is_new h given fresh = let e : false ≡ true = given refl in cc
-load_need own g p true (Some s) is_new h given fresh =
+    (load_on own g mark (source_if a from) p).regs.next + h ≡ g.next + (h + 1 + cond a 1 0 + cond is_new 1 0)
+load_need own g mark p true None is_new h given fresh = let e : false ≡ true = given refl in cc
+load_need own g mark p true (Some s) is_new h given fresh =
     omega (arith, address_next (took g 2) p, fresh_counts g p is_new fresh)
-load_need own g p false from is_new h given fresh =
+load_need own g mark p false from is_new h given fresh =
     omega (arith, address_next (took g 1) p, fresh_counts g p is_new fresh)
 
-load_labels : (own : Instructions) → KeepsInstructions own → (g : Taken) (p : ℕ) (o : Option ℕ) →
-    labels_of (load_on own g o p).code ≡ []
-load_labels own keeps g p None = refl
-load_labels own keeps g p (Some s) =
-    (keeps.load_short g.next (g.next + 1) (address_of (took g 2) p)).labels
+load_labels : (own : Instructions) → KeepsInstructions own → (g : Taken) (mark : Mark) (p : ℕ) (o : Option ℕ) →
+    labels_of (load_on own g mark o p).code ≡ []
+load_labels own keeps g mark p None = (load_op_short mark g.next (address_of (took g 1) p)).labels
+load_labels own keeps g mark p (Some s) =
+    (load_through_short own keeps mark g.next (g.next + 1) (address_of (took g 2) p)).labels
 
-load_lands : (own : Instructions) → KeepsInstructions own → (g : Taken) (p : ℕ) (o : Option ℕ) →
-    lands (load_on own g o p).code ≡ true
-load_lands own keeps g p None = refl
-load_lands own keeps g p (Some s) =
-    (keeps.load_short g.next (g.next + 1) (address_of (took g 2) p)).lands
+load_lands : (own : Instructions) → KeepsInstructions own → (g : Taken) (mark : Mark) (p : ℕ) (o : Option ℕ) →
+    lands (load_on own g mark o p).code ≡ true
+load_lands own keeps g mark p None = (load_op_short mark g.next (address_of (took g 1) p)).lands
+load_lands own keeps g mark p (Some s) =
+    (load_through_short own keeps mark g.next (g.next + 1) (address_of (took g 2) p)).lands
 
-load_at : (own : Instructions) → KeepsInstructions own → (g : Taken) (p : ℕ) (o : Option ℕ) →
-    list_all (is_at p) (load_on own g o p).code ≡ true
-load_at own keeps g p None = refl
-load_at own keeps g p (Some s) =
-    (keeps.load_short g.next (g.next + 1) (address_of (took g 2) p)).no_place p
+load_at : (own : Instructions) → KeepsInstructions own → (g : Taken) (mark : Mark) (p : ℕ) (o : Option ℕ) →
+    list_all (is_at p) (load_on own g mark o p).code ≡ true
+load_at own keeps g mark p None = (load_op_short mark g.next (address_of (took g 1) p)).no_place p
+load_at own keeps g mark p (Some s) =
+    (load_through_short own keeps mark g.next (g.next + 1) (address_of (took g 2) p)).no_place p
 
-load_has : (own : Instructions) → KeepsInstructions own → (g : Taken) (p : ℕ) (o : Option ℕ) →
-    IsUsable own.registers o → IsTaken g → (load_on own g o p).regs.next ≤ own.registers →
-    list_all own.has (load_on own g o p).code ≡ true
-load_has own keeps g p None u taken left =
+load_has : (own : Instructions) → KeepsInstructions own → (g : Taken) (mark : Mark) → mark_is_of mark own.name ≡ true → (p : ℕ) (o : Option ℕ) →
+    IsUsable own.registers o → IsTaken g → (load_on own g mark o p).regs.next ≤ own.registers →
+    list_all own.has (load_on own g mark o p).code ≡ true
+load_has own keeps g mark e p None u taken left =
     let i = took g 1 in
     let a = address_below g i p taken refl (omega arith) in
     let n = address_next i p in
-    and_from _ true (keeps.plain_load_has g.next (address_of i p) (omega (arith, n)) (omega (arith, a))) refl
-load_has own keeps g p (Some s) u taken left =
+    and_from _ true (load_op_has own keeps mark e g.next (address_of i p) (omega (arith, n)) (omega (arith, a))) refl
+load_has own keeps g mark e p (Some s) u taken left =
     let i = took g 2 in
     let a = address_below g i p taken refl (omega arith) in
     let n = address_next i p in
     and_from _ _ (keeps.xor_has g.next s (omega (arith, n)) u)
-    (keeps.load_has g.next (g.next + 1) (address_of i p) (omega (arith, n)) (omega (arith, n)) (omega (arith, a)))
+    (load_through_has own keeps mark e g.next (g.next + 1) (address_of i p) (omega (arith, n)) (omega (arith, n)) (omega (arith, a)))
 
-store_takes : (own : Instructions) (g : Taken) (p v : ℕ) (o d : Option ℕ) →
-    Takes g (store_on own g o d p v).regs p
-store_takes own g p v None None = takes_address g (took g 1) p refl refl (omega arith)
-store_takes own g p v None (Some s) = takes_address g (took g 1) p refl refl (omega arith)
-store_takes own g p v (Some s) d = takes_address g (took g 2) p refl refl (omega arith)
+store_takes : (own : Instructions) (g : Taken) (mark : Mark) (p v : ℕ) (o d : Option ℕ) →
+    Takes g (store_on own g mark o d p v).regs p
+store_takes own g mark p v None None = takes_address g (took g 1) p refl refl (omega arith)
+store_takes own g mark p v None (Some s) = takes_address g (took g 1) p refl refl (omega arith)
+store_takes own g mark p v (Some s) d = takes_address g (took g 2) p refl refl (omega arith)
 
-store_room : (own : Instructions) → KeepsInstructions own → (g : Taken) (p v : ℕ) (a b : Bool) (from : Option ℕ) →
-    length (store_on own g (source_if a from) (source_if b from) p v).code ≤ cond (a || b) 4 2
-store_room own keeps g p v true true None = omega arith
-store_room own keeps g p v true false None = omega arith
-store_room own keeps g p v true b (Some s) =
-    omega (arith, (keeps.store_short g.next (g.next + 1) (address_of (took g 2) p)).room)
-store_room own keeps g p v false true None = omega arith
-store_room own keeps g p v false true (Some s) = omega arith
-store_room own keeps g p v false false from = omega arith
+store_room : (own : Instructions) → KeepsInstructions own → (g : Taken) (mark : Mark) (p v : ℕ) (a b : Bool) (from : Option ℕ) →
+    length (store_on own g mark (source_if a from) (source_if b from) p v).code ≤ cond (a || b) 4 2
+store_room own keeps g mark p v true true None = omega arith
+store_room own keeps g mark p v true false None = omega arith
+store_room own keeps g mark p v true b (Some s) =
+    omega (arith, (store_through_short own keeps mark g.next (g.next + 1) (address_of (took g 2) p)).room)
+store_room own keeps g mark p v false true None = omega arith
+store_room own keeps g mark p v false true (Some s) = omega arith
+store_room own keeps g mark p v false false from = omega arith
 
-store_addressed : (own : Instructions) (g : Taken) (p v : ℕ) (o d : Option ℕ) →
-    has_address (store_on own g o d p v).regs p ≡ true
-store_addressed own g p v None None = address_there (took g 1) p
-store_addressed own g p v None (Some s) = address_there (took g 1) p
-store_addressed own g p v (Some s) d = address_there (took g 2) p
+store_addressed : (own : Instructions) (g : Taken) (mark : Mark) (p v : ℕ) (o d : Option ℕ) →
+    has_address (store_on own g mark o d p v).regs p ≡ true
+store_addressed own g mark p v None None = address_there (took g 1) p
+store_addressed own g mark p v None (Some s) = address_there (took g 1) p
+store_addressed own g mark p v (Some s) d = address_there (took g 2) p
 
-store_need : (own : Instructions) (g : Taken) (p v : ℕ) (a b : Bool) (from : Option ℕ) (is_new : Bool)
+store_need : (own : Instructions) (g : Taken) (mark : Mark) (p v : ℕ) (a b : Bool) (from : Option ℕ) (is_new : Bool)
     (h : ℕ) → (a ≡ true → is_some from ≡ true) → is_new ≡ not (has_address g p) →
-    (store_on own g (source_if a from) (source_if b from) p v).regs.next + h ≡
+    (store_on own g mark (source_if a from) (source_if b from) p v).regs.next + h ≡
     g.next + (h + 1 + cond a 1 0 + cond is_new 1 0)
-store_need own g p v true b None is_new h given fresh = let e : false ≡ true = given refl in cc
-store_need own g p v true b (Some s) is_new h given fresh =
+store_need own g mark p v true b None is_new h given fresh = let e : false ≡ true = given refl in cc
+store_need own g mark p v true b (Some s) is_new h given fresh =
     omega (arith, address_next (took g 2) p, fresh_counts g p is_new fresh)
-store_need own g p v false true None is_new h given fresh =
+store_need own g mark p v false true None is_new h given fresh =
     omega (arith, address_next (took g 1) p, fresh_counts g p is_new fresh)
-store_need own g p v false true (Some s) is_new h given fresh =
+store_need own g mark p v false true (Some s) is_new h given fresh =
     omega (arith, address_next (took g 1) p, fresh_counts g p is_new fresh)
-store_need own g p v false false from is_new h given fresh =
+store_need own g mark p v false false from is_new h given fresh =
     omega (arith, address_next (took g 1) p, fresh_counts g p is_new fresh)
 
-store_labels : (own : Instructions) → KeepsInstructions own → (g : Taken) (p v : ℕ) (o d : Option ℕ) →
-    labels_of (store_on own g o d p v).code ≡ []
-store_labels own keeps g p v None None = refl
-store_labels own keeps g p v None (Some s) =
-    (keeps.joins_short g.next v (address_of (took g 1) p)).labels
-store_labels own keeps g p v (Some s) d =
-    (keeps.store_short g.next (g.next + 1) (address_of (took g 2) p)).labels
+store_labels : (own : Instructions) → KeepsInstructions own → (g : Taken) (mark : Mark) (p v : ℕ) (o d : Option ℕ) →
+    labels_of (store_on own g mark o d p v).code ≡ []
+store_labels own keeps g mark p v None None =
+    (both_short (ops.Imm g.next v) mark g.next (address_of (took g 1) p) (imm_short g.next v)).labels
+store_labels own keeps g mark p v None (Some s) =
+    (both_short (own.joins g.next v) mark g.next (address_of (took g 1) p) (keeps.joins_short g.next v)).labels
+store_labels own keeps g mark p v (Some s) d =
+    (store_through_short own keeps mark g.next (g.next + 1) (address_of (took g 2) p)).labels
 
-store_lands : (own : Instructions) → KeepsInstructions own → (g : Taken) (p v : ℕ) (o d : Option ℕ) →
-    lands (store_on own g o d p v).code ≡ true
-store_lands own keeps g p v None None = refl
-store_lands own keeps g p v None (Some s) =
-    (keeps.joins_short g.next v (address_of (took g 1) p)).lands
-store_lands own keeps g p v (Some s) d =
-    (keeps.store_short g.next (g.next + 1) (address_of (took g 2) p)).lands
+store_lands : (own : Instructions) → KeepsInstructions own → (g : Taken) (mark : Mark) (p v : ℕ) (o d : Option ℕ) →
+    lands (store_on own g mark o d p v).code ≡ true
+store_lands own keeps g mark p v None None =
+    (both_short (ops.Imm g.next v) mark g.next (address_of (took g 1) p) (imm_short g.next v)).lands
+store_lands own keeps g mark p v None (Some s) =
+    (both_short (own.joins g.next v) mark g.next (address_of (took g 1) p) (keeps.joins_short g.next v)).lands
+store_lands own keeps g mark p v (Some s) d =
+    (store_through_short own keeps mark g.next (g.next + 1) (address_of (took g 2) p)).lands
 
-store_at : (own : Instructions) → KeepsInstructions own → (g : Taken) (p v : ℕ) (o d : Option ℕ) →
-    list_all (is_at p) (store_on own g o d p v).code ≡ true
-store_at own keeps g p v None None = refl
-store_at own keeps g p v None (Some s) =
-    (keeps.joins_short g.next v (address_of (took g 1) p)).no_place p
-store_at own keeps g p v (Some s) d =
-    (keeps.store_short g.next (g.next + 1) (address_of (took g 2) p)).no_place p
+store_at : (own : Instructions) → KeepsInstructions own → (g : Taken) (mark : Mark) (p v : ℕ) (o d : Option ℕ) →
+    list_all (is_at p) (store_on own g mark o d p v).code ≡ true
+store_at own keeps g mark p v None None =
+    (both_short (ops.Imm g.next v) mark g.next (address_of (took g 1) p) (imm_short g.next v)).no_place p
+store_at own keeps g mark p v None (Some s) =
+    (both_short (own.joins g.next v) mark g.next (address_of (took g 1) p) (keeps.joins_short g.next v)).no_place p
+store_at own keeps g mark p v (Some s) d =
+    (store_through_short own keeps mark g.next (g.next + 1) (address_of (took g 2) p)).no_place p
 
-store_has : (own : Instructions) → KeepsInstructions own → (g : Taken) (p v : ℕ) (o d : Option ℕ) → v < 256 →
+store_has : (own : Instructions) → KeepsInstructions own → (g : Taken) (mark : Mark) → mark_is_of mark own.name ≡ true → (p v : ℕ) (o d : Option ℕ) → v < 256 →
     IsUsable own.registers o → IsUsable own.registers d → IsTaken g →
-    (store_on own g o d p v).regs.next ≤ own.registers →
-    list_all own.has (store_on own g o d p v).code ≡ true
-store_has own keeps g p v None None small uo ud taken left =
+    (store_on own g mark o d p v).regs.next ≤ own.registers →
+    list_all own.has (store_on own g mark o d p v).code ≡ true
+store_has own keeps g mark e p v None None small uo ud taken left =
     let i = took g 1 in
     let a = address_below g i p taken refl (omega arith) in
     let n = address_next i p in
     and_from _ _ (keeps.imm_has g.next v (omega (arith, n)) small)
     (and_from _ true
-    (keeps.plain_store_has g.next (address_of i p) (omega (arith, n)) (omega (arith, a))) refl)
-store_has own keeps g p v None (Some s) small uo ud taken left =
+    (store_op_has own keeps mark e g.next (address_of i p) (omega (arith, n)) (omega (arith, a))) refl)
+store_has own keeps g mark e p v None (Some s) small uo ud taken left =
     let i = took g 1 in
     let a = address_below g i p taken refl (omega arith) in
     let n = address_next i p in
     and_from _ _ (keeps.xor_has g.next s (omega (arith, n)) ud)
     (and_from _ _ (keeps.joins_has g.next v (omega (arith, n)) small)
     (and_from _ true
-    (keeps.plain_store_has g.next (address_of i p) (omega (arith, n)) (omega (arith, a))) refl))
-store_has own keeps g p v (Some s) d small uo ud taken left =
+    (store_op_has own keeps mark e g.next (address_of i p) (omega (arith, n)) (omega (arith, a))) refl))
+store_has own keeps g mark e p v (Some s) d small uo ud taken left =
     let i = took g 2 in
     let a = address_below g i p taken refl (omega arith) in
     let n = address_next i p in
     and_from _ _ (keeps.xor_has g.next s (omega (arith, n)) uo)
     (and_from _ _ (keeps.imm_has (g.next + 1) v (omega (arith, n)) small)
-    (keeps.store_has g.next (g.next + 1) (address_of i p) (omega (arith, n)) (omega (arith, n)) (omega (arith, a))))
+    (store_through_has own keeps mark e g.next (g.next + 1) (address_of i p) (omega (arith, n)) (omega (arith, n)) (omega (arith, a))))
 
 source_usable : (n : ℕ) (a : Bool) (from : Option ℕ) → IsUsable n from → IsUsable n (source_if a from)
 source_usable n true from h = h
@@ -482,41 +655,41 @@ source_usable n false from h = tt
 
 load_access : (own : Instructions) → KeepsInstructions own → MakesAccess (puts_of own) dirs.R (puts_of own).load
 load_access own keeps = record {
-  room = λ g link from p. load_room own keeps g p (is_addr link) from (is_data link);
-  takes = λ g link from p. load_takes own g p (source_if (is_addr link) from);
-  addressed = λ g link from p e. load_addressed own g p (source_if (is_addr link) from);
-  need = λ g link from p is_new h given fresh.
-      let e = load_need own g p (is_addr link) from is_new (h.loads + h.stores + h.addr + h.places)
+  room = λ g link mark from p. load_room own keeps g mark p (is_addr link) from (is_data link);
+  takes = λ g link mark from p. load_takes own g mark p (source_if (is_addr link) from);
+  addressed = λ g link mark from p e. load_addressed own g mark p (source_if (is_addr link) from);
+  need = λ g link mark from p is_new h given fresh.
+      let e = load_need own g mark p (is_addr link) from is_new (h.loads + h.stores + h.addr + h.places)
       (λ t. given.given (addr_depends link t)) (fresh refl) in
       omega (arith, e);
-  no_label = λ g link from p. load_labels own keeps g p (source_if (is_addr link) from);
-  no_jump = λ g link from p. load_lands own keeps g p (source_if (is_addr link) from);
-  at_place = λ g link from p. load_at own keeps g p (source_if (is_addr link) from);
-  has = λ g link from p given usable taken left.
-      load_has own keeps g p (source_if (is_addr link) from)
+  no_label = λ g link mark from p. load_labels own keeps g mark p (source_if (is_addr link) from);
+  no_jump = λ g link mark from p. load_lands own keeps g mark p (source_if (is_addr link) from);
+  at_place = λ g link mark from p. load_at own keeps g mark p (source_if (is_addr link) from);
+  has = λ g link mark from p given marked usable taken left.
+      load_has own keeps g mark marked.of_arch p (source_if (is_addr link) from)
       (source_usable own.registers (is_addr link) from usable) taken left;
 }
 
 store_access : (own : Instructions) → KeepsInstructions own → (v : ℕ) → v < 256 →
-    MakesAccess (puts_of own) dirs.W (λ g link from p. (puts_of own).store g link from p v)
+    MakesAccess (puts_of own) dirs.W (λ g link mark from p. (puts_of own).store g link mark from p v)
 store_access own keeps v small = record {
-  room = λ g link from p. store_room own keeps g p v (is_addr link) (is_data link) from;
-  takes = λ g link from p.
-      store_takes own g p v (source_if (is_addr link) from) (source_if (is_data link) from);
-  addressed = λ g link from p e.
-      store_addressed own g p v (source_if (is_addr link) from) (source_if (is_data link) from);
-  need = λ g link from p is_new h given fresh.
-      let e = store_need own g p v (is_addr link) (is_data link) from is_new
+  room = λ g link mark from p. store_room own keeps g mark p v (is_addr link) (is_data link) from;
+  takes = λ g link mark from p.
+      store_takes own g mark p v (source_if (is_addr link) from) (source_if (is_data link) from);
+  addressed = λ g link mark from p e.
+      store_addressed own g mark p v (source_if (is_addr link) from) (source_if (is_data link) from);
+  need = λ g link mark from p is_new h given fresh.
+      let e = store_need own g mark p v (is_addr link) (is_data link) from is_new
       (h.loads + h.stores + h.addr + h.places) (λ t. given.given (addr_depends link t)) (fresh refl) in
       omega (arith, e);
-  no_label = λ g link from p.
-      store_labels own keeps g p v (source_if (is_addr link) from) (source_if (is_data link) from);
-  no_jump = λ g link from p.
-      store_lands own keeps g p v (source_if (is_addr link) from) (source_if (is_data link) from);
-  at_place = λ g link from p.
-      store_at own keeps g p v (source_if (is_addr link) from) (source_if (is_data link) from);
-  has = λ g link from p given usable taken left.
-      store_has own keeps g p v (source_if (is_addr link) from) (source_if (is_data link) from) small
+  no_label = λ g link mark from p.
+      store_labels own keeps g mark p v (source_if (is_addr link) from) (source_if (is_data link) from);
+  no_jump = λ g link mark from p.
+      store_lands own keeps g mark p v (source_if (is_addr link) from) (source_if (is_data link) from);
+  at_place = λ g link mark from p.
+      store_at own keeps g mark p v (source_if (is_addr link) from) (source_if (is_data link) from);
+  has = λ g link mark from p given marked usable taken left.
+      store_has own keeps g mark marked.of_arch p v (source_if (is_addr link) from) (source_if (is_data link) from) small
       (source_usable own.registers (is_addr link) from usable)
       (source_usable own.registers (is_data link) from usable) taken left;
 }
@@ -524,25 +697,25 @@ store_access own keeps v small = record {
 makes_loads : (own : Instructions) → KeepsInstructions own → MakesLoads (puts_of own)
 makes_loads own keeps = record {
   access = load_access own keeps;
-  runs = λ g link from p r k v vs e d ready reads.
-      load_runs own keeps g r p k v vs (is_addr link) from ready.taken reads
+  runs = λ g link mark from p r k v vs e d marked ready reads.
+      load_runs own keeps g mark marked.fits r p k v vs (is_addr link) from ready.taken reads
       (λ t. ready.source (addr_depends link t)) ready.places;
-  wants = λ g link from p r k e d ready reads.
-      load_wants own keeps g r p k (is_addr link) from ready.taken reads
+  wants = λ g link mark from p r k e d marked ready reads.
+      load_wants own keeps g mark r p k (is_addr link) from ready.taken reads
       (λ t. ready.source (addr_depends link t)) ready.places;
-  fills = λ g link from p. load_fills g p (source_if (is_addr link) from);
+  fills = λ g link mark from p. load_fills g mark p (source_if (is_addr link) from);
 }
   where
-    load_fills : (g : Taken) (p : ℕ) (o : Option ℕ) →
-        (g.next ≤ filled_on g o) × (filled_on g o < (load_on own g o p).regs.next)
-    load_fills g p None = let n = address_next (took g 1) p in (omega arith, omega (arith, n))
-    load_fills g p (Some s) = let n = address_next (took g 2) p in (omega arith, omega (arith, n))
+    load_fills : (g : Taken) (mark : Mark) (p : ℕ) (o : Option ℕ) →
+        (g.next ≤ filled_on g o) × (filled_on g o < (load_on own g mark o p).regs.next)
+    load_fills g mark p None = let n = address_next (took g 1) p in (omega arith, omega (arith, n))
+    load_fills g mark p (Some s) = let n = address_next (took g 2) p in (omega arith, omega (arith, n))
 
 makes_stores : (own : Instructions) → KeepsInstructions own → MakesStores (puts_of own)
 makes_stores own keeps = record {
   access = store_access own keeps;
-  runs = λ g link from p v r k small e ready.
-      store_runs own keeps g r p v k (is_addr link) (is_data link) from ready.taken small
+  runs = λ g link mark from p v r k small e marked ready.
+      store_runs own keeps g mark marked.fits r p v k (is_addr link) (is_data link) from ready.taken small
       (λ t. ready.source (addr_depends link t)) (λ t. ready.source (data_depends link t))
       (addr_no_data link) ready.places;
 }
@@ -663,7 +836,7 @@ pub record MakesOnce (own : Instructions) : Type 0 where
       accesses_in (own.branch s n ++ ops.Label n ∷ rest) ≡ accesses_in rest
   pub load : (d v a : ℕ) → accesses_in (own.load d v a) ≡ 1
   pub store : (d v a : ℕ) → accesses_in (own.store d v a) ≡ 1
-  pub joins : (d n a : ℕ) → accesses_in (own.joins d n ∷ ops.Store d a None ∷ []) ≡ 1
+  pub joins : (d n : ℕ) → is_access (own.joins d n) ≡ false
 
 branch_once : (own : Instructions) → MakesOnce own → (from : Option ℕ) (n : ℕ) (rest : List Micro) →
     accesses_in rest ≡ 0 → accesses_in (branch_code own from n rest) ≡ 0
@@ -682,22 +855,53 @@ link_once own once links.CtrlIsync from n =
 link_once own once links.CtrlIsb from n =
     branch_once own once from n (ops.Barrier barriers.Isb ∷ []) refl
 
-load_once : (own : Instructions) → MakesOnce own → (g : Taken) (p : ℕ) (o : Option ℕ) →
-    accesses_in (load_on own g o p).code ≡ 1
-load_once own once g p None = refl
-load_once own once g p (Some s) = once.load g.next (g.next + 1) (address_of (took g 2) p)
+load_op_once : (mark : Mark) (v a : ℕ) → accesses_in (load_op mark v a ∷ []) ≡ 1
+load_op_once Plain v a = refl
+load_op_once Acquire v a = refl
+load_op_once Release v a = refl
 
-store_once : (own : Instructions) → MakesOnce own → (g : Taken) (p v : ℕ) (o d : Option ℕ) →
-    accesses_in (store_on own g o d p v).code ≡ 1
-store_once own once g p v None None = refl
-store_once own once g p v None (Some s) = once.joins g.next v (address_of (took g 1) p)
-store_once own once g p v (Some s) d = once.store g.next (g.next + 1) (address_of (took g 2) p)
+store_op_once : (mark : Mark) (v a : ℕ) → accesses_in (store_op mark v a ∷ []) ≡ 1
+store_op_once Plain v a = refl
+store_op_once Acquire v a = refl
+store_op_once Release v a = refl
+
+load_through_once : (own : Instructions) → MakesOnce own → (mark : Mark) (d v a : ℕ) →
+    accesses_in (load_through own mark d v a) ≡ 1
+load_through_once own once Plain d v a = once.load d v a
+load_through_once own once Acquire d v a = refl
+load_through_once own once Release d v a = once.load d v a
+
+store_through_once : (own : Instructions) → MakesOnce own → (mark : Mark) (d v a : ℕ) →
+    accesses_in (store_through own mark d v a) ≡ 1
+store_through_once own once Plain d v a = once.store d v a
+store_through_once own once Acquire d v a = once.store d v a
+store_through_once own once Release d v a = refl
+
+load_once : (own : Instructions) → MakesOnce own → (g : Taken) (mark : Mark) (p : ℕ) (o : Option ℕ) →
+    accesses_in (load_on own g mark o p).code ≡ 1
+load_once own once g mark p None = load_op_once mark g.next (address_of (took g 1) p)
+load_once own once g mark p (Some s) = load_through_once own once mark g.next (g.next + 1) (address_of (took g 2) p)
+
+-- an operation that is no access, before others
+none_before : (op : Micro) (code : List Micro) → is_access op ≡ false → accesses_in (op ∷ code) ≡ accesses_in code
+none_before op code e =
+    let none : ◌≡◌ {A = ℕ} (cond (is_access op) 1 0) 0 = ap (λ b. cond b 1 0) e in
+    omega (arith, none, sum_by-cons (λ x. cond (is_access x) 1 0) op code)
+
+store_once : (own : Instructions) → MakesOnce own → (g : Taken) (mark : Mark) (p v : ℕ) (o d : Option ℕ) →
+    accesses_in (store_on own g mark o d p v).code ≡ 1
+store_once own once g mark p v None None = store_op_once mark g.next (address_of (took g 1) p)
+store_once own once g mark p v None (Some s) =
+    none_before (own.joins g.next v) (store_op mark g.next (address_of (took g 1) p) ∷ []) (once.joins g.next v) ∙
+    store_op_once mark g.next (address_of (took g 1) p)
+store_once own once g mark p v (Some s) d =
+    store_through_once own once mark g.next (g.next + 1) (address_of (took g 2) p)
 
 -- the code of an access has one access where each of these instructions has
 pub accesses_once : (own : Instructions) → MakesOnce own → MakesOneAccess (puts_of own)
 accesses_once own once = record {
   link = link_once own once;
-  load = λ g link from p. load_once own once g p (source_if (is_addr link) from);
-  store = λ g link from p v.
-      store_once own once g p v (source_if (is_addr link) from) (source_if (is_data link) from);
+  load = λ g link mark from p. load_once own once g mark p (source_if (is_addr link) from);
+  store = λ g link mark from p v.
+      store_once own once g mark p v (source_if (is_addr link) from) (source_if (is_data link) from);
 }

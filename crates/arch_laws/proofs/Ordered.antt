@@ -48,7 +48,9 @@ stands_passes p label (ops.AddImm d a n ∷ code) h s = stands_passes p label co
 stands_passes p label (ops.OrImm d a n ∷ code) h s = stands_passes p label code h s
 stands_passes p label (ops.Add d a b ∷ code) h s = stands_passes p label code h s
 stands_passes p label (ops.Load d b i ∷ code) h s = stands_passes p label code h s
+stands_passes p label (ops.LoadAcq d b ∷ code) h s = stands_passes p label code h s
 stands_passes p label (ops.Store r b i ∷ code) h s = stands_passes p label code h s
+stands_passes p label (ops.StoreRel r b ∷ code) h s = stands_passes p label code h s
 stands_passes p label (ops.Cmp a b ∷ code) h s = stands_passes p label code h s
 stands_passes p label (ops.BranchEq l ∷ code) h s = stands_passes p label code h s
 stands_passes p label (ops.BranchNz a l ∷ code) h s = stands_passes p label code h s
@@ -80,7 +82,9 @@ one_ordered count n (ops.AddImm d a m ∷ code) low small l h = one_ordered coun
 one_ordered count n (ops.OrImm d a m ∷ code) low small l h = one_ordered count n code low small l h
 one_ordered count n (ops.Add d a b ∷ code) low small l h = one_ordered count n code low small l h
 one_ordered count n (ops.Load d b i ∷ code) low small l h = one_ordered count n code low small l h
+one_ordered count n (ops.LoadAcq d b ∷ code) low small l h = one_ordered count n code low small l h
 one_ordered count n (ops.Store r b i ∷ code) low small l h = one_ordered count n code low small l h
+one_ordered count n (ops.StoreRel r b ∷ code) low small l h = one_ordered count n code low small l h
 one_ordered count n (ops.Cmp a b ∷ code) low small l h = one_ordered count n code low small l h
 one_ordered count n (ops.Barrier k ∷ code) low small l h = one_ordered count n code low small l h
 
@@ -101,7 +105,9 @@ labels_grow count (op ∷ code) = let more = labels_grow (labels_after count op)
     after_grows (ops.OrImm d a m) = omega arith
     after_grows (ops.Add d a b) = omega arith
     after_grows (ops.Load d b i) = omega arith
+    after_grows (ops.LoadAcq d b) = omega arith
     after_grows (ops.Store r b i) = omega arith
+    after_grows (ops.StoreRel r b) = omega arith
     after_grows (ops.Cmp a b) = omega arith
     after_grows (ops.Barrier k) = omega arith
 
@@ -119,7 +125,9 @@ labels_cover count n (ops.AddImm d a m ∷ code) rest e = labels_cover count n c
 labels_cover count n (ops.OrImm d a m ∷ code) rest e = labels_cover count n code rest e
 labels_cover count n (ops.Add d a b ∷ code) rest e = labels_cover count n code rest e
 labels_cover count n (ops.Load d b i ∷ code) rest e = labels_cover count n code rest e
+labels_cover count n (ops.LoadAcq d b ∷ code) rest e = labels_cover count n code rest e
 labels_cover count n (ops.Store r b i ∷ code) rest e = labels_cover count n code rest e
+labels_cover count n (ops.StoreRel r b ∷ code) rest e = labels_cover count n code rest e
 labels_cover count n (ops.Cmp a b ∷ code) rest e = labels_cover count n code rest e
 labels_cover count n (ops.Barrier k ∷ code) rest e = labels_cover count n code rest e
 
@@ -149,7 +157,9 @@ none_ordered count (ops.AddImm d a m ∷ code) l e = none_ordered count code l e
 none_ordered count (ops.OrImm d a m ∷ code) l e = none_ordered count code l e
 none_ordered count (ops.Add d a b ∷ code) l e = none_ordered count code l e
 none_ordered count (ops.Load d b i ∷ code) l e = none_ordered count code l e
+none_ordered count (ops.LoadAcq d b ∷ code) l e = none_ordered count code l e
 none_ordered count (ops.Store r b i ∷ code) l e = none_ordered count code l e
+none_ordered count (ops.StoreRel r b ∷ code) l e = none_ordered count code l e
 none_ordered count (ops.Cmp a b ∷ code) l e = none_ordered count code l e
 none_ordered count (ops.Barrier k ∷ code) l e = none_ordered count code l e
 
@@ -179,8 +189,8 @@ link_given a b last s fit given = record {
 
 -- what the laws of an access say, by its direction
 put_no_label : (a : Puts) → IsArch a → (g : Taken) (from : Option ℕ) (s : Step) (d : Dir) → s.value < 256 → (labels_of (put_of a g from s d).code ≡ []) × (lands (put_of a g from s d).code ≡ true)
-put_no_label a laws g from s dirs.R v = (laws.loads.access.no_label g s.link from s.place, laws.loads.access.no_jump g s.link from s.place)
-put_no_label a laws g from s dirs.W v = ((laws.stores.access s.value v).no_label g s.link from s.place, (laws.stores.access s.value v).no_jump g s.link from s.place)
+put_no_label a laws g from s dirs.R v = (laws.loads.access.no_label g s.link s.mark from s.place, laws.loads.access.no_jump g s.link s.mark from s.place)
+put_no_label a laws g from s dirs.W v = ((laws.stores.access s.value v).no_label g s.link s.mark from s.place, (laws.stores.access s.value v).no_jump g s.link s.mark from s.place)
 
 step_labels : (a : Puts) → IsArch a → (w : Way) (s : Step) (b : Bool) → FitStep a.name b s → IsGiven b w.last → StepLabels w.label (branches s.link) (step_code a w s)
 step_labels a laws w s b fit given =
@@ -207,8 +217,8 @@ thread_ordered a laws b w (s ∷ ss) count fit given low few =
 
 -- it makes as many accesses as it has steps
 put_access : (a : Puts) → MakesOneAccess a → (g : Taken) (from : Option ℕ) (s : Step) (d : Dir) → accesses_in (put_of a g from s d).code ≡ 1
-put_access a one g from s dirs.R = one.load g s.link from s.place
-put_access a one g from s dirs.W = one.store g s.link from s.place s.value
+put_access a one g from s dirs.R = one.load g s.link s.mark from s.place
+put_access a one g from s dirs.W = one.store g s.link s.mark from s.place s.value
 
 accesses_append : (xs ys : List Micro) → accesses_in (xs ++ ys) ≡ accesses_in xs + accesses_in ys
 accesses_append xs ys = sum_by-append (λ op. cond (is_access op) 1 0) xs ys

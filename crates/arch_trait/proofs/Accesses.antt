@@ -2,6 +2,7 @@
 -- that holds an address.
 use Rattle.std.proofs.Common.{ℕ, ◌+◌, ◌<◌, ◌≤◌, ◌≡◌, ◌==◌, refl, Bool, true, false, cond, not, ◌||◌, List, [], ◌∷◌, ◌++◌, Option, Some, None, ◌∙◌, sym, ap, subst, eq-eqb, ne_eqb, append-nil, arith}
 use Rattle.relax_edges.specs.declared.kinds.Dir.TheVariants as dirs
+use Rattle.relax_edges.specs.declared.kinds.Mark.{Mark}
 use Rattle.micro_ops.specs.declared.held.Held.{Held}
 use Rattle.micro_ops.specs.declared.operation.Micro.{Micro}
 use Rattle.micro_ops.specs.declared.operation.Micro.TheVariants as ops
@@ -104,21 +105,21 @@ address_below g i p t e m = by_option (address_in i.links p)
     (λ f. rw f (omega arith))
 
 -- a run that ends with a load into a spare register
-pub did_load : (code : List Micro) (r u : Run) (g h : Taken) (d p n mask : ℕ) (vs : List ℕ) →
-    exec code (At r) ≡ At (after_load u d p n mask vs) → Writes r.state.regs u.state.regs g h →
+pub did_load : (mark : Mark) (code : List Micro) (r u : Run) (g h : Taken) (d p n mask : ℕ) (vs : List ℕ) →
+    exec code (At r) ≡ At (after_load mark u d p n mask vs) → Writes r.state.regs u.state.regs g h →
     u.made ≡ r.made → u.state.control ≡ r.state.control → u.state.loads ≡ r.state.loads →
     IsSpare g h d →
-    DidLoad code r g h (items.Access dirs.R p n mask 0 r.state.control ∷ []) r.state.control
+    DidLoad code r g h (items.Access dirs.R mark p n mask 0 r.state.control ∷ []) r.state.control
     (r.state.loads + 1) vs d n
-did_load code r u g h d p n mask vs ran w made control loads spare =
+did_load mark code r u g h d p n mask vs ran w made control loads spare =
     let x = writes_more r.state.regs u.state.regs g h d (num n (bit u.state.loads)) w spare in
     record {
       did = record {
-        after = after_load u d p n mask vs;
+        after = after_load mark u d p n mask vs;
         ran = ran;
         made_is =
-            ap (λ m. m ++ items.Access dirs.R p n mask 0 u.state.control ∷ []) made ∙
-            ap (λ c. r.made ++ items.Access dirs.R p n mask 0 c ∷ []) control;
+            ap (λ m. m ++ items.Access dirs.R mark p n mask 0 u.state.control ∷ []) made ∙
+            ap (λ c. r.made ++ items.Access dirs.R mark p n mask 0 c ∷ []) control;
         control_is = control;
         loads_is = ap (λ k. k + 1) loads;
         reads_is = refl;
@@ -131,18 +132,18 @@ did_load code r u g h d p n mask vs ran w made control loads spare =
     }
 
 -- a run that ends with a store
-pub did_store : (code : List Micro) (r u : Run) (g h : Taken) (p n mask data_mask : ℕ) →
-    exec code (At r) ≡ At (after_store u p n mask data_mask) →
+pub did_store : (mark : Mark) (code : List Micro) (r u : Run) (g h : Taken) (p n mask data_mask : ℕ) →
+    exec code (At r) ≡ At (after_store mark u p n mask data_mask) →
     Writes r.state.regs u.state.regs g h → u.made ≡ r.made → u.state.control ≡ r.state.control →
     u.state.loads ≡ r.state.loads → u.reads ≡ r.reads →
-    Did code r g h (items.Access dirs.W p n mask data_mask r.state.control ∷ []) r.state.control
+    Did code r g h (items.Access dirs.W mark p n mask data_mask r.state.control ∷ []) r.state.control
     r.state.loads r.reads
-did_store code r u g h p n mask data_mask ran w made control loads reads = record {
-  after = after_store u p n mask data_mask;
+did_store mark code r u g h p n mask data_mask ran w made control loads reads = record {
+  after = after_store mark u p n mask data_mask;
   ran = ran;
   made_is =
-      ap (λ m. m ++ items.Access dirs.W p n mask data_mask u.state.control ∷ []) made ∙
-      ap (λ c. r.made ++ items.Access dirs.W p n mask data_mask c ∷ []) control;
+      ap (λ m. m ++ items.Access dirs.W mark p n mask data_mask u.state.control ∷ []) made ∙
+      ap (λ c. r.made ++ items.Access dirs.W mark p n mask data_mask c ∷ []) control;
   control_is = control;
   loads_is = loads;
   reads_is = reads;

@@ -32,7 +32,7 @@ both_rooms links.CtrlIsb = omega arith
 
 -- the laws of an access, of a load and a store alike
 pub put_laws : (a : Puts) → IsArch a → (s : Step) → s.value < 256 → (d : Dir) →
-    MakesAccess a d (λ g link from p. put_of a g from (record s { link = link; place = p }) d)
+    MakesAccess a d (λ g link mark from p. put_of a g from (record s { link = link; mark = mark; place = p }) d)
 put_laws a laws s v dirs.R = laws.loads.access
 put_laws a laws s v dirs.W = laws.stores.access s.value v
 
@@ -44,7 +44,7 @@ step_short a laws w s v =
       arith,
       length-append (a.link s.link from w.label) (next_put a w s).code,
       laws.links.room s.link from w.label,
-      (put_laws a laws s v s.dir).room w.regs s.link from s.place,
+      (put_laws a laws s v s.dir).room w.regs s.link s.mark from s.place,
       both_rooms s.link,
     )
 
@@ -91,7 +91,7 @@ step_labels a laws w s b fit given =
     (ap (λ l. l ++ labels_of (next_put a w s).code)
     (laws.links.labels s.link from w.label (has_link a w s b fit given)) ∙
     (ap (λ l. link_labels s.link w.label ++ l)
-    ((put_laws a laws s fit.value s.dir).no_label w.regs s.link from s.place) ∙
+    ((put_laws a laws s fit.value s.dir).no_label w.regs s.link s.mark from s.place) ∙
     append-nil (link_labels s.link w.label)))
 
 -- the labels of a thread are numbered in order
@@ -119,7 +119,7 @@ step_lands a laws w s v =
     let from = from_of s.link w.last in
     lands_append (a.link s.link from w.label) (next_put a w s).code
     (laws.links.jumps s.link from w.label)
-    ((put_laws a laws s v s.dir).no_jump w.regs s.link from s.place)
+    ((put_laws a laws s v s.dir).no_jump w.regs s.link s.mark from s.place)
 
 -- each branch of a thread has its label behind it
 pub thread_lands : (a : Puts) → IsArch a → (b : Bool) (w : Way) (ss : List Step) →
@@ -151,7 +151,8 @@ step_has a laws w s b fit given usable taken room =
     let usable = usable_from a.registers s.link w.last usable in
     both_pass a.has (a.link s.link from w.label) (next_put a w s).code
     (laws.links.has s.link from w.label link usable)
-    ((put_laws a laws s fit.value s.dir).has w.regs s.link from s.place link usable taken room)
+    ((put_laws a laws s fit.value s.dir).has w.regs s.link s.mark from s.place link
+    (record { fits = fit.mark_fitting; of_arch = fit.mark_of_arch }) usable taken room)
 
 usable_after : (a : Puts) → IsArch a → (w : Way) (s : Step) →
     (further a w s).regs.next ≤ a.registers → IsUsable a.registers (next_filled a w s)
@@ -192,7 +193,9 @@ visit_one s ss (ops.AddImm d x n) e = refl
 visit_one s ss (ops.OrImm d x n) e = refl
 visit_one s ss (ops.Add d x y) e = refl
 visit_one s ss (ops.Load d b i) e = refl
+visit_one s ss (ops.LoadAcq d b) e = refl
 visit_one s ss (ops.Store d b i) e = refl
+visit_one s ss (ops.StoreRel d b) e = refl
 visit_one s ss (ops.Cmp x y) e = refl
 visit_one s ss (ops.BranchEq l) e = refl
 visit_one s ss (ops.BranchNz x l) e = refl
@@ -209,7 +212,9 @@ visit_more s ss (ops.AddImm d x n) e = refl
 visit_more s ss (ops.OrImm d x n) e = refl
 visit_more s ss (ops.Add d x y) e = refl
 visit_more s ss (ops.Load d b i) e = refl
+visit_more s ss (ops.LoadAcq d b) e = refl
 visit_more s ss (ops.Store d b i) e = refl
+visit_more s ss (ops.StoreRel d b) e = refl
 visit_more s ss (ops.Cmp x y) e = refl
 visit_more s ss (ops.BranchEq l) e = refl
 visit_more s ss (ops.BranchNz x l) e = refl
@@ -233,7 +238,7 @@ thread_places a laws b w (s ∷ ss) fit =
     (all_pass (is_at s.place) (is_within (s ∷ ss)) (visit_one s ss) (step_code a w s)
     (both_pass (is_at s.place) (a.link s.link from w.label) (next_put a w s).code
     (laws.links.no_place s.link from w.label s.place)
-    ((put_laws a laws s fit.0.value s.dir).at_place w.regs s.link from s.place)))
+    ((put_laws a laws s fit.0.value s.dir).at_place w.regs s.link s.mark from s.place)))
     (all_pass (is_within ss) (is_within (s ∷ ss)) (visit_more s ss) (thread_code a (further a w s) ss)
     (thread_places a laws (is_load_dir s.dir) (further a w s) ss fit.1))
 

@@ -9,3 +9,4 @@ pub mod Accesses
 pub mod Spelling
 pub mod Blanks
 pub mod PlainTexts
+pub mod Edges

@@ -3,6 +3,7 @@ use Rattle.std.proofs.Common.{ℕ, ◌+◌, ◌-◌, ◌<◌, ◌≤◌, ◌≡�
 use Rattle.std.proofs.lemmas.List.Sums.{sum_by-cons}
 use Rattle.relax_edges.specs.declared.kinds.Dir.{Dir}
 use Rattle.relax_edges.specs.declared.kinds.Dir.TheVariants as dirs
+use Rattle.relax_edges.specs.EdgeTable.{mark_fits}
 use Rattle.micro_ops.specs.declared.operation.Micro.{Micro}
 use Rattle.micro_ops.specs.Machine.{num, at_place, bit}
 use Rattle.micro_ops.specs.declared.held.Held.{Held}
@@ -41,14 +42,15 @@ pub record DidAccess (a : Puts) (g : Taken) (from : Option ℕ) (s : Step) (d : 
 
 access_runs : (a : Puts) → IsArch a → (g : Taken) (from : Option ℕ) (s : Step) (d : Dir)
     (after_load : Bool) (r : Run) (k : ℕ) (vs more : List ℕ) → FitStep a.name after_load s →
-    (is_data s.link ≡ true → d ≡ dirs.W) →
+    (is_data s.link ≡ true → d ≡ dirs.W) → mark_fits d s.mark ≡ true →
     Ready r g (put_of a g from s d).regs s.link from k → HasFirst d vs → r.reads ≡ vs ++ more →
     DidAccess a g from s d r k vs more
-access_runs a laws g from s dirs.R b r k vs more fit w ready first reads =
+access_runs a laws g from s dirs.R b r k vs more fit w m ready first reads =
     let e : r.reads ≡ first_of vs ∷ (left_after dirs.R vs ++ more) =
     reads ∙ ap (λ x. x ++ more) (first refl) in
-    let l = laws.loads.runs g s.link from s.place r k (first_of vs) (left_after dirs.R vs ++ more)
-    fit.of_arch (by_test (is_data s.link) (λ t. absurd (not_both (w t))) (λ t. t)) ready e in
+    let l = laws.loads.runs g s.link s.mark from s.place r k (first_of vs) (left_after dirs.R vs ++ more)
+    fit.of_arch (by_test (is_data s.link) (λ t. absurd (not_both (w t))) (λ t. t))
+    (record { fits = m; of_arch = fit.mark_of_arch }) ready e in
     record {
       after = l.did.after;
       ran = l.did.ran;
@@ -64,8 +66,9 @@ access_runs a laws g from s dirs.R b r k vs more fit w ready first reads =
   where
     not_both : dirs.R ≡ dirs.W → ⊥
     not_both e = cc
-access_runs a laws g from s dirs.W b r k vs more fit w ready first reads =
-    let l = laws.stores.runs g s.link from s.place s.value r k fit.value fit.of_arch ready in
+access_runs a laws g from s dirs.W b r k vs more fit w m ready first reads =
+    let l = laws.stores.runs g s.link s.mark from s.place s.value r k fit.value fit.of_arch
+    (record { fits = m; of_arch = fit.mark_of_arch }) ready in
     record {
       after = l.after;
       ran = l.ran;
@@ -136,7 +139,7 @@ step_runs a laws w s b r vs more fit taken places source first reads =
       places = λ p q e. ap (λ f. f q) l.regs_is ∙ places p q e;
       source = λ e. source_along r l.after from k l.regs_is (dep e);
     } in
-    let d = access_runs a laws w.regs from s s.dir b l.after k vs more fit fit.to_store ready first
+    let d = access_runs a laws w.regs from s s.dir b l.after k vs more fit fit.to_store fit.mark_fitting ready first
     (l.reads_is ∙ reads) in
     record {
       after = d.after;
@@ -161,8 +164,8 @@ step_runs a laws w s b r vs more fit taken places source first reads =
 -- what a register was taken for, and whether it is the load's
 put_grew : (a : Puts) → IsArch a → (g : Taken) (from : Option ℕ) (s : Step) (d : Dir) →
     s.value < 256 → Takes g (put_of a g from s d).regs s.place
-put_grew a laws g from s dirs.R v = laws.loads.access.takes g s.link from s.place
-put_grew a laws g from s dirs.W v = (laws.stores.access s.value v).takes g s.link from s.place
+put_grew a laws g from s dirs.R v = laws.loads.access.takes g s.link s.mark from s.place
+put_grew a laws g from s dirs.W v = (laws.stores.access s.value v).takes g s.link s.mark from s.place
 
 pub step_takes : (a : Puts) → IsArch a → (w : Way) (s : Step) → s.value < 256 →
     Takes w.regs (further a w s).regs s.place
@@ -187,7 +190,7 @@ IsWithin low high None = Unit {0}
 
 put_filled : (a : Puts) → IsArch a → (g : Taken) (from : Option ℕ) (s : Step) (d : Dir) →
     IsWithin g.next (put_of a g from s d).regs.next (filled_by a g from s d)
-put_filled a laws g from s dirs.R = laws.loads.fills g s.link from s.place
+put_filled a laws g from s dirs.R = laws.loads.fills g s.link s.mark from s.place
 put_filled a laws g from s dirs.W = tt
 
 pub step_filled : (a : Puts) → IsArch a → (w : Way) (s : Step) →
@@ -348,16 +351,17 @@ wants_at code p h = record { run = h.run; is = ap (λ x. exec code x) h.is ∙ w
 -- with no number left, a load wants one
 access_wants : (a : Puts) → IsArch a → (g : Taken) (from : Option ℕ) (s : Step) (d : Dir)
     (after_load : Bool) (r : Run) (k : ℕ) → FitStep a.name after_load s →
-    (is_data s.link ≡ true → d ≡ dirs.W) →
+    (is_data s.link ≡ true → d ≡ dirs.W) → mark_fits d s.mark ≡ true →
     Ready r g (put_of a g from s d).regs s.link from k → is_load_dir d ≡ true → r.reads ≡ [] →
     IsWanting (exec (put_of a g from s d).code (At r))
-access_wants a laws g from s dirs.R b r k fit w ready e reads =
-    laws.loads.wants g s.link from s.place r k fit.of_arch
-    (by_test (is_data s.link) (λ t. absurd (not_both (w t))) (λ t. t)) ready reads
+access_wants a laws g from s dirs.R b r k fit w m ready e reads =
+    laws.loads.wants g s.link s.mark from s.place r k fit.of_arch
+    (by_test (is_data s.link) (λ t. absurd (not_both (w t))) (λ t. t))
+    (record { fits = m; of_arch = fit.mark_of_arch }) ready reads
   where
     not_both : dirs.R ≡ dirs.W → ⊥
     not_both f = cc
-access_wants a laws g from s dirs.W b r k fit w ready e reads = cc
+access_wants a laws g from s dirs.W b r k fit w m ready e reads = cc
 
 step_wants : (a : Puts) → IsArch a → (w : Way) (s : Step) (after_load : Bool) (r : Run) →
     FitStep a.name after_load s → IsTaken w.regs → HoldsPlaces r (further a w s).regs →
@@ -374,7 +378,7 @@ step_wants a laws w s b r fit taken places source e reads =
       places = λ p q e. ap (λ f. f q) l.regs_is ∙ places p q e;
       source = λ e. source_along r l.after from k l.regs_is (dep e);
     } in
-    let h = access_wants a laws w.regs from s s.dir b l.after k fit fit.to_store ready e
+    let h = access_wants a laws w.regs from s s.dir b l.after k fit fit.to_store fit.mark_fitting ready e
     (l.reads_is ∙ reads) in
     record {
       run = h.run;

@@ -124,7 +124,7 @@ tracks_on : (a : Puts) → IsArch a → (w : Way) (s : Step) (seen : ℕ → Boo
     Tracks a w.regs seen → Tracks a (further a w s).regs (λ q. s.place == q || seen q)
 tracks_on a laws w s seen v h e q =
     tracks w.regs (further a w s).regs s.place (step_takes a laws w s v)
-    ((put_laws a laws s v s.dir).addressed w.regs s.link (from_of s.link w.last) s.place e) q ∙
+    ((put_laws a laws s v s.dir).addressed w.regs s.link s.mark (from_of s.link w.last) s.place e) q ∙
     ap (λ b. s.place == q || b) (h e q)
 
 -- the registers that a thread takes are as many as the need of its shape grows
@@ -138,7 +138,7 @@ taken_is a laws b w (s ∷ ss) h seen fit given follows =
     let h_after = grown h s.dir s.link (not (seen s.place)) in
     let rest = taken_is a laws (is_load_dir s.dir) (further a w s) ss h_after seen_after fit.1
     (given_after a w s) (tracks_on a laws w s seen fit.0.value follows) in
-    let here = (put_laws a laws s fit.0.value s.dir).need w.regs s.link (from_of s.link w.last) s.place
+    let here = (put_laws a laws s fit.0.value s.dir).need w.regs s.link s.mark (from_of s.link w.last) s.place
     (not (seen s.place)) h (has_link a w s b fit.0 given)
     (λ e. ap not (sym (follows e s.place))) in
     joined (thread_regs a w (s ∷ ss)).next (further a w s).regs.next w.regs.next (a.need h)

@@ -4,6 +4,8 @@
 use Rattle.std.specs.Prelude.{ℕ, ◌+◌, Bool, true, List, [], ◌∷◌, ◌++◌, Option, Some, None}
 use Rattle.relax_edges.specs.declared.kinds.ArchName.{ArchName}
 use Rattle.relax_edges.specs.declared.kinds.FenceKind.TheVariants as fences
+use Rattle.relax_edges.specs.declared.kinds.Mark.{Mark}
+use Rattle.relax_edges.specs.declared.kinds.Mark.TheVariants.{Acquire, Release}
 use Rattle.micro_ops.specs.declared.operation.Micro.{Micro}
 use Rattle.micro_ops.specs.declared.operation.Micro.TheVariants as ops
 use Rattle.micro_ops.specs.declared.operation.Barrier.TheVariants as barriers
@@ -14,7 +16,7 @@ use Rattle.arch_trait.specs.Links.{is_addr, is_data, source_if}
 use Rattle.arch_trait.specs.Taking.{Taken, took, address_of, with_address}
 use Rattle.arch_trait.specs.Threads.{Put, Puts}
 
--- the instructions of an architecture, beside loads and stores at the address in a register:
+-- the instructions of an architecture, beside loads and stores of any mark at the address in a register:
 -- `branch s n` branches to label n and depends on register s; `load d v a` loads register v, and
 -- `store d v a` stores it, at the address in register a, so that the address depends on register d,
 -- which holds 0; `joins d n` makes register d, which holds 0, the number n and keeps its dependency
@@ -32,6 +34,25 @@ abbrev pub branch_code : Instructions → Option ℕ → ℕ → List Micro → 
 branch_code own (Some s) n rest = own.branch s n ++ ops.Label n ∷ rest
 branch_code own None n rest = []
 
+-- a load of a mark at the address in register a, and a store
+abbrev pub load_op : Mark → ℕ → ℕ → Micro
+load_op Acquire v a = ops.LoadAcq v a
+load_op _ v a = ops.Load v a None
+
+abbrev pub store_op : Mark → ℕ → ℕ → Micro
+store_op Release v a = ops.StoreRel v a
+store_op _ v a = ops.Store v a None
+
+-- the same at an address that depends on register d, which holds 0: where the access has a mark, the
+-- address in register a is added to register d first
+abbrev pub load_through : Instructions → Mark → ℕ → ℕ → ℕ → List Micro
+load_through own Acquire d v a = ops.Add d a d ∷ ops.LoadAcq v d ∷ []
+load_through own _ d v a = own.load d v a
+
+abbrev pub store_through : Instructions → Mark → ℕ → ℕ → ℕ → List Micro
+store_through own Release d v a = ops.Add d a d ∷ ops.StoreRel v d ∷ []
+store_through own _ d v a = own.store d v a
+
 -- the code of a link: its fence, or a branch on the load before
 abbrev pub link_code : Instructions → Link → Option ℕ → ℕ → List Micro
 link_code own (links.Fence kind) from n = ops.Barrier (barriers.Fence kind) ∷ []
@@ -42,13 +63,13 @@ link_code own links.CtrlIsb from n = branch_code own from n (ops.Barrier barrier
 link_code own _ from n = []
 
 -- a load: the dependency register if there is one, the register of the load, the address register
-abbrev pub load_on : Instructions → Taken → Option ℕ → ℕ → Put
-load_on own g (Some s) place = record {
-  code = ops.Xor g.next s s ∷ own.load g.next (g.next + 1) (address_of (took g 2) place);
+abbrev pub load_on : Instructions → Taken → Mark → Option ℕ → ℕ → Put
+load_on own g mark (Some s) place = record {
+  code = ops.Xor g.next s s ∷ load_through own mark g.next (g.next + 1) (address_of (took g 2) place);
   regs = with_address (took g 2) place;
 }
-load_on own g None place = record {
-  code = ops.Load g.next (address_of (took g 1) place) None ∷ [];
+load_on own g mark None place = record {
+  code = load_op mark g.next (address_of (took g 1) place) ∷ [];
   regs = with_address (took g 1) place;
 }
 
@@ -58,21 +79,21 @@ filled_on g None = g.next
 
 -- a store: the dependency register if there is one, the register of the value, the address register;
 -- with a data dependency the value goes into the dependency register
-abbrev pub store_on : Instructions → Taken → Option ℕ → Option ℕ → ℕ → ℕ → Put
-store_on own g (Some s) _ place value = record {
+abbrev pub store_on : Instructions → Taken → Mark → Option ℕ → Option ℕ → ℕ → ℕ → Put
+store_on own g mark (Some s) _ place value = record {
   code =
       ops.Xor g.next s s ∷ ops.Imm (g.next + 1) value ∷
-      own.store g.next (g.next + 1) (address_of (took g 2) place);
+      store_through own mark g.next (g.next + 1) (address_of (took g 2) place);
   regs = with_address (took g 2) place;
 }
-store_on own g None (Some s) place value = record {
+store_on own g mark None (Some s) place value = record {
   code =
       ops.Xor g.next s s ∷ own.joins g.next value ∷
-      ops.Store g.next (address_of (took g 1) place) None ∷ [];
+      store_op mark g.next (address_of (took g 1) place) ∷ [];
   regs = with_address (took g 1) place;
 }
-store_on own g None None place value = record {
-  code = ops.Imm g.next value ∷ ops.Store g.next (address_of (took g 1) place) None ∷ [];
+store_on own g mark None None place value = record {
+  code = ops.Imm g.next value ∷ store_op mark g.next (address_of (took g 1) place) ∷ [];
   regs = with_address (took g 1) place;
 }
 
@@ -85,8 +106,8 @@ puts_of own = record {
   need = λ (shape : Shape). shape.loads + shape.stores + shape.addr + shape.places;
   has_addresses = true;
   link = link_code own;
-  load = λ g link from place. load_on own g (source_if (is_addr link) from) place;
+  load = λ g link mark from place. load_on own g mark (source_if (is_addr link) from) place;
   filled = λ g link from place. filled_on g (source_if (is_addr link) from);
-  store = λ g link from place value.
-      store_on own g (source_if (is_addr link) from) (source_if (is_data link) from) place value;
+  store = λ g link mark from place value.
+      store_on own g mark (source_if (is_addr link) from) (source_if (is_data link) from) place value;
 }

@@ -5,6 +5,7 @@ use Rattle.std.specs.List.{list_all, list_any}
 use Rattle.std.specs.Str.{bytes_eq}
 use Rattle.text_laws.specs.Runs.{run_of, unblanked}
 use Rattle.final_cond.specs.Reading.{is_word_byte}
+use Rattle.relax_edges.specs.declared.kinds.Mark.{Mark}
 use Rattle.micro_ops.specs.declared.operation.Micro.{Micro}
 use Rattle.micro_ops.specs.declared.operation.Micro.TheVariants as ops
 use Rattle.arch_trait.specs.declared.link.Link.{Link}
@@ -46,8 +47,10 @@ pub record WritesCells (a : Puts) (w : Writing) : Type 0 where
 abbrev pub is_access : Micro → Bool
 is_access (ops.Load _ _ _) = true
 is_access (ops.LoadAt _ _) = true
+is_access (ops.LoadAcq _ _) = true
 is_access (ops.Store _ _ _) = true
 is_access (ops.StoreAt _ _) = true
+is_access (ops.StoreRel _ _) = true
 is_access _ = false
 
 -- how many accesses operations are
@@ -57,5 +60,5 @@ accesses_in code = count_by is_access code
 -- the code of a link has no access, and that of an access has one
 pub record MakesOneAccess (a : Puts) : Type 0 where
   pub link : (link : Link) (from : Option ℕ) (n : ℕ) → accesses_in (a.link link from n) ≡ 0
-  pub load : (g : Taken) (link : Link) (from : Option ℕ) (p : ℕ) → accesses_in (a.load g link from p).code ≡ 1
-  pub store : (g : Taken) (link : Link) (from : Option ℕ) (p v : ℕ) → accesses_in (a.store g link from p v).code ≡ 1
+  pub load : (g : Taken) (link : Link) (mark : Mark) (from : Option ℕ) (p : ℕ) → accesses_in (a.load g link mark from p).code ≡ 1
+  pub store : (g : Taken) (link : Link) (mark : Mark) (from : Option ℕ) (p v : ℕ) → accesses_in (a.store g link mark from p v).code ≡ 1

@@ -4,6 +4,8 @@ use Rattle.std.specs.Prelude.{ℕ, ◌+◌, ◌==◌, ◌<◌, ◌≤◌, ◌≡
 use Rattle.std.specs.List.{list_all}
 use Rattle.relax_edges.specs.declared.kinds.Dir.{Dir}
 use Rattle.relax_edges.specs.declared.kinds.Dir.TheVariants as dirs
+use Rattle.relax_edges.specs.declared.kinds.Mark.{Mark}
+use Rattle.relax_edges.specs.EdgeTable.{mark_fits, mark_is_of}
 use Rattle.micro_ops.specs.declared.operation.Micro.{Micro}
 use Rattle.micro_ops.specs.declared.operation.Micro.TheVariants as ops
 use Rattle.micro_ops.specs.declared.operation.Item.{Item}
@@ -139,6 +141,11 @@ pub record Within (h i : Shape) : Type 0 where
 abbrev pub IsFresh : Puts → Taken → ℕ → Bool → Type 0
 IsFresh a g p is_new = a.has_addresses ≡ true → is_new ≡ not (has_address g p)
 
+-- a mark of the architecture that fits what an access does
+pub record HasMark (a : Puts) (d : Dir) (mark : Mark) : Type 0 where
+  pub fits : mark_fits d mark ≡ true
+  pub of_arch : mark_is_of mark a.name ≡ true
+
 -- a link of the architecture, and for a dependency a register that it is on
 pub record HasLink (a : Puts) (link : Link) (from : Option ℕ) : Type 0 where
   pub of_arch : link_is_of link a.name ≡ true
@@ -163,50 +170,53 @@ pub record MakesLinks (a : Puts) : Type 0 where
 
 -- the code of an access, whatever it does: it takes registers for it alone, as many as the need of
 -- the thread grows, and has no label
-pub record MakesAccess (a : Puts) (d : Dir) (put : Taken → Link → Option ℕ → ℕ → Put) : Type 0 where
-  pub room : (g : Taken) (link : Link) (from : Option ℕ) (p : ℕ) →
-      length (put g link from p).code ≤ access_room link
-  pub takes : (g : Taken) (link : Link) (from : Option ℕ) (p : ℕ) →
-      Takes g (put g link from p).regs p
-  pub addressed : (g : Taken) (link : Link) (from : Option ℕ) (p : ℕ) →
-      a.has_addresses ≡ true → has_address (put g link from p).regs p ≡ true
-  pub need : (g : Taken) (link : Link) (from : Option ℕ) (p : ℕ) (is_new : Bool) (h : Shape) →
+pub record MakesAccess (a : Puts) (d : Dir) (put : Taken → Link → Mark → Option ℕ → ℕ → Put) : Type 0 where
+  pub room : (g : Taken) (link : Link) (mark : Mark) (from : Option ℕ) (p : ℕ) →
+      length (put g link mark from p).code ≤ access_room link
+  pub takes : (g : Taken) (link : Link) (mark : Mark) (from : Option ℕ) (p : ℕ) →
+      Takes g (put g link mark from p).regs p
+  pub addressed : (g : Taken) (link : Link) (mark : Mark) (from : Option ℕ) (p : ℕ) →
+      a.has_addresses ≡ true → has_address (put g link mark from p).regs p ≡ true
+  pub need : (g : Taken) (link : Link) (mark : Mark) (from : Option ℕ) (p : ℕ) (is_new : Bool) (h : Shape) →
       HasLink a link from → IsFresh a g p is_new →
-      (put g link from p).regs.next + a.need h ≡ g.next + a.need (grown h d link is_new)
-  pub no_label : (g : Taken) (link : Link) (from : Option ℕ) (p : ℕ) →
-      labels_of (put g link from p).code ≡ []
-  pub no_jump : (g : Taken) (link : Link) (from : Option ℕ) (p : ℕ) →
-      lands (put g link from p).code ≡ true
-  pub at_place : (g : Taken) (link : Link) (from : Option ℕ) (p : ℕ) →
-      list_all (is_at p) (put g link from p).code ≡ true
-  pub has : (g : Taken) (link : Link) (from : Option ℕ) (p : ℕ) → HasLink a link from →
-      IsUsable a.registers from → IsTaken g → (put g link from p).regs.next ≤ a.registers →
-      list_all a.has (put g link from p).code ≡ true
+      (put g link mark from p).regs.next + a.need h ≡ g.next + a.need (grown h d link is_new)
+  pub no_label : (g : Taken) (link : Link) (mark : Mark) (from : Option ℕ) (p : ℕ) →
+      labels_of (put g link mark from p).code ≡ []
+  pub no_jump : (g : Taken) (link : Link) (mark : Mark) (from : Option ℕ) (p : ℕ) →
+      lands (put g link mark from p).code ≡ true
+  pub at_place : (g : Taken) (link : Link) (mark : Mark) (from : Option ℕ) (p : ℕ) →
+      list_all (is_at p) (put g link mark from p).code ≡ true
+  pub has : (g : Taken) (link : Link) (mark : Mark) (from : Option ℕ) (p : ℕ) → HasLink a link from →
+      HasMark a d mark → IsUsable a.registers from → IsTaken g →
+      (put g link mark from p).regs.next ≤ a.registers →
+      list_all a.has (put g link mark from p).code ≡ true
 
--- the code of a load makes one read of the place, which depends as the link says, and its register,
--- taken for it, holds the number read
+-- the code of a load makes one read of the place and the mark, which depends as the link says, and
+-- its register, taken for it, holds the number read
 pub record MakesLoads (a : Puts) : Type 0 where
   pub access : MakesAccess a dirs.R a.load
-  pub runs : (g : Taken) (link : Link) (from : Option ℕ) (p : ℕ) (r : Run) (k v : ℕ)
-      (vs : List ℕ) → link_is_of link a.name ≡ true → is_data link ≡ false →
-      Ready r g (a.load g link from p).regs link from k → r.reads ≡ v ∷ vs →
-      DidLoad (a.load g link from p).code r g (a.load g link from p).regs
-      (items.Access dirs.R p v (mask_if (is_addr link) k) 0 r.state.control ∷ [])
+  pub runs : (g : Taken) (link : Link) (mark : Mark) (from : Option ℕ) (p : ℕ) (r : Run) (k v : ℕ)
+      (vs : List ℕ) → link_is_of link a.name ≡ true → is_data link ≡ false → HasMark a dirs.R mark →
+      Ready r g (a.load g link mark from p).regs link from k → r.reads ≡ v ∷ vs →
+      DidLoad (a.load g link mark from p).code r g (a.load g link mark from p).regs
+      (items.Access dirs.R mark p v (mask_if (is_addr link) k) 0 r.state.control ∷ [])
       r.state.control (r.state.loads + 1) vs (a.filled g link from p) v
-  pub wants : (g : Taken) (link : Link) (from : Option ℕ) (p : ℕ) (r : Run) (k : ℕ) →
-      link_is_of link a.name ≡ true → is_data link ≡ false →
-      Ready r g (a.load g link from p).regs link from k → r.reads ≡ [] →
-      IsWanting (exec (a.load g link from p).code (At r))
-  pub fills : (g : Taken) (link : Link) (from : Option ℕ) (p : ℕ) →
-      (g.next ≤ a.filled g link from p) × (a.filled g link from p < (a.load g link from p).regs.next)
+  pub wants : (g : Taken) (link : Link) (mark : Mark) (from : Option ℕ) (p : ℕ) (r : Run) (k : ℕ) →
+      link_is_of link a.name ≡ true → is_data link ≡ false → HasMark a dirs.R mark →
+      Ready r g (a.load g link mark from p).regs link from k → r.reads ≡ [] →
+      IsWanting (exec (a.load g link mark from p).code (At r))
+  pub fills : (g : Taken) (link : Link) (mark : Mark) (from : Option ℕ) (p : ℕ) →
+      (g.next ≤ a.filled g link from p) × (a.filled g link from p < (a.load g link mark from p).regs.next)
 
--- the code of a store of a byte makes one write of it to the place, which depends as the link says
+-- the code of a store of a byte makes one write of it to the place, of the mark, which depends as the
+-- link says
 pub record MakesStores (a : Puts) : Type 0 where
-  pub access : (v : ℕ) → v < 256 → MakesAccess a dirs.W (λ g link from p. a.store g link from p v)
-  pub runs : (g : Taken) (link : Link) (from : Option ℕ) (p v : ℕ) (r : Run) (k : ℕ) → v < 256 →
-      link_is_of link a.name ≡ true → Ready r g (a.store g link from p v).regs link from k →
-      Did (a.store g link from p v).code r g (a.store g link from p v).regs
-      (items.Access dirs.W p v (mask_if (is_addr link) k) (mask_if (is_data link) k) r.state.control ∷ [])
+  pub access : (v : ℕ) → v < 256 → MakesAccess a dirs.W (λ g link mark from p. a.store g link mark from p v)
+  pub runs : (g : Taken) (link : Link) (mark : Mark) (from : Option ℕ) (p v : ℕ) (r : Run) (k : ℕ) → v < 256 →
+      link_is_of link a.name ≡ true → HasMark a dirs.W mark →
+      Ready r g (a.store g link mark from p v).regs link from k →
+      Did (a.store g link mark from p v).code r g (a.store g link mark from p v).regs
+      (items.Access dirs.W mark p v (mask_if (is_addr link) k) (mask_if (is_data link) k) r.state.control ∷ [])
       r.state.control r.state.loads r.reads
 
 -- the need of registers: none for no access, and no less for more accesses

@@ -4,9 +4,10 @@ use Rattle.std.specs.Prelude.{ℕ, Bool, true, false, cond, bit_or, List, [], �
 use Rattle.relax_edges.specs.declared.kinds.ArchName.{ArchName}
 use Rattle.relax_edges.specs.declared.kinds.FenceKind.TheVariants as fences
 use Rattle.relax_edges.specs.declared.kinds.DepKind.TheVariants as deps
+use Rattle.relax_edges.specs.declared.kinds.Kind.{Kind}
+use Rattle.relax_edges.specs.declared.kinds.Kind.TheVariants as kinds
 use Rattle.relax_edges.specs.declared.edge.Edge.{Edge}
-use Rattle.relax_edges.specs.declared.edge.Edge.TheVariants as edges
-use Rattle.relax_edges.specs.EdgeTable.{fence_is_of, dependency_is_of, data_is_of}
+use Rattle.relax_edges.specs.EdgeTable.{kind_of, fence_is_of, dependency_is_of, data_is_of}
 use Rattle.micro_ops.specs.declared.operation.Barrier.TheVariants as barriers
 use Rattle.micro_ops.specs.declared.operation.Item.{Item}
 use Rattle.micro_ops.specs.declared.operation.Item.TheVariants as items
@@ -14,16 +15,20 @@ use Rattle.micro_ops.specs.Machine.{bit}
 use Rattle.arch_trait.specs.declared.link.Link.{Link}
 use Rattle.arch_trait.specs.declared.link.Link.TheVariants as links
 
--- the link that an edge within a thread asks for
+-- the link that an edge within a thread asks for, by its kind
+abbrev pub kind_link : Kind → Link
+kind_link (kinds.Com _ _) = links.Plain
+kind_link (kinds.Po _ _ _) = links.Plain
+kind_link (kinds.Fenced fence _ _ _) = links.Fence fence
+kind_link (kinds.Dep deps.Addr _ _) = links.Addr
+kind_link (kinds.Dep deps.Ctrl _ _) = links.Ctrl
+kind_link (kinds.Dep deps.CtrlIsync _ _) = links.CtrlIsync
+kind_link (kinds.Dep deps.CtrlIsb _ _) = links.CtrlIsb
+kind_link (kinds.Data _) = links.Data
+
+-- the link that an edge within a thread asks for, whatever its marks
 abbrev pub edge_link : Edge → Link
-edge_link (edges.Com _ _) = links.Plain
-edge_link (edges.Po _ _ _) = links.Plain
-edge_link (edges.Fenced fence _ _ _) = links.Fence fence
-edge_link (edges.Dep deps.Addr _ _) = links.Addr
-edge_link (edges.Dep deps.Ctrl _ _) = links.Ctrl
-edge_link (edges.Dep deps.CtrlIsync _ _) = links.CtrlIsync
-edge_link (edges.Dep deps.CtrlIsb _ _) = links.CtrlIsb
-edge_link (edges.Data _) = links.Data
+edge_link edge = kind_link (kind_of edge)
 
 -- an architecture has an edge that asks for the link
 abbrev pub link_is_of : Link → ArchName → Bool

@@ -7,7 +7,7 @@ use Rattle.arch_trait.specs.Threads.{ThreadCode}
 
 -- an access, its place under the number that `number` gives it
 abbrev pub step_at : (ℕ → ℕ) → Step → Step
-step_at number s = record { dir = s.dir; place = number s.place; value = s.value; link = s.link }
+step_at number s = record { dir = s.dir; mark = s.mark; place = number s.place; value = s.value; link = s.link }
 
 -- the code of a thread so
 abbrev pub renumbered : (ℕ → ℕ) → ThreadCode → ThreadCode

@@ -3,7 +3,9 @@
 use Rattle.std.specs.Prelude.{ℕ, ◌+◌, ◌-◌, ◌==◌, ◌<◌, ◌≡◌, Bool, true, false, cond, List, [], ◌∷◌, ◌++◌, Option, Some, None, count_by}
 use Rattle.relax_edges.specs.declared.kinds.Dir.{Dir}
 use Rattle.relax_edges.specs.declared.kinds.Dir.TheVariants as dirs
+use Rattle.relax_edges.specs.declared.kinds.Mark.{Mark}
 use Rattle.relax_edges.specs.declared.kinds.ArchName.{ArchName}
+use Rattle.relax_edges.specs.EdgeTable.{mark_fits, mark_is_of}
 use Rattle.micro_ops.specs.declared.operation.Micro.{Micro}
 use Rattle.micro_ops.specs.declared.operation.Item.{Item}
 use Rattle.micro_ops.specs.declared.operation.Item.TheVariants as items
@@ -25,8 +27,8 @@ pub record Put : Type 0 where
   pub regs : Taken
 
 -- what an architecture's functions mean: its operations, how many registers a thread of a shape
--- needs, the code of a link, of a load and of a store, and the register that a load fills. A
--- dependency is on the register that is given, a branch goes to the label that is given
+-- needs, the code of a link, of a load and of a store of a mark, and the register that a load fills.
+-- A dependency is on the register that is given, a branch goes to the label that is given
 pub record Puts : Type 0 where
   pub name : ArchName
   pub registers : ℕ
@@ -35,9 +37,9 @@ pub record Puts : Type 0 where
   -- accesses name a register that holds the address of the place
   pub has_addresses : Bool
   pub link : Link → Option ℕ → ℕ → List Micro
-  pub load : Taken → Link → Option ℕ → ℕ → Put
+  pub load : Taken → Link → Mark → Option ℕ → ℕ → Put
   pub filled : Taken → Link → Option ℕ → ℕ → ℕ
-  pub store : Taken → Link → Option ℕ → ℕ → ℕ → Put
+  pub store : Taken → Link → Mark → Option ℕ → ℕ → ℕ → Put
 
 -- an access loads
 abbrev pub is_load_dir : Dir → Bool
@@ -96,8 +98,8 @@ from_of link last = cond (depends link) last None
 
 -- the code of an access, and the registers after it
 abbrev pub put_of : Puts → Taken → Option ℕ → Step → Dir → Put
-put_of a g from s dirs.R = a.load g s.link from s.place
-put_of a g from s dirs.W = a.store g s.link from s.place s.value
+put_of a g from s dirs.R = a.load g s.link s.mark from s.place
+put_of a g from s dirs.W = a.store g s.link s.mark from s.place s.value
 
 -- the register that an access fills, if it is a load
 abbrev pub filled_by : Puts → Taken → Option ℕ → Step → Dir → Option ℕ
@@ -146,9 +148,9 @@ thread_loads a w (s ∷ ss) = put_before (next_filled a w s) (thread_loads a (fu
 -- the item of an access: of a load with the number that it reads, of a store with its value. Load
 -- number k stands before it, c are the loads that branches depended on
 abbrev pub access_item : Step → Dir → ℕ → ℕ → ℕ → Item
-access_item s dirs.R v k c = items.Access dirs.R s.place v (mask_if (is_addr s.link) k) 0 c
+access_item s dirs.R v k c = items.Access dirs.R s.mark s.place v (mask_if (is_addr s.link) k) 0 c
 access_item s dirs.W v k c =
-    items.Access dirs.W s.place s.value (mask_if (is_addr s.link) k) (mask_if (is_data s.link) k) c
+    items.Access dirs.W s.mark s.place s.value (mask_if (is_addr s.link) k) (mask_if (is_data s.link) k) c
 
 -- the first of the numbers that are left to read
 abbrev pub first_of : List ℕ → ℕ
@@ -176,11 +178,14 @@ thread_items (s ∷ ss) n c vs =
     thread_items ss (loads_after s.dir n) (link_control s.link (n - 1) c) (left_after s.dir vs)
 
 -- an access can follow on an architecture: its link is one of the architecture's, a dependency
--- follows a load, a data dependency leads to a store, and what it stores is a byte
+-- follows a load, a data dependency leads to a store, its mark fits what it does and is one of the
+-- architecture's, and what it stores is a byte
 pub record FitStep (arch : ArchName) (after_load : Bool) (s : Step) : Type 0 where
   pub of_arch : link_is_of s.link arch ≡ true
   pub after : depends s.link ≡ true → after_load ≡ true
   pub to_store : is_data s.link ≡ true → s.dir ≡ dirs.W
+  pub mark_fitting : mark_fits s.dir s.mark ≡ true
+  pub mark_of_arch : mark_is_of s.mark arch ≡ true
   pub value : s.value < 256
 
 -- accesses can follow one another on an architecture

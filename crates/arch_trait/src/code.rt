@@ -1,5 +1,6 @@
 ghost use Rattle.std.specs.Prelude.{◌≡◌, ◌<◌, ◌≤◌, ◌+◌, ◌++◌, [], ◌↔◌, true, false, cond, length, is_some, IfOk, OnOk, OnErr, IsErr};
 ghost use Rattle.arrayvec.specs.ArrayVec.{array_vec_len};
+ghost use Rattle.relax_edges.specs.EdgeTable.{mark_fits, mark_is_of};
 ghost use Rattle.arch_trait.specs.Links.{depends, branches, is_data, link_is_of};
 ghost use Rattle.arch_trait.specs.Laws.{access_room};
 ghost use Rattle.arch_trait.specs.Threads.{FitStep, FitSteps, compiled, shape_of, setting_out, from_of, put_of, filled_by, way_seen, further, step_code, next_filled, put_before, thread_code, thread_regs, thread_loads};
@@ -31,10 +32,10 @@ pub struct Code {
 pub struct TooManyRegisters;
 
 /// The code of a thread that makes these accesses in order. A thread has at most `MAX_STEPS`; each
-/// link is one of the architecture's, a dependency follows a load, and a data dependency leads to a
-/// store. Refused exactly where the thread needs more registers than the architecture has.
+/// link is one of the architecture's, a dependency follows a load, a data dependency leads to a
+/// store, and each mark fits what its access does and is one of the architecture's. Refused exactly where the thread needs more registers than the architecture has.
 ///
-/// On any numbers that its loads read, the code makes these accesses, each with the barriers and the
+/// On any numbers that its loads read, the code makes these accesses, each with its mark, and with the barriers and the
 /// dependencies of its link and no others, and leaves the numbers in the registers of the loads.
 pub fn compile_thread<A: Arch>(steps: &[Step]) -> Result<Code, TooManyRegisters>
     requires fit { FitSteps A.puts.name false steps.now }
@@ -129,6 +130,8 @@ fn put_access<A: Arch>(
 ) -> Option<u8>
     requires of_arch { link_is_of step.link A.puts.name ≡ true }
     requires to_store { is_data step.link ≡ true → step.dir ≡ Dir.W }
+    requires mark_fitting { mark_fits step.dir step.mark ≡ true }
+    requires mark_of_arch { mark_is_of step.mark A.puts.name ≡ true }
     requires given { depends step.link ≡ true → is_some from ≡ true }
     requires left { (put_of A.puts regs.old from step step.dir).regs.next ≤ regs.old.count }
     requires room { array_vec_len out.old + access_room step.link ≤ MAX_INSTRS }
@@ -137,15 +140,16 @@ fn put_access<A: Arch>(
     ensures code { out.new.items ≡ out.old.items ++ (put_of A.puts regs.old from step step.dir).code }
 {
     let Step {
+        dir,
+        mark,
         place,
         value,
         link,
-        ..
     } = step;
-    match step.dir {
-        Dir::R => Some(A::put_load(regs, link, from, place, out)),
+    match dir {
+        Dir::R => Some(A::put_load(regs, link, mark, from, place, out)),
         Dir::W => {
-            A::put_store(regs, link, from, place, value, out);
+            A::put_store(regs, link, mark, from, place, value, out);
             None
         }
     }

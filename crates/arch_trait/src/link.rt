@@ -1,7 +1,7 @@
 ghost use Rattle.std.specs.Prelude.{◌≡◌};
 ghost use Rattle.arch_trait.specs.Links.{edge_link, depends, branches};
 
-use relax_edges::{DepKind, Edge, FenceKind};
+use relax_edges::{DepKind, Edge, FenceKind, Kind};
 
 /// How an access is tied to the one before it in its thread.
 #[derive(Clone, Copy, Debug, Default, PartialEq, Eq)]
@@ -23,15 +23,15 @@ pub enum Link {
     CtrlIsb,
 }
 
-/// The link that an edge within a thread asks for.
+/// The link that an edge within a thread asks for, whatever its marks.
 pub fn link_of(edge: Edge) -> Link
     ensures { result ≡ edge_link edge }
 {
-    match edge {
-        Edge::Com { .. } | Edge::Po { .. } => Link::Plain,
-        Edge::Fenced { fence, .. } => Link::Fence(fence),
-        Edge::Data { .. } => Link::Data,
-        Edge::Dep { dep, .. } => match dep {
+    match edge.kind() {
+        Kind::Com { .. } | Kind::Po { .. } => Link::Plain,
+        Kind::Fenced { fence, .. } => Link::Fence(fence),
+        Kind::Data { .. } => Link::Data,
+        Kind::Dep { dep, .. } => match dep {
             DepKind::Addr => Link::Addr,
             DepKind::Ctrl => Link::Ctrl,
             DepKind::CtrlIsync => Link::CtrlIsync,

@@ -1,5 +1,5 @@
 use crate::link::Link;
-use relax_edges::Dir;
+use relax_edges::{Dir, Mark};
 
 /// The most accesses of a thread that code is made for.
 pub const MAX_STEPS: usize = 48;
@@ -8,6 +8,8 @@ pub const MAX_STEPS: usize = 48;
 #[derive(Clone, Copy, Debug, Default, PartialEq, Eq)]
 pub struct Step {
     pub dir: Dir,
+    /// It fits what the access does: a load is plain or acquire, a store plain or release.
+    pub mark: Mark,
     pub place: u8,
     /// What a store writes.
     pub value: u8,

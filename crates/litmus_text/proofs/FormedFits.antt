@@ -28,18 +28,7 @@ HasPlaces table names ss = (place : ℕ) → visits place ss ≡ true → (is_pl
 op_placed : (table : List (List ℕ)) (names : ℕ → List ℕ) (ss : List Step) (op : Micro) → HasPlaces table names ss → is_within ss op ≡ true → is_placed table names op ≡ true
 op_placed table names ss (ops.LoadAt dst place) has h = has place h
 op_placed table names ss (ops.StoreAt place n) has h = has place h
-op_placed table names ss (ops.BranchEq label) has h = refl
-op_placed table names ss (ops.BranchNz a label) has h = refl
-op_placed table names ss (ops.Label label) has h = refl
-op_placed table names ss (ops.Imm dst n) has h = refl
-op_placed table names ss (ops.Xor dst a b) has h = refl
-op_placed table names ss (ops.AddImm dst a n) has h = refl
-op_placed table names ss (ops.OrImm dst a n) has h = refl
-op_placed table names ss (ops.Add dst a b) has h = refl
-op_placed table names ss (ops.Load dst base index) has h = refl
-op_placed table names ss (ops.Store src base index) has h = refl
-op_placed table names ss (ops.Cmp a b) has h = refl
-op_placed table names ss (ops.Barrier kind) has h = refl
+op_placed table names ss op has h = refl
 
 access_room : (op : Micro) (accesses : ℕ) → accesses + cond (is_access op) 1 0 ≤ 64 → (not (is_access op) || nat_lt accesses 64) ≡ true
 access_room op accesses h = by_test (is_access op)
@@ -68,19 +57,7 @@ count_labels label [] = refl
 count_labels label (ops.Label l ∷ code) =
     sum_by-cons (λ op. cond (is_label_of label op) 1 0) (ops.Label l) code ∙ ap (λ m. cond (l == label) 1 0 + m) (count_labels label code)
     ∙ sym (sum_by-cons (λ l. cond (l == label) 1 0) l (labels_of code))
-count_labels label (ops.LoadAt d q ∷ code) = sum_by-cons (λ op. cond (is_label_of label op) 1 0) (ops.LoadAt d q) code ∙ zero-add _ ∙ count_labels label code
-count_labels label (ops.StoreAt q m ∷ code) = sum_by-cons (λ op. cond (is_label_of label op) 1 0) (ops.StoreAt q m) code ∙ zero-add _ ∙ count_labels label code
-count_labels label (ops.Imm d m ∷ code) = sum_by-cons (λ op. cond (is_label_of label op) 1 0) (ops.Imm d m) code ∙ zero-add _ ∙ count_labels label code
-count_labels label (ops.Xor d a b ∷ code) = sum_by-cons (λ op. cond (is_label_of label op) 1 0) (ops.Xor d a b) code ∙ zero-add _ ∙ count_labels label code
-count_labels label (ops.AddImm d a m ∷ code) = sum_by-cons (λ op. cond (is_label_of label op) 1 0) (ops.AddImm d a m) code ∙ zero-add _ ∙ count_labels label code
-count_labels label (ops.OrImm d a m ∷ code) = sum_by-cons (λ op. cond (is_label_of label op) 1 0) (ops.OrImm d a m) code ∙ zero-add _ ∙ count_labels label code
-count_labels label (ops.Add d a b ∷ code) = sum_by-cons (λ op. cond (is_label_of label op) 1 0) (ops.Add d a b) code ∙ zero-add _ ∙ count_labels label code
-count_labels label (ops.Load d b i ∷ code) = sum_by-cons (λ op. cond (is_label_of label op) 1 0) (ops.Load d b i) code ∙ zero-add _ ∙ count_labels label code
-count_labels label (ops.Store r b i ∷ code) = sum_by-cons (λ op. cond (is_label_of label op) 1 0) (ops.Store r b i) code ∙ zero-add _ ∙ count_labels label code
-count_labels label (ops.Cmp a b ∷ code) = sum_by-cons (λ op. cond (is_label_of label op) 1 0) (ops.Cmp a b) code ∙ zero-add _ ∙ count_labels label code
-count_labels label (ops.BranchEq l ∷ code) = sum_by-cons (λ op. cond (is_label_of label op) 1 0) (ops.BranchEq l) code ∙ zero-add _ ∙ count_labels label code
-count_labels label (ops.BranchNz a l ∷ code) = sum_by-cons (λ op. cond (is_label_of label op) 1 0) (ops.BranchNz a l) code ∙ zero-add _ ∙ count_labels label code
-count_labels label (ops.Barrier k ∷ code) = sum_by-cons (λ op. cond (is_label_of label op) 1 0) (ops.Barrier k) code ∙ zero-add _ ∙ count_labels label code
+count_labels label (op ∷ code) = sum_by-cons (λ op. cond (is_label_of label op) 1 0) op code ∙ zero-add _ ∙ count_labels label code
 
 -- in a range each number stands at most once
 later_none : (label a n : ℕ) → label < a → count_by (λ l. l == label) (range_with_len a n) ≡ 0
@@ -114,19 +91,7 @@ stands_some label (op ∷ code) h =
   where
     rest : (op : Micro) → stands label (op ∷ code) ≡ true → is_label_of label op ≡ false → stands label code ≡ true
     rest (ops.Label l) h e = sym (ap (λ b. b || stands label code) e) ∙ h
-    rest (ops.LoadAt d q) h e = h
-    rest (ops.StoreAt q m) h e = h
-    rest (ops.Imm d m) h e = h
-    rest (ops.Xor d a b) h e = h
-    rest (ops.AddImm d a m) h e = h
-    rest (ops.OrImm d a m) h e = h
-    rest (ops.Add d a b) h e = h
-    rest (ops.Load d b i) h e = h
-    rest (ops.Store r b i) h e = h
-    rest (ops.Cmp a b) h e = h
-    rest (ops.Barrier k) h e = h
-    rest (ops.BranchEq l) h e = h
-    rest (ops.BranchNz a l) h e = h
+    rest op h e = h
 
 -- a label that stands behind a branch, in code whose labels stand at most once, stands once in all
 stands_exactly : (label : ℕ) (front behind : List Micro) → count_by (is_label_of label) (front ++ behind) ≤ 1 → stands label behind ≡ true → stands_once label (front ++ behind) behind ≡ true
@@ -147,18 +112,6 @@ once front op label code few h =
 
 lands_front : (front code : List Micro) → ((label : ℕ) → count_by (is_label_of label) (front ++ code) ≤ 1) → lands code ≡ true → code_lands (front ++ code) code ≡ true
 lands_front front [] few h = refl
-lands_front front (ops.Label k ∷ code) few h = subst (λ all. code_lands all code ≡ true) (shifted front (ops.Label k) code) (lands_front (front ++ ops.Label k ∷ []) code (λ l. subst (λ all. count_by (is_label_of l) all ≤ 1) (sym (shifted front (ops.Label k) code)) (few l)) h)
-lands_front front (ops.LoadAt d q ∷ code) few h = subst (λ all. code_lands all code ≡ true) (shifted front (ops.LoadAt d q) code) (lands_front (front ++ ops.LoadAt d q ∷ []) code (λ l. subst (λ all. count_by (is_label_of l) all ≤ 1) (sym (shifted front (ops.LoadAt d q) code)) (few l)) h)
-lands_front front (ops.StoreAt q m ∷ code) few h = subst (λ all. code_lands all code ≡ true) (shifted front (ops.StoreAt q m) code) (lands_front (front ++ ops.StoreAt q m ∷ []) code (λ l. subst (λ all. count_by (is_label_of l) all ≤ 1) (sym (shifted front (ops.StoreAt q m) code)) (few l)) h)
-lands_front front (ops.Imm d m ∷ code) few h = subst (λ all. code_lands all code ≡ true) (shifted front (ops.Imm d m) code) (lands_front (front ++ ops.Imm d m ∷ []) code (λ l. subst (λ all. count_by (is_label_of l) all ≤ 1) (sym (shifted front (ops.Imm d m) code)) (few l)) h)
-lands_front front (ops.Xor d a b ∷ code) few h = subst (λ all. code_lands all code ≡ true) (shifted front (ops.Xor d a b) code) (lands_front (front ++ ops.Xor d a b ∷ []) code (λ l. subst (λ all. count_by (is_label_of l) all ≤ 1) (sym (shifted front (ops.Xor d a b) code)) (few l)) h)
-lands_front front (ops.AddImm d a m ∷ code) few h = subst (λ all. code_lands all code ≡ true) (shifted front (ops.AddImm d a m) code) (lands_front (front ++ ops.AddImm d a m ∷ []) code (λ l. subst (λ all. count_by (is_label_of l) all ≤ 1) (sym (shifted front (ops.AddImm d a m) code)) (few l)) h)
-lands_front front (ops.OrImm d a m ∷ code) few h = subst (λ all. code_lands all code ≡ true) (shifted front (ops.OrImm d a m) code) (lands_front (front ++ ops.OrImm d a m ∷ []) code (λ l. subst (λ all. count_by (is_label_of l) all ≤ 1) (sym (shifted front (ops.OrImm d a m) code)) (few l)) h)
-lands_front front (ops.Add d a b ∷ code) few h = subst (λ all. code_lands all code ≡ true) (shifted front (ops.Add d a b) code) (lands_front (front ++ ops.Add d a b ∷ []) code (λ l. subst (λ all. count_by (is_label_of l) all ≤ 1) (sym (shifted front (ops.Add d a b) code)) (few l)) h)
-lands_front front (ops.Load d b i ∷ code) few h = subst (λ all. code_lands all code ≡ true) (shifted front (ops.Load d b i) code) (lands_front (front ++ ops.Load d b i ∷ []) code (λ l. subst (λ all. count_by (is_label_of l) all ≤ 1) (sym (shifted front (ops.Load d b i) code)) (few l)) h)
-lands_front front (ops.Store r b i ∷ code) few h = subst (λ all. code_lands all code ≡ true) (shifted front (ops.Store r b i) code) (lands_front (front ++ ops.Store r b i ∷ []) code (λ l. subst (λ all. count_by (is_label_of l) all ≤ 1) (sym (shifted front (ops.Store r b i) code)) (few l)) h)
-lands_front front (ops.Cmp a b ∷ code) few h = subst (λ all. code_lands all code ≡ true) (shifted front (ops.Cmp a b) code) (lands_front (front ++ ops.Cmp a b ∷ []) code (λ l. subst (λ all. count_by (is_label_of l) all ≤ 1) (sym (shifted front (ops.Cmp a b) code)) (few l)) h)
-lands_front front (ops.Barrier k ∷ code) few h = subst (λ all. code_lands all code ≡ true) (shifted front (ops.Barrier k) code) (lands_front (front ++ ops.Barrier k ∷ []) code (λ l. subst (λ all. count_by (is_label_of l) all ≤ 1) (sym (shifted front (ops.Barrier k) code)) (few l)) h)
 lands_front front (ops.BranchEq label ∷ code) few h =
     let parts = both (stands label code) (lands code) h in
     both_are (stands_once label (front ++ ops.BranchEq label ∷ code) code) (code_lands (front ++ ops.BranchEq label ∷ code) code)
@@ -167,6 +120,7 @@ lands_front front (ops.BranchNz a label ∷ code) few h =
     let parts = both (stands label code) (lands code) h in
     both_are (stands_once label (front ++ ops.BranchNz a label ∷ code) code) (code_lands (front ++ ops.BranchNz a label ∷ code) code)
     (once front (ops.BranchNz a label) label code few parts.0) (subst (λ all. code_lands all code ≡ true) (shifted front (ops.BranchNz a label) code) (lands_front (front ++ ops.BranchNz a label ∷ []) code (λ l. subst (λ all. count_by (is_label_of l) all ≤ 1) (sym (shifted front (ops.BranchNz a label) code)) (few l)) parts.1))
+lands_front front (op ∷ code) few h = subst (λ all. code_lands all code ≡ true) (shifted front op code) (lands_front (front ++ op ∷ []) code (λ l. subst (λ all. count_by (is_label_of l) all ≤ 1) (sym (shifted front op code)) (few l)) h)
 
 -- the branches of code whose labels are numbered in order land
 pub lands_once : (code : List Micro) (n : ℕ) → lands code ≡ true → labels_of code ≡ range_with_len 0 n → code_lands code code ≡ true

@@ -13,19 +13,7 @@ use Rattle.litmus_text.proofs.CutBack.{both}
 
 label_kept : (label : ℕ) (table : List (List ℕ)) (names : ℕ → List ℕ) (op : Micro) → is_label_of label (renumbered table names op) ≡ is_label_of label op
 label_kept label table names (ops.LoadAt dst place) = refl
-label_kept label table names (ops.StoreAt place n) = refl
-label_kept label table names (ops.BranchEq l) = refl
-label_kept label table names (ops.BranchNz a l) = refl
-label_kept label table names (ops.Label l) = refl
-label_kept label table names (ops.Imm dst n) = refl
-label_kept label table names (ops.Xor dst a b) = refl
-label_kept label table names (ops.AddImm dst a n) = refl
-label_kept label table names (ops.OrImm dst a n) = refl
-label_kept label table names (ops.Add dst a b) = refl
-label_kept label table names (ops.Load dst base index) = refl
-label_kept label table names (ops.Store src base index) = refl
-label_kept label table names (ops.Cmp a b) = refl
-label_kept label table names (ops.Barrier kind) = refl
+label_kept label table names op = refl
 
 count_kept : (label : ℕ) (table : List (List ℕ)) (names : ℕ → List ℕ) (n : ℕ) (code : List Micro) → count_by (is_label label) (placed_from table names n code) ≡ count_by (is_label_of label) code
 count_kept label table names n [] = refl
@@ -43,18 +31,7 @@ landing_kept : (op : Micro) (table : List (List ℕ)) (names : ℕ → List ℕ)
     → is_landing (renumbered table names op) (placed_from table names n all) (placed_from table names m behind) ≡ op_lands op all behind
 landing_kept (ops.BranchEq label) table names n m all behind = once_kept label table names n m all behind
 landing_kept (ops.BranchNz a label) table names n m all behind = once_kept label table names n m all behind
-landing_kept (ops.LoadAt dst place) table names n m all behind = refl
-landing_kept (ops.StoreAt place k) table names n m all behind = refl
-landing_kept (ops.Label l) table names n m all behind = refl
-landing_kept (ops.Imm dst k) table names n m all behind = refl
-landing_kept (ops.Xor dst a b) table names n m all behind = refl
-landing_kept (ops.AddImm dst a k) table names n m all behind = refl
-landing_kept (ops.OrImm dst a k) table names n m all behind = refl
-landing_kept (ops.Add dst a b) table names n m all behind = refl
-landing_kept (ops.Load dst base index) table names n m all behind = refl
-landing_kept (ops.Store src base index) table names n m all behind = refl
-landing_kept (ops.Cmp a b) table names n m all behind = refl
-landing_kept (ops.Barrier kind) table names n m all behind = refl
+landing_kept op table names n m all behind = refl
 
 judged_back : (table : List (List ℕ)) (names : ℕ → List ℕ) (n m : ℕ) (all code : List Micro) → code_lands all code ≡ true
     → labels_judged (placed_from table names n all) (placed_from table names m code) ≡ Ok tt

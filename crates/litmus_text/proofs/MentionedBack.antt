@@ -38,35 +38,13 @@ in_larger s S name h e = let n = numbered_in s name e in ap is_some (within_numb
 op_larger : (s S : List (List ℕ)) (names : ℕ → List ℕ) (op : Micro) → Within s S → op_is_in s names op ≡ true → op_is_in S names op ≡ true
 op_larger s S names (ops.LoadAt dst place) h e = in_larger s S (names place) h e
 op_larger s S names (ops.StoreAt place n) h e = in_larger s S (names place) h e
-op_larger s S names (ops.BranchEq label) h e = refl
-op_larger s S names (ops.BranchNz a label) h e = refl
-op_larger s S names (ops.Label label) h e = refl
-op_larger s S names (ops.Imm dst n) h e = refl
-op_larger s S names (ops.Xor dst a b) h e = refl
-op_larger s S names (ops.AddImm dst a n) h e = refl
-op_larger s S names (ops.OrImm dst a n) h e = refl
-op_larger s S names (ops.Add dst a b) h e = refl
-op_larger s S names (ops.Load dst base index) h e = refl
-op_larger s S names (ops.Store src base index) h e = refl
-op_larger s S names (ops.Cmp a b) h e = refl
-op_larger s S names (ops.Barrier kind) h e = refl
+op_larger s S names op h e = refl
 
 -- an operation that was mentioned
 op_mentioned : (table s : List (List ℕ)) (names : ℕ → List ℕ) (op : Micro) → IsAmong s table → length table ≤ 64 → is_placed table names op ≡ true → op_is_in (mentioned names s op) names op ≡ true
 op_mentioned table s names (ops.LoadAt dst place) h few placed = ap is_some (place_added s table (names place) h few (both _ (is_some (number_in table (names place))) placed).1).after
 op_mentioned table s names (ops.StoreAt place n) h few placed = ap is_some (place_added s table (names place) h few (both _ (is_some (number_in table (names place))) placed).1).after
-op_mentioned table s names (ops.BranchEq label) h few placed = refl
-op_mentioned table s names (ops.BranchNz a label) h few placed = refl
-op_mentioned table s names (ops.Label label) h few placed = refl
-op_mentioned table s names (ops.Imm dst n) h few placed = refl
-op_mentioned table s names (ops.Xor dst a b) h few placed = refl
-op_mentioned table s names (ops.AddImm dst a n) h few placed = refl
-op_mentioned table s names (ops.OrImm dst a n) h few placed = refl
-op_mentioned table s names (ops.Add dst a b) h few placed = refl
-op_mentioned table s names (ops.Load dst base index) h few placed = refl
-op_mentioned table s names (ops.Store src base index) h few placed = refl
-op_mentioned table s names (ops.Cmp a b) h few placed = refl
-op_mentioned table s names (ops.Barrier kind) h few placed = refl
+op_mentioned table s names op h few placed = refl
 
 abbrev OpsIn : List (List ℕ) → (ℕ → List ℕ) → List Micro → Type 0
 OpsIn table names code = AllByRecursion (λ op. op_is_in table names op ≡ true) code

@@ -139,12 +139,4 @@ numbers_back (ops.StoreAt place n) names s table final count among few placed ne
 numbers_back (ops.BranchEq label) names s table final count among few placed next small within = label_step (ops.BranchEq 0) s count label next small
 numbers_back (ops.BranchNz a label) names s table final count among few placed next small within = label_step (ops.BranchNz a 0) s count label next small
 numbers_back (ops.Label label) names s table final count among few placed next small within = label_step (ops.Label 0) s count label next small
-numbers_back (ops.Imm dst n) names s table final count among few placed next small within = refl
-numbers_back (ops.Xor dst a b) names s table final count among few placed next small within = refl
-numbers_back (ops.AddImm dst a n) names s table final count among few placed next small within = refl
-numbers_back (ops.OrImm dst a n) names s table final count among few placed next small within = refl
-numbers_back (ops.Add dst a b) names s table final count among few placed next small within = refl
-numbers_back (ops.Load dst base index) names s table final count among few placed next small within = refl
-numbers_back (ops.Store src base index) names s table final count among few placed next small within = refl
-numbers_back (ops.Cmp a b) names s table final count among few placed next small within = refl
-numbers_back (ops.Barrier kind) names s table final count among few placed next small within = refl
+numbers_back op names s table final count among few placed next small within = refl

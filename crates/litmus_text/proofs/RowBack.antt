@@ -34,31 +34,13 @@ named_op (ops.StoreAt place n) table names count placed next = (both (is_place_n
 named_op (ops.BranchEq label) table names count placed next = label_formed label (ltb-true label 64 (both (nat_le label count) (nat_lt label 64) next).1)
 named_op (ops.BranchNz a label) table names count placed next = label_formed label (ltb-true label 64 (both (nat_le label count) (nat_lt label 64) next).1)
 named_op (ops.Label label) table names count placed next = label_formed label (ltb-true label 64 (both (nat_le label count) (nat_lt label 64) next).1)
-named_op (ops.Imm dst n) table names count placed next = refl
-named_op (ops.Xor dst a b) table names count placed next = refl
-named_op (ops.AddImm dst a n) table names count placed next = refl
-named_op (ops.OrImm dst a n) table names count placed next = refl
-named_op (ops.Add dst a b) table names count placed next = refl
-named_op (ops.Load dst base index) table names count placed next = refl
-named_op (ops.Store src base index) table names count placed next = refl
-named_op (ops.Cmp a b) table names count placed next = refl
-named_op (ops.Barrier kind) table names count placed next = refl
+named_op op table names count placed next = refl
 
 pub few_labels : (op : Micro) (count : ℕ) → is_next count op ≡ true → count ≤ 64 → labels_after count op ≤ 64
 few_labels (ops.BranchEq label) count next h = let small = ltb-true label 64 (both (nat_le label count) (nat_lt label 64) next).1 in omega arith
 few_labels (ops.BranchNz a label) count next h = let small = ltb-true label 64 (both (nat_le label count) (nat_lt label 64) next).1 in omega arith
 few_labels (ops.Label label) count next h = let small = ltb-true label 64 (both (nat_le label count) (nat_lt label 64) next).1 in omega arith
-few_labels (ops.LoadAt dst place) count next h = h
-few_labels (ops.StoreAt place n) count next h = h
-few_labels (ops.Imm dst n) count next h = h
-few_labels (ops.Xor dst a b) count next h = h
-few_labels (ops.AddImm dst a n) count next h = h
-few_labels (ops.OrImm dst a n) count next h = h
-few_labels (ops.Add dst a b) count next h = h
-few_labels (ops.Load dst base index) count next h = h
-few_labels (ops.Store src base index) count next h = h
-few_labels (ops.Cmp a b) count next h = h
-few_labels (ops.Barrier kind) count next h = h
+few_labels op count next h = h
 
 -- mentions make a table grow, within a larger one
 pub added_within : (s : List (List ℕ)) (name : List ℕ) → Within s (names_added s name)
@@ -74,51 +56,17 @@ added_within s name = of (number_in s name) refl
 pub mention_within : (names : ℕ → List ℕ) (s : List (List ℕ)) (op : Micro) → Within s (mentioned names s op)
 mention_within names s (ops.LoadAt dst place) = added_within s (names place)
 mention_within names s (ops.StoreAt place n) = added_within s (names place)
-mention_within names s (ops.BranchEq label) = within_self s
-mention_within names s (ops.BranchNz a label) = within_self s
-mention_within names s (ops.Label label) = within_self s
-mention_within names s (ops.Imm dst n) = within_self s
-mention_within names s (ops.Xor dst a b) = within_self s
-mention_within names s (ops.AddImm dst a n) = within_self s
-mention_within names s (ops.OrImm dst a n) = within_self s
-mention_within names s (ops.Add dst a b) = within_self s
-mention_within names s (ops.Load dst base index) = within_self s
-mention_within names s (ops.Store src base index) = within_self s
-mention_within names s (ops.Cmp a b) = within_self s
-mention_within names s (ops.Barrier kind) = within_self s
+mention_within names s op = within_self s
 
 pub mention_among : (table : List (List ℕ)) (names : ℕ → List ℕ) (s : List (List ℕ)) (op : Micro) → IsAmong s table → length table ≤ 64 → is_placed table names op ≡ true
     → IsAmong (mentioned names s op) table
 mention_among table names s (ops.LoadAt dst place) h few placed = (place_added s table (names place) h few (both (is_place_name (names place)) (is_some (number_in table (names place))) placed).1).among
 mention_among table names s (ops.StoreAt place n) h few placed = (place_added s table (names place) h few (both (is_place_name (names place)) (is_some (number_in table (names place))) placed).1).among
-mention_among table names s (ops.BranchEq label) h few placed = h
-mention_among table names s (ops.BranchNz a label) h few placed = h
-mention_among table names s (ops.Label label) h few placed = h
-mention_among table names s (ops.Imm dst n) h few placed = h
-mention_among table names s (ops.Xor dst a b) h few placed = h
-mention_among table names s (ops.AddImm dst a n) h few placed = h
-mention_among table names s (ops.OrImm dst a n) h few placed = h
-mention_among table names s (ops.Add dst a b) h few placed = h
-mention_among table names s (ops.Load dst base index) h few placed = h
-mention_among table names s (ops.Store src base index) h few placed = h
-mention_among table names s (ops.Cmp a b) h few placed = h
-mention_among table names s (ops.Barrier kind) h few placed = h
+mention_among table names s op h few placed = h
 
 access_same : (table : List (List ℕ)) (names : ℕ → List ℕ) (op : Micro) → is_access (renumbered table names op) ≡ is_access op
 access_same table names (ops.LoadAt dst place) = refl
-access_same table names (ops.StoreAt place n) = refl
-access_same table names (ops.BranchEq label) = refl
-access_same table names (ops.BranchNz a label) = refl
-access_same table names (ops.Label label) = refl
-access_same table names (ops.Imm dst n) = refl
-access_same table names (ops.Xor dst a b) = refl
-access_same table names (ops.AddImm dst a n) = refl
-access_same table names (ops.OrImm dst a n) = refl
-access_same table names (ops.Add dst a b) = refl
-access_same table names (ops.Load dst base index) = refl
-access_same table names (ops.Store src base index) = refl
-access_same table names (ops.Cmp a b) = refl
-access_same table names (ops.Barrier kind) = refl
+access_same table names op = refl
 
 first_within : (names : ℕ → List ℕ) (s : List (List ℕ)) (left : List Micro) → Within s (mentioned_first names s left)
 first_within names s [] = within_self s

@@ -38,18 +38,7 @@ moved_other table names place p out inside =
 op_same : (table : List (List ℕ)) (names : ℕ → List ℕ) (place : ℕ) (op : Micro) → is_in table (names place) ≡ false → op_is_in table names op ≡ true → op_at (moved place) op ≡ op
 op_same table names place (ops.LoadAt dst p) out inside = ap (ops.LoadAt dst) (moved_other table names place p out inside)
 op_same table names place (ops.StoreAt p n) out inside = ap (λ q. ops.StoreAt q n) (moved_other table names place p out inside)
-op_same table names place (ops.Imm dst n) out inside = refl
-op_same table names place (ops.Xor dst a b) out inside = refl
-op_same table names place (ops.AddImm dst a n) out inside = refl
-op_same table names place (ops.OrImm dst a n) out inside = refl
-op_same table names place (ops.Add dst a b) out inside = refl
-op_same table names place (ops.Load dst base index) out inside = refl
-op_same table names place (ops.Store src base index) out inside = refl
-op_same table names place (ops.Cmp a b) out inside = refl
-op_same table names place (ops.BranchEq label) out inside = refl
-op_same table names place (ops.BranchNz a label) out inside = refl
-op_same table names place (ops.Label label) out inside = refl
-op_same table names place (ops.Barrier kind) out inside = refl
+op_same table names place op out inside = refl
 
 ops_same : (table : List (List ℕ)) (names : ℕ → List ℕ) (place : ℕ) (code : List Micro) → is_in table (names place) ≡ false → AllByRecursion (λ op. op_is_in table names op ≡ true) code → map (op_at (moved place)) code ≡ code
 ops_same table names place [] out inside = refl
@@ -71,7 +60,7 @@ code_same table names place code out ins links = λ i. record {
 -- the places of the accesses among items
 abbrev places_made : List Item → List ℕ
 places_made [] = []
-places_made (items.Access dir place value address stored control ∷ made) = place ∷ places_made made
+places_made (items.Access dir mark place value address stored control ∷ made) = place ∷ places_made made
 places_made (items.Barrier kind control ∷ made) = places_made made
 
 step_places : (s : Step) (l : Link) (v k c m : ℕ) (rest : List Item) → places_made ((link_items l k c ++ access_item s s.dir v k m ∷ []) ++ rest) ≡ s.place ∷ places_made rest

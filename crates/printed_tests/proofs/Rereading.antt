@@ -153,19 +153,7 @@ reread_renumbered a register_name es mode table laws t among inside linked =
 
 op_numbered : (table places : List (List ℕ)) (op : Micro) → placing.renumbered table (name_in places) op ≡ op_at (by_table table places) op
 op_numbered table places (ops.LoadAt dst p) = refl
-op_numbered table places (ops.StoreAt p n) = refl
-op_numbered table places (ops.Imm dst n) = refl
-op_numbered table places (ops.Xor dst a b) = refl
-op_numbered table places (ops.AddImm dst a n) = refl
-op_numbered table places (ops.OrImm dst a n) = refl
-op_numbered table places (ops.Add dst a b) = refl
-op_numbered table places (ops.Load dst base index) = refl
-op_numbered table places (ops.Store src base index) = refl
-op_numbered table places (ops.Cmp a b) = refl
-op_numbered table places (ops.BranchEq label) = refl
-op_numbered table places (ops.BranchNz a label) = refl
-op_numbered table places (ops.Label label) = refl
-op_numbered table places (ops.Barrier kind) = refl
+op_numbered table places op = refl
 
 ops_numbered : (table places : List (List ℕ)) (code : List Micro) → map (placing.renumbered table (name_in places)) code ≡ map (op_at (by_table table places)) code
 ops_numbered table places [] = refl

@@ -7,10 +7,10 @@ use Rattle.list_laws.proofs.Cases.{by_test}
 use Rattle.relax_edges.specs.declared.kinds.Dir.{Dir}
 use Rattle.relax_edges.specs.declared.kinds.Dir.TheVariants as dirs
 use Rattle.relax_edges.specs.declared.kinds.ArchName.{ArchName}
-use Rattle.relax_edges.specs.declared.edge.Edge.{Edge}
-use Rattle.relax_edges.specs.EdgeTable.{source_of}
+use Rattle.relax_edges.specs.declared.kinds.Kind.{Kind}
+use Rattle.relax_edges.specs.EdgeTable.{kind_source}
 use Rattle.arch_trait.specs.declared.step.Step.{Step}
-use Rattle.arch_trait.specs.Links.{edge_link, is_addr, is_data, mask_if, link_control}
+use Rattle.arch_trait.specs.Links.{kind_link, is_addr, is_data, mask_if, link_control}
 use Rattle.arch_trait.specs.Threads.{FitSteps, is_load_dir, loads_in, control_after}
 use Rattle.program_meaning.specs.Accesses.{Access, Visit, accesses_of, is_read, reads_by, reads_before}
 use Rattle.program_meaning.specs.Standing.{Named}
@@ -29,10 +29,10 @@ data_met_is s dirs.R k h =
     apart : dirs.R ≡ dirs.W → ⊥
     apart e = cc
 
--- s and t are accesses number j and j + 1 of a thread, an edge asks for the link between them, and e and f are what
--- they make
-pub next_follows : (arch : ArchName) (edge : Edge) (threads : List (List Access)) (e f : Named) (steps : List Step) (vs : List ℕ) (j : ℕ) (s t : Step) → FitSteps arch false steps → slice_get steps j ≡ Some s → slice_get steps (suc j) ≡ Some t → s.dir ≡ source_of edge → t.link ≡ edge_link edge → (is_data t.link ≡ true → t.dir ≡ dirs.W) → e.visit.access.dir ≡ source_of edge → reads_before threads e.name ≡ count_by is_read (take j (accesses_of (thread_visits steps 0 0 vs))) → slice_get (thread_visits steps 0 0 vs) (suc j) ≡ Some f.visit → Follows edge threads e f (0 + loads_in (take (suc j) steps) - 1) (control_after (take (suc j) steps) 0 0)
-next_follows arch edge threads e f steps vs j s t fit here there source link store leaves reads second = record {
+-- s and t are accesses number j and j + 1 of a thread, an edge of a kind asks for the link between them, and e and f are
+-- what they make
+pub next_follows : (arch : ArchName) (kind : Kind) (threads : List (List Access)) (e f : Named) (steps : List Step) (vs : List ℕ) (j : ℕ) (s t : Step) → FitSteps arch false steps → slice_get steps j ≡ Some s → slice_get steps (suc j) ≡ Some t → s.dir ≡ kind_source kind → t.link ≡ kind_link kind → (is_data t.link ≡ true → t.dir ≡ dirs.W) → e.visit.access.dir ≡ kind_source kind → reads_before threads e.name ≡ count_by is_read (take j (accesses_of (thread_visits steps 0 0 vs))) → slice_get (thread_visits steps 0 0 vs) (suc j) ≡ Some f.visit → Follows kind threads e f (0 + loads_in (take (suc j) steps) - 1) (control_after (take (suc j) steps) 0 0)
+next_follows arch kind threads e f steps vs j s t fit here there source link store leaves reads second = record {
   leaves = leaves;
   barriers = ap (λ (y : Visit). y.barriers) (made.is) ∙ ap (λ l. link_barred l (0 + loads_in (take (suc j) steps) - 1) (control_after (take (suc j) steps) 0 0)) link;
   address = ap (λ (y : Visit). y.address_mask) (made.is) ∙ ap (λ l. mask_if (is_addr l) (0 + loads_in (take (suc j) steps) - 1)) link;

@@ -1,5 +1,5 @@
 -- The accesses of each thread of a cycle's test are some and not too many, can follow one another on the architecture,
--- and are at the places of locations.
+-- with their marks, and are at the places of locations.
 use Rattle.std.proofs.Common.{◌≡◌, ℕ, zero, suc, ◌+◌, ◌<◌, ◌≤◌, Bool, true, false, ◌==◌, List, [], ◌∷◌, length, get_or, Some, slice_get, refl, sym, ◌∙◌, ap, subst, arith, add-one, eq-eqb}
 use Rattle.std.specs.List.{list_all}
 use Rattle.std.proofs.lemmas.Bool.{ne_eqb, cond-true, cond-false, and_parts}
@@ -12,16 +12,19 @@ use Rattle.relax_edges.specs.declared.kinds.Com.TheVariants.{Rf}
 use Rattle.relax_edges.specs.declared.kinds.DepKind.TheVariants as deps
 use Rattle.relax_edges.specs.declared.kinds.ArchName.{ArchName}
 use Rattle.relax_edges.specs.declared.kinds.ObsMode.{ObsMode}
+use Rattle.relax_edges.specs.declared.kinds.Kind.{Kind}
+use Rattle.relax_edges.specs.declared.kinds.Kind.TheVariants as kinds
 use Rattle.relax_edges.specs.declared.edge.Edge.{Edge}
 use Rattle.relax_edges.specs.declared.edge.Edge.TheVariants as edges
 use Rattle.relax_edges.specs.declared.TheConstants.{MAX_EDGES}
-use Rattle.relax_edges.specs.EdgeTable.{source_of, target_of, is_of_arch, is_external}
+use Rattle.relax_edges.specs.EdgeTable.{kind_of, kind_source, kind_target, source_of, source_mark, target_of, mark_fits, mark_is_of, is_of_arch, is_external}
+use Rattle.walk_laws.proofs.Marks.{source_mark_fits}
 use Rattle.list_laws.specs.Numbers.{upto}
 use Rattle.list_laws.proofs.Cases.{by_test}
 use Rattle.list_laws.proofs.Numbers.{length-upto, length-map-upto, slice_get-upto}
 use Rattle.resolution_laws.specs.Resolution.{IsResolved, edge_at, move_count, event_before, event_after, events_in, thread_of, slot_of, location_of}
 use Rattle.resolution_laws.proofs.Threads.{slot-zero, slot_out, slot_of_event}
-use Rattle.resolution_laws.proofs.Around.{source_after, internal_follows}
+use Rattle.resolution_laws.proofs.Around.{after_below, source_after, internal_follows}
 use Rattle.resolution_laws.proofs.Arcs.{location_below}
 use Rattle.resolution_laws.proofs.Sizes.{only_in_slot, thread_has_events, thread_size_most}
 use Rattle.value_laws.specs.Values.{value_of, write_count}
@@ -30,8 +33,9 @@ use Rattle.value_laws.proofs.Laws.{observed_writes}
 use Rattle.arch_trait.specs.declared.step.Step.{Step}
 use Rattle.arch_trait.specs.declared.link.Link.{Link}
 use Rattle.arch_trait.specs.declared.link.Link.TheVariants.{Plain}
-use Rattle.arch_trait.specs.Links.{edge_link, link_is_of, depends, is_data}
+use Rattle.arch_trait.specs.Links.{kind_link, edge_link, link_is_of, depends, is_data}
 use Rattle.arch_trait.specs.Threads.{FitStep, FitSteps, is_load_dir}
+use Rattle.arch_trait.proofs.Edges.{has_edge}
 use Rattle.communication.proofs.Lists.{image_of}
 use Rattle.test_laws.specs.Steps.{event_link, event_step, thread_steps, observing, observer_steps, cycle_steps}
 use Rattle.test_laws.proofs.StepsAt.{by_steps}
@@ -48,43 +52,46 @@ fit_from arch b [] first next = tt
 fit_from arch b (s ∷ ss) first next =
     (first s refl, fit_from arch (is_load_dir s.dir) ss (λ t g. next 0 s t refl g) (λ k t u g h. next (suc k) t u g h))
 
--- the link of an edge is of an architecture where the edge is
-link_of_arch : (e : Edge) (arch : ArchName) → link_is_of (edge_link e) arch ≡ is_of_arch e arch
-link_of_arch (edges.Com k r) arch = refl
-link_of_arch (edges.Po s f t) arch = refl
-link_of_arch (edges.Fenced k s f t) arch = refl
-link_of_arch (edges.Dep deps.Addr s t) arch = refl
-link_of_arch (edges.Dep deps.Ctrl s t) arch = refl
-link_of_arch (edges.Dep deps.CtrlIsync s t) arch = refl
-link_of_arch (edges.Dep deps.CtrlIsb s t) arch = refl
-link_of_arch (edges.Data s) arch = refl
-
 -- a dependency leaves a load
-link_leaves : (e : Edge) → depends (edge_link e) ≡ true → is_load_dir (source_of e) ≡ true
-link_leaves (edges.Com k r) h = cc
-link_leaves (edges.Po s f t) h = cc
-link_leaves (edges.Fenced k s f t) h = cc
-link_leaves (edges.Dep k s t) h = refl
-link_leaves (edges.Data s) h = refl
+link_leaves : (k : Kind) → depends (kind_link k) ≡ true → is_load_dir (kind_source k) ≡ true
+link_leaves (kinds.Com c r) h = cc
+link_leaves (kinds.Po s f t) h = cc
+link_leaves (kinds.Fenced f s d t) h = cc
+link_leaves (kinds.Dep d s t) h = refl
+link_leaves (kinds.Data s) h = refl
 
 -- a data dependency enters a store
-link_enters : (e : Edge) → is_data (edge_link e) ≡ true → target_of e ≡ dirs.W
-link_enters (edges.Com k r) h = cc
-link_enters (edges.Po s f t) h = cc
-link_enters (edges.Fenced k s f t) h = cc
-link_enters (edges.Dep deps.Addr s t) h = cc
-link_enters (edges.Dep deps.Ctrl s t) h = cc
-link_enters (edges.Dep deps.CtrlIsync s t) h = cc
-link_enters (edges.Dep deps.CtrlIsb s t) h = cc
-link_enters (edges.Data s) h = refl
+link_enters : (k : Kind) → is_data (kind_link k) ≡ true → kind_target k ≡ dirs.W
+link_enters (kinds.Com c r) h = cc
+link_enters (kinds.Po s f t) h = cc
+link_enters (kinds.Fenced f s d t) h = cc
+link_enters (kinds.Dep deps.Addr s t) h = cc
+link_enters (kinds.Dep deps.Ctrl s t) h = cc
+link_enters (kinds.Dep deps.CtrlIsync s t) h = cc
+link_enters (kinds.Dep deps.CtrlIsb s t) h = cc
+link_enters (kinds.Data s) h = refl
+
+-- a mark fits what the access does, and is one of the architecture's
+record IsMarked (arch : ArchName) (s : Step) : Type 0 where
+  fits : mark_fits s.dir s.mark ≡ true
+  of_arch : mark_is_of s.mark arch ≡ true
 
 -- an access that no edge of its thread ties fits at any place
-plain_fits : (arch : ArchName) (b : Bool) (s : Step) → s.link ≡ Plain → s.value < 256 → FitStep arch b s
-plain_fits arch b s e v = record {
+untied_fits : (arch : ArchName) (b : Bool) (s : Step) → s.link ≡ Plain → IsMarked arch s → s.value < 256 → FitStep arch b s
+untied_fits arch b s e m v = record {
   of_arch = ap (λ l. link_is_of l arch) e;
   after = λ h. let f : false ≡ true = sym (ap depends e) ∙ h in cc;
   to_store = λ h. let f : false ≡ true = sym (ap is_data e) ∙ h in cc;
+  mark_fitting = m.fits;
+  mark_of_arch = m.of_arch;
   value = v;
+}
+
+-- an event has the mark of what its edge leaves
+event_marked : (es : List Edge) (arch : ArchName) (number : ℕ → ℕ) (i : ℕ) → list_all (λ e. is_of_arch e arch) es ≡ true → i < length es → IsMarked arch (event_step es number i)
+event_marked es arch number i a l = record {
+  fits = source_mark_fits (edge_at es i);
+  of_arch = (has_edge (edge_at es i) arch (all_at (λ e. is_of_arch e arch) es i (edges.Com Rf Internal) a l)).source;
 }
 
 -- values are small
@@ -133,15 +140,19 @@ pub event_fits : (es : List Edge) (arch : ArchName) (number : ℕ → ℕ) (i : 
 event_fits es arch number i r a b = record {
   of_arch =
       ap (λ l. link_is_of l arch) link
-      ∙ link_of_arch (edge_at es b.event) arch
-      ∙ all_at (λ e. is_of_arch e arch) es b.event (edges.Com Rf Internal) a b.below;
-  after = λ h. link_leaves (edge_at es b.event) (sym (ap depends link) ∙ h);
+      ∙ (has_edge (edge_at es b.event) arch (all_at (λ e. is_of_arch e arch) es b.event (edges.Com Rf Internal) a b.below)).link;
+  after = λ h. link_leaves (kind_of (edge_at es b.event)) (sym (ap depends link) ∙ h);
   to_store = λ h. ap (λ j. source_of (edge_at es j)) (sym b.next)
       ∙ source_after es b.event r.composes b.below
-      ∙ link_enters (edge_at es b.event) (sym (ap is_data link) ∙ h);
+      ∙ link_enters (kind_of (edge_at es b.event)) (sym (ap is_data link) ∙ h);
+  mark_fitting = marked.fits;
+  mark_of_arch = marked.of_arch;
   value = omega (arith, value_small es i r);
 }
   where
+    marked : IsMarked arch (event_step es number i)
+    marked = event_marked es arch number i a (subst (λ j. j < length es) b.next (after_below es b.event b.below))
+
     link : event_link es i ≡ edge_link (edge_at es b.event)
     link = link_between es i b
 
@@ -154,7 +165,7 @@ thread_fits es arch number thread r a = fit_from arch false (thread_steps es num
         let i = image_of (event_step es number) (events_in es thread) 0 s g in
         let w = slot_of_event es thread 0 i.element i.got in
         subst (λ (x : Step). FitStep arch false x) i.image
-        (plain_fits arch false (event_step es number i.element) (link_first es i.element w.slot) (omega (arith, value_small es i.element r)))
+        (untied_fits arch false (event_step es number i.element) (link_first es i.element w.slot) (event_marked es arch number i.element a w.below) (omega (arith, value_small es i.element r)))
 
     next : (k : ℕ) (s t : Step) → slice_get (thread_steps es number thread) k ≡ Some s → slice_get (thread_steps es number thread) (suc k) ≡ Some t → FitStep arch (is_load_dir s.dir) t
     next k s t g h =
@@ -180,7 +191,7 @@ observer_fits es arch number location r =
         let e : Some i.element ≡ Some k = sym i.got ∙ slice_get-upto (write_count es location) k l in
         let f : i.element ≡ k = cc in
         subst (λ (x : Step). FitStep arch b x) i.image
-        (plain_fits arch b (observing (number location) i.element) refl (omega (arith, f, l, write_count_most es location, r.composes.few)))
+        (untied_fits arch b (observing (number location) i.element) refl (record { fits = refl; of_arch = refl }) (omega (arith, f, l, write_count_most es location, r.composes.few)))
 
 -- what each thread of a cycle's test is: some accesses, not too many, that can follow one another on the architecture
 pub record IsThread (arch : ArchName) (steps : List Step) : Type 0 where

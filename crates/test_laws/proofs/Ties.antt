@@ -5,30 +5,30 @@ use Rattle.list_laws.proofs.Cases.{by_test}
 use Rattle.relax_edges.specs.declared.kinds.Dir.TheVariants as dirs
 use Rattle.relax_edges.specs.declared.kinds.Reach.TheVariants.{Internal, External}
 use Rattle.relax_edges.specs.declared.kinds.DepKind.TheVariants as deps
-use Rattle.relax_edges.specs.declared.edge.Edge.{Edge}
-use Rattle.relax_edges.specs.declared.edge.Edge.TheVariants as edges
-use Rattle.relax_edges.specs.EdgeTable.{source_of}
+use Rattle.relax_edges.specs.declared.kinds.Kind.{Kind}
+use Rattle.relax_edges.specs.declared.kinds.Kind.TheVariants as kinds
+use Rattle.relax_edges.specs.EdgeTable.{kind_source}
 use Rattle.arch_trait.specs.declared.link.Link.{Link}
-use Rattle.arch_trait.specs.Links.{edge_link, branches, is_addr, is_data, mask_if, link_control}
+use Rattle.arch_trait.specs.Links.{kind_link, branches, is_addr, is_data, mask_if, link_control}
 use Rattle.arch_laws.proofs.Items.{control_row}
 use Rattle.program_meaning.specs.Accesses.{Access, is_read, reads_by, reads_before}
 use Rattle.program_meaning.specs.Standing.{Named, BarriersWait, TiesBy, is_in_mask, mask_of}
 use Rattle.test_laws.proofs.Visits.{link_barred}
 
--- an access follows another in its thread, by the link of an edge: load number k is the other access, if that reads,
--- and branches before the link depended on the loads of c, which come before load number k
-pub record Follows (edge : Edge) (threads : List (List Access)) (e f : Named) (k c : ℕ) : Type 0 where
-  pub leaves : e.visit.access.dir ≡ source_of edge
-  pub barriers : f.visit.barriers ≡ link_barred (edge_link edge) k c
-  pub address : f.visit.address_mask ≡ mask_if (is_addr (edge_link edge)) k
-  pub stored : f.visit.data_mask ≡ mask_if (is_data (edge_link edge)) k
-  pub control : f.visit.control_mask ≡ link_control (edge_link edge) k c
+-- an access follows another in its thread, by the link of an edge of a kind: load number k is the other access, if that
+-- reads, and branches before the link depended on the loads of c, which come before load number k
+pub record Follows (kind : Kind) (threads : List (List Access)) (e f : Named) (k c : ℕ) : Type 0 where
+  pub leaves : e.visit.access.dir ≡ kind_source kind
+  pub barriers : f.visit.barriers ≡ link_barred (kind_link kind) k c
+  pub address : f.visit.address_mask ≡ mask_if (is_addr (kind_link kind)) k
+  pub stored : f.visit.data_mask ≡ mask_if (is_data (kind_link kind)) k
+  pub control : f.visit.control_mask ≡ link_control (kind_link kind) k c
   pub reads_are : is_read e.visit.access ≡ true → reads_before threads e.name ≡ k
   pub earlier : is_read e.visit.access ≡ true → c < 2 ^ k
 
 -- a read is in the mask of the branches before the next access where the link between them branches
-in_control : (edge : Edge) (threads : List (List Access)) (e f : Named) (k c : ℕ) → Follows edge threads e f k c → (link : Link) → is_in_mask threads e (link_control link k c) ≡ (is_read e.visit.access && branches link)
-in_control edge threads e f k c h link =
+in_control : (kind : Kind) (threads : List (List Access)) (e f : Named) (k c : ℕ) → Follows kind threads e f k c → (link : Link) → is_in_mask threads e (link_control link k c) ≡ (is_read e.visit.access && branches link)
+in_control kind threads e f k c h link =
     by_test (is_read e.visit.access)
     (λ t. rw t (ap (λ j. bit_at (link_control link k c) j == 1) (h.reads_are t) ∙ ap (λ b. b == 1) (control_row link k c (h.earlier t)) ∙ one_if (branches link)))
     (λ u. rw u refl)
@@ -42,77 +42,77 @@ and_false true = refl
 and_false false = refl
 
 -- where the link doesn't branch
-off : (edge : Edge) (threads : List (List Access)) (e f : Named) (k c : ℕ) → Follows edge threads e f k c → branches (edge_link edge) ≡ false → is_in_mask threads e f.visit.control_mask ≡ false
-off edge threads e f k c h b =
-    ap (is_in_mask threads e) h.control ∙ in_control edge threads e f k c h (edge_link edge) ∙ ap (λ t. is_read e.visit.access && t) b ∙ and_false (is_read e.visit.access)
+off : (kind : Kind) (threads : List (List Access)) (e f : Named) (k c : ℕ) → Follows kind threads e f k c → branches (kind_link kind) ≡ false → is_in_mask threads e f.visit.control_mask ≡ false
+off kind threads e f k c h b =
+    ap (is_in_mask threads e) h.control ∙ in_control kind threads e f k c h (kind_link kind) ∙ ap (λ t. is_read e.visit.access && t) b ∙ and_false (is_read e.visit.access)
 
 -- what a dependency leaves is a read
-leaves_read : (edge : Edge) (threads : List (List Access)) (e f : Named) (k c : ℕ) → Follows edge threads e f k c → source_of edge ≡ dirs.R → is_read e.visit.access ≡ true
-leaves_read edge threads e f k c h s = ap reads_by (h.leaves ∙ s)
+leaves_read : (kind : Kind) (threads : List (List Access)) (e f : Named) (k c : ℕ) → Follows kind threads e f k c → kind_source kind ≡ dirs.R → is_read e.visit.access ≡ true
+leaves_read kind threads e f k c h s = ap reads_by (h.leaves ∙ s)
 
 -- where it does, from a read
-on : (edge : Edge) (threads : List (List Access)) (e f : Named) (k c : ℕ) → Follows edge threads e f k c → source_of edge ≡ dirs.R → branches (edge_link edge) ≡ true → is_in_mask threads e (link_control (edge_link edge) k c) ≡ true
-on edge threads e f k c h s b =
-    in_control edge threads e f k c h (edge_link edge) ∙ ap (λ t. is_read e.visit.access && t) b ∙ (let r = leaves_read edge threads e f k c h s in rw r refl)
+on : (kind : Kind) (threads : List (List Access)) (e f : Named) (k c : ℕ) → Follows kind threads e f k c → kind_source kind ≡ dirs.R → branches (kind_link kind) ≡ true → is_in_mask threads e (link_control (kind_link kind) k c) ≡ true
+on kind threads e f k c h s b =
+    in_control kind threads e f k c h (kind_link kind) ∙ ap (λ t. is_read e.visit.access && t) b ∙ (let r = leaves_read kind threads e f k c h s in rw r refl)
 
 -- the mask of the read that a dependency is on
-alone : (edge : Edge) (threads : List (List Access)) (e f : Named) (k c : ℕ) → Follows edge threads e f k c → source_of edge ≡ dirs.R → mask_if true k ≡ mask_of threads e
-alone edge threads e f k c h s = ap (λ j. 2 ^ j) (sym (h.reads_are (leaves_read edge threads e f k c h s)))
+alone : (kind : Kind) (threads : List (List Access)) (e f : Named) (k c : ℕ) → Follows kind threads e f k c → kind_source kind ≡ dirs.R → mask_if true k ≡ mask_of threads e
+alone kind threads e f k c h s = ap (λ j. 2 ^ j) (sym (h.reads_are (leaves_read kind threads e f k c h s)))
 
 -- an edge ties the two as it says
-pub ties : (edge : Edge) (threads : List (List Access)) (e f : Named) (k c : ℕ) → Follows edge threads e f k c → TiesBy edge threads e f
-ties (edges.Com kind Internal) threads e f k c h = record {
+pub ties : (kind : Kind) (threads : List (List Access)) (e f : Named) (k c : ℕ) → Follows kind threads e f k c → TiesBy kind threads e f
+ties (kinds.Com kind Internal) threads e f k c h = record {
   barriers_are = ap (map (λ b. b.kind)) h.barriers;
   address_is = h.address;
   data_is = h.stored;
-  control_is = off (edges.Com kind Internal) threads e f k c h refl;
+  control_is = off (kinds.Com kind Internal) threads e f k c h refl;
 }
-ties (edges.Com kind External) threads e f k c h = tt
-ties (edges.Po sd from to) threads e f k c h = record {
+ties (kinds.Com kind External) threads e f k c h = tt
+ties (kinds.Po sd from to) threads e f k c h = record {
   barriers_are = ap (map (λ b. b.kind)) h.barriers;
   address_is = h.address;
   data_is = h.stored;
-  control_is = off (edges.Po sd from to) threads e f k c h refl;
+  control_is = off (kinds.Po sd from to) threads e f k c h refl;
 }
-ties (edges.Fenced kind sd from to) threads e f k c h = record {
+ties (kinds.Fenced kind sd from to) threads e f k c h = record {
   barriers_are = ap (map (λ b. b.kind)) h.barriers;
   address_is = h.address;
   data_is = h.stored;
-  control_is = off (edges.Fenced kind sd from to) threads e f k c h refl;
+  control_is = off (kinds.Fenced kind sd from to) threads e f k c h refl;
 }
-ties (edges.Dep deps.Addr sd to) threads e f k c h = record {
+ties (kinds.Dep deps.Addr sd to) threads e f k c h = record {
   barriers_are = ap (map (λ b. b.kind)) h.barriers;
-  address_is = h.address ∙ alone (edges.Dep deps.Addr sd to) threads e f k c h refl;
+  address_is = h.address ∙ alone (kinds.Dep deps.Addr sd to) threads e f k c h refl;
   data_is = h.stored;
-  control_is = off (edges.Dep deps.Addr sd to) threads e f k c h refl;
+  control_is = off (kinds.Dep deps.Addr sd to) threads e f k c h refl;
 }
-ties (edges.Dep deps.Ctrl sd to) threads e f k c h = record {
+ties (kinds.Dep deps.Ctrl sd to) threads e f k c h = record {
   barriers_are = ap (map (λ b. b.kind)) h.barriers;
   address_is = h.address;
   data_is = h.stored;
-  control_is = ap (is_in_mask threads e) h.control ∙ on (edges.Dep deps.Ctrl sd to) threads e f k c h refl refl;
+  control_is = ap (is_in_mask threads e) h.control ∙ on (kinds.Dep deps.Ctrl sd to) threads e f k c h refl refl;
 }
-ties (edges.Dep deps.CtrlIsync sd to) threads e f k c h = (
+ties (kinds.Dep deps.CtrlIsync sd to) threads e f k c h = (
   record {
     barriers_are = ap (map (λ b. b.kind)) h.barriers;
     address_is = h.address;
     data_is = h.stored;
-    control_is = ap (is_in_mask threads e) h.control ∙ on (edges.Dep deps.CtrlIsync sd to) threads e f k c h refl refl;
+    control_is = ap (is_in_mask threads e) h.control ∙ on (kinds.Dep deps.CtrlIsync sd to) threads e f k c h refl refl;
   },
-  subst (BarriersWait threads e) (sym h.barriers) (on (edges.Dep deps.CtrlIsync sd to) threads e f k c h refl refl, tt),
+  subst (BarriersWait threads e) (sym h.barriers) (on (kinds.Dep deps.CtrlIsync sd to) threads e f k c h refl refl, tt),
 )
-ties (edges.Dep deps.CtrlIsb sd to) threads e f k c h = (
+ties (kinds.Dep deps.CtrlIsb sd to) threads e f k c h = (
   record {
     barriers_are = ap (map (λ b. b.kind)) h.barriers;
     address_is = h.address;
     data_is = h.stored;
-    control_is = ap (is_in_mask threads e) h.control ∙ on (edges.Dep deps.CtrlIsb sd to) threads e f k c h refl refl;
+    control_is = ap (is_in_mask threads e) h.control ∙ on (kinds.Dep deps.CtrlIsb sd to) threads e f k c h refl refl;
   },
-  subst (BarriersWait threads e) (sym h.barriers) (on (edges.Dep deps.CtrlIsb sd to) threads e f k c h refl refl, tt),
+  subst (BarriersWait threads e) (sym h.barriers) (on (kinds.Dep deps.CtrlIsb sd to) threads e f k c h refl refl, tt),
 )
-ties (edges.Data sd) threads e f k c h = record {
+ties (kinds.Data sd) threads e f k c h = record {
   barriers_are = ap (map (λ b. b.kind)) h.barriers;
   address_is = h.address;
-  data_is = h.stored ∙ alone (edges.Data sd) threads e f k c h refl;
-  control_is = off (edges.Data sd) threads e f k c h refl;
+  data_is = h.stored ∙ alone (kinds.Data sd) threads e f k c h refl;
+  control_is = off (kinds.Data sd) threads e f k c h refl;
 }

@@ -1,4 +1,5 @@
--- What stands between the accesses of the program of a cycle's test is what the edges of the cycle say.
+-- The marks of the accesses of the program of a cycle's test, and what stands between them, are what the edges of the
+-- cycle say.
 use Rattle.std.proofs.Common.{◌≡◌, ℕ, suc, ◌+◌, ◌-◌, ◌<◌, true, false, List, [], length, take, Some, slice_get, refl, sym, ◌∙◌, ap, subst, arith, add-one}
 use Rattle.std.specs.List.{list_all}
 use Rattle.std.proofs.lemmas.Option.{slice_get_within}
@@ -7,9 +8,10 @@ use Rattle.list_laws.proofs.Cases.{by_test}
 use Rattle.relax_edges.specs.declared.kinds.Reach.TheVariants.{Internal, External}
 use Rattle.relax_edges.specs.declared.kinds.ArchName.{ArchName}
 use Rattle.relax_edges.specs.declared.kinds.ObsMode.{ObsMode}
+use Rattle.relax_edges.specs.declared.kinds.Kind.{Kind}
+use Rattle.relax_edges.specs.declared.kinds.Kind.TheVariants as kinds
 use Rattle.relax_edges.specs.declared.edge.Edge.{Edge}
-use Rattle.relax_edges.specs.declared.edge.Edge.TheVariants as edges
-use Rattle.relax_edges.specs.EdgeTable.{is_of_arch, is_external}
+use Rattle.relax_edges.specs.EdgeTable.{kind_of, source_mark, is_of_arch, is_external}
 use Rattle.resolution_laws.specs.Resolution.{IsResolved, edge_at, move_count, thread_of as event_thread, slot_of, events_in, event_after}
 use Rattle.resolution_laws.proofs.Threads.{event_in_slot, slot_of_event}
 use Rattle.resolution_laws.proofs.Arcs.{thread_below}
@@ -31,20 +33,20 @@ use Rattle.test_laws.specs.Programs.{program_of}
 use Rattle.test_laws.proofs.StepsAt.{thread_steps_at, by_steps}
 use Rattle.test_laws.proofs.StepsFit.{Before, inner_before, link_between, link_first, thread_fits, event_fits}
 use Rattle.test_laws.proofs.Visits.{thread_visits, ends_free}
-use Rattle.test_laws.proofs.VisitsAt.{starts_free, all_free}
+use Rattle.test_laws.proofs.VisitsAt.{IsPlain, visit_at, starts_free, all_free}
 use Rattle.test_laws.proofs.Ties.{Follows, ties}
 use Rattle.test_laws.proofs.Following.{next_follows}
 use Rattle.test_laws.proofs.ThreadRuns.{AreCodesOf, DidThread, did_thread, ThreadOf, thread_of, items_below, visits_below}
 use Rattle.test_laws.proofs.Making.{candidate_enough, candidate_lists}
 
 -- an edge to another thread ties nothing
-external_ties : (edge : Edge) (threads : List (List Access)) (e f : Named) → is_external edge ≡ true → TiesBy edge threads e f
-external_ties (edges.Com kind Internal) threads e f h = cc
-external_ties (edges.Com kind External) threads e f h = tt
-external_ties (edges.Po sd from to) threads e f h = cc
-external_ties (edges.Fenced kind sd from to) threads e f h = cc
-external_ties (edges.Dep kind sd to) threads e f h = cc
-external_ties (edges.Data sd) threads e f h = cc
+external_ties : (kind : Kind) (edge : Edge) (threads : List (List Access)) (e f : Named) → kind_of edge ≡ kind → is_external edge ≡ true → TiesBy kind threads e f
+external_ties (kinds.Com which Internal) edge threads e f q h = let a = rw q at h in cc
+external_ties (kinds.Com which External) edge threads e f q h = tt
+external_ties (kinds.Po sd from to) edge threads e f q h = let a = rw q at h in cc
+external_ties (kinds.Fenced fence sd from to) edge threads e f q h = let a = rw q at h in cc
+external_ties (kinds.Dep dep sd to) edge threads e f q h = let a = rw q at h in cc
+external_ties (kinds.Data sd) edge threads e f q h = let a = rw q at h in cc
 
 -- what the run of a thread made
 thread_did : (codes : List ThreadCode) (es : List Edge) (mode : ObsMode) (number : ℕ → ℕ) (x : Execution) (k : ℕ) → AreCodesOf codes (cycle_steps es mode number) → IsCandidate (program_of codes (move_count es)) x → (t : ThreadOf (cycle_steps es mode number) x k) → DidThread codes (move_count es) x k t.steps t.reads
@@ -63,7 +65,7 @@ event_visit es visits i e k j thread v t s g =
 record IsBehind (codes : List ThreadCode) (es : List Edge) (mode : ObsMode) (number : ℕ → ℕ) (x : Execution) (i : ℕ) (e f : Named) : Type 0 where
   k : ℕ
   c : ℕ
-  follows : Follows (edge_at es i) (accesses_in (program_of codes (move_count es)) x) e f k c
+  follows : Follows (kind_of (edge_at es i)) (accesses_in (program_of codes (move_count es)) x) e f k c
 
 -- the second event by its slot
 record IsNext (es : List Edge) (number : ℕ → ℕ) (i : ℕ) : Type 0 where
@@ -110,7 +112,7 @@ is_behind arch codes es mode number x i e f r o m c h inside u v =
         record {
           k = 0 + loads_in (take (suc (slot_of es i)) (thread_steps es number (event_thread es i))) - 1;
           c = control_after (take (suc (slot_of es i)) (thread_steps es number (event_thread es i))) 0 0;
-          follows = next_follows arch (edge_at es i) (accesses_in (program_of codes (move_count es)) x) e f (thread_steps es number (event_thread es i)) (values_read t.reads) (slot_of es i) (event_step es number i) (event_step es number (event_after es i))
+          follows = next_follows arch (kind_of (edge_at es i)) (accesses_in (program_of codes (move_count es)) x) e f (thread_steps es number (event_thread es i)) (values_read t.reads) (slot_of es i) (event_step es number i) (event_step es number (event_after es i))
               (thread_fits es arch number (event_thread es i) r o)
               (got_map (event_step es number) (events_in es (event_thread es i)) (slot_of es i) i (event_in_slot es i h))
               n.step refl link (event_fits es arch number (event_after es i) r o n.before).to_store u.direction
@@ -127,28 +129,47 @@ visits_of_thread codes es mode number x k visits m c t g =
     let e : thread_visits t.steps 0 0 (values_read t.reads) ≡ visits = cc in
     e
 
--- no edge ties the accesses of an observer
-observer_plain : (es : List Edge) (number : ℕ → ℕ) (location j : ℕ) (s : Step) → slice_get (observer_steps es number location) j ≡ Some s → s.link ≡ Plain
+-- no edge ties the accesses of an observer or marks them
+observer_plain : (es : List Edge) (number : ℕ → ℕ) (location j : ℕ) (s : Step) → slice_get (observer_steps es number location) j ≡ Some s → IsPlain s
 observer_plain es number location j s g =
-    let i = image_of (observing (number location)) (upto (write_count es location)) j s g in sym (ap (λ (y : Step). y.link) i.image)
+    let i = image_of (observing (number location)) (upto (write_count es location)) j s g in
+    record { link = sym (ap (λ (y : Step). y.link) i.image); mark = sym (ap (λ (y : Step). y.mark) i.image) }
 
--- nor the first access of a thread
+-- nor does one tie the first access of a thread
 first_plain : (es : List Edge) (mode : ObsMode) (number : ℕ → ℕ) (k : ℕ) (steps : List Step) (s : Step) → slice_get (cycle_steps es mode number) k ≡ Some steps → slice_get steps 0 ≡ Some s → s.link ≡ Plain
 first_plain es mode number k steps s g h =
     by_steps es mode number k steps g
     (λ l e. let i = image_of (event_step es number) (events_in es k) 0 s (ap (λ y. slice_get y 0) e ∙ h) in
     let w = slot_of_event es k 0 i.element i.got in
     sym (ap (λ (y : Step). y.link) i.image) ∙ link_first es i.element w.slot)
-    (λ b. observer_plain es number b.spot 0 s (ap (λ y. slice_get y 0) b.steps_are ∙ h))
+    (λ b. (observer_plain es number b.spot 0 s (ap (λ y. slice_get y 0) b.steps_are ∙ h)).link)
 
--- what stands between the accesses of the program of a cycle's test is what the edges say, and else nothing
+-- an event has the mark of what its edge leaves
+event_mark : (codes : List ThreadCode) (es : List Edge) (mode : ObsMode) (number : ℕ → ℕ) (x : Execution) (i : ℕ) (e : Named) → IsResolved es → AreCodesOf codes (cycle_steps es mode number) → IsCandidate (program_of codes (move_count es)) x → i < length es → IsEvent es (visits_in (program_of codes (move_count es)) x) i e → e.visit.mark ≡ source_mark (edge_at es i)
+event_mark codes es mode number x i e r m c h u =
+    of_thread (thread_of (cycle_steps es mode number) x (event_thread es i) (candidate_lists codes es mode number x m c) (slice_get_within (cycle_steps es mode number) (event_thread es i) (thread_steps es number (event_thread es i)) stands))
+  where
+    stands : slice_get (cycle_steps es mode number) (event_thread es i) ≡ Some (thread_steps es number (event_thread es i))
+    stands = thread_steps_at es mode number (event_thread es i) (thread_below es i r h)
+
+    of_thread : ThreadOf (cycle_steps es mode number) x (event_thread es i) → e.visit.mark ≡ source_mark (edge_at es i)
+    of_thread t =
+        let d = thread_did codes es mode number x (event_thread es i) m c (record { steps = thread_steps es number (event_thread es i); reads = t.reads; steps_at = stands; reads_at = t.reads_at }) in
+        let visit = event_visit es (visits_in (program_of codes (move_count es)) x) i e (event_thread es i) (slot_of es i) (thread_visits (thread_steps es number (event_thread es i)) 0 0 (values_read t.reads)) u refl refl d.visits_are in
+        let made = visit_at (thread_steps es number (event_thread es i)) 0 0 (values_read t.reads) (slot_of es i) (event_step es number i) e.visit
+        (got_map (event_step es number) (events_in es (event_thread es i)) (slot_of es i) i (event_in_slot es i h)) visit in
+        ap (λ (y : Visit). y.mark) made.is
+
+-- the marks of the accesses of the program of a cycle's test, and what stands between them, are what the edges say, and
+-- else there is nothing
 pub tied_up : (arch : ArchName) (codes : List ThreadCode) (es : List Edge) (mode : ObsMode) (number : ℕ → ℕ) (x : Execution) → IsResolved es → list_all (λ e. is_of_arch e arch) es ≡ true → AreCodesOf codes (cycle_steps es mode number) → IsCandidate (program_of codes (move_count es)) x → IsTiedUp es (program_of codes (move_count es)) x
 tied_up arch codes es mode number x r o m c = record {
+  marks = λ i e h u. event_mark codes es mode number x i e r m c h u;
   ties = λ i e f h u v.
       by_test (is_external (edge_at es i))
-      (λ t. external_ties (edge_at es i) (accesses_in (program_of codes (move_count es)) x) e f t)
+      (λ t. external_ties (kind_of (edge_at es i)) (edge_at es i) (accesses_in (program_of codes (move_count es)) x) e f refl t)
       (λ n. let b = is_behind arch codes es mode number x i e f r o m c h n u v in
-      ties (edge_at es i) (accesses_in (program_of codes (move_count es)) x) e f b.k b.c b.follows);
+      ties (kind_of (edge_at es i)) (accesses_in (program_of codes (move_count es)) x) e f b.k b.c b.follows);
   observers = λ k visits h g.
       let t = of_visits k visits g in
       subst AreFree (visits_of_thread codes es mode number x k visits m c t g)

@@ -1,4 +1,4 @@
--- The accesses of a thread's run as visits: each with the barriers of its link before it and with its masks.
+-- The accesses of a thread's run as visits: each with its mark, with the barriers of its link before it and with its masks.
 use Rattle.std.proofs.Common.{◌≡◌, ℕ, ◌+◌, ◌-◌, cond, List, [], ◌∷◌, ◌++◌, length, map, refl, ◌∙◌, ap, arith}
 use Rattle.std.proofs.lemmas.List.Sums.{sum_by-cons}
 use Rattle.relax_edges.specs.declared.kinds.Dir.{Dir}
@@ -39,6 +39,7 @@ abbrev pub step_visit : Step → Dir → ℕ → ℕ → ℕ → Visit
 step_visit s d v k c = record {
   barriers = link_barred s.link k c;
   access = record { dir = d; place = s.place; value = value_met s d v };
+  mark = s.mark;
   address_mask = mask_if (is_addr s.link) k;
   data_mask = data_met s d k;
   control_mask = link_control s.link k c;
@@ -53,7 +54,7 @@ thread_visits (s ∷ ss) n c vs =
 item_visit : (s : Step) (d : Dir) (v k c : ℕ) (rest : List Item) → visits_from [] ((link_items s.link k c ++ access_item s d v k (link_control s.link k c) ∷ []) ++ rest) ≡ step_visit s d v k c ∷ visits_from [] rest
 item_visit s d v k c rest = of_link s.link d
   where
-    of_access : (b : List Barred) (c : ℕ) (l : Link) (d : Dir) → visits_from b (access_item (record s { link = l }) d v k c ∷ rest) ≡ record { barriers = b; access = record { dir = d; place = s.place; value = value_met s d v }; address_mask = mask_if (is_addr l) k; data_mask = data_met (record s { link = l }) d k; control_mask = c } ∷ visits_from [] rest
+    of_access : (b : List Barred) (c : ℕ) (l : Link) (d : Dir) → visits_from b (access_item (record s { link = l }) d v k c ∷ rest) ≡ record { barriers = b; access = record { dir = d; place = s.place; value = value_met s d v }; mark = s.mark; address_mask = mask_if (is_addr l) k; data_mask = data_met (record s { link = l }) d k; control_mask = c } ∷ visits_from [] rest
     of_access b c l dirs.R = refl
     of_access b c l dirs.W = refl
 

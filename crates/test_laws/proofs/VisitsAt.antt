@@ -5,6 +5,7 @@ use Rattle.std.proofs.lemmas.List.Sums.{sum_by-cons}
 use Rattle.std.proofs.Math.Pow.{pow_mono}
 use Rattle.relax_edges.specs.declared.kinds.Dir.{Dir}
 use Rattle.relax_edges.specs.declared.kinds.Dir.TheVariants as dirs
+use Rattle.relax_edges.specs.declared.kinds.Mark.TheVariants as marks
 use Rattle.relax_edges.specs.declared.kinds.ArchName.{ArchName}
 use Rattle.arch_trait.specs.declared.step.Step.{Step}
 use Rattle.arch_trait.specs.declared.link.Link.{Link}
@@ -96,11 +97,18 @@ pub starts_free : (ss : List Step) (vs : List ℕ) → ((s : Step) → slice_get
 starts_free [] vs h = tt
 starts_free (s ∷ ss) vs h = let e = h s refl in (ap (λ l. link_barred l 0 0) e, free_alone s s.dir (first_of vs) 0 e)
 
--- and so are all, where no edge ties any
-pub all_free : (ss : List Step) (n : ℕ) (vs : List ℕ) → ((j : ℕ) (s : Step) → slice_get ss j ≡ Some s → s.link ≡ Plain) → AreFree (thread_visits ss n 0 vs)
+-- no edge ties an access or marks it
+pub record IsPlain (s : Step) : Type 0 where
+  pub link : s.link ≡ Plain
+  pub mark : s.mark ≡ marks.Plain
+
+-- and so are all, where no edge ties or marks any
+pub all_free : (ss : List Step) (n : ℕ) (vs : List ℕ) → ((j : ℕ) (s : Step) → slice_get ss j ≡ Some s → IsPlain s) → AreFree (thread_visits ss n 0 vs)
 all_free [] n vs h = tt
 all_free (s ∷ ss) n vs h =
-    let e = h 0 s refl in (
+    let plain = h 0 s refl in
+    let e = plain.link in (
+      plain.mark,
       ap (λ l. link_barred l (n - 1) 0) e,
       free_alone s s.dir (first_of vs) (n - 1) e,
       subst (λ m. AreFree (thread_visits ss (loads_after s.dir n) m (left_after s.dir vs))) (sym (ap (λ l. link_control l (n - 1) 0) e))

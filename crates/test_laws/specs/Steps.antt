@@ -1,12 +1,13 @@
--- The accesses of the test of a cycle, thread by thread, with the links between them. `es` is the list of edges in which
+-- The accesses of the test of a cycle, thread by thread, with their marks and the links between them. `es` is the list of edges in which
 -- threads, locations and values are counted, and `number` gives the number of each location's place.
 -- Source: own, after the way diy takes from a cycle to a test.
 use Rattle.std.specs.Prelude.{ℕ, ◌+◌, ◌==◌, if◌then◌else◌, List, ◌++◌, map}
 use Rattle.std.specs.List.{filter}
 use Rattle.relax_edges.specs.declared.kinds.Dir.TheVariants as dirs
+use Rattle.relax_edges.specs.declared.kinds.Mark.TheVariants as marks
 use Rattle.relax_edges.specs.declared.kinds.ObsMode.{ObsMode}
 use Rattle.relax_edges.specs.declared.edge.Edge.{Edge}
-use Rattle.relax_edges.specs.EdgeTable.{source_of}
+use Rattle.relax_edges.specs.EdgeTable.{source_of, source_mark}
 use Rattle.list_laws.specs.Numbers.{upto}
 use Rattle.resolution_laws.specs.Resolution.{edge_at, event_before, events_in, external_count, location_of, slot_of}
 use Rattle.value_laws.specs.Values.{value_of, write_count}
@@ -21,10 +22,11 @@ use Rattle.program_meaning.specs.Intended.{observed_locations}
 abbrev pub event_link : List Edge → ℕ → Link
 event_link es i = if slot_of es i == 0 then Plain else edge_link (edge_at es (event_before es i))
 
--- the access of event i
+-- the access of event i, with the mark of what its edge leaves
 abbrev pub event_step : List Edge → (ℕ → ℕ) → ℕ → Step
 event_step es number i = record {
   dir = source_of (edge_at es i);
+  mark = source_mark (edge_at es i);
   place = number (location_of es i);
   value = value_of es i;
   link = event_link es i;
@@ -34,9 +36,9 @@ event_step es number i = record {
 abbrev pub thread_steps : List Edge → (ℕ → ℕ) → ℕ → List Step
 thread_steps es number thread = map (event_step es number) (events_in es thread)
 
--- read number k of an observer of a place, from 0: it is to read the value k + 1
+-- read number k of an observer of a place, from 0, plain: it is to read the value k + 1
 abbrev pub observing : ℕ → ℕ → Step
-observing place k = record { dir = dirs.R; place = place; value = k + 1; link = Plain }
+observing place k = record { dir = dirs.R; mark = marks.Plain; place = place; value = k + 1; link = Plain }
 
 -- the accesses of the observer of a location: as many reads as it has writes
 abbrev pub observer_steps : List Edge → (ℕ → ℕ) → ℕ → List Step

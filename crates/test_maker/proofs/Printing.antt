@@ -51,18 +51,7 @@ visited_below n (s ∷ ss) q placed v =
 op_placed : (n : ℕ) (ss : List Step) (op : Micro) → ArePlaced n ss → is_within ss op ≡ true → place_below n op ≡ true
 op_placed n ss (ops.LoadAt _ q) placed h = visited_below n ss q placed h
 op_placed n ss (ops.StoreAt q _) placed h = visited_below n ss q placed h
-op_placed n ss (ops.Imm _ _) placed h = refl
-op_placed n ss (ops.Xor _ _ _) placed h = refl
-op_placed n ss (ops.AddImm _ _ _) placed h = refl
-op_placed n ss (ops.OrImm _ _ _) placed h = refl
-op_placed n ss (ops.Add _ _ _) placed h = refl
-op_placed n ss (ops.Load _ _ _) placed h = refl
-op_placed n ss (ops.Store _ _ _) placed h = refl
-op_placed n ss (ops.Cmp _ _) placed h = refl
-op_placed n ss (ops.BranchEq _) placed h = refl
-op_placed n ss (ops.BranchNz _ _) placed h = refl
-op_placed n ss (ops.Label _) placed h = refl
-op_placed n ss (ops.Barrier _) placed h = refl
+op_placed n ss op placed h = refl
 
 ops_placed : (n : ℕ) (ss : List Step) (code : List Micro) → ArePlaced n ss → list_all (is_within ss) code ≡ true → list_all (place_below n) code ≡ true
 ops_placed n ss [] placed h = refl
@@ -98,19 +87,7 @@ stands_below n label (ops.Label k ∷ code) h s =
     by_test (k == label)
     (λ e. subst (λ l. nat_lt l n ≡ true) (eqb-true k label e) parts.0)
     (λ e. stands_below n label code parts.1 (sym (ap (λ b. b || stands label code) e) ∙ s))
-stands_below n label (ops.LoadAt _ _ ∷ code) h s = stands_below n label code h s
-stands_below n label (ops.StoreAt _ _ ∷ code) h s = stands_below n label code h s
-stands_below n label (ops.Imm _ _ ∷ code) h s = stands_below n label code h s
-stands_below n label (ops.Xor _ _ _ ∷ code) h s = stands_below n label code h s
-stands_below n label (ops.AddImm _ _ _ ∷ code) h s = stands_below n label code h s
-stands_below n label (ops.OrImm _ _ _ ∷ code) h s = stands_below n label code h s
-stands_below n label (ops.Add _ _ _ ∷ code) h s = stands_below n label code h s
-stands_below n label (ops.Load _ _ _ ∷ code) h s = stands_below n label code h s
-stands_below n label (ops.Store _ _ _ ∷ code) h s = stands_below n label code h s
-stands_below n label (ops.Cmp _ _ ∷ code) h s = stands_below n label code h s
-stands_below n label (ops.Barrier _ ∷ code) h s = stands_below n label code h s
-stands_below n label (ops.BranchEq _ ∷ code) h s = stands_below n label code h s
-stands_below n label (ops.BranchNz _ _ ∷ code) h s = stands_below n label code h s
+stands_below n label (op ∷ code) h s = stands_below n label code h s
 
 -- code whose branches land names none but labels below the number
 lands_below : (n : ℕ) (code : List Micro) → labels_below n code ≡ true → lands code ≡ true → list_all (label_below n) code ≡ true
@@ -124,17 +101,7 @@ lands_below n (ops.BranchEq k ∷ code) h l =
 lands_below n (ops.BranchNz _ k ∷ code) h l =
     let parts = and_parts (stands k code) (lands code) l in
     and_from (nat_lt k n) (list_all (label_below n) code) (stands_below n k code h parts.0) (lands_below n code h parts.1)
-lands_below n (ops.LoadAt _ _ ∷ code) h l = lands_below n code h l
-lands_below n (ops.StoreAt _ _ ∷ code) h l = lands_below n code h l
-lands_below n (ops.Imm _ _ ∷ code) h l = lands_below n code h l
-lands_below n (ops.Xor _ _ _ ∷ code) h l = lands_below n code h l
-lands_below n (ops.AddImm _ _ _ ∷ code) h l = lands_below n code h l
-lands_below n (ops.OrImm _ _ _ ∷ code) h l = lands_below n code h l
-lands_below n (ops.Add _ _ _ ∷ code) h l = lands_below n code h l
-lands_below n (ops.Load _ _ _ ∷ code) h l = lands_below n code h l
-lands_below n (ops.Store _ _ _ ∷ code) h l = lands_below n code h l
-lands_below n (ops.Cmp _ _ ∷ code) h l = lands_below n code h l
-lands_below n (ops.Barrier _ ∷ code) h l = lands_below n code h l
+lands_below n (op ∷ code) h l = lands_below n code h l
 
 range_below : (low count high : ℕ) → low + count ≤ high → list_all (λ l. nat_lt l high) (range_with_len low count) ≡ true
 range_below low zero high h = refl

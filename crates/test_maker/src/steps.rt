@@ -9,7 +9,7 @@ ghost use Rattle.test_laws.specs.TestOf.{plain};
 use arch_trait::{Link, Step, link_of};
 use arrayvec::ArrayVec;
 use coherence_values::Valued;
-use relax_edges::{Dir, MAX_EDGES};
+use relax_edges::{Dir, MAX_EDGES, Mark};
 
 /// The accesses of one thread.
 pub type Steps = ArrayVec<Step, MAX_EDGES>;
@@ -66,6 +66,7 @@ fn step_of(valued: &Valued, i: u8) -> Step
     let event = valued.resolved().event(i);
     Step {
         dir: event.dir,
+        mark: valued.resolved().cycle().edge(i).source_mark(),
         place: event.location,
         value: valued.value_of(i),
         link: link_into(valued, i, event.slot),
@@ -110,6 +111,7 @@ fn fill_reads(valued: &Valued, location: u8, steps: &mut Steps)
     for k in 0..valued.writes(location) {
         steps.push(Step {
             dir: Dir::R,
+            mark: Mark::Plain,
             place: location,
             value: k + 1,
             link: Link::Plain,

@@ -35,7 +35,12 @@ fn is_access(op: &Micro) -> bool
 {
     matches!(
         op,
-        Micro::Load { .. } | Micro::LoadAt { .. } | Micro::Store { .. } | Micro::StoreAt { .. }
+        Micro::Load { .. }
+            | Micro::LoadAt { .. }
+            | Micro::LoadAcq { .. }
+            | Micro::Store { .. }
+            | Micro::StoreAt { .. }
+            | Micro::StoreRel { .. }
     )
 }
 
