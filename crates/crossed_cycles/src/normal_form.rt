@@ -10,7 +10,7 @@ use relax_edges::{Edge, MAX_EDGES};
 /// have one, and other cycles another.
 #[derive(PartialEq, Eq, Hash, Drop)]
 pub(crate) struct NormalForm {
-    ranks: ArrayVec<u8, MAX_EDGES>,
+    ranks: ArrayVec<u16, MAX_EDGES>,
 }
 
 impl NormalForm {
@@ -25,7 +25,7 @@ impl NormalForm {
     }
 }
 
-fn ranks_of(edges: &[Edge]) -> ArrayVec<u8, MAX_EDGES>
+fn ranks_of(edges: &[Edge]) -> ArrayVec<u16, MAX_EDGES>
     requires { length edges.now ≤ MAX_EDGES }
     ensures { result.items ≡ map rank_of edges.now }
 {

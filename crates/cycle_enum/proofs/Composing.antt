@@ -1,8 +1,10 @@
 -- What the cycle of a list of edges is, and when there is none.
-use Rattle.std.proofs.Common.{◌≡◌, ℕ, Bool, true, false, cond, Option, Some, None, Ok, Err, List, [], ◌∷◌, ◌++◌, length, nat_lt, ◌∙◌}
+use Rattle.std.proofs.Common.{◌≡◌, ◌<◌, ℕ, Bool, true, false, cond, Option, Some, None, Ok, Err, List, [], ◌∷◌, ◌++◌, length, get_or, nat_lt, ◌&&◌, sym, ◌∙◌, arith}
 use Rattle.relax_edges.specs.declared.TheConstants.{MAX_EDGES}
 use Rattle.relax_edges.specs.declared.edge.Edge.{Edge}
-use Rattle.walk_laws.specs.Composable.{IsCycle, first_break}
+use Rattle.std.proofs.lemmas.Bool.{and_parts}
+use Rattle.walk_laws.specs.Composable.{IsCycle, first_break, is_joined, last_joins}
+use Rattle.walk_laws.proofs.Composing.{joined_parts}
 use Rattle.edge_algebra.specs.declared.errors.CycleError.{CycleError}
 use Rattle.edge_algebra.specs.declared.errors.CycleError.TheVariants.{TooLong}
 use Rattle.edge_algebra.specs.Compose.{composed, unbroken}
@@ -23,4 +25,14 @@ pub composed_none : (u : List Edge) (error : CycleError) → Err error ≡ compo
 composed_none u error e c = apart (e ∙ (composes_exactly.cycle u).1 c)
   where
     apart : Err error ≡ Ok u → ⊥
+    apart h = cc
+
+-- nor one whose last edge doesn't join the first
+pub unclosed : (u : List Edge) (d : Edge) → 0 < length u → last_joins u (get_or u 0 d ∷ []) ≡ false → IsCycle u → ⊥
+unclosed [] d some fails c = absurd (omega arith)
+unclosed (x ∷ u) d some fails c =
+    let parts = and_parts (is_joined (x ∷ u)) (last_joins (x ∷ u) (x ∷ []) && true) (sym (joined_parts (x ∷ u) (x ∷ [])) ∙ c.closed) in
+    apart (sym (and_parts (last_joins (x ∷ u) (x ∷ [])) true parts.1).0 ∙ fails)
+  where
+    apart : true ≡ false → ⊥
     apart h = cc

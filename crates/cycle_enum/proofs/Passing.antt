@@ -1,12 +1,12 @@
 -- Which edges a walk passes over behind a list.
-use Rattle.std.proofs.Common.{◌≡◌, ◌<◌, ◌≤◌, inl, inr, ℕ, ◌+◌, Bool, true, false, Option, Some, None, List, [], ◌∷◌, ◌++◌, arith}
+use Rattle.std.proofs.Common.{◌≡◌, inl, inr, ℕ, ◌+◌, false, Option, Some, None, List, [], ◌∷◌, arith}
 use Rattle.std.proofs.lemmas.Bool.{cases_lt}
 use Rattle.relax_edges.specs.declared.order.TheConstants.{EDGES}
 use Rattle.relax_edges.specs.declared.edge.Edge.{Edge}
 use Rattle.relax_edges.specs.Order.{rank_of}
 use Rattle.relax_edges.proofs.Ranks.{rank_injective}
 use Rattle.walk_laws.specs.Composable.{last_joins}
-use Rattle.listing_laws.specs.Search.{IsCandidate, IsNextEdge, LeadsNowhere, NoneBetween, OccursIn}
+use Rattle.listing_laws.specs.Search.{IsCandidate, IsNextEdge, NoneBetween, OccursIn}
 use Rattle.listing_laws.proofs.Candidates.{unused_nowhere, unjoined_next, none_smaller}
 use Rattle.cycle_enum.specs.Letters.{NoLetter, IsFirstLetter, least_rank}
 

@@ -1,6 +1,6 @@
 ghost use Rattle.std.specs.Prelude.{◌≡◌, ◌<◌, ◌≤◌, ◌↔◌, ◌∷◌, [], IsTrue, IsFalse, IfSome, length, true};
 ghost use Rattle.std.specs.List.{AllByRecursion};
-ghost use Rattle.walk_laws.specs.Composable.{last_joins};
+ghost use Rattle.walk_laws.specs.Composable.{IsCycle, last_joins};
 ghost use Rattle.listing_laws.specs.Listing.{IsMadeOf};
 ghost use Rattle.listing_laws.specs.Search.{IsCandidate, IsExtended, IsNextEdge, IsRaised, IsSingle, LeadsNowhere, OccursIn};
 ghost use Rattle.cycle_enum.specs.Letters.{least_rank};
@@ -105,8 +105,9 @@ impl Alphabet {
     fn has(&self, edge: Edge) -> bool
         ensures { IsTrue result ↔ OccursIn self.now edge }
     {
-        match self.letters[usize::from(edge.rank())] {
-            Some(letter) => letter == edge,
+        let rank = edge.rank();
+        match self.letters[usize::from(rank)] {
+            Some(letter) => letter.rank() == rank,
             None => false,
         }
     }
@@ -159,6 +160,16 @@ fn is_joined_to(list: &[Edge], edge: Edge) -> bool
     match list {
         [] => true,
         [.., last] => last.joins(edge),
+    }
+}
+
+/// Whether the last edge of a list joins the first: no other list is a cycle.
+pub(crate) fn closes(list: &[Edge]) -> bool
+    ensures { IsFalse result → IsCycle list.now → ⊥ }
+{
+    match list {
+        [] => false,
+        [first, ..] => is_joined_to(list, *first),
     }
 }
 

@@ -6,7 +6,7 @@ ghost use Rattle.walk_laws.specs.Order.{IsLeast};
 ghost use Rattle.listing_laws.specs.Search.{IsCut, IsFirst, LeadsNowhere, LongerThan, OfLength};
 ghost use Rattle.cycle_enum.specs.Walking.{KnowsOf, Lists, Says, Walking};
 
-use crate::alphabet::{Alphabet, Edges};
+use crate::alphabet::{Alphabet, Edges, closes};
 use crate::limits::Limits;
 use arrayvec::ArrayVec;
 use edge_algebra::{Cycle, cycle, may_begin};
@@ -184,10 +184,12 @@ impl<K: Fn(&[Edge]) -> bool, P: Fn(&Cycle) -> bool> Walk<K, P> {
         ensures { IsFirst (OfLength len (Lists P.Fn.post self.now)) list.old.items result }
     {
         while !list.is_empty() {
-            if !self.leads_on(list.as_slice()) {
-                self.relaxes.raise(list);
-            } else if list.len() < usize::from(len) {
-                self.relaxes.extend(list);
+            if list.len() < usize::from(len) {
+                if self.leads_on(list.as_slice()) {
+                    self.relaxes.extend(list);
+                } else {
+                    self.relaxes.raise(list);
+                }
             } else {
                 match self.listed(list.as_slice()) {
                     Some(cycle) => return Some(cycle),
@@ -230,10 +232,18 @@ impl<K: Fn(&[Edge]) -> bool, P: Fn(&Cycle) -> bool> Walk<K, P> {
     fn listed(&self, list: &[Edge]) -> Option<Cycle>
         requires knows { KnowsOf K.pre K.Fn.post P.pre P.Fn.post self.now.keep self.now.take }
         requires limits { KeepsLimits self.now.limits.size self.now.limits.exact (length list.now) }
-        requires kept { KeptWhole (Says K.Fn.post self.now.keep) list.now }
+        requires some { 0 < length list.now }
+        requires few { length list.now ≤ MAX_EDGES }
+        requires kept { KeptBelow (Says K.Fn.post self.now.keep) (length list.now) list.now }
         ensures some { IfSome result (λ cycle. (cycle ≡ list.now) × Lists P.Fn.post self.now cycle) }
         ensures none { IfNone result (Lists P.Fn.post self.now list.now → ⊥) }
     {
+        if !closes(list) {
+            return None;
+        }
+        if !self.leads_on(list) {
+            return None;
+        }
         match cycle(list) {
             Ok(cycle) => {
                 if self.is_listed(&cycle) {

@@ -11,6 +11,7 @@ use Rattle.relax_edges.specs.declared.kinds.ArchName.{ArchName}
 use Rattle.relax_edges.specs.declared.kinds.ArchName.TheVariants.{X86, PPC, AArch64, RISCV}
 use Rattle.relax_edges.specs.declared.kinds.Dir.{Dir}
 use Rattle.relax_edges.specs.declared.kinds.Dir.TheVariants as dirs
+use Rattle.relax_edges.specs.declared.order.TheConstants.{EDGES}
 use Rattle.relax_edges.specs.declared.edge.Edge.{Edge}
 use Rattle.relax_edges.specs.AllEdges.{edges_in_order}
 use Rattle.relax_edges.specs.Order.{rank_of}
@@ -60,7 +61,7 @@ at_rank_of : (k : ℕ) (e : Edge) → rank_of e ≡ k → get_or edges_in_order 
 at_rank_of k e h = rw (sym h) (get_or_from_slice_get edges_in_order (rank_of e) e e (placed e))
 
 -- there is room for a choice more
-pub room_for : (arch : ArchName) (from to : Dir) (k : ℕ) (e : Edge) (items : List Edge) → k < 168 → rank_of e ≡ k → items ≡ filter (is_choice arch from to) (take k edges_in_order)
+pub room_for : (arch : ArchName) (from to : Dir) (k : ℕ) (e : Edge) (items : List Edge) → k < EDGES → rank_of e ≡ k → items ≡ filter (is_choice arch from to) (take k edges_in_order)
     → is_choice arch from to e ≡ true → length items < 16
 unfolding choices_of
 room_for arch from to k e items h r i passed =
@@ -70,7 +71,7 @@ room_for arch from to k e items h r i passed =
     omega (arith, ap length i, one, more, length-filter-take p edges_in_order (k + 1), few_choices arch from to)
 
 -- an edge more is looked at
-pub chosen_more : (arch : ArchName) (from to : Dir) (k : ℕ) (e : Edge) (items new : List Edge) → k < 168 → rank_of e ≡ k → items ≡ filter (is_choice arch from to) (take k edges_in_order)
+pub chosen_more : (arch : ArchName) (from to : Dir) (k : ℕ) (e : Edge) (items new : List Edge) → k < EDGES → rank_of e ≡ k → items ≡ filter (is_choice arch from to) (take k edges_in_order)
     → new ≡ items ++ cond (is_choice arch from to e) (e ∷ []) [] → new ≡ filter (is_choice arch from to) (take (k + 1) edges_in_order)
 chosen_more arch from to k e items new h r i n =
     let p = is_choice arch from to in
@@ -80,6 +81,6 @@ chosen_more arch from to k e items new h r i n =
     ∙ sym (filter_more p edges_in_order k e (omega (arith, edges-length)))
 
 -- all are
-pub chosen_all : (arch : ArchName) (from to : Dir) (k : ℕ) (items : List Edge) → k ≡ 168 → items ≡ filter (is_choice arch from to) (take k edges_in_order) → items ≡ choices_of arch from to
+pub chosen_all : (arch : ArchName) (from to : Dir) (k : ℕ) (items : List Edge) → k ≡ EDGES → items ≡ filter (is_choice arch from to) (take k edges_in_order) → items ≡ choices_of arch from to
 unfolding choices_of
 chosen_all arch from to k items h i = i ∙ ap (filter (is_choice arch from to)) (take_all k edges_in_order (omega (arith, edges-length)))

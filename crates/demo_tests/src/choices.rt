@@ -4,7 +4,7 @@ ghost use Rattle.family_laws.specs.Filled.{is_choice};
 ghost use Rattle.demo_tests.specs.Filled.{choice_of, choices_of};
 
 use arrayvec::ArrayVec;
-use relax_edges::{ArchName, Dir, EDGES, Edge};
+use relax_edges::{ArchName, Dir, EDGES, Edge, Mark};
 
 /// The most choices for a link, on any architecture.
 const MAX_CHOICES: usize = 16;
@@ -97,4 +97,6 @@ fn is_choice(arch: ArchName, from: Dir, to: Dir, edge: Edge) -> bool
         && edge.of_arch(arch)
         && edge.source() == from
         && edge.target() == to
+        && edge.source_mark() == Mark::Plain
+        && edge.target_mark() == Mark::Plain
 }

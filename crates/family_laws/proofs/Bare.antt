@@ -8,21 +8,26 @@ use Rattle.std.proofs.Math.ListN.{get_or-map}
 use Rattle.std.proofs.lemmas.List.{length-map, take-map, drop-map, map-append}
 use Rattle.std.proofs.lemmas.List.Sums.{sum_by-cons}
 use Rattle.relax_edges.specs.declared.kinds.Dir.TheVariants as dirs
+use Rattle.relax_edges.specs.declared.kinds.Kind.{Kind}
+use Rattle.relax_edges.specs.declared.kinds.Kind.TheVariants as kinds
 use Rattle.relax_edges.specs.declared.edge.Edge.{Edge}
 use Rattle.relax_edges.specs.declared.edge.Edge.TheVariants as edges
-use Rattle.relax_edges.specs.EdgeTable.{source_of, is_external, is_diff, same_dir}
+use Rattle.relax_edges.specs.EdgeTable.{kind_of, source_of, is_external, is_diff, same_dir}
 use Rattle.list_laws.specs.Numbers.{upto}
 use Rattle.walk_laws.specs.Rotation.{rotated}
 use Rattle.resolution_laws.specs.Resolution.{external_count, move_count, edge_at, ends_outside, turned, thread_of, moves_before, location_of, events_in, moves_in, is_coherence_only}
 use Rattle.value_laws.specs.Values.{write_count, is_write_at}
 
 -- a communication stays, and any other edge is program order between the same accesses
+abbrev pub bare_kind : Kind → Edge
+bare_kind (kinds.Com kind reach) = edges.Com kind reach
+bare_kind (kinds.Po place from to) = edges.Po place from to
+bare_kind (kinds.Fenced _ place from to) = edges.Po place from to
+bare_kind (kinds.Dep _ place to) = edges.Po place dirs.R to
+bare_kind (kinds.Data place) = edges.Po place dirs.R dirs.W
+
 abbrev pub bare : Edge → Edge
-bare (edges.Com kind reach) = edges.Com kind reach
-bare (edges.Po place from to) = edges.Po place from to
-bare (edges.Fenced _ place from to) = edges.Po place from to
-bare (edges.Dep _ place to) = edges.Po place dirs.R to
-bare (edges.Data place) = edges.Po place dirs.R dirs.W
+bare edge = bare_kind (kind_of edge)
 
 abbrev pub bare_edges : List Edge → List Edge
 bare_edges es = map bare es
@@ -34,11 +39,14 @@ record IsAlike (e : Edge) : Type 0 where
   source : source_of (bare e) ≡ source_of e
 
 alike : (e : Edge) → IsAlike e
-alike (edges.Com kind reach) = record { external = refl; diff = refl; source = refl }
-alike (edges.Po place from to) = record { external = refl; diff = refl; source = refl }
-alike (edges.Fenced kind place from to) = record { external = refl; diff = refl; source = refl }
-alike (edges.Dep kind place to) = record { external = refl; diff = refl; source = refl }
-alike (edges.Data place) = record { external = refl; diff = refl; source = refl }
+alike e = by (kind_of e) refl
+  where
+    by : (kind : Kind) → kind_of e ≡ kind → IsAlike e
+    by (kinds.Com kind reach) h = rw h (record { external = refl; diff = refl; source = refl })
+    by (kinds.Po place from to) h = rw h (record { external = refl; diff = refl; source = refl })
+    by (kinds.Fenced kind place from to) h = rw h (record { external = refl; diff = refl; source = refl })
+    by (kinds.Dep kind place to) h = rw h (record { external = refl; diff = refl; source = refl })
+    by (kinds.Data place) h = rw h (record { external = refl; diff = refl; source = refl })
 
 count_bare : (t : Edge → Bool) → ((e : Edge) → t (bare e) ≡ t e) → (es : List Edge) → count_by t (bare_edges es) ≡ count_by t es
 count_bare t same [] = refl

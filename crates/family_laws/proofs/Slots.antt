@@ -5,12 +5,15 @@ use Rattle.std.specs.List.{list_all}
 use Rattle.std.proofs.lemmas.Bool.{and_parts, and_from, not-true}
 use Rattle.relax_edges.specs.declared.kinds.ArchName.{ArchName}
 use Rattle.relax_edges.specs.declared.kinds.Dir.{Dir}
+use Rattle.relax_edges.specs.declared.kinds.Kind.{Kind}
+use Rattle.relax_edges.specs.declared.kinds.Kind.TheVariants as kinds
+use Rattle.relax_edges.specs.declared.kinds.Mark.TheVariants.{Plain}
 use Rattle.relax_edges.specs.declared.kinds.Dir.TheVariants as dirs
 use Rattle.relax_edges.specs.declared.kinds.Reach.TheVariants.{Internal, External}
 use Rattle.relax_edges.specs.declared.kinds.Sd.TheVariants.{Same, Diff}
 use Rattle.relax_edges.specs.declared.edge.Edge.{Edge}
 use Rattle.relax_edges.specs.declared.edge.Edge.TheVariants as edges
-use Rattle.relax_edges.specs.EdgeTable.{source_of, target_of, is_of_arch, same_dir, is_external, is_diff}
+use Rattle.relax_edges.specs.EdgeTable.{kind_of, source_of, target_of, source_mark, target_mark, is_of_arch, same_dir, same_mark, is_external, is_diff}
 use Rattle.family_laws.specs.Filled.{IsFilled, is_choice}
 use Rattle.family_laws.proofs.Bare.{bare, bare_edges}
 
@@ -26,18 +29,24 @@ same_dirs dirs.R dirs.W h = cc
 same_dirs dirs.W dirs.R h = cc
 same_dirs dirs.W dirs.W h = refl
 
+no_test : true ≡ false → ⊥
+no_test h = cc
+
 -- the bare edge of an edge that stays in its thread and leads to another location
 inner_bare : (edge : Edge) → is_external edge ≡ false → is_diff edge ≡ true → bare edge ≡ edges.Po Diff (source_of edge) (target_of edge)
-inner_bare (edges.Com kind External) inner moves = cc
-inner_bare (edges.Com kind Internal) inner moves = cc
-inner_bare (edges.Po Diff from to) inner moves = refl
-inner_bare (edges.Po Same from to) inner moves = cc
-inner_bare (edges.Fenced kind Diff from to) inner moves = refl
-inner_bare (edges.Fenced kind Same from to) inner moves = cc
-inner_bare (edges.Dep kind Diff to) inner moves = refl
-inner_bare (edges.Dep kind Same to) inner moves = cc
-inner_bare (edges.Data Diff) inner moves = refl
-inner_bare (edges.Data Same) inner moves = cc
+inner_bare edge inner moves = by (kind_of edge) refl inner moves
+  where
+    by : (kind : Kind) → kind_of edge ≡ kind → is_external edge ≡ false → is_diff edge ≡ true → bare edge ≡ edges.Po Diff (source_of edge) (target_of edge)
+    by (kinds.Com kind External) h inner moves = absurd (no_test (rw h at inner))
+    by (kinds.Com kind Internal) h inner moves = absurd (no_test (sym (rw h at moves)))
+    by (kinds.Po Diff from to) h inner moves = rw h refl
+    by (kinds.Po Same from to) h inner moves = absurd (no_test (sym (rw h at moves)))
+    by (kinds.Fenced kind Diff from to) h inner moves = rw h refl
+    by (kinds.Fenced kind Same from to) h inner moves = absurd (no_test (sym (rw h at moves)))
+    by (kinds.Dep kind Diff to) h inner moves = rw h refl
+    by (kinds.Dep kind Same to) h inner moves = absurd (no_test (sym (rw h at moves)))
+    by (kinds.Data Diff) h inner moves = rw h refl
+    by (kinds.Data Same) h inner moves = absurd (no_test (sym (rw h at moves)))
 
 -- an edge that stands for one of a family's
 record Stands (arch : ArchName) (slot edge : Edge) : Type 0 where
@@ -47,7 +56,9 @@ record Stands (arch : ArchName) (slot edge : Edge) : Type 0 where
 choice_stands : (arch : ArchName) (from to : Dir) (edge : Edge) → is_choice arch from to edge ≡ true → Stands arch (edges.Po Diff from to) edge
 unfolding is_choice
 choice_stands arch from to edge h =
-    let p = and_parts _ (same_dir (target_of edge) to) h in
+    let t = and_parts _ (same_mark (target_mark edge) Plain) h in
+    let m = and_parts _ (same_mark (source_mark edge) Plain) t.0 in
+    let p = and_parts _ (same_dir (target_of edge) to) m.0 in
     let q = and_parts _ (same_dir (source_of edge) from) p.0 in
     let r = and_parts _ (is_of_arch edge arch) q.0 in
     let s = and_parts (not (is_external edge)) (is_diff edge) r.0 in
@@ -67,6 +78,7 @@ slot_stands arch (edges.Po Same from to) edge s h = cc
 slot_stands arch (edges.Fenced kind place from to) edge s h = cc
 slot_stands arch (edges.Dep kind place to) edge s h = cc
 slot_stands arch (edges.Data place) edge s h = cc
+slot_stands arch (edges.Marked marked) edge s h = cc
 
 -- edges that stand for those of a family's cycle
 pub record AllStand (arch : ArchName) (slots es : List Edge) : Type 0 where

@@ -4,18 +4,21 @@ use Rattle.std.specs.Prelude.{◌≡◌, ⊤, Bool, true, not, ◌&&◌, MatchBo
 use Rattle.std.specs.List.{IsAmong}
 use Rattle.relax_edges.specs.declared.kinds.ArchName.{ArchName}
 use Rattle.relax_edges.specs.declared.kinds.Dir.{Dir}
+use Rattle.relax_edges.specs.declared.kinds.Mark.TheVariants.{Plain}
 use Rattle.relax_edges.specs.declared.kinds.ObsMode.TheVariants.{Accept}
 use Rattle.relax_edges.specs.declared.edge.Edge.{Edge}
-use Rattle.relax_edges.specs.EdgeTable.{source_of, target_of, is_of_arch, same_dir, is_external, is_diff}
+use Rattle.relax_edges.specs.EdgeTable.{source_of, target_of, source_mark, target_mark, is_of_arch, same_dir, same_mark, is_external, is_diff}
 use Rattle.cycle_names.specs.declared.family.Family.{Family}
 use Rattle.cycle_names.specs.Families.{all_families, family_edges}
 use Rattle.arch_trait.specs.Threads.{Puts}
 use Rattle.test_maker.specs.Refusals.{refusal_of}
 
--- an edge is a choice for a link from an access to another: it stays in its thread, leads to another location, and is of the architecture
+-- an edge is a choice for a link from an access to another: it stays in its thread, leads to another location, is of the architecture,
+-- and has no marks
 unfoldable pub is_choice : ArchName → Dir → Dir → Edge → Bool
 is_choice arch from to edge =
     not (is_external edge) && is_diff edge && is_of_arch edge arch && same_dir (source_of edge) from && same_dir (target_of edge) to
+    && same_mark (source_mark edge) Plain && same_mark (target_mark edge) Plain
 
 -- edges stand for those of a family's cycle, whatever is drawn: an external one stays, and for a link there is a choice
 abbrev pub IsFilled : ArchName → List Edge → List Edge → Type 0

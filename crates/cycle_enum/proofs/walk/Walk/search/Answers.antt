@@ -2,44 +2,41 @@ use Rattle.std.proofs.Common.{◌<◌, ◌≤◌, ◌∙◌, true, length, refl,
 use Rattle.listing_laws.specs.Search.{IsCandidate, IsExtended, IsRaised, LeadsNowhere}
 use Rattle.listing_laws.proofs.Counts.{raised_falls, extended_falls}
 use Rattle.listing_laws.proofs.Candidates.{raised_listed, extended_listed}
-use Rattle.listing_laws.proofs.Stepping.{stands_first, stands_raised, stands_extended, stands_past, stands_found, kept_all}
+use Rattle.listing_laws.proofs.Stepping.{stands_first, stands_raised, stands_extended, stands_past, stands_found}
 use Rattle.cycle_enum.specs.Walking.{Says, Lists}
 use Rattle.cycle_enum.proofs.walk.Walk.search.Goals as goal
 
 pub loop-self-init : goal.loop-self-init
 loop-self-init g c = stands_first _ _ c.args.len c.args.list.now.items c.requires.within c.requires.kept
 
-pub loop-self-smaller-then-not-leads_on : goal.loop-self-smaller-then-not-leads_on
-loop-self-smaller-then-not-leads_on g c =
+pub loop-self-smaller-else-leads_on : goal.loop-self-smaller-else-leads_on
+loop-self-smaller-else-leads_on g c =
     let some : 0 < length c.loop-self.list.items = search rules in
     raised_falls _ c.args.len c.loop-self.list.items c.raise.new.list.items some c.loop-self.invariant.few c.raise.ensures
 
-pub loop-self-preserved-then-not-leads_on : goal.loop-self-preserved-then-not-leads_on
-loop-self-preserved-then-not-leads_on g c =
+pub loop-self-preserved-else-leads_on : goal.loop-self-preserved-else-leads_on
+loop-self-preserved-else-leads_on g c =
     let some : 0 < length c.loop-self.list.items = search rules in
-    let none : LeadsNowhere (Lists g.P.Fn.post c.args.self.now) c.loop-self.list.items = rw c.as_slice.ensures.value at (c.if-not-leads_on.ensures.refused refl) in
+    let none : LeadsNowhere (Lists g.P.Fn.post c.args.self.now) c.loop-self.list.items = rw c.as_slice.ensures.value at (c.if-leads_on.ensures.refused refl) in
     let raised : IsRaised (IsCandidate c.args.self.now.relaxes) c.loop-self.list.items c.raise.new.list.items = search rules in
     stands_raised _ _ c.args.len c.args.list.now.items c.loop-self.list.items c.raise.new.list.items c.loop-self.invariant some none (raised_listed _ _ _ _ _ _ raised)
 
-pub loop-self-smaller-then-len-from : goal.loop-self-smaller-then-len-from
-loop-self-smaller-then-len-from g c =
+pub loop-self-smaller-then-leads_on : goal.loop-self-smaller-then-leads_on
+loop-self-smaller-then-leads_on g c =
     let some : 0 < length c.loop-self.list.items = search rules in
     let less : length c.loop-self.list.items < c.args.len = search rules in
     extended_falls _ c.args.len c.loop-self.list.items c.extend.new.list.items some less c.extend.ensures
 
-pub loop-self-preserved-then-len-from : goal.loop-self-preserved-then-len-from
-loop-self-preserved-then-len-from g c =
+pub loop-self-preserved-then-leads_on : goal.loop-self-preserved-then-leads_on
+loop-self-preserved-then-leads_on g c =
     let some : 0 < length c.loop-self.list.items = search rules in
     let less : length c.loop-self.list.items < c.args.len = search rules in
-    let agreed : Says g.K.Fn.post c.args.self.now.keep c.loop-self.list.items true = rw c.as_slice.ensures.value at (c.if-not-leads_on.ensures.kept refl) in
+    let agreed : Says g.K.Fn.post c.args.self.now.keep c.loop-self.list.items true = rw c.as_slice.ensures.value at (c.if-leads_on.ensures.kept refl) in
     let extended : IsExtended (IsCandidate c.args.self.now.relaxes) c.loop-self.list.items c.extend.new.list.items = search rules in
     stands_extended _ _ c.args.len c.args.list.now.items c.loop-self.list.items c.extend.new.list.items c.loop-self.invariant some less agreed (extended_listed _ _ _ _ _ _ extended)
 
 pub listed-requires-clause-kept : goal.listed-requires-clause-kept
-listed-requires-clause-kept g c =
-    let agreed : Says g.K.Fn.post c.args.self.now.keep c.loop-self.list.items true = rw c.as_slice.ensures.value at (c.if-not-leads_on.ensures.kept refl) in
-    rw c.as_slice-else-len-from.ensures.value
-    (kept_all (Lists g.P.Fn.post c.args.self.now) (Says g.K.Fn.post c.args.self.now.keep) c.args.len c.loop-self.list.items c.loop-self.invariant.kept agreed)
+listed-requires-clause-kept g c = rw c.as_slice-else-len-from.ensures.value c.loop-self.invariant.kept
 
 pub returns-in-Some : goal.returns-in-Some
 returns-in-Some g c =
