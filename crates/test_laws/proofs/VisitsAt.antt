@@ -102,7 +102,7 @@ pub record IsPlain (s : Step) : Type 0 where
   pub link : s.link ≡ Plain
   pub mark : s.mark ≡ marks.Plain
 
--- and so are all, where no edge ties or marks any
+-- all accesses of a thread are free where no edge ties or marks any
 pub all_free : (ss : List Step) (n : ℕ) (vs : List ℕ) → ((j : ℕ) (s : Step) → slice_get ss j ≡ Some s → IsPlain s) → AreFree (thread_visits ss n 0 vs)
 all_free [] n vs h = tt
 all_free (s ∷ ss) n vs h =

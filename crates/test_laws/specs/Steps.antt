@@ -1,5 +1,5 @@
--- The accesses of the test of a cycle, thread by thread, with their marks and the links between them. `es` is the list of edges in which
--- threads, locations and values are counted, and `number` gives the number of each location's place.
+-- The accesses of the test of a cycle, thread by thread, with their marks and the links between them. `es` is the list of
+-- edges in which threads, locations and values are counted, and `number` gives the number of each location's place.
 -- Source: own, after the way diy takes from a cycle to a test.
 use Rattle.std.specs.Prelude.{ℕ, ◌+◌, ◌==◌, if◌then◌else◌, List, ◌++◌, map}
 use Rattle.std.specs.List.{filter}
