@@ -10,8 +10,10 @@ use Rattle.list_laws.proofs.Cases.{by_test}
 use Rattle.relax_edges.specs.declared.kinds.ArchName.{ArchName}
 use Rattle.relax_edges.specs.declared.kinds.Dir.{Dir}
 use Rattle.relax_edges.specs.declared.kinds.Dir.TheVariants as dirs
+use Rattle.relax_edges.specs.declared.kinds.Mark.{Mark}
+use Rattle.relax_edges.specs.declared.kinds.Mark.TheVariants.{Plain, Acquire, Release}
 use Rattle.relax_edges.specs.declared.edge.Edge.{Edge}
-use Rattle.relax_edges.specs.EdgeTable.{source_of, target_of, same_dir, is_external}
+use Rattle.relax_edges.specs.EdgeTable.{source_of, target_of, source_mark, target_mark, same_dir, same_mark, is_external}
 use Rattle.walk_laws.specs.Composable.{IsCycle, is_joined, is_closed}
 use Rattle.edge_algebra.specs.declared.errors.CycleError.{CycleError}
 use Rattle.edge_algebra.specs.Compose.{composed}
@@ -42,10 +44,20 @@ is_filled arch seed (slot ∷ slots) = (one, is_filled arch (seed_past seed slot
         (λ f. rw f (choice_is_one arch (drawn (next_seed seed)) slot))
 
 -- edges from and to the same accesses
+record IsAlike (e f : Edge) : Type 0 where
+  source : source_of e ≡ source_of f
+  target : target_of e ≡ target_of f
+  from_mark : source_mark e ≡ source_mark f
+  to_mark : target_mark e ≡ target_mark f
+
 abbrev AreAlike : List Edge → List Edge → Type 0
 AreAlike [] [] = Unit {0}
-AreAlike (e ∷ u) (f ∷ v) = (source_of e ≡ source_of f) × (target_of e ≡ target_of f) × AreAlike u v
+AreAlike (e ∷ u) (f ∷ v) = IsAlike e f × AreAlike u v
 AreAlike _ _ = ⊥
+
+-- an edge without marks
+is_plain : Edge → Bool
+is_plain e = same_mark (source_mark e) Plain && same_mark (target_mark e) Plain
 
 dir_is : (a b : Dir) → same_dir a b ≡ true → a ≡ b
 dir_is dirs.R dirs.R h = refl
@@ -53,72 +65,95 @@ dir_is dirs.W dirs.W h = refl
 dir_is dirs.R dirs.W h = cc
 dir_is dirs.W dirs.R h = cc
 
--- a choice for a link joins what the link joins
-choice_alike : (arch : ArchName) (from to : Dir) (e : Edge) → is_choice arch from to e ≡ true → (source_of e ≡ from) × (target_of e ≡ to)
-unfolding is_choice
-choice_alike arch from to e h =
-    let last = and_parts _ (same_dir (target_of e) to) h in
-    (dir_is (source_of e) from (and_parts _ (same_dir (source_of e) from) last.0).1, dir_is (target_of e) to last.1)
+plain_is : (mark : Mark) → same_mark mark Plain ≡ true → mark ≡ Plain
+plain_is Plain h = refl
+plain_is Acquire h = cc
+plain_is Release h = cc
 
-filled_alike : (arch : ArchName) (slots edges : List Edge) → IsFilled arch slots edges → AreAlike edges slots
-filled_alike arch [] [] h = tt
-filled_alike arch [] (e ∷ edges) h = absurd h
-filled_alike arch (s ∷ slots) [] h = absurd h
-filled_alike arch (s ∷ slots) (e ∷ edges) h = by_test (is_external s)
-    (λ t. let same : e ≡ s = rw t at h.0 in (ap source_of same, ap target_of same, filled_alike arch slots edges h.1))
-    (λ f. let passed : is_choice arch (source_of s) (target_of s) e ≡ true = rw f at h.0 in
-    let ends = choice_alike arch (source_of s) (target_of s) e passed in
-    (ends.0, ends.1, filled_alike arch slots edges h.1))
+-- a choice for a link without marks joins what the link joins
+choice_alike : (arch : ArchName) (link e : Edge) → is_plain link ≡ true → is_choice arch (source_of link) (target_of link) e ≡ true → IsAlike e link
+unfolding is_choice is_plain
+choice_alike arch link e plain h =
+    let own = and_parts (same_mark (source_mark link) Plain) (same_mark (target_mark link) Plain) plain in
+    let last = and_parts _ (same_mark (target_mark e) Plain) h in
+    let mark = and_parts _ (same_mark (source_mark e) Plain) last.0 in
+    let to = and_parts _ (same_dir (target_of e) (target_of link)) mark.0 in
+    record {
+      source = dir_is (source_of e) (source_of link) (and_parts _ (same_dir (source_of e) (source_of link)) to.0).1;
+      target = dir_is (target_of e) (target_of link) to.1;
+      from_mark = plain_is (source_mark e) mark.1 ∙ sym (plain_is (source_mark link) own.0);
+      to_mark = plain_is (target_mark e) last.1 ∙ sym (plain_is (target_mark link) own.1);
+    }
+
+same_alike : (e f : Edge) → e ≡ f → IsAlike e f
+same_alike e f same = record { source = ap source_of same; target = ap target_of same; from_mark = ap source_mark same; to_mark = ap target_mark same }
+
+filled_alike : (arch : ArchName) (slots edges : List Edge) → list_all is_plain slots ≡ true → IsFilled arch slots edges → AreAlike edges slots
+filled_alike arch [] [] plain h = tt
+filled_alike arch [] (e ∷ edges) plain h = absurd h
+filled_alike arch (s ∷ slots) [] plain h = absurd h
+filled_alike arch (s ∷ slots) (e ∷ edges) plain h = (one, filled_alike arch slots edges parts.1 h.1)
+  where
+    parts : (is_plain s ≡ true) × (list_all is_plain slots ≡ true)
+    parts = and_parts (is_plain s) (list_all is_plain slots) plain
+
+    one : IsAlike e s
+    one = by_test (is_external s)
+        (λ t. let same : e ≡ s = rw t at h.0 in same_alike e s same)
+        (λ f. let passed : is_choice arch (source_of s) (target_of s) e ≡ true = rw f at h.0 in choice_alike arch s e parts.0 passed)
 
 alike_joined : (u v : List Edge) → AreAlike u v → is_joined u ≡ is_joined v
 alike_joined [] [] h = refl
 alike_joined [] (f ∷ v) h = absurd h
 alike_joined (e ∷ u) [] h = absurd h
 alike_joined (e ∷ []) (f ∷ []) h = refl
-alike_joined (e ∷ []) (f ∷ g ∷ v) h = absurd h.2
-alike_joined (e ∷ d ∷ u) (f ∷ []) h = absurd h.2
+alike_joined (e ∷ []) (f ∷ g ∷ v) h = absurd h.1
+alike_joined (e ∷ d ∷ u) (f ∷ []) h = absurd h.1
 alike_joined (e ∷ d ∷ u) (f ∷ g ∷ v) h =
-    rw (h.1, h.2.0, alike_joined (d ∷ u) (g ∷ v) h.2) refl
+    rw (h.0.target, h.0.to_mark, h.1.0.source, h.1.0.from_mark, alike_joined (d ∷ u) (g ∷ v) h.1) refl
 
-alike_push : (u v : List Edge) (e f : Edge) → AreAlike u v → source_of e ≡ source_of f → target_of e ≡ target_of f → AreAlike (u ++ e ∷ []) (v ++ f ∷ [])
-alike_push [] [] e f h s t = (s, t, tt)
-alike_push [] (b ∷ v) e f h s t = absurd h
-alike_push (a ∷ u) [] e f h s t = absurd h
-alike_push (a ∷ u) (b ∷ v) e f h s t = (h.0, h.1, alike_push u v e f h.2 s t)
+alike_push : (u v : List Edge) (e f : Edge) → AreAlike u v → IsAlike e f → AreAlike (u ++ e ∷ []) (v ++ f ∷ [])
+alike_push [] [] e f h s = (s, tt)
+alike_push [] (b ∷ v) e f h s = absurd h
+alike_push (a ∷ u) [] e f h s = absurd h
+alike_push (a ∷ u) (b ∷ v) e f h s = (h.0, alike_push u v e f h.1 s)
 
 alike_closed : (u v : List Edge) → AreAlike u v → is_closed u ≡ is_closed v
 alike_closed [] [] h = refl
 alike_closed [] (f ∷ v) h = absurd h
 alike_closed (e ∷ u) [] h = absurd h
-alike_closed (e ∷ u) (f ∷ v) h = alike_joined (e ∷ u ++ e ∷ []) (f ∷ v ++ f ∷ []) (h.0, h.1, alike_push u v e f h.2 h.0 h.1)
+alike_closed (e ∷ u) (f ∷ v) h = alike_joined (e ∷ u ++ e ∷ []) (f ∷ v ++ f ∷ []) (h.0, alike_push u v e f h.1 h.0)
 
 alike_length : (u v : List Edge) → AreAlike u v → length u ≡ length v
 alike_length [] [] h = refl
 alike_length [] (f ∷ v) h = absurd h
 alike_length (e ∷ u) [] h = absurd h
-alike_length (e ∷ u) (f ∷ v) h = ap suc (alike_length u v h.2)
+alike_length (e ∷ u) (f ∷ v) h = ap suc (alike_length u v h.1)
 
--- the cycle of a family is one, and short
+-- the cycle of a family is one, short, and without marks
 cycle_test : Family → Bool
-cycle_test family = nat_lt 0 (length (family_edges family)) && nat_le (length (family_edges family)) 6 && is_closed (family_edges family)
+cycle_test family =
+    nat_lt 0 (length (family_edges family)) && nat_le (length (family_edges family)) 6 && is_closed (family_edges family) && list_all is_plain (family_edges family)
 
 all_cycles : list_all cycle_test all_families ≡ true
-unfolding cycle_test
+unfolding cycle_test is_plain
 all_cycles = refl
 
 record IsShortCycle (u : List Edge) : Type 0 where
   some : 0 < length u
   short : length u ≤ 6
   closed : is_closed u ≡ true
+  plain : list_all is_plain u ≡ true
 
 family_cycle : (family : Family) → IsAmong all_families family → IsShortCycle (family_edges family)
 unfolding cycle_test
 family_cycle family h =
     let passes : All (λ f. cycle_test f ≡ true) all_families = AllPass-from_list_all cycle_test all_families all_cycles in
     let passed : cycle_test family ≡ true = subst (λ f. cycle_test f ≡ true) (sym h.1.1) (passes h.0 family h.1.0) in
-    let last = and_parts _ (is_closed (family_edges family)) passed in
+    let marks = and_parts _ (list_all is_plain (family_edges family)) passed in
+    let last = and_parts _ (is_closed (family_edges family)) marks.0 in
     let first = and_parts (nat_lt 0 (length (family_edges family))) _ last.0 in
-    record { some = grind (arith, nat_tests, first.0); short = grind (arith, nat_tests, first.1); closed = last.1 }
+    record { some = grind (arith, nat_tests, first.0); short = grind (arith, nat_tests, first.1); closed = last.1; plain = marks.1 }
 
 -- what is filled in for it is a cycle
 pub filled_cycle : (arch : ArchName) (seed : ℕ) (family : Family) → IsAmong all_families family → IsCycle (filled arch seed (family_edges family))
@@ -126,7 +161,7 @@ filled_cycle arch seed family h =
     let slots = family_edges family in
     let edges = filled arch seed slots in
     let own = family_cycle family h in
-    let alike = filled_alike arch slots edges (is_filled arch seed slots) in
+    let alike = filled_alike arch slots edges own.plain (is_filled arch seed slots) in
     let same = alike_length edges slots alike in
     record { some = omega (arith, same, own.some); few = omega (arith, same, own.short); closed = alike_closed edges slots alike ∙ own.closed }
 
