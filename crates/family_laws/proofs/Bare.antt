@@ -42,11 +42,11 @@ alike : (e : Edge) → IsAlike e
 alike e = by (kind_of e) refl
   where
     by : (kind : Kind) → kind_of e ≡ kind → IsAlike e
-    by (kinds.Com kind reach) h = rw h (record { external = refl; diff = refl; source = refl })
-    by (kinds.Po place from to) h = rw h (record { external = refl; diff = refl; source = refl })
-    by (kinds.Fenced kind place from to) h = rw h (record { external = refl; diff = refl; source = refl })
-    by (kinds.Dep kind place to) h = rw h (record { external = refl; diff = refl; source = refl })
-    by (kinds.Data place) h = rw h (record { external = refl; diff = refl; source = refl })
+    by (kinds.Com kind reach) h = record { external = rw h refl; diff = rw h refl; source = rw h refl }
+    by (kinds.Po place from to) h = record { external = rw h refl; diff = rw h refl; source = rw h refl }
+    by (kinds.Fenced kind place from to) h = record { external = rw h refl; diff = rw h refl; source = rw h refl }
+    by (kinds.Dep kind place to) h = record { external = rw h refl; diff = rw h refl; source = rw h refl }
+    by (kinds.Data place) h = record { external = rw h refl; diff = rw h refl; source = rw h refl }
 
 count_bare : (t : Edge → Bool) → ((e : Edge) → t (bare e) ≡ t e) → (es : List Edge) → count_by t (bare_edges es) ≡ count_by t es
 count_bare t same [] = refl
