@@ -53,7 +53,7 @@ pub diff_alike : (a b : Edge) → slot_of a ≡ slot_of b → is_diff a ≡ is_d
 diff_alike a b e = sym (slot_is_diff a) ∙ ap is_diff e ∙ slot_is_diff b
 
 -- links whose words have one place have one word
-words_same : (a b : Edge) → word_place a ≡ word_place b → link_word a ≡ link_word b
+pub words_same : (a b : Edge) → word_place a ≡ word_place b → link_word a ≡ link_word b
 words_same a b r = (bytes_decides (link_word a) (link_word b)).0 (link_words_equal a b ∙ eq-eqb _ _ r)
 
 -- the link of a slot and a word depends on these alone

@@ -37,18 +37,6 @@ rest_drop : {A : Type 0} (xs : List A) → 1 ≤ length xs → rest_of xs ≡ dr
 rest_drop [] h = absurd (omega arith)
 rest_drop (x ∷ xs) h = rest_is x xs
 
--- one edge more has the word of the links
-pub alike_more : (p : List ℕ → Bool) (xs : List Edge) (d : Edge) (b : Bool) → 1 ≤ length xs → (not (is_diff (get_or xs 0 d)) || p (link_word (get_or xs 0 d))) ≡ true
-    → b ≡ list_all p (link_words (rest_of xs)) → b ≡ list_all p (link_words xs)
-alike_more p [] d b h t e = absurd (omega arith)
-alike_more p (x ∷ xs) d b h t e =
-    e ∙ ap (λ u. list_all p (link_words u)) (rest_is x xs) ∙ sym (all_links_cons p x xs ∙ ap (λ c. c && list_all p (link_words xs)) t)
-
-pub alike_fails : (p : List ℕ → Bool) (xs : List Edge) (d : Edge) → 1 ≤ length xs → (not (is_diff (get_or xs 0 d)) || p (link_word (get_or xs 0 d))) ≡ false
-    → false ≡ list_all p (link_words xs)
-alike_fails p [] d h t = absurd (omega arith)
-alike_fails p (x ∷ xs) d h t = sym (all_links_cons p x xs ∙ ap (λ c. c && list_all p (link_words xs)) t)
-
 -- the parts of a text behind its first one
 abbrev parts_behind : List ℕ → List (List ℕ)
 parts_behind [] = []

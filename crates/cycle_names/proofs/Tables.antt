@@ -115,6 +115,17 @@ no_place e f = eqb-true _ _ (so (not (is_diff e)) (word_place e == 0) (each_edge
     all : list_all (λ e. if_so (not (is_diff e)) (word_place e == 0)) edges_in_order ≡ true
     all = refl
 
+pub some_place : (e : Edge) → is_diff e ≡ true → (word_place e == 0) ≡ false
+unfolding if_so edges_in_order
+some_place e t = no_of (word_place e == 0) (so (is_diff e) (not (word_place e == 0)) (each_edge (λ e. if_so (is_diff e) (not (word_place e == 0))) all e) t)
+  where
+    all : list_all (λ e. if_so (is_diff e) (not (word_place e == 0))) edges_in_order ≡ true
+    all = refl
+
+    no_of : (b : Bool) → not b ≡ true → b ≡ false
+    no_of true h = cc
+    no_of false h = refl
+
 -- an edge counts what its slot does
 pub edge_counts : (e : Edge) → edge_count (slot_of e) ≡ edge_count e
 unfolding edges_in_order

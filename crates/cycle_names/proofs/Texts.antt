@@ -1,17 +1,20 @@
 -- What is written behind a family's word, by the links of a cycle.
-use Rattle.std.specs.Prelude.{◌≡◌, ◌&&◌, ◌||◌, ℕ, Bool, true, false, not, Some, None, List, [], ◌∷◌, ◌++◌, codes}
+use Rattle.std.specs.Prelude.{◌≡◌, ◌==◌, ◌&&◌, ◌||◌, ℕ, Bool, true, false, not, Some, None, List, [], ◌∷◌, ◌++◌, codes}
 use Rattle.std.specs.List.{find, list_all, flat_map}
 use Rattle.std.specs.Str.{bytes_eq}
 use Rattle.std.specs.Cmp.Lexicographic.{bytes_decides}
 use Rattle.std.proofs.Common.{refl, sym, ◌∙◌, ap}
-use Rattle.std.proofs.lemmas.Bool.{cond-true, cond-false}
+use Rattle.std.proofs.lemmas.Bool.{and_parts, eqb-true, eq-eqb, cond-true, cond-false}
 use Rattle.list_laws.proofs.Cases.{by_test}
+use Rattle.relax_edges.specs.declared.kinds.Dir.TheVariants.{R}
 use Rattle.relax_edges.specs.declared.edge.Edge.{Edge}
 use Rattle.relax_edges.specs.EdgeTable.{is_diff}
 use Rattle.cycle_names.specs.Links.{link_word, link_words}
 use Rattle.cycle_names.specs.Names.{added, all_equal, plural, links_text}
-use Rattle.cycle_names.specs.Fitting.{link_text}
-use Rattle.cycle_names.proofs.Outlines.{words_of_link, words_of_plain}
+use Rattle.cycle_names.specs.Families.{pod}
+use Rattle.cycle_names.specs.Fitting.{link_text, word_place, is_at}
+use Rattle.cycle_names.proofs.Tables.{link_words_equal, no_place, some_place}
+use Rattle.cycle_names.proofs.Outlines.{words_same, words_of_link, words_of_plain}
 
 -- a test of the words of the links, by the first edge
 pub all_links_cons : (p : List ℕ → Bool) (e : Edge) (v : List Edge) → list_all p (link_words (e ∷ v)) ≡ ((not (is_diff e) || p (link_word e)) && list_all p (link_words v))
@@ -89,3 +92,74 @@ text_of_each v e h n t =
     cond-false (list_all (bytes_eq (codes "po")) (link_words v)) [] _ n
     ∙ cond-false (all_equal (link_words v)) (plural (link_words v)) (flat_map added (link_words v)) same
     ∙ each_text v
+
+-- the links have the word of this one where their words have its place
+one_at : (e x : Edge) → (not (is_diff x) || bytes_eq (link_word e) (link_word x)) ≡ is_at (word_place e) x
+one_at e x =
+    by_test (is_diff x)
+    (λ t.
+    ap (λ b. not b || bytes_eq (link_word e) (link_word x)) t
+    ∙ link_words_equal e x
+    ∙ swapped (word_place e) (word_place x)
+    ∙ sym (ap (λ b. b || (word_place x == word_place e)) (some_place x t)))
+    (λ f.
+    ap (λ b. not b || bytes_eq (link_word e) (link_word x)) f
+    ∙ sym (ap (λ n. (n == 0) || (n == word_place e)) (no_place x f)))
+  where
+    swapped : (m n : ℕ) → (m == n) ≡ (n == m)
+    swapped m n =
+        by_test (m == n)
+        (λ t. t ∙ sym (eq-eqb n m (sym (eqb-true m n t))))
+        (λ f. by_test (n == m) (λ t. let z : true ≡ false = sym (eq-eqb m n (sym (eqb-true n m t))) ∙ f in cc) (λ g. f ∙ sym g))
+
+pub all_at : (e : Edge) (v : List Edge) → list_all (is_at (word_place e)) v ≡ list_all (bytes_eq (link_word e)) (link_words v)
+all_at e [] = refl
+all_at e (x ∷ v) =
+    ap (λ b. b && list_all (is_at (word_place e)) v) (sym (one_at e x))
+    ∙ ap (λ b. (not (is_diff x) || bytes_eq (link_word e) (link_word x)) && b) (all_at e v)
+    ∙ sym (all_links_cons (bytes_eq (link_word e)) x v)
+
+-- `po` and its place
+abbrev po : Edge
+po = pod R R
+
+po_word : link_word po ≡ codes "po"
+po_word = refl
+
+po_place : word_place po ≡ 126
+po_place = refl
+
+-- nothing is written where all words have the place of `po`
+pub text_at_plain : (v : List Edge) (e : Edge) → word_place e ≡ 126 → list_all (is_at (word_place e)) v ≡ true → links_text (link_words v) ≡ []
+text_at_plain v e p h =
+    text_of_plain v (ap (λ w. list_all (bytes_eq w) (link_words v)) (sym po_word ∙ words_same po e (po_place ∙ sym p)) ∙ sym (all_at e v) ∙ h)
+
+-- where the first word isn't `po`, not all are
+not_plain : (v : List Edge) (e : Edge) → find is_diff v ≡ Some e → (bytes_eq (codes "po") (link_word e) ≡ true → ⊥) → list_all (bytes_eq (codes "po")) (link_words v) ≡ false
+not_plain v e h n =
+    by_test (list_all (bytes_eq (codes "po")) (link_words v))
+    (λ t.
+    let r = first_words v e h in
+    absurd (n (and_parts (bytes_eq (codes "po") (link_word e)) (list_all (bytes_eq (codes "po")) r.behind) (sym (ap (list_all (bytes_eq (codes "po"))) r.words) ∙ t)).0))
+    (λ f. f)
+
+-- one word is written where all words have one place that isn't that of `po`
+pub text_at_one : (v : List Edge) (e : Edge) → find is_diff v ≡ Some e → (word_place e ≡ 126 → ⊥) → list_all (is_at (word_place e)) v ≡ true → links_text (link_words v) ≡ link_text e ++ codes "s"
+text_at_one v e h p t =
+    text_of_alike v e h
+    (not_plain v e h (λ b. p (sym (eqb-true (word_place po) (word_place e) (sym (link_words_equal po e) ∙ b)) ∙ po_place)))
+    (sym (all_at e v) ∙ t)
+
+-- else each word is
+pub text_at_each : (v : List Edge) (e : Edge) → find is_diff v ≡ Some e → list_all (is_at (word_place e)) v ≡ false → links_text (link_words v) ≡ flat_map link_text v
+text_at_each v e h t =
+    let f : list_all (bytes_eq (link_word e)) (link_words v) ≡ false = sym (all_at e v) ∙ t in
+    by_test (bytes_eq (codes "po") (link_word e))
+    (λ b.
+    let same : codes "po" ≡ link_word e = (bytes_decides (codes "po") (link_word e)).0 b in
+    text_of_each v e h (ap (λ w. list_all (bytes_eq w) (link_words v)) same ∙ f) f)
+    (λ b. text_of_each v e h (not_plain v e h (λ t. let z : true ≡ false = sym t ∙ b in cc)) f)
+
+-- what the code finds of the places
+pub places_told : (place : ℕ) (e : Edge) (v : List Edge) (result value : Bool) → place ≡ word_place e → result ≡ list_all (is_at place) v → result ≡ value → list_all (is_at (word_place e)) v ≡ value
+places_told place e v result value p r t = ap (λ n. list_all (is_at n) v) (sym p) ∙ sym r ∙ t

@@ -1,6 +1,6 @@
 -- How the code finds the family of a cycle and the rotation that it is named from.
 -- Source: own.
-use Rattle.std.specs.Prelude.{◌≡◌, ◌<◌, ℕ, ◌+◌, ◌*◌, ◌==◌, ◌&&◌, nat_lt, cond, Bool, true, false, sum, Option, Some, List, [], ◌++◌, length, map}
+use Rattle.std.specs.Prelude.{◌≡◌, ◌<◌, ℕ, ◌+◌, ◌*◌, ◌==◌, ◌&&◌, ◌||◌, nat_lt, cond, Bool, true, false, sum, Option, Some, List, [], ◌++◌, length, map}
 use Rattle.std.specs.List.{find}
 use Rattle.relax_edges.specs.declared.kinds.Dir.{Dir}
 use Rattle.relax_edges.specs.declared.kinds.Dir.TheVariants.{R, W}
@@ -158,3 +158,7 @@ kind_place _ _ = 0
 -- the place of a link's word among the words of links, in byte order, and 0 for an edge that is no link
 abbrev pub word_place : Edge → ℕ
 word_place edge = kind_place (kind_of edge) (letters_place (source_mark edge) (target_mark edge))
+
+-- an edge is no link, or its word has this place
+abbrev pub is_at : ℕ → Edge → Bool
+is_at place edge = (word_place edge == 0) || (word_place edge == place)

@@ -5,21 +5,17 @@ ghost use Rattle.relax_edges.specs.EdgeTable.{is_diff};
 ghost use Rattle.relax_edges.specs.Words.{word_of};
 ghost use Rattle.cycle_names.specs.Links.{link_word, link_words};
 ghost use Rattle.cycle_names.specs.Names.{links_text};
-ghost use Rattle.cycle_names.specs.Fitting.{link_text};
+ghost use Rattle.cycle_names.specs.Fitting.{link_text, is_at};
 
 use crate::link::{kind_link, mark_letters, word_place};
 use crate::name::MAX_NAME;
 use arrayvec::ArrayString;
-use relax_edges::{Dir, Edge, MAX_EDGES, Sd};
+use relax_edges::{Edge, MAX_EDGES};
 
 type Name = ArrayString<MAX_NAME>;
 
-/// A link of plain program order.
-const PLAIN: Edge = Edge::Po {
-    sd: Sd::Diff,
-    from: Dir::R,
-    to: Dir::R,
-};
+/// The place of `po` among the words of links.
+const PLAIN: u8 = 126;
 
 /// Adds what a name of a family has behind the family's word.
 pub(crate) fn push_links(edges: &[Edge], name: &mut Name)
@@ -30,15 +26,16 @@ pub(crate) fn push_links(edges: &[Edge], name: &mut Name)
     let Some(link) = first_link(edges) else {
         return;
     };
-    if are_alike(PLAIN, edges) {
+    let place = word_place(link);
+    if !are_at(place, edges) {
+        push_each(edges, name);
         return;
     }
-    if are_alike(link, edges) {
-        push_link(link, name);
-        name.push_str("s");
+    if place == PLAIN {
         return;
     }
-    push_each(edges, name);
+    push_link(link, name);
+    name.push_str("s");
 }
 
 /// The first link of a list of edges.
@@ -57,23 +54,22 @@ fn first_link(edges: &[Edge]) -> Option<Edge>
     }
 }
 
-/// Whether the links of a list of edges all have the word of this one.
-#[tactic(auto, using(crate::proofs::Texts::all_links_cons))]
-fn are_alike(link: Edge, edges: &[Edge]) -> bool
-    ensures { result ≡ list_all (bytes_eq (link_word link)) (link_words edges.now) }
+/// Whether the words of the links of a list of edges all have this place.
+fn are_at(place: u8, edges: &[Edge]) -> bool
+    ensures { result ≡ list_all (is_at place) edges.now }
 {
     match edges {
         [] => true,
-        [edge, rest @ ..] => is_alike(link, *edge) && are_alike(link, rest),
+        [edge, rest @ ..] => is_at(place, *edge) && are_at(place, rest),
     }
 }
 
-/// Whether an edge is no link, or has the word of this one.
-#[tactic(auto, using(crate::proofs::Tables::link_words_equal))]
-fn is_alike(link: Edge, edge: Edge) -> bool
-    ensures { result ≡ (not (is_diff edge) || bytes_eq (link_word link) (link_word edge)) }
+/// Whether an edge is no link, or its word has this place.
+fn is_at(place: u8, edge: Edge) -> bool
+    ensures { result ≡ is_at place edge }
 {
-    !edge.is_diff() || word_place(link) == word_place(edge)
+    let other = word_place(edge);
+    other == 0 || other == place
 }
 
 /// Adds the word of an edge behind a `+`, if the edge is a link.
