@@ -6,7 +6,7 @@ ghost use Rattle.cycle_lines.specs.Normed.{name_line, Norms, WritesLast, last_li
 use crate::errors::{LinesError, NormError};
 use crate::reader::{Line, LineReader};
 use arrayvec::ArrayString;
-use cycle_names::{MAX_NAME, name_and_rotation, push_words};
+use cycle_names::{MAX_NAME, name_and_words};
 use diy_io::{Failed, Page, Sink, Source};
 use edge_algebra::Cycle;
 use relax_edges::ArchName;
@@ -125,21 +125,15 @@ fn send_line<O: Sink>(
     Ok(())
 }
 
-/// Makes `line` the line of a cycle; its name and its edges are made in `words` before. What they
-/// held doesn't count.
-fn make_line(
-    cycle: &Cycle,
-    words: &mut ArrayString<MAX_NAME>,
-    line: &mut ArrayString<MAX_NAME_LINE>,
-)
+/// Makes `line` the line of a cycle, and `name` its name. What they held doesn't count.
+fn make_line(cycle: &Cycle, name: &mut ArrayString<MAX_NAME>, line: &mut ArrayString<MAX_NAME_LINE>)
     ensures { line.new.bytes ≡ name_line cycle.now }
 {
-    let rotation = name_and_rotation(cycle, words);
+    let mut words: ArrayString<MAX_NAME> = ArrayString::new();
+    name_and_words(cycle, name, &mut words);
     line.clear();
-    line.push_str(words.as_str());
+    line.push_str(name.as_str());
     line.push_str(": ");
-    words.clear();
-    push_words(rotation.edges(), " ", words);
     line.push_str(words.as_str());
     line.push_str("\n");
 }

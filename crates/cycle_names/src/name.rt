@@ -1,11 +1,13 @@
-ghost use Rattle.std.specs.Prelude.{◌≡◌};
+ghost use Rattle.std.specs.Prelude.{◌≡◌, codes};
+ghost use Rattle.std.specs.List.{join_by};
+ghost use Rattle.relax_edges.specs.Words.{word_of};
 ghost use Rattle.cycle_names.specs.Rotations.{family_of, named_rotation};
 ghost use Rattle.cycle_names.specs.Names.{name_of};
 ghost use Rattle.cycle_names.specs.Laws.{IsName};
 
 use crate::family::Family;
 use crate::fit::{found_family, named_fit};
-use crate::words::{push_links, push_words};
+use crate::words::{push_both, push_links, push_words};
 use arrayvec::ArrayString;
 use edge_algebra::Cycle;
 
@@ -54,6 +56,33 @@ pub fn name_and_rotation(cycle: &Cycle, out: &mut ArrayString<MAX_NAME>) -> Cycl
             out.push_str("C+");
             push_words(rotation.edges(), "-", out);
             rotation
+        }
+    }
+}
+
+/// Makes `name` the name of a cycle, and `words` the words of the edges of the rotation that it is
+/// named from, joined by blanks, whatever they held.
+pub fn name_and_words(
+    cycle: &Cycle,
+    name: &mut ArrayString<MAX_NAME>,
+    words: &mut ArrayString<MAX_NAME>,
+)
+    ensures name { name.new.bytes ≡ name_of cycle.now }
+    ensures words { words.new.bytes ≡ join_by word_of (codes " ") (named_rotation cycle.now) }
+{
+    name.clear();
+    words.clear();
+    match named_fit(cycle.edges()) {
+        Some(fit) => {
+            let rotation = cycle.rotate(fit.place as u8);
+            name.push_str(fit.family.word());
+            push_links(rotation.edges(), name);
+            push_words(rotation.edges(), " ", words);
+        }
+        None => {
+            let normal = cycle.least();
+            name.push_str("C+");
+            push_both(normal.edges(), name, words);
         }
     }
 }
