@@ -16,7 +16,8 @@ pub const MAX_NAME: usize = 800;
 
 /// The family of a cycle: that of the table of which some rotation of the cycle has the external
 /// edges at their places and, for each `PodXY`, an edge from X to Y that leads to another location
-/// in its thread. `Other` where there is none. No cycle is of two families.
+/// in its thread, whatever their marks, where each event between two external edges is plain.
+/// `Other` where there is none. No cycle is of two families.
 pub fn family_of(cycle: &Cycle) -> Family
     ensures { result ≡ family_of cycle.now }
 {
@@ -28,19 +29,11 @@ pub fn family_of(cycle: &Cycle) -> Family
 ///
 /// The name of a cycle of a family is the family's word alone where all its links are plain
 /// program order; else the word of the links and an `s` where they are all alike; else the word of
-/// each. Of the rotations that fit the family, the one counts whose list of words comes first. Every
-/// other cycle is named `C+` and the words of the edges of its normal form, joined by `-`.
+/// each. The word of a link with marks ends in their letters, as `popl`. Of the rotations that fit
+/// the family, the one counts whose list of words comes first. Every other cycle is named `C+` and
+/// the words of the edges of its normal form, joined by `-`.
 pub fn name_of(cycle: &Cycle, out: &mut ArrayString<MAX_NAME>)
     ensures name { out.new.bytes ≡ name_of cycle.now }
-    ensures form { IsName out.new.bytes }
-{
-    name_and_rotation(cycle, out);
-}
-
-/// Makes `out` the name of a cycle, and gives the rotation of the cycle that it is named from.
-pub fn name_and_rotation(cycle: &Cycle, out: &mut ArrayString<MAX_NAME>) -> Cycle
-    ensures name { out.new.bytes ≡ name_of cycle.now }
-    ensures rotation { result ≡ named_rotation cycle.now }
     ensures form { IsName out.new.bytes }
 {
     out.clear();
@@ -49,13 +42,11 @@ pub fn name_and_rotation(cycle: &Cycle, out: &mut ArrayString<MAX_NAME>) -> Cycl
             let rotation = cycle.rotate(fit.place as u8);
             out.push_str(fit.family.word());
             push_links(rotation.edges(), out);
-            rotation
         }
         None => {
             let rotation = cycle.least();
             out.push_str("C+");
             push_words(rotation.edges(), "-", out);
-            rotation
         }
     }
 }

@@ -100,7 +100,7 @@ fn push_each(edges: &[Edge], name: &mut Name)
 }
 
 /// Adds the words of some edges, joined by a byte, to a text of at most 16 bytes.
-pub fn push_words(edges: &[Edge], between: &str, name: &mut Name)
+pub(crate) fn push_words(edges: &[Edge], between: &str, name: &mut Name)
     requires few { length edges.now ≤ MAX_EDGES }
     requires one { length between.now ≡ 1 }
     requires room { length name.old.bytes ≤ 16 }
