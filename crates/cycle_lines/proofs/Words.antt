@@ -1,5 +1,5 @@
 -- What is made of the edges of a text, as they are kept.
-use Rattle.std.proofs.Common.{◌≡◌, true, false, cond, nat_lt, nat_le, List, [], ◌∷◌, length, Option, Some, None, Err, refl, sym, ap, ◌∙◌, arith, lit≤}
+use Rattle.std.proofs.Common.{◌≡◌, true, false, nat_lt, nat_le, List, [], ◌∷◌, length, Option, Some, None, Err, refl, ap, ◌∙◌, arith, lit≤}
 use Rattle.std.specs.Option.{option_map}
 use Rattle.std.proofs.lemmas.Bool.Decides.{nat_tests}
 use Rattle.relax_edges.specs.declared.TheConstants.{MAX_EDGES}

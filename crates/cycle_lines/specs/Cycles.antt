@@ -2,7 +2,7 @@
 -- Source: own; the lines are those that norm7 and classify7 of the herdtools suite read.
 use Rattle.std.specs.Prelude.{◌≡◌, ℕ, ◌+◌, ◌==◌, nat_lt, Bool, true, ◌++◌, ◌||◌, cond, List, [], ◌∷◌, length, Option, Some, None, Result, Ok, Err, is_ok, unwrap_or}
 use Rattle.std.specs.Result.{result_err}
-use Rattle.std.specs.List.{slice_split, list_all, flat_map}
+use Rattle.std.specs.List.{list_all, flat_map}
 use Rattle.relax_edges.specs.declared.TheConstants.{MAX_EDGES}
 use Rattle.relax_edges.specs.declared.kinds.ArchName.{ArchName}
 use Rattle.relax_edges.specs.declared.edge.Edge.{Edge}

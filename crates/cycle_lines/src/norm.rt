@@ -6,7 +6,7 @@ ghost use Rattle.cycle_lines.specs.Normed.{name_line, Norms, WritesLast, last_li
 use crate::errors::{LinesError, NormError};
 use crate::reader::{Line, LineReader};
 use arrayvec::ArrayString;
-use cycle_names::{MAX_NAME, name_and_rotation, push_words};
+use cycle_names::{MAX_NAME, name_and_words};
 use diy_io::{Failed, Page, Sink, Source};
 use edge_algebra::Cycle;
 use relax_edges::ArchName;
@@ -34,13 +34,13 @@ pub fn norm_lines<I: Source, O: Sink>(
 {
     let mut reader = LineReader::new();
     let mut page = Page::new();
-    let mut words: ArrayString<MAX_NAME> = ArrayString::new();
+    let mut name: ArrayString<MAX_NAME> = ArrayString::new();
     let mut line: ArrayString<MAX_NAME_LINE> = ArrayString::new();
     loop {
         let number = reader.line();
         match reader.next_line(arch) {
             Line::Cycle(cycle) => {
-                match send_line(&cycle, &mut words, &mut line, &mut page, out) {
+                match send_line(&cycle, &mut name, &mut line, &mut page, out) {
                     Ok(()) => {}
                     Err(Failed) => return Err(NormError::OutFault),
                 }
@@ -102,44 +102,38 @@ fn write_last<O: Sink>(cycle: &Option<Cycle>, out: &mut O) -> Result<(), NormErr
 pub fn write_name_line<O: Sink>(cycle: &Cycle, out: &mut O) -> Result<(), Failed>
     ensures { Wrote (O.seen out.old) (O.seen out.new) (name_line cycle.now) result }
 {
-    let mut words: ArrayString<MAX_NAME> = ArrayString::new();
+    let mut name: ArrayString<MAX_NAME> = ArrayString::new();
     let mut line: ArrayString<MAX_NAME_LINE> = ArrayString::new();
-    make_line(cycle, &mut words, &mut line);
+    make_line(cycle, &mut name, &mut line);
     out.write_all(line.as_str().as_bytes())
 }
 
-/// Sends the line of a cycle by way of a page, as a whole. What `words` and `line` held doesn't
+/// Sends the line of a cycle by way of a page, as a whole. What `name` and `line` held doesn't
 /// count.
 fn send_line<O: Sink>(
     cycle: &Cycle,
-    words: &mut ArrayString<MAX_NAME>,
+    name: &mut ArrayString<MAX_NAME>,
     line: &mut ArrayString<MAX_NAME_LINE>,
     page: &mut Page,
     out: &mut O,
 ) -> Result<(), Failed>
     ensures { Sends (O.seen out.old) page.old (O.seen out.new) page.new (name_line cycle.now) result }
 {
-    make_line(cycle, words, line);
+    make_line(cycle, name, line);
     page.spill(out)?;
     page.put(line.as_str().as_bytes());
     Ok(())
 }
 
-/// Makes `line` the line of a cycle; its name and its edges are made in `words` before. What they
-/// held doesn't count.
-fn make_line(
-    cycle: &Cycle,
-    words: &mut ArrayString<MAX_NAME>,
-    line: &mut ArrayString<MAX_NAME_LINE>,
-)
+/// Makes `line` the line of a cycle, and `name` its name. What they held doesn't count.
+fn make_line(cycle: &Cycle, name: &mut ArrayString<MAX_NAME>, line: &mut ArrayString<MAX_NAME_LINE>)
     ensures { line.new.bytes ≡ name_line cycle.now }
 {
-    let rotation = name_and_rotation(cycle, words);
+    let mut words: ArrayString<MAX_NAME> = ArrayString::new();
+    name_and_words(cycle, name, &mut words);
     line.clear();
-    line.push_str(words.as_str());
+    line.push_str(name.as_str());
     line.push_str(": ");
-    words.clear();
-    push_words(rotation.edges(), " ", words);
     line.push_str(words.as_str());
     line.push_str("\n");
 }

@@ -40,6 +40,9 @@ unfolding name_of name_from
 name_in_family u f place h =
     ap (λ o. name_from o (named_rotation u)) h.found ∙ ap (λ v. family_word f ++ links_text (link_words v)) h.named
 
+pub named_at_is : (u : List Edge) (f : Family) (place : ℕ) → IsNamedAt u f place → named_rotation u ≡ rotated place u
+named_at_is u f place h = h.named
+
 -- the name that is written of another cycle
 pub name_in_none : (u v : List Edge) → IsCycle u → found_family u ≡ None → IsLeast u v → name_of u ≡ codes "C+" ++ join_by word_of (codes "-") v
 unfolding name_of name_from

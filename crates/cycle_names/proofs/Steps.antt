@@ -1,6 +1,6 @@
 -- Steps of reading a name and of looking at its links: what one edge more means.
-use Rattle.std.specs.Prelude.{◌≡◌, ◌<◌, ◌≤◌, ◌+◌, ◌-◌, ◌&&◌, ◌||◌, ℕ, suc, Bool, true, false, not, Option, Some, None, Result, IsOk, List, [], ◌∷◌, ◌++◌, length, take, drop}
-use Rattle.std.specs.List.{list_all, slice_split, position_or_len, onto_first}
+use Rattle.std.specs.Prelude.{◌≡◌, ◌<◌, ◌≤◌, ◌+◌, ◌-◌, ◌&&◌, ℕ, suc, true, false, Option, Some, None, Result, IsOk, List, [], ◌∷◌, ◌++◌, length, take, drop}
+use Rattle.std.specs.List.{slice_split, position_or_len, onto_first}
 use Rattle.std.proofs.Common.{refl, sym, ◌∙◌, ap, arith, get_or, append_assoc, length-append}
 use Rattle.std.proofs.lemmas.Bool.{and_parts, cond-true, cond-false}
 use Rattle.std.proofs.lemmas.List.{take_all, append-nil}
@@ -20,11 +20,10 @@ use Rattle.relax_edges.specs.Spelling.{edge_of}
 use Rattle.relax_edges.specs.AllEdges.{edges_in_order}
 use Rattle.relax_edges.proofs.Ranks.{rank_injective, rank_below}
 use Rattle.relax_edges.proofs.RelaxWords.{position_or_len-no}
-use Rattle.cycle_names.specs.Links.{link_word, link_words}
+use Rattle.cycle_names.specs.Links.{link_word}
 use Rattle.cycle_names.specs.Reading.{is_dash, is_link, link_between, link_with, first_mark, marked_between, marked_along, before, first_word, behind_word, filled_each, edges_spelled, Adds}
 use Rattle.cycle_names.proofs.Tables.{link_found_back}
 use Rattle.cycle_names.proofs.Members.{find_none}
-use Rattle.cycle_names.proofs.Texts.{all_links_cons}
 
 -- a list without its first element, as slice patterns give it
 abbrev rest_of : {A : Type 0} → List A → List A

@@ -1,11 +1,13 @@
-ghost use Rattle.std.specs.Prelude.{◌≡◌};
+ghost use Rattle.std.specs.Prelude.{◌≡◌, codes};
+ghost use Rattle.std.specs.List.{join_by};
+ghost use Rattle.relax_edges.specs.Words.{word_of};
 ghost use Rattle.cycle_names.specs.Rotations.{family_of, named_rotation};
 ghost use Rattle.cycle_names.specs.Names.{name_of};
 ghost use Rattle.cycle_names.specs.Laws.{IsName};
 
 use crate::family::Family;
 use crate::fit::{found_family, named_fit};
-use crate::words::{push_links, push_words};
+use crate::words::{push_both, push_links, push_words};
 use arrayvec::ArrayString;
 use edge_algebra::Cycle;
 
@@ -14,7 +16,8 @@ pub const MAX_NAME: usize = 800;
 
 /// The family of a cycle: that of the table of which some rotation of the cycle has the external
 /// edges at their places and, for each `PodXY`, an edge from X to Y that leads to another location
-/// in its thread. `Other` where there is none. No cycle is of two families.
+/// in its thread, whatever their marks, where each event between two external edges is plain.
+/// `Other` where there is none. No cycle is of two families.
 pub fn family_of(cycle: &Cycle) -> Family
     ensures { result ≡ family_of cycle.now }
 {
@@ -26,19 +29,11 @@ pub fn family_of(cycle: &Cycle) -> Family
 ///
 /// The name of a cycle of a family is the family's word alone where all its links are plain
 /// program order; else the word of the links and an `s` where they are all alike; else the word of
-/// each. Of the rotations that fit the family, the one counts whose list of words comes first. Every
-/// other cycle is named `C+` and the words of the edges of its normal form, joined by `-`.
+/// each. The word of a link with marks ends in their letters, as `popl`. Of the rotations that fit
+/// the family, the one counts whose list of words comes first. Every other cycle is named `C+` and
+/// the words of the edges of its normal form, joined by `-`.
 pub fn name_of(cycle: &Cycle, out: &mut ArrayString<MAX_NAME>)
     ensures name { out.new.bytes ≡ name_of cycle.now }
-    ensures form { IsName out.new.bytes }
-{
-    name_and_rotation(cycle, out);
-}
-
-/// Makes `out` the name of a cycle, and gives the rotation of the cycle that it is named from.
-pub fn name_and_rotation(cycle: &Cycle, out: &mut ArrayString<MAX_NAME>) -> Cycle
-    ensures name { out.new.bytes ≡ name_of cycle.now }
-    ensures rotation { result ≡ named_rotation cycle.now }
     ensures form { IsName out.new.bytes }
 {
     out.clear();
@@ -47,13 +42,38 @@ pub fn name_and_rotation(cycle: &Cycle, out: &mut ArrayString<MAX_NAME>) -> Cycl
             let rotation = cycle.rotate(fit.place as u8);
             out.push_str(fit.family.word());
             push_links(rotation.edges(), out);
-            rotation
         }
         None => {
             let rotation = cycle.least();
             out.push_str("C+");
             push_words(rotation.edges(), "-", out);
-            rotation
+        }
+    }
+}
+
+/// Makes `name` the name of a cycle, and `words` the words of the edges of the rotation that it is
+/// named from, joined by blanks, whatever they held.
+pub fn name_and_words(
+    cycle: &Cycle,
+    name: &mut ArrayString<MAX_NAME>,
+    words: &mut ArrayString<MAX_NAME>,
+)
+    ensures name { name.new.bytes ≡ name_of cycle.now }
+    ensures words { words.new.bytes ≡ join_by word_of (codes " ") (named_rotation cycle.now) }
+{
+    name.clear();
+    words.clear();
+    match named_fit(cycle.edges()) {
+        Some(fit) => {
+            let rotation = cycle.rotate(fit.place as u8);
+            name.push_str(fit.family.word());
+            push_links(rotation.edges(), name);
+            push_words(rotation.edges(), " ", words);
+        }
+        None => {
+            let normal = cycle.least();
+            name.push_str("C+");
+            push_both(normal.edges(), name, words);
         }
     }
 }

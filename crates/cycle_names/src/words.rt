@@ -100,7 +100,7 @@ fn push_each(edges: &[Edge], name: &mut Name)
 }
 
 /// Adds the words of some edges, joined by a byte, to a text of at most 16 bytes.
-pub fn push_words(edges: &[Edge], between: &str, name: &mut Name)
+pub(crate) fn push_words(edges: &[Edge], between: &str, name: &mut Name)
     requires few { length edges.now ≤ MAX_EDGES }
     requires one { length between.now ≡ 1 }
     requires room { length name.old.bytes ≤ 16 }
@@ -137,6 +137,55 @@ fn push_behind(edges: &[Edge], between: &str, name: &mut Name)
             name.push_str(between);
             push_word(*edge, name);
             push_behind(rest, between, name);
+        }
+    }
+}
+
+/// Adds the words of some edges to two texts, joined by `-` in the one and by blanks in the other.
+pub(crate) fn push_both(edges: &[Edge], name: &mut Name, words: &mut Name)
+    requires few { length edges.now ≤ MAX_EDGES }
+    requires name_room { length name.old.bytes ≤ 16 }
+    requires words_room { length words.old.bytes ≤ 16 }
+    ensures name { name.new.bytes ≡ name.old.bytes ++ join_by word_of (codes "-") edges.now }
+    ensures words { words.new.bytes ≡ words.old.bytes ++ join_by word_of (codes " ") edges.now }
+{
+    match edges {
+        [] => {}
+        [edge, rest @ ..] => {
+            push_word_twice(*edge, name, words);
+            push_both_behind(rest, name, words);
+        }
+    }
+}
+
+fn push_word_twice(edge: Edge, name: &mut Name, words: &mut Name)
+    requires name_room { length name.old.bytes + 14 ≤ MAX_NAME }
+    requires words_room { length words.old.bytes + 14 ≤ MAX_NAME }
+    ensures name { name.new.bytes ≡ name.old.bytes ++ word_of edge }
+    ensures words { words.new.bytes ≡ words.old.bytes ++ word_of edge }
+    ensures short { length name.new.bytes ≤ length name.old.bytes + 14 }
+    ensures words_short { length words.new.bytes ≤ length words.old.bytes + 14 }
+{
+    let mut word: ArrayString<16> = ArrayString::new();
+    edge.word(&mut word);
+    name.push_str(word.as_str());
+    words.push_str(word.as_str());
+}
+
+/// Adds the word of each edge, behind `-` and behind a blank.
+fn push_both_behind(edges: &[Edge], name: &mut Name, words: &mut Name)
+    requires name_room { length name.old.bytes + 15 * length edges.now ≤ MAX_NAME }
+    requires words_room { length words.old.bytes + 15 * length edges.now ≤ MAX_NAME }
+    ensures name { name.new.bytes ≡ name.old.bytes ++ flat_map (λ edge. codes "-" ++ word_of edge) edges.now }
+    ensures words { words.new.bytes ≡ words.old.bytes ++ flat_map (λ edge. codes " " ++ word_of edge) edges.now }
+{
+    match edges {
+        [] => {}
+        [edge, rest @ ..] => {
+            name.push_str("-");
+            words.push_str(" ");
+            push_word_twice(*edge, name, words);
+            push_both_behind(rest, name, words);
         }
     }
 }

@@ -1,4 +1,3 @@
-use Rattle.std.proofs.Common.{arith}
 use Rattle.diy_io.specs.PageLaws.{sent_nothing}
 use Rattle.cycle_lines.proofs.TableLaws.{each_entry, part_entry, unsent_err}
 use Rattle.cycle_lines.proofs.table.send_families.Goals as goal

@@ -6,9 +6,8 @@ use Rattle.cycle_names.specs.Families.{family_word}
 use Rattle.cycle_names.specs.Links.{link_words}
 use Rattle.cycle_names.specs.Names.{links_text}
 use Rattle.cycle_names.proofs.NameLaws.{names_of_cycles}
-use Rattle.cycle_names.proofs.Chosen.{least_named}
 use Rattle.cycle_names.proofs.CycleOf.{name_in_family, name_in_none}
-use Rattle.cycle_names.proofs.name.name_and_rotation.Goals as goal
+use Rattle.cycle_names.proofs.name.name_of.Goals as goal
 
 pub returns-in-Some-clause-name : goal.returns-in-Some-clause-name
 returns-in-Some-clause-name c =
@@ -23,10 +22,6 @@ returns-in-None-clause-name c =
     ∙ ap (λ w. w ++ join_by word_of (codes "-") c.edges-in-None.result.now) (c.push_str-in-None.ensures.bytes ∙ ap (λ w. w ++ codes "C+") c.clear.ensures)
     ∙ ap (λ v. codes "C+" ++ join_by word_of (codes "-") v) c.edges-in-None.ensures.value
     ∙ sym (name_in_none c.args.cycle.now c.least-rotation.result c.edges.ensures.composable (rw (← c.edges.ensures.value) c.in-None.ensures) c.least-rotation.ensures)
-
-pub returns-in-None-clause-rotation : goal.returns-in-None-clause-rotation
-returns-in-None-clause-rotation c =
-    sym (least_named c.args.cycle.now c.least-rotation.result c.edges.ensures.composable.some (rw (← c.edges.ensures.value) c.in-None.ensures) c.least-rotation.ensures)
 
 pub returns-in-Some-clause-form : goal.returns-in-Some-clause-form
 returns-in-Some-clause-form c = rw (returns-in-Some-clause-name c) (names_of_cycles c.args.cycle.now c.edges.ensures.composable)
