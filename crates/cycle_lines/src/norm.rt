@@ -35,12 +35,13 @@ pub fn norm_lines<I: Source, O: Sink>(
     let mut reader = LineReader::new();
     let mut page = Page::new();
     let mut name: ArrayString<MAX_NAME> = ArrayString::new();
+    let mut words: ArrayString<MAX_NAME> = ArrayString::new();
     let mut line: ArrayString<MAX_NAME_LINE> = ArrayString::new();
     loop {
         let number = reader.line();
         match reader.next_line(arch) {
             Line::Cycle(cycle) => {
-                match send_line(&cycle, &mut name, &mut line, &mut page, out) {
+                match send_line(&cycle, &mut name, &mut words, &mut line, &mut page, out) {
                     Ok(()) => {}
                     Err(Failed) => return Err(NormError::OutFault),
                 }
@@ -103,34 +104,41 @@ pub fn write_name_line<O: Sink>(cycle: &Cycle, out: &mut O) -> Result<(), Failed
     ensures { Wrote (O.seen out.old) (O.seen out.new) (name_line cycle.now) result }
 {
     let mut name: ArrayString<MAX_NAME> = ArrayString::new();
+    let mut words: ArrayString<MAX_NAME> = ArrayString::new();
     let mut line: ArrayString<MAX_NAME_LINE> = ArrayString::new();
-    make_line(cycle, &mut name, &mut line);
+    make_line(cycle, &mut name, &mut words, &mut line);
     out.write_all(line.as_str().as_bytes())
 }
 
-/// Sends the line of a cycle by way of a page, as a whole. What `name` and `line` held doesn't
-/// count.
+/// Sends the line of a cycle by way of a page, as a whole. What `name`, `words` and `line` held
+/// doesn't count.
 fn send_line<O: Sink>(
     cycle: &Cycle,
     name: &mut ArrayString<MAX_NAME>,
+    words: &mut ArrayString<MAX_NAME>,
     line: &mut ArrayString<MAX_NAME_LINE>,
     page: &mut Page,
     out: &mut O,
 ) -> Result<(), Failed>
     ensures { Sends (O.seen out.old) page.old (O.seen out.new) page.new (name_line cycle.now) result }
 {
-    make_line(cycle, name, line);
+    make_line(cycle, name, words, line);
     page.spill(out)?;
     page.put(line.as_str().as_bytes());
     Ok(())
 }
 
-/// Makes `line` the line of a cycle, and `name` its name. What they held doesn't count.
-fn make_line(cycle: &Cycle, name: &mut ArrayString<MAX_NAME>, line: &mut ArrayString<MAX_NAME_LINE>)
+/// Makes `line` the line of a cycle, `name` its name and `words` its edges. What they held doesn't
+/// count.
+fn make_line(
+    cycle: &Cycle,
+    name: &mut ArrayString<MAX_NAME>,
+    words: &mut ArrayString<MAX_NAME>,
+    line: &mut ArrayString<MAX_NAME_LINE>,
+)
     ensures { line.new.bytes ≡ name_line cycle.now }
 {
-    let mut words: ArrayString<MAX_NAME> = ArrayString::new();
-    name_and_words(cycle, name, &mut words);
+    name_and_words(cycle, name, words);
     line.clear();
     line.push_str(name.as_str());
     line.push_str(": ");
