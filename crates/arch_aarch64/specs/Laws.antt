@@ -8,7 +8,8 @@ use Rattle.micro_ops.specs.Machine.{num, bit}
 use Rattle.micro_ops.specs.Running.{Run, At, go}
 use Rattle.micro_ops.proofs.Rules.{holding, after_branch, run_add_imm, run_load_index, run_load_index_wants, run_store_index, run_branch_nz}
 use Rattle.arch_trait.specs.Laws.{DidLink, IsArch}
-use Rattle.arch_laws.proofs.Addressed.{KeepsInstructions, same_run, keeps_laws}
+use Rattle.arch_laws.proofs.AddressedInstructions.{KeepsInstructions, same_run}
+use Rattle.arch_laws.proofs.Addressed.{keeps_laws}
 use Rattle.form_laws.specs.Tables.{fits}
 use Rattle.form_laws.proofs.Barriers.{fences_had}
 use Rattle.arch_aarch64.specs.Table.{forms, table}

@@ -2,7 +2,7 @@
 use Rattle.std.proofs.Common.{refl}
 use Rattle.arch_trait.specs.Cells.{WritesCells, MakesOneAccess}
 use Rattle.arch_trait.specs.Forms.{register_names}
-use Rattle.arch_laws.proofs.Addressed.{accesses_once}
+use Rattle.arch_laws.proofs.AddressedOnce.{accesses_once}
 use Rattle.form_laws.proofs.InCells as tables
 use Rattle.arch_power.specs.Puts.{puts, instructions}
 use Rattle.arch_power.specs.Table.{table, numbered, writing}

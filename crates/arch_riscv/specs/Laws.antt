@@ -11,7 +11,8 @@ use Rattle.micro_ops.proofs.Masks.{zero_or}
 use Rattle.micro_ops.proofs.Rules.{holding, after_branch, run_or_imm, run_add_address, run_load, run_load_wants, run_store, run_branch_nz}
 use Rattle.arch_trait.specs.Laws.{DidLink, IsWanting, IsArch}
 use Rattle.arch_trait.proofs.Accesses.{written_same, written_other}
-use Rattle.arch_laws.proofs.Addressed.{LoadsBy, StoresBy, KeepsInstructions, but_address, keeps_laws}
+use Rattle.arch_laws.proofs.AddressedInstructions.{LoadsBy, StoresBy, KeepsInstructions, but_address}
+use Rattle.arch_laws.proofs.Addressed.{keeps_laws}
 use Rattle.form_laws.specs.Tables.{fits}
 use Rattle.form_laws.proofs.Barriers.{fences_had}
 use Rattle.arch_riscv.specs.Table.{forms, table}

@@ -1,0 +1,269 @@
+-- What an architecture whose accesses name a register with the address shows of its own instructions, and what follows for
+-- the code of a single access.
+use Rattle.std.proofs.Common.{ℕ, ◌<◌, ◌≤◌, ◌≡◌, ◌==◌, refl, true, false, bit_or, List, [], ◌∷◌, ◌++◌, None, length, ◌∙◌, ap, arith}
+use Rattle.std.specs.List.{list_all}
+use Rattle.std.proofs.lemmas.Bool.{and_from}
+use Rattle.std.proofs.lemmas.List.Folds.{list_all-append}
+use Rattle.relax_edges.specs.EdgeTable.{fence_is_of, mark_fits, mark_is_of}
+use Rattle.relax_edges.specs.declared.kinds.ArchName.{ArchName}
+use Rattle.relax_edges.specs.declared.kinds.ArchName.TheVariants as archs
+use Rattle.relax_edges.specs.declared.kinds.Mark.{Mark}
+use Rattle.relax_edges.specs.declared.kinds.Mark.TheVariants.{Plain, Acquire, Release}
+use Rattle.relax_edges.specs.declared.kinds.FenceKind.{FenceKind}
+use Rattle.relax_edges.specs.declared.kinds.Dir.TheVariants as dirs
+use Rattle.relax_edges.specs.declared.kinds.FenceKind.TheVariants as fences
+use Rattle.micro_ops.specs.declared.operation.Micro.{Micro}
+use Rattle.micro_ops.specs.declared.operation.Micro.TheVariants as ops
+use Rattle.micro_ops.specs.declared.operation.Barrier.TheVariants as barriers
+use Rattle.micro_ops.specs.Machine.{num, address, at_place, bit}
+use Rattle.micro_ops.specs.Running.{Run, At, Wants, go, exec, labels_of, lands}
+use Rattle.micro_ops.proofs.Rules.{holding, after_load, after_store, run_load, run_load_wants, run_load_acquire, run_load_acquire_wants, run_store, run_store_release, run_add_to_address}
+use Rattle.micro_ops.proofs.Laws.{labels_append, lands_append}
+use Rattle.arch_trait.specs.declared.link.Link.TheVariants as links
+use Rattle.arch_trait.specs.Links.{link_is_of}
+use Rattle.arch_trait.specs.Laws.{DidLink, IsWanting, is_at}
+use Rattle.arch_trait.specs.Addressed.{Instructions, load_op, store_op, load_through, store_through}
+use Rattle.arch_trait.proofs.Accesses.{written_same, written_other}
+
+-- two runs differ in one register alone
+pub record IsBut (d : ℕ) (r u : Run) : Type 0 where
+  pub regs : (s : ℕ) → (s == d) ≡ false → u.state.regs s ≡ r.state.regs s
+  pub made : u.made ≡ r.made
+  pub control : u.state.control ≡ r.state.control
+  pub loads : u.state.loads ≡ r.state.loads
+  pub reads : u.reads ≡ r.reads
+
+pub same_run : (d : ℕ) (r : Run) → IsBut d r r
+same_run d r = record {
+  regs = λ s e. refl;
+  made = refl;
+  control = refl;
+  loads = refl;
+  reads = refl;
+}
+
+-- a run of code ends with a load of a mark, and changes one register before it
+pub record LoadsBy (mark : Mark) (code : List Micro) (r : Run) (d v p n mask : ℕ) (vs : List ℕ) : Type 0 where
+  pub before : Run
+  pub ran : exec code (At r) ≡ At (after_load mark before v p n mask vs)
+  pub same : IsBut d r before
+
+-- a run of code ends with a store of a mark, and changes one register before it
+pub record StoresBy (mark : Mark) (code : List Micro) (r : Run) (d p n mask : ℕ) : Type 0 where
+  pub before : Run
+  pub ran : exec code (At r) ≡ At (after_store mark before p n mask 0)
+  pub same : IsBut d r before
+
+-- code of at most two operations without a label, a branch or a place
+pub record IsShort (code : List Micro) : Type 0 where
+  pub room : length code ≤ 2
+  pub labels : labels_of code ≡ []
+  pub lands : lands code ≡ true
+  pub no_place : (p : ℕ) → list_all (is_at p) code ≡ true
+
+-- the instructions of accesses that have a mark are the architecture's
+pub record HasMarked (own : Instructions) : Type 0 where
+  pub acquire : (v a : ℕ) → v < own.registers → a < own.registers → own.has (ops.LoadAcq v a) ≡ true
+  pub release : (v a : ℕ) → v < own.registers → a < own.registers → own.has (ops.StoreRel v a) ≡ true
+  pub sum : (d a : ℕ) → d < own.registers → a < own.registers → own.has (ops.Add d a d) ≡ true
+
+-- what the instructions of an architecture keep
+pub record KeepsInstructions (own : Instructions) : Type 0 where
+  pub few : own.registers ≤ 32
+  pub branch_runs : (s n v k : ℕ) (r : Run) → r.state.regs s ≡ num v (bit k) →
+      DidLink (own.branch s n ++ ops.Label n ∷ []) r [] (bit_or r.state.control (bit k))
+  pub branch_room : (s n : ℕ) → length (own.branch s n) ≤ 2
+  pub branch_labels : (s n : ℕ) (rest : List Micro) →
+      labels_of (own.branch s n ++ ops.Label n ∷ rest) ≡ n ∷ labels_of rest
+  pub branch_lands : (s n : ℕ) (rest : List Micro) → lands rest ≡ true →
+      lands (own.branch s n ++ ops.Label n ∷ rest) ≡ true
+  pub branch_no_place : (s n p : ℕ) (rest : List Micro) → list_all (is_at p) rest ≡ true →
+      list_all (is_at p) (own.branch s n ++ ops.Label n ∷ rest) ≡ true
+  pub branch_has : (s n : ℕ) (rest : List Micro) → s < own.registers → list_all own.has rest ≡ true →
+      list_all own.has (own.branch s n ++ ops.Label n ∷ rest) ≡ true
+  pub fence_has : (kind : FenceKind) → fence_is_of kind own.name ≡ true →
+      own.has (ops.Barrier (barriers.Fence kind)) ≡ true
+  pub isync_has : link_is_of links.CtrlIsync own.name ≡ true →
+      own.has (ops.Barrier (barriers.Fence fences.ISync)) ≡ true
+  pub isb_has : link_is_of links.CtrlIsb own.name ≡ true → own.has (ops.Barrier barriers.Isb) ≡ true
+  pub load_runs : (d v a p n mask : ℕ) (vs : List ℕ) (r : Run) → r.state.regs a ≡ at_place p →
+      r.state.regs d ≡ num 0 mask → r.reads ≡ n ∷ vs → LoadsBy Plain (own.load d v a) r d v p n mask vs
+  pub load_wants : (d v a p mask : ℕ) (r : Run) → r.state.regs a ≡ at_place p →
+      r.state.regs d ≡ num 0 mask → r.reads ≡ [] → IsWanting (exec (own.load d v a) (At r))
+  pub load_short : (d v a : ℕ) → IsShort (own.load d v a)
+  pub load_has : (d v a : ℕ) → d < own.registers → v < own.registers → a < own.registers →
+      list_all own.has (own.load d v a) ≡ true
+  pub store_runs : (d v a p n mask : ℕ) (r : Run) → r.state.regs a ≡ at_place p →
+      r.state.regs d ≡ num 0 mask → r.state.regs v ≡ num n 0 → (v == d) ≡ false →
+      StoresBy Plain (own.store d v a) r d p n mask
+  pub store_short : (d v a : ℕ) → IsShort (own.store d v a)
+  pub store_has : (d v a : ℕ) → d < own.registers → v < own.registers → a < own.registers →
+      list_all own.has (own.store d v a) ≡ true
+  pub joins_runs : (d n mask : ℕ) (r : Run) → n < 256 → r.state.regs d ≡ num 0 mask →
+      go (own.joins d n) (At r) ≡ At (holding r d (num n mask))
+  pub joins_short : (d n : ℕ) → IsShort (own.joins d n ∷ [])
+  pub joins_has : (d n : ℕ) → d < own.registers → n < 256 → own.has (own.joins d n) ≡ true
+  pub xor_has : (d s : ℕ) → d < own.registers → s < own.registers → own.has (ops.Xor d s s) ≡ true
+  pub imm_has : (d n : ℕ) → d < own.registers → n < 256 → own.has (ops.Imm d n) ≡ true
+  pub plain_load_has : (v a : ℕ) → v < own.registers → a < own.registers →
+      own.has (ops.Load v a None) ≡ true
+  pub plain_store_has : (v a : ℕ) → v < own.registers → a < own.registers →
+      own.has (ops.Store v a None) ≡ true
+  pub marked_has : mark_is_of Acquire own.name ≡ true → HasMarked own
+
+-- a load of a mark at the address in a register, and a store
+pub load_op_runs : (mark : Mark) → mark_fits dirs.R mark ≡ true → (v a p n mask : ℕ) (vs : List ℕ) (r : Run) →
+    r.state.regs a ≡ address p mask → r.reads ≡ n ∷ vs →
+    go (load_op mark v a) (At r) ≡ At (after_load mark r v p n mask vs)
+load_op_runs Plain fits v a p n mask vs r e reads = run_load v a p n mask vs r e reads
+load_op_runs Acquire fits v a p n mask vs r e reads = run_load_acquire v a p n mask vs r e reads
+load_op_runs Release fits v a p n mask vs r e reads = cc
+
+pub load_op_wants : (mark : Mark) (v a p mask : ℕ) (r : Run) → r.state.regs a ≡ address p mask → r.reads ≡ [] →
+    go (load_op mark v a) (At r) ≡ Wants r
+load_op_wants Plain v a p mask r e reads = run_load_wants v a p mask r e reads
+load_op_wants Acquire v a p mask r e reads = run_load_acquire_wants v a p mask r e reads
+load_op_wants Release v a p mask r e reads = run_load_wants v a p mask r e reads
+
+pub store_op_runs : (mark : Mark) → mark_fits dirs.W mark ≡ true → (v a p n mask data_mask : ℕ) (r : Run) →
+    r.state.regs a ≡ address p mask → r.state.regs v ≡ num n data_mask →
+    go (store_op mark v a) (At r) ≡ At (after_store mark r p n mask data_mask)
+store_op_runs Plain fits v a p n mask data_mask r e holds = run_store v a p n mask data_mask r e holds
+store_op_runs Release fits v a p n mask data_mask r e holds = run_store_release v a p n mask data_mask r e holds
+store_op_runs Acquire fits v a p n mask data_mask r e holds = cc
+
+-- once the address is in a register, the others are as they were
+pub but_address : (d p mask : ℕ) (r : Run) → IsBut d r (holding r d (address p mask))
+but_address d p mask r = record {
+  regs = λ s e. written_other r.state.regs d s (address p mask) e;
+  made = refl;
+  control = refl;
+  loads = refl;
+  reads = refl;
+}
+
+-- the same at an address that depends on a register
+pub load_through_runs : (own : Instructions) → KeepsInstructions own → (mark : Mark) → mark_fits dirs.R mark ≡ true →
+    (d v a p n mask : ℕ) (vs : List ℕ) (r : Run) → r.state.regs a ≡ at_place p →
+    r.state.regs d ≡ num 0 mask → r.reads ≡ n ∷ vs → LoadsBy mark (load_through own mark d v a) r d v p n mask vs
+load_through_runs own keeps Plain fits d v a p n mask vs r e g reads = keeps.load_runs d v a p n mask vs r e g reads
+load_through_runs own keeps Acquire fits d v a p n mask vs r e g reads =
+    let u = holding r d (address p mask) in
+    record {
+      before = u;
+      ran =
+          ap (λ x. go (ops.LoadAcq v d) x) (run_add_to_address d a d p mask r e g) ∙
+          run_load_acquire v d p n mask vs u (written_same r.state.regs d (address p mask)) reads;
+      same = but_address d p mask r;
+    }
+load_through_runs own keeps Release fits d v a p n mask vs r e g reads = cc
+
+pub load_through_wants : (own : Instructions) → KeepsInstructions own → (mark : Mark) (d v a p mask : ℕ) (r : Run) →
+    r.state.regs a ≡ at_place p → r.state.regs d ≡ num 0 mask → r.reads ≡ [] →
+    IsWanting (exec (load_through own mark d v a) (At r))
+load_through_wants own keeps Plain d v a p mask r e g reads = keeps.load_wants d v a p mask r e g reads
+load_through_wants own keeps Release d v a p mask r e g reads = keeps.load_wants d v a p mask r e g reads
+load_through_wants own keeps Acquire d v a p mask r e g reads =
+    let u = holding r d (address p mask) in
+    record {
+      run = u;
+      is =
+          ap (λ x. go (ops.LoadAcq v d) x) (run_add_to_address d a d p mask r e g) ∙
+          run_load_acquire_wants v d p mask u (written_same r.state.regs d (address p mask)) reads;
+    }
+
+pub store_through_runs : (own : Instructions) → KeepsInstructions own → (mark : Mark) → mark_fits dirs.W mark ≡ true →
+    (d v a p n mask : ℕ) (r : Run) → r.state.regs a ≡ at_place p → r.state.regs d ≡ num 0 mask →
+    r.state.regs v ≡ num n 0 → (v == d) ≡ false → StoresBy mark (store_through own mark d v a) r d p n mask
+store_through_runs own keeps Plain fits d v a p n mask r e g holds apart =
+    keeps.store_runs d v a p n mask r e g holds apart
+store_through_runs own keeps Release fits d v a p n mask r e g holds apart =
+    let u = holding r d (address p mask) in
+    record {
+      before = u;
+      ran =
+          ap (λ x. go (ops.StoreRel v d) x) (run_add_to_address d a d p mask r e g) ∙
+          run_store_release v d p n mask 0 u (written_same r.state.regs d (address p mask))
+          (written_other r.state.regs d v (address p mask) apart ∙ holds);
+      same = but_address d p mask r;
+    }
+store_through_runs own keeps Acquire fits d v a p n mask r e g holds apart = cc
+
+pub load_through_short : (own : Instructions) → KeepsInstructions own → (mark : Mark) (d v a : ℕ) →
+    IsShort (load_through own mark d v a)
+load_through_short own keeps Plain d v a = keeps.load_short d v a
+load_through_short own keeps Release d v a = keeps.load_short d v a
+load_through_short own keeps Acquire d v a =
+    record { room = omega arith; labels = refl; lands = refl; no_place = λ p. refl }
+
+pub store_through_short : (own : Instructions) → KeepsInstructions own → (mark : Mark) (d v a : ℕ) →
+    IsShort (store_through own mark d v a)
+store_through_short own keeps Plain d v a = keeps.store_short d v a
+store_through_short own keeps Acquire d v a = keeps.store_short d v a
+store_through_short own keeps Release d v a =
+    record { room = omega arith; labels = refl; lands = refl; no_place = λ p. refl }
+
+pub load_op_short : (mark : Mark) (v a : ℕ) → IsShort (load_op mark v a ∷ [])
+load_op_short Plain v a = record { room = omega arith; labels = refl; lands = refl; no_place = λ p. refl }
+load_op_short Acquire v a = record { room = omega arith; labels = refl; lands = refl; no_place = λ p. refl }
+load_op_short Release v a = record { room = omega arith; labels = refl; lands = refl; no_place = λ p. refl }
+
+store_op_short : (mark : Mark) (v a : ℕ) → IsShort (store_op mark v a ∷ [])
+store_op_short Plain v a = record { room = omega arith; labels = refl; lands = refl; no_place = λ p. refl }
+store_op_short Acquire v a = record { room = omega arith; labels = refl; lands = refl; no_place = λ p. refl }
+store_op_short Release v a = record { room = omega arith; labels = refl; lands = refl; no_place = λ p. refl }
+
+-- an operation and a store
+pub both_short : (first : Micro) (mark : Mark) (v a : ℕ) → IsShort (first ∷ []) → IsShort (first ∷ store_op mark v a ∷ [])
+both_short first mark v a short =
+    let store = store_op_short mark v a in
+    let store_code = store_op mark v a ∷ [] in
+    record {
+      room = omega arith;
+      labels =
+          labels_append (first ∷ []) store_code ∙ (ap (λ l. l ++ labels_of store_code) short.labels ∙ store.labels);
+      lands = lands_append (first ∷ []) store_code short.lands store.lands;
+      no_place = λ p.
+          list_all-append (is_at p) (first ∷ []) store_code ∙
+          and_from _ _ (short.no_place p) (store.no_place p);
+    }
+
+pub imm_short : (d n : ℕ) → IsShort (ops.Imm d n ∷ [])
+imm_short d n = record { room = omega arith; labels = refl; lands = refl; no_place = λ p. refl }
+
+-- an architecture that has store-releases has load-acquires
+release_acquire : (arch : ArchName) → mark_is_of Release arch ≡ true → mark_is_of Acquire arch ≡ true
+release_acquire archs.X86 e = e
+release_acquire archs.PPC e = e
+release_acquire archs.AArch64 e = e
+release_acquire archs.RISCV e = e
+
+pub load_op_has : (own : Instructions) → KeepsInstructions own → (mark : Mark) → mark_is_of mark own.name ≡ true →
+    (v a : ℕ) → v < own.registers → a < own.registers → own.has (load_op mark v a) ≡ true
+load_op_has own keeps Plain e v a h k = keeps.plain_load_has v a h k
+load_op_has own keeps Acquire e v a h k = (keeps.marked_has e).acquire v a h k
+load_op_has own keeps Release e v a h k = keeps.plain_load_has v a h k
+
+pub store_op_has : (own : Instructions) → KeepsInstructions own → (mark : Mark) → mark_is_of mark own.name ≡ true →
+    (v a : ℕ) → v < own.registers → a < own.registers → own.has (store_op mark v a) ≡ true
+store_op_has own keeps Plain e v a h k = keeps.plain_store_has v a h k
+store_op_has own keeps Acquire e v a h k = keeps.plain_store_has v a h k
+store_op_has own keeps Release e v a h k = (keeps.marked_has (release_acquire own.name e)).release v a h k
+
+pub load_through_has : (own : Instructions) → KeepsInstructions own → (mark : Mark) → mark_is_of mark own.name ≡ true →
+    (d v a : ℕ) → d < own.registers → v < own.registers → a < own.registers →
+    list_all own.has (load_through own mark d v a) ≡ true
+load_through_has own keeps Plain e d v a h k l = keeps.load_has d v a h k l
+load_through_has own keeps Release e d v a h k l = keeps.load_has d v a h k l
+load_through_has own keeps Acquire e d v a h k l =
+    let has = keeps.marked_has e in
+    and_from _ _ (has.sum d a h l) (and_from _ true (has.acquire v d k h) refl)
+
+pub store_through_has : (own : Instructions) → KeepsInstructions own → (mark : Mark) → mark_is_of mark own.name ≡ true →
+    (d v a : ℕ) → d < own.registers → v < own.registers → a < own.registers →
+    list_all own.has (store_through own mark d v a) ≡ true
+store_through_has own keeps Plain e d v a h k l = keeps.store_has d v a h k l
+store_through_has own keeps Acquire e d v a h k l = keeps.store_has d v a h k l
+store_through_has own keeps Release e d v a h k l =
+    let has = keeps.marked_has (release_acquire own.name e) in
+    and_from _ _ (has.sum d a h l) (and_from _ true (has.release v d k h) refl)
