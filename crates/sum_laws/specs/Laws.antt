@@ -1,0 +1,6 @@
+-- Laws.
+-- Source: own.
+use Rattle.std.specs.Prelude.{◌≡◌, ℕ}
+
+abbrev pub SumsAreLogs : Type 0
+SumsAreLogs = Unit {0}
