@@ -164,7 +164,7 @@ mark_same m = mark_cases (λ x. same_mark x x ≡ true) refl refl m
 kind_is : (a b : Kind) → same_kind a b ≡ true → a ≡ b
 kind_is a b h = grind arith
 
-mark_is : (a b : Mark) → same_mark a b ≡ true → a ≡ b
+pub mark_is : (a b : Mark) → same_mark a b ≡ true → a ≡ b
 mark_is a b h = grind arith
 
 abbrev profile_of : List Fact → Profile
@@ -186,11 +186,11 @@ none_if false kind h = refl
 if_none : (b : Bool) (kind : LogKind) → b ≡ false → fault_if b kind ≡ None
 if_none b kind h = rw h refl
 
-map_first : {A B : Type 0} (f : A → B) (o p : Option A) → option_map f (or_first o p) ≡ or_first (option_map f o) (option_map f p)
+pub map_first : {A B : Type 0} (f : A → B) (o p : Option A) → option_map f (or_first o p) ≡ or_first (option_map f o) (option_map f p)
 map_first f None p = refl
 map_first f (Some x) p = refl
 
-bytes_is : (x y : List ℕ) → bytes_eq x y ≡ true → x ≡ y
+pub bytes_is : (x y : List ℕ) → bytes_eq x y ≡ true → x ≡ y
 bytes_is x y h = (bytes_eq-Decides x y).0 h
 
 row_fault : (facts : List Fact) (row : Row) → fault_of facts (a_row row) ≡ None → (is_other same_mark (mark_in row.state (rows facts)) row.mark ≡ false) × (nat_lt last_count (marked_sum row.mark (rows facts) + row.count) ≡ false)
@@ -260,21 +260,21 @@ is_none_other : {A : Type 0} (same : A → A → Bool) (o : Option A) (x : A) �
 is_none_other same None x h = refl
 is_none_other same (Some y) x h = rw (h y refl) refl
 
-kind_fits : (p : Profile) (facts : List Fact) (k : Kind) → AllOf (FitsTo p) facts → first_of (kinds facts) ≡ Some k → k ≡ p.kind
+pub kind_fits : (p : Profile) (facts : List Fact) (k : Kind) → AllOf (FitsTo p) facts → first_of (kinds facts) ≡ Some k → k ≡ p.kind
 kind_fits p [] k a e = absurd (cc)
 kind_fits p (a_kind kind ∷ facts) k a e = let same : kind ≡ k = cc in sym same ∙ a.0
 kind_fits p (a_row row ∷ facts) k a e = kind_fits p facts k a.1 e
 kind_fits p (a_condition text verdict ∷ facts) k a e = kind_fits p facts k a.1 e
 kind_fits p (a_hash text ∷ facts) k a e = kind_fits p facts k a.1 e
 
-condition_fits : (p : Profile) (facts : List Fact) (t : List ℕ) → AllOf (FitsTo p) facts → option_map (λ c. c.0) (first_of (conditions facts)) ≡ Some t → t ≡ p.text
+pub condition_fits : (p : Profile) (facts : List Fact) (t : List ℕ) → AllOf (FitsTo p) facts → option_map (λ c. c.0) (first_of (conditions facts)) ≡ Some t → t ≡ p.text
 condition_fits p [] t a e = absurd (cc)
 condition_fits p (a_kind kind ∷ facts) t a e = condition_fits p facts t a.1 e
 condition_fits p (a_row row ∷ facts) t a e = condition_fits p facts t a.1 e
 condition_fits p (a_condition text verdict ∷ facts) t a e = let same : text ≡ t = cc in sym same ∙ a.0
 condition_fits p (a_hash text ∷ facts) t a e = condition_fits p facts t a.1 e
 
-hash_fits : (p : Profile) (facts : List Fact) (t : List ℕ) → AllOf (FitsTo p) facts → first_of (hashes facts) ≡ Some t → t ≡ p.hash
+pub hash_fits : (p : Profile) (facts : List Fact) (t : List ℕ) → AllOf (FitsTo p) facts → first_of (hashes facts) ≡ Some t → t ≡ p.hash
 hash_fits p [] t a e = absurd (cc)
 hash_fits p (a_kind kind ∷ facts) t a e = hash_fits p facts t a.1 e
 hash_fits p (a_row row ∷ facts) t a e = hash_fits p facts t a.1 e

@@ -6,3 +6,5 @@ pub mod Printed
 pub mod Scans
 pub mod Agreeing
 pub mod Orders
+pub mod Sums
+pub mod Alike
