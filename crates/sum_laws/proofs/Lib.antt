@@ -8,3 +8,4 @@ pub mod Agreeing
 pub mod Orders
 pub mod Sums
 pub mod Alike
+pub mod Forms
