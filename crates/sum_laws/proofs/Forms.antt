@@ -109,7 +109,7 @@ unfolding head_of
 head_is e i = ap front_of (cut_is e i)
 
 -- what begins with a text
-begins_so : (text head : List ℕ) → begins_with text head ≡ true → text ≡ head ++ drop (length head) text
+pub begins_so : (text head : List ℕ) → begins_with text head ≡ true → text ≡ head ++ drop (length head) text
 begins_so text head h =
     let e : head ≡ take (length head) text = (bytes_eq-Decides head (take (length head) text)).0 h in
     sym (take-append-drop (length head) text) ∙ ap (λ t. t ++ drop (length head) text) (sym e)

@@ -9,3 +9,4 @@ pub mod Orders
 pub mod Sums
 pub mod Alike
 pub mod Forms
+pub mod Said
