@@ -1,6 +1,6 @@
 -- Facts that have no fault in any order: they agree.
 use Rattle.std.proofs.Common.{◌≡◌, ℕ, ◌+◌, ◌≤◌, List, [], ◌∷◌, ◌++◌, true, false, refl, sym, ap, ◌∙◌, arith, subst, append_assoc, append-nil, zero-add, Some, None}
-use Rattle.std.specs.Prelude.{Bool, not, cond, Option, map, filter, sum_by, nat_lt}
+use Rattle.std.specs.Prelude.{Bool, cond, Option, map, filter, sum_by, nat_lt}
 use Rattle.std.specs.Option.{option_map}
 use Rattle.std.specs.Str.{bytes_eq}
 use Rattle.std.proofs.lemmas.List.{map-append}
@@ -9,13 +9,13 @@ use Rattle.std.proofs.lemmas.List.Sums.{sum_by-append}
 use Rattle.std.proofs.lemmas.Slice.Eq.{bytes_eq-Decides}
 use Rattle.std.proofs.lemmas.Bool.Decides.{nat_tests}
 use Rattle.log_sum.specs.declared.errors.LogKind.{LogKind}
-use Rattle.log_sum.specs.declared.errors.LogKind.TheVariants.{MarkDiffers, HashDiffers, ConditionDiffers, SumTooLarge, KindDiffers}
+use Rattle.log_sum.specs.declared.errors.LogKind.TheVariants.{HashDiffers, ConditionDiffers, SumTooLarge, KindDiffers}
 use Rattle.log_sum.specs.Counts.{last_count}
 use Rattle.log_sum.specs.Facts.{Row, Fact, Entry, a_kind, a_row, a_condition, a_hash, kinds, rows, conditions, hashes, first_of, same_kind, same_mark, marked_sum, state_sum, mark_in, is_other, fault_if, fault_of, facts_of}
 use Rattle.log_sum.specs.Summed.{or_else}
 use Rattle.sum_laws.proofs.Cases.{Kind, Mark, Verdict, allowed, plain, kind_cases, mark_cases}
 use Rattle.sum_laws.proofs.Texts.{by_test, bytes_same, not_false}
-use Rattle.sum_laws.proofs.Blocks.{Clean, entry}
+use Rattle.sum_laws.proofs.Blocks.{Clean}
 use Rattle.sum_laws.proofs.Printed.{AllOf}
 
 pub all_of_both : {A : Type 0} (P : A → Type 0) (xs ys : List A) → AllOf P xs → AllOf P ys → AllOf P (xs ++ ys)
@@ -129,13 +129,15 @@ clean_facts before (e ∷ entries) name c =
 pub clean_all : (before entries : List Entry) → ((name : List ℕ) → CleanFacts (facts_of name before) (facts_of name entries)) → Clean before entries
 clean_all before [] c = tt
 clean_all before (e ∷ entries) c =
-    let here : CleanFacts (facts_of e.test before) (e.fact ∷ facts_of e.test entries) = subst (λ t. CleanFacts (facts_of e.test before) t) (fact_here e.test e entries (bytes_same e.test)) (c e.test) in
-    (here.0, clean_all (before ++ e ∷ []) entries (λ name. by_test (bytes_eq e.test name)
-    (λ h. let more : facts_of name (before ++ e ∷ []) ≡ facts_of name before ++ e.fact ∷ [] = facts_both name before (e ∷ []) ∙ ap (λ t. facts_of name before ++ t) (fact_here name e [] h) in
-    let both : CleanFacts (facts_of name before) (e.fact ∷ facts_of name entries) = subst (λ t. CleanFacts (facts_of name before) t) (fact_here name e entries h) (c name) in
-    rw more both.1)
-    (λ h. let more : facts_of name (before ++ e ∷ []) ≡ facts_of name before = facts_both name before (e ∷ []) ∙ ap (λ t. facts_of name before ++ t) (fact_elsewhere name e [] h) ∙ append-nil (facts_of name before) in
-    rw more (subst (λ t. CleanFacts (facts_of name before) t) (fact_elsewhere name e entries h) (c name)))))
+    let here : CleanFacts (facts_of e.test before) (e.fact ∷ facts_of e.test entries) = subst (λ t. CleanFacts (facts_of e.test before) t) (fact_here e.test e entries (bytes_same e.test)) (c e.test) in (
+      here.0,
+      clean_all (before ++ e ∷ []) entries (λ name. by_test (bytes_eq e.test name)
+          (λ h. let more : facts_of name (before ++ e ∷ []) ≡ facts_of name before ++ e.fact ∷ [] = facts_both name before (e ∷ []) ∙ ap (λ t. facts_of name before ++ t) (fact_here name e [] h) in
+          let both : CleanFacts (facts_of name before) (e.fact ∷ facts_of name entries) = subst (λ t. CleanFacts (facts_of name before) t) (fact_here name e entries h) (c name) in
+          rw more both.1)
+          (λ h. let more : facts_of name (before ++ e ∷ []) ≡ facts_of name before = facts_both name before (e ∷ []) ∙ ap (λ t. facts_of name before ++ t) (fact_elsewhere name e [] h) ∙ append-nil (facts_of name before) in
+          rw more (subst (λ t. CleanFacts (facts_of name before) t) (fact_elsewhere name e entries h) (c name)))),
+    )
 
 -- what facts of one test agree on
 pub record Profile : Type 0 where
@@ -161,7 +163,7 @@ kind_same k = kind_cases (λ x. same_kind x x ≡ true) refl refl refl k
 pub mark_same : (m : Mark) → same_mark m m ≡ true
 mark_same m = mark_cases (λ x. same_mark x x ≡ true) refl refl m
 
-kind_is : (a b : Kind) → same_kind a b ≡ true → a ≡ b
+pub kind_is : (a b : Kind) → same_kind a b ≡ true → a ≡ b
 kind_is a b h = grind arith
 
 pub mark_is : (a b : Mark) → same_mark a b ≡ true → a ≡ b
@@ -175,11 +177,11 @@ profile_of facts = record {
   mark = λ state. or_else plain (mark_in state (rows facts));
 }
 
-no_other : {A : Type 0} (same : A → A → Bool) → ((x y : A) → same x y ≡ true → x ≡ y) → (o more : Option A) (d x : A) → is_other same o x ≡ false → x ≡ or_else d (or_first o (or_first (Some x) more))
+pub no_other : {A : Type 0} (same : A → A → Bool) → ((x y : A) → same x y ≡ true → x ≡ y) → (o more : Option A) (d x : A) → is_other same o x ≡ false → x ≡ or_else d (or_first o (or_first (Some x) more))
 no_other same law None more d x h = refl
 no_other same law (Some y) more d x h = sym (law y x (not_false (same y x) h))
 
-none_if : (b : Bool) (kind : LogKind) → fault_if b kind ≡ None → b ≡ false
+pub none_if : (b : Bool) (kind : LogKind) → fault_if b kind ≡ None → b ≡ false
 none_if true kind h = absurd (cc)
 none_if false kind h = refl
 

@@ -1,6 +1,6 @@
 -- Facts and what is printed of them, between other facts.
-use Rattle.std.proofs.Common.{◌≡◌, ℕ, ◌+◌, ◌≤◌, List, [], ◌∷◌, ◌++◌, true, false, refl, sym, ap, ◌∙◌, arith, subst, append_assoc, append-nil, Some, None}
-use Rattle.std.specs.Prelude.{Bool, not, ◌&&◌, ◌||◌, cond, Option, map, fold}
+use Rattle.std.proofs.Common.{◌≡◌, ℕ, ◌+◌, List, [], ◌∷◌, ◌++◌, true, false, refl, sym, ap, ◌∙◌, arith, subst, Some, None}
+use Rattle.std.specs.Prelude.{Bool, ◌&&◌, ◌||◌, cond, Option, map, fold}
 use Rattle.std.specs.List.{list_any, list_all}
 use Rattle.std.specs.Option.{option_map}
 use Rattle.std.specs.Ordering.{nat_cmp}
@@ -10,10 +10,9 @@ use Rattle.std.specs.Str.{bytes_eq}
 use Rattle.std.proofs.lemmas.List.{map-append}
 use Rattle.std.proofs.lemmas.List.Sums.{fold-append}
 use Rattle.std.proofs.lemmas.List.Folds.{list_any-append, list_all-append}
-use Rattle.log_sum.specs.Counts.{last_count}
-use Rattle.log_sum.specs.Facts.{Row, Fact, a_kind, a_row, a_condition, a_hash, row_with, kinds, rows, conditions, hashes, first_of, marked_sum, state_sum, states_of, mark_in, verdicts, says_validated}
-use Rattle.log_sum.specs.Summed.{Summed, StateSummed, or_else, state_by, summed, validated_by, is_validated}
-use Rattle.log_sum.specs.SumText.{test_text, head_text, state_line, verdict_text, claim_text, condition_text, hash_text, observation_text}
+use Rattle.log_sum.specs.Facts.{Row, Fact, a_kind, a_row, a_condition, a_hash, kinds, rows, conditions, hashes, first_of, marked_sum, state_sum, states_of, mark_in, verdicts, says_validated}
+use Rattle.log_sum.specs.Summed.{Summed, or_else, state_by, summed, validated_by, is_validated}
+use Rattle.log_sum.specs.SumText.{test_text, head_text, verdict_text, claim_text, condition_text, observation_text}
 use Rattle.sum_laws.proofs.Cases.{Kind, Mark, Verdict, allowed, plain, starred, kind_cases}
 use Rattle.sum_laws.proofs.Texts.{by_test, bytes_same}
 use Rattle.sum_laws.proofs.Lines.{said_as}
@@ -98,7 +97,7 @@ one_verdict o front mid back =
     ∙ sym (list_any-append (λ v. v) front (mid ++ back) ∙ ap (λ b. list_any (λ v. v) front || b) (list_any-append (λ v. v) mid back))))
 
 -- what is printed fits to what the facts agree on
-marks_fit : (p : Profile) (facts : List Fact) → AllOf (FitsTo p) facts → Marks p.mark (rows facts)
+pub marks_fit : (p : Profile) (facts : List Fact) → AllOf (FitsTo p) facts → Marks p.mark (rows facts)
 marks_fit p [] a = tt
 marks_fit p (a_kind kind ∷ facts) a = marks_fit p facts a.1
 marks_fit p (a_row row ∷ facts) a = (a.0, marks_fit p facts a.1)
@@ -128,9 +127,11 @@ told_fits : (p : Profile) (facts : List Fact) → AllOf (FitsTo p) facts → Com
 told_fits p facts a c =
     let kind : kind_of_test (summed facts) ≡ p.kind = kind_told facts c ∙ kind_fits p facts c.kind a c.is_kind in
     let text : or_else [] (summed facts).condition ≡ p.text = text_told facts c ∙ condition_fits p facts c.text a (ap (option_map (λ (x : List ℕ × Verdict). x.0)) c.is_text) in
-    let states : AllOf (FitsTo p) (state_facts (summed facts).states) = subst (λ t. AllOf (FitsTo p) (state_facts t)) (sym (states_are facts)) (states_fit p (rows facts) (states_of (rows facts)) (marks_fit p facts a) (states_there (rows facts))) in
-    (kind, all_of_both (FitsTo p) (state_facts (summed facts).states) (a_condition (or_else [] (summed facts).condition) (said_as (is_validated (summed facts))) ∷ hash_facts (summed facts).hash) states
-    (text, hashes_fit p facts (summed facts).hash a (sym (hash_is facts))))
+    let states : AllOf (FitsTo p) (state_facts (summed facts).states) = subst (λ t. AllOf (FitsTo p) (state_facts t)) (sym (states_are facts)) (states_fit p (rows facts) (states_of (rows facts)) (marks_fit p facts a) (states_there (rows facts))) in (
+      kind,
+      all_of_both (FitsTo p) (state_facts (summed facts).states) (a_condition (or_else [] (summed facts).condition) (said_as (is_validated (summed facts))) ∷ hash_facts (summed facts).hash) states
+          (text, hashes_fit p facts (summed facts).hash a (sym (hash_is facts))),
+    )
 
 -- rows between others
 marked_between : (m : Mark) (front mid back : List Fact) → marked_sum m (rows (front ++ (mid ++ back))) ≡ marked_sum m (rows front) + (marked_sum m (rows mid) + marked_sum m (rows back))
@@ -283,6 +284,6 @@ told_alike front mid back g c =
       validated = verdict;
       marked = λ m. marked_between m front told back ∙ ap (λ n. marked_sum m (rows front) + (n + marked_sum m (rows back))) (marked_told m mid (agrees_between front mid back g)) ∙ sym (marked_between m front mid back);
       states = rw (rows_told_here, rows_between front mid back)
-      (ap (map (state_by (rows front ++ (printed_rows (rows mid) ++ rows back)))) (states_between (rows front) (rows mid) (rows back))
-      ∙ map_same (state_by (rows front ++ (printed_rows (rows mid) ++ rows back))) (state_by (rows front ++ (rows mid ++ rows back))) (states_of (rows front ++ (rows mid ++ rows back))) (state_between (rows front) (rows mid) (rows back)));
+          (ap (map (state_by (rows front ++ (printed_rows (rows mid) ++ rows back)))) (states_between (rows front) (rows mid) (rows back))
+          ∙ map_same (state_by (rows front ++ (printed_rows (rows mid) ++ rows back))) (state_by (rows front ++ (rows mid ++ rows back))) (states_of (rows front ++ (rows mid ++ rows back))) (state_between (rows front) (rows mid) (rows back)));
     }

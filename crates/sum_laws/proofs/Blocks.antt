@@ -1,21 +1,18 @@
 -- Printed blocks are read as what they print.
-use Rattle.std.proofs.Common.{◌≡◌, ◌==◌, ℕ, zero, suc, ◌+◌, ◌≤◌, List, [], ◌∷◌, ◌++◌, length, true, false, refl, sym, ap, ◌∙◌, arith, append_assoc, append-nil, Some, None}
-use Rattle.std.specs.Prelude.{Bool, not, ◌&&◌, cond, Option, Result, Ok, Err, codes, decimal, nat_lt}
+use Rattle.std.proofs.Common.{◌≡◌, ◌==◌, ℕ, ◌≤◌, List, [], ◌∷◌, ◌++◌, true, false, refl, sym, ap, ◌∙◌, arith, append_assoc, append-nil, Some, None}
+use Rattle.std.specs.Prelude.{not, Option, Ok, decimal}
 use Rattle.std.specs.Char.{is_ascii_digit}
-use Rattle.std.specs.List.{slice_split, list_all, flat_map}
+use Rattle.std.specs.List.{slice_split, list_all}
 use Rattle.std.proofs.lemmas.Bool.Decides.{nat_tests}
 use Rattle.std.proofs.lemmas.Bool.{and_parts}
-use Rattle.log_sum.specs.Texts.{is_nil, before_blanks, words, joined_words, begins_with}
+use Rattle.log_sum.specs.Texts.{is_nil}
 use Rattle.log_sum.specs.Counts.{last_count}
-use Rattle.log_sum.specs.States.{form_read}
-use Rattle.log_sum.specs.Facts.{Row, Fact, Entry, a_kind, a_row, a_condition, a_hash, row_with, facts_of, fault_of}
-use Rattle.log_sum.specs.Lines.{Said, passed_over, begins, counts, a_state, judged, conditioned, hashed, ends, quantifier, line_said, place_after, states_left, fact_said, test_after}
-use Rattle.log_sum.specs.Reading.{Seen, ◌>>=◌, is_too_long, next_line, fact_put, at_next_line, said_put, text_judged, without_return, line_judged, lines_judged, but_last, last_of, lines_of, rest_of, last_judged, end_judged, file_judged}
-use Rattle.log_sum.specs.Summed.{Summed, StateSummed, or_else, is_validated}
-use Rattle.log_sum.specs.SumText.{line_end, kind_word, mark_sign, filling, state_line, verdict_word, verdict_end, how_often, hash_text, head_text, verdict_text, claim_text, condition_text, observation_text, test_text}
-use Rattle.sum_laws.proofs.Cases.{Kind, Mark, Verdict, Place, allowed, outside, histogram, judgement, in_rest, conditioned_at, kind_cases, mark_cases}
-use Rattle.sum_laws.proofs.Texts.{by_test, not_true, all_both, all_weaker, no_feed, is_plain, is_word, word_parts, first_piece, split_both, split_whole}
-use Rattle.sum_laws.proofs.Lines.{digits_all, head_line, number_line, counted_line, totals_line, claim_line, told_hash, end_line, said_as, head_said, number_said, state_said, verdict_said, empty_said, outside_said, witnesses_said, totals_said, claim_said, hash_said, end_said}
+use Rattle.log_sum.specs.Facts.{Fact, Entry, facts_of, fault_of}
+use Rattle.log_sum.specs.Lines.{Said, line_said, place_after, fact_said, test_after}
+use Rattle.log_sum.specs.Reading.{Seen, ◌>>=◌, is_too_long, next_line, fact_put, at_next_line, text_judged, without_return, line_judged, lines_judged, but_last, last_of, lines_of, rest_of}
+use Rattle.sum_laws.proofs.Cases.{Place}
+use Rattle.sum_laws.proofs.Texts.{not_true, all_both, all_weaker, no_feed, first_piece, split_both, split_whole}
+use Rattle.sum_laws.proofs.Lines.{digits_all}
 
 -- what was seen
 abbrev pub seen_at : List Entry → List ℕ → Place → ℕ → Seen

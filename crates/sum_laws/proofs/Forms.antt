@@ -1,6 +1,6 @@
 -- A printed form is read as itself.
-use Rattle.std.proofs.Common.{◌≡◌, ◌==◌, ℕ, zero, suc, ◌+◌, ◌≤◌, List, [], ◌∷◌, ◌++◌, length, take, drop, true, false, refl, sym, ap, ◌∙◌, arith, subst, append_assoc, append-nil, Some, None}
-use Rattle.std.specs.Prelude.{Bool, not, ◌&&◌, ◌||◌, cond, Option, Result, Ok, Err, map, fold}
+use Rattle.std.proofs.Common.{◌≡◌, ◌==◌, ℕ, List, [], ◌∷◌, ◌++◌, length, take, drop, true, false, refl, sym, ap, ◌∙◌, subst, append_assoc, append-nil, Some, None}
+use Rattle.std.specs.Prelude.{Bool, not, ◌&&◌, ◌||◌, cond, Option, Ok, map}
 use Rattle.std.specs.List.{list_any, list_all, slice_split, onto_first}
 use Rattle.std.specs.Option.{option_map}
 use Rattle.std.specs.Ordering.{nat_cmp, match_ordering}
@@ -12,12 +12,11 @@ use Rattle.std.specs.Str.{bytes_eq}
 use Rattle.std.proofs.lemmas.Bool.{and_parts, and_from, eqb-true}
 use Rattle.std.proofs.lemmas.List.{take_at, take-append-drop}
 use Rattle.std.proofs.lemmas.Slice.Eq.{bytes_eq-Decides}
-use Rattle.log_sum.specs.declared.errors.LogKind.{LogKind}
 use Rattle.log_sum.specs.Texts.{is_blank, is_inked, is_nil, after_run, before_blanks, unblanked, begins_with}
-use Rattle.log_sum.specs.States.{before_cut, cut_at, is_bracketed, left_kept, is_side, sides_read, has_left, with_sides, with_equality, and_then, with_pieces, later_unblanked, state_read, later_forms, state_form, or_bad, form_read}
+use Rattle.log_sum.specs.States.{before_cut, cut_at, is_bracketed, left_kept, is_side, sides_read, has_left, with_equality, and_then, with_pieces, later_unblanked, state_read, later_forms, state_form, or_bad, form_read}
 use Rattle.log_sum.specs.Reading.{without_return}
-use Rattle.sum_laws.proofs.Texts.{by_test, not_true, all_both, all_parts, all_weaker, all_and, all_after, bytes_same, no_feed, split_both, split_whole, end_stays, ink_stays, first_piece}
-use Rattle.sum_laws.proofs.Blocks.{IsLine, append_line, return_front}
+use Rattle.sum_laws.proofs.Texts.{by_test, not_true, all_both, all_parts, all_weaker, all_and, all_after, bytes_same, no_feed, split_both, split_whole, end_stays, ink_stays}
+use Rattle.sum_laws.proofs.Blocks.{IsLine, append_line}
 use Rattle.sum_laws.proofs.Printed.{AllOf, IsForm}
 use Rattle.sum_laws.proofs.Agreeing.{all_of_both}
 use Rattle.sum_laws.proofs.Orders.{compare, Above, Ascends, insert_ascends, reversed_less}

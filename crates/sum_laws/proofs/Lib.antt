@@ -10,3 +10,6 @@ pub mod Sums
 pub mod Alike
 pub mod Forms
 pub mod Said
+pub mod Whole
+pub mod Names
+pub mod Laws

@@ -1,25 +1,23 @@
 -- What the printed lines say where they are read.
-use Rattle.std.proofs.Common.{◌≡◌, ◌==◌, ℕ, zero, suc, ◌+◌, ◌-◌, ◌^◌, ◌<◌, ◌≤◌, List, [], ◌∷◌, ◌++◌, length, take, drop, true, false, refl, sym, ap, ◌∙◌, arith, rules, length-append, append_assoc, append-nil, Some, None}
-use Rattle.std.specs.Prelude.{Bool, not, ◌&&◌, ◌||◌, cond, Option, Result, Ok, Err, codes, decimal, replicate, nat_le}
+use Rattle.std.proofs.Common.{◌≡◌, ◌==◌, ℕ, zero, suc, ◌+◌, ◌-◌, ◌^◌, ◌<◌, ◌≤◌, List, [], ◌∷◌, ◌++◌, length, true, false, refl, sym, ap, ◌∙◌, arith, rules, length-append, append_assoc, append-nil, Some, None}
+use Rattle.std.specs.Prelude.{Bool, not, Ok, codes, decimal, replicate, nat_le}
 use Rattle.std.specs.Char.{is_ascii_digit}
-use Rattle.std.specs.List.{slice_split, onto_first, filter, list_all}
+use Rattle.std.specs.List.{filter, list_all}
 use Rattle.std.specs.Str.{bytes_eq}
 use Rattle.std.specs.Str.Parse.{digits_value}
 use Rattle.std.proofs.lemmas.Bool.Decides.{nat_tests}
-use Rattle.std.proofs.lemmas.Bool.{and_parts, and_from}
-use Rattle.std.proofs.lemmas.List.{drop_at, take_at, drop-drop}
+use Rattle.std.proofs.lemmas.Bool.{and_parts}
+use Rattle.std.proofs.lemmas.List.{drop_at, drop-drop}
 use Rattle.std.proofs.lemmas.Str.Parse.{IsNumeralModel, numerals_by_value}
 use Rattle.std.proofs.lemmas.Fmt.{digits_decimal, digits_value-decimal, decimal_nonempty}
-use Rattle.log_sum.specs.declared.errors.LogKind.{LogKind}
-use Rattle.log_sum.specs.declared.errors.LogKind.TheVariants.{BadCount}
-use Rattle.log_sum.specs.Texts.{is_blank, is_inked, is_nil, run_of, after_run, before_blanks, kept_before, words, unblanked, trimmed, later_words, joined_words, ends_with, before_end, begins_with}
+use Rattle.log_sum.specs.Texts.{is_blank, is_inked, is_nil, run_of, after_run, before_blanks, kept_before, words, unblanked, trimmed, later_words, joined_words, ends_with, begins_with}
 use Rattle.log_sum.specs.Counts.{count_read, count_of_digits, last_count}
 use Rattle.log_sum.specs.States.{form_read}
-use Rattle.log_sum.specs.Facts.{Row, row_with}
-use Rattle.log_sum.specs.Lines.{Said, passed_over, begins, counts, a_state, judged, conditioned, hashed, ends, test_line, histogram_line, row_line, row_marked, mark_read, condition_line, verdict_cut, hash_line, quantifier, line_said, place_after, states_left}
-use Rattle.log_sum.specs.SumText.{kind_word, mark_sign, filling, verdict_word, verdict_end, how_often}
-use Rattle.sum_laws.proofs.Cases.{Kind, Mark, Verdict, Place, validated, not_validated, starred, plain, outside, histogram, judgement, in_rest, conditioned_at, kind_cases, mark_cases}
-use Rattle.sum_laws.proofs.Texts.{by_test, not_true, all_weaker, is_plain, no_feed, is_word, word_is, words_both, one_word, first_piece, end_stays, ink_stays, ends_so, before_so, joined_both}
+use Rattle.log_sum.specs.Facts.{row_with}
+use Rattle.log_sum.specs.Lines.{passed_over, begins, counts, a_state, judged, conditioned, hashed, ends, test_line, histogram_line, row_line, row_marked, mark_read, condition_line, verdict_cut, hash_line, quantifier, line_said, place_after, states_left}
+use Rattle.log_sum.specs.SumText.{kind_word, mark_sign, filling, verdict_word, verdict_end}
+use Rattle.sum_laws.proofs.Cases.{Kind, Mark, Verdict, validated, not_validated, starred, plain, outside, histogram, judgement, in_rest, conditioned_at, kind_cases, mark_cases}
+use Rattle.sum_laws.proofs.Texts.{by_test, not_true, all_weaker, is_plain, is_word, word_is, words_both, one_word, first_piece, end_stays, ink_stays, ends_so, before_so, joined_both}
 
 -- counts
 own : IsNumeralModel (λ ds. list_all is_ascii_digit ds ≡ true) (digits_value 10)

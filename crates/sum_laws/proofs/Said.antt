@@ -1,11 +1,11 @@
 -- What the lines of logs say.
-use Rattle.std.proofs.Common.{◌≡◌, ◌==◌, ℕ, zero, suc, ◌+◌, ◌-◌, ◌≤◌, List, [], ◌∷◌, ◌++◌, length, take, drop, true, false, refl, sym, ap, ◌∙◌, arith, subst, append_assoc, append-nil, length-append, Some, None}
-use Rattle.std.specs.Prelude.{Bool, not, ◌&&◌, ◌||◌, cond, Option, Result, Ok, Err, codes, nat_le}
+use Rattle.std.proofs.Common.{◌≡◌, ◌==◌, ℕ, ◌+◌, ◌-◌, List, [], ◌∷◌, ◌++◌, length, take, drop, true, false, refl, sym, ap, ◌∙◌, arith, subst, length-append, Some, None}
+use Rattle.std.specs.Prelude.{Bool, Option, Result, Ok, Err, codes, nat_le}
 use Rattle.std.specs.Char.{is_ascii_digit}
 use Rattle.std.specs.List.{list_all}
 use Rattle.std.specs.Str.{bytes_eq}
 use Rattle.std.specs.Str.Parse.{digits_value}
-use Rattle.std.proofs.lemmas.Bool.{and_parts, and_from}
+use Rattle.std.proofs.lemmas.Bool.{and_parts}
 use Rattle.std.proofs.lemmas.List.{take-append-drop, append_cancel_right}
 use Rattle.std.proofs.lemmas.Slice.Eq.{bytes_eq-Decides}
 use Rattle.log_sum.specs.declared.errors.LogKind.{LogKind}
@@ -15,7 +15,7 @@ use Rattle.log_sum.specs.States.{form_read}
 use Rattle.log_sum.specs.Facts.{Row}
 use Rattle.log_sum.specs.Lines.{Said, passed_over, begins, counts, a_state, judged, conditioned, hashed, ends, kind_of, test_named, test_line, outside_said, histogram_line, counts_said, mark_before, mark_of, mark_read, row_of, row_marked, row_counted, row_line, row_said, is_judgement, verdict_cut, condition_line, quantifier, hash_line, is_observation, hash_said, condition_said, no_test, rest_said, line_said, place_after, kind_at}
 use Rattle.sum_laws.proofs.Cases.{Kind, Mark, Verdict, Place, validated, not_validated, outside, histogram, judgement, in_rest, conditioned_at, IsStates, is_ok, is_outside, outside_is, kind_cases, place_cases}
-use Rattle.sum_laws.proofs.Texts.{by_test, not_true, no_feed, is_word, words_plain, words_both, joined_is, joined_both, joined_no_feed, all_take, all_drop, all_after, all_trimmed, before_twice}
+use Rattle.sum_laws.proofs.Texts.{by_test, no_feed, is_word, words_plain, words_both, joined_is, joined_both, joined_no_feed, all_take, all_drop, all_after, all_trimmed, before_twice}
 use Rattle.sum_laws.proofs.Lines.{told_hash}
 use Rattle.sum_laws.proofs.Printed.{IsForm, IsCondition}
 use Rattle.sum_laws.proofs.Forms.{form_is, begins_so}
@@ -26,7 +26,7 @@ pub record IsRead (hash : List ℕ) : Type 0 where
   pub one : list_all no_feed hash ≡ true
 
 -- a block is behind its condition
-pub is_behind : Place → Bool
+unfoldable pub is_behind : Place → Bool
 is_behind p = is_ok (line_said p (codes "Observation"))
 
 -- what a line says at a place
@@ -100,10 +100,12 @@ row_form text row h e = by_count (count_read (trimmed text)) refl e
     by_form count mark form (Ok state) n f g =
         let same : record { state = state; mark = mark; count = count } ≡ row = cc in
         subst IsForm (ap (λ (r : Row). r.state) same) (form_is form state n f)
+
     by_mark : (count : ℕ) (rest : List ℕ) (o : Option (Mark × List ℕ)) → list_all no_feed rest ≡ true → mark_read (unblanked rest) ≡ o → row_marked count o ≡ Ok row → IsForm row.state
     by_mark count rest None n f g = absurd (cc)
     by_mark count rest (Some marked) n f g =
         by_form count marked.0 marked.1 (form_read marked.1) (marked_rest (unblanked rest) marked (all_after no_feed is_blank rest n) f) refl g
+
     by_count : (r : Result (ℕ × List ℕ) LogKind) → count_read (trimmed text) ≡ r → row_counted r ≡ Ok row → IsForm row.state
     by_count (Err kind) f g = absurd (cc)
     by_count (Ok counted) f g =
@@ -193,12 +195,15 @@ rest_says p text said o h e = by_line (test_line (words text)) e
         let same : conditioned c.0 c.1 ≡ said = cc in
         subst (SaidOf p) same (o, line_condition (kind_at p) (words text) c (words_plain text h) f t))
         (λ t. let k = rw t at g in absurd (cc))
+
     by_hash : (u : Option (List ℕ)) → hash_line text ≡ u → ◌≡◌ {A = Result Said LogKind} (Ok (hash_said u)) (Ok said) → SaidOf p said
     by_hash None f g = let same : passed_over ≡ said = cc in subst (SaidOf p) same tt
     by_hash (Some hash) f g = let same : hashed hash ≡ said = cc in subst (SaidOf p) same (o, hash_from text hash h f)
+
     by_condition : (u : Option (List ℕ × Verdict)) → condition_line (words text) ≡ u → condition_said (kind_at p) u (hash_said (hash_line text)) ≡ Ok said → SaidOf p said
     by_condition None f g = by_hash (hash_line text) refl g
     by_condition (Some c) f g = by_begin c f g
+
     by_line : (u : Option (List ℕ × Kind)) → no_test u (condition_said (kind_at p) (condition_line (words text)) (hash_said (hash_line text))) ≡ Ok said → SaidOf p said
     by_line (Some test) g = absurd (cc)
     by_line None g = by_condition (condition_line (words text)) refl g

@@ -1,18 +1,14 @@
 -- What logs tell is the same behind any entries, where it has no fault there.
-use Rattle.std.proofs.Common.{◌≡◌, ℕ, List, [], ◌∷◌, ◌++◌, true, false, refl, sym, ap, ◌∙◌, arith, subst, append_assoc, append-nil, Some, None}
-use Rattle.std.specs.Prelude.{Bool, Option, Result, Ok, Err, map, filter}
-use Rattle.std.specs.Str.{bytes_eq}
-use Rattle.std.proofs.lemmas.List.Elements.{filter-append}
-use Rattle.std.proofs.lemmas.List.{map-append}
-use Rattle.std.proofs.lemmas.Slice.Eq.{bytes_eq-Decides}
+use Rattle.std.proofs.Common.{◌≡◌, ℕ, List, [], ◌∷◌, ◌++◌, false, refl, sym, ap, ◌∙◌, arith, subst, append_assoc, append-nil, Some, None}
+use Rattle.std.specs.Prelude.{Option, Result, Ok, Err}
 use Rattle.log_sum.specs.declared.errors.LogError.{LogError}
 use Rattle.log_sum.specs.declared.errors.LogKind.{LogKind}
 use Rattle.log_sum.specs.Facts.{Fact, Entry, facts_of, fault_of}
 use Rattle.log_sum.specs.Lines.{Said, line_said, place_after, fact_said, test_after}
-use Rattle.log_sum.specs.Reading.{Seen, nothing_seen, ◌>>=◌, is_too_long, next_line, fact_put, fact_judged, at_next_line, said_put, said_to, text_judged, without_return, line_judged, lines_judged, lines_of, rest_of, last_judged, end_at, end_judged, file_judged, files_judged}
+use Rattle.log_sum.specs.Reading.{Seen, ◌>>=◌, is_too_long, next_line, fact_put, fact_judged, at_next_line, said_put, text_judged, without_return, line_judged, lines_judged, lines_of, rest_of, last_judged, end_at, end_judged, file_judged, files_judged}
 use Rattle.sum_laws.proofs.Cases.{Place, outside, is_outside, outside_is}
 use Rattle.sum_laws.proofs.Texts.{by_test}
-use Rattle.sum_laws.proofs.Blocks.{seen_at, entry, Clean, clean_parts, put_fact}
+use Rattle.sum_laws.proofs.Blocks.{seen_at, entry, Clean, clean_parts}
 
 pub clean_both : (before one two : List Entry) → Clean before one → Clean (before ++ one) two → Clean before (one ++ two)
 clean_both before [] two c d = rw (append-nil before) at d

@@ -1,26 +1,17 @@
 -- What a printed test tells sums up to what its facts did.
-use Rattle.std.proofs.Common.{◌≡◌, ℕ, ◌+◌, ◌≤◌, List, [], ◌∷◌, ◌++◌, true, false, refl, sym, ap, ◌∙◌, arith, subst, append_assoc, append-nil, zero-add, add-zero, Some, None}
-use Rattle.std.specs.Prelude.{Bool, not, ◌&&◌, ◌||◌, cond, Option, map, filter, fold}
-use Rattle.std.specs.List.{list_any, list_all}
-use Rattle.std.specs.Option.{option_map}
-use Rattle.std.specs.Ordering.{nat_cmp}
-use Rattle.std.specs.Cmp.Lexicographic.{slice_cmp}
-use Rattle.std.specs.BTreeSet.{insert_key}
+use Rattle.std.proofs.Common.{◌≡◌, ℕ, ◌+◌, List, [], ◌∷◌, ◌++◌, true, false, refl, sym, ap, ◌∙◌, arith, append-nil, zero-add, add-zero, Some, None}
+use Rattle.std.specs.Prelude.{Bool, ◌||◌, cond, Option, map}
+use Rattle.std.specs.List.{list_any}
 use Rattle.std.specs.Str.{bytes_eq}
-use Rattle.std.proofs.lemmas.List.{map-append}
-use Rattle.std.proofs.lemmas.List.Sums.{fold-append}
-use Rattle.std.proofs.lemmas.List.Folds.{list_any-append, list_all-append}
-use Rattle.log_sum.specs.Counts.{last_count}
-use Rattle.log_sum.specs.Facts.{Row, Fact, Entry, a_kind, a_row, a_condition, a_hash, row_with, kinds, rows, conditions, hashes, first_of, same_mark, marked_sum, state_sum, states_of, mark_in, verdicts, says_validated, facts_of}
-use Rattle.log_sum.specs.Summed.{Summed, StateSummed, or_else, state_by, summed, validated_by, is_validated}
-use Rattle.log_sum.specs.SumText.{test_text, head_text, state_line, verdict_text, claim_text, condition_text, hash_text, observation_text}
-use Rattle.sum_laws.proofs.Cases.{Kind, Mark, Verdict, allowed, plain, starred, kind_cases, mark_cases}
+use Rattle.log_sum.specs.Facts.{Row, Fact, a_kind, a_row, a_condition, a_hash, row_with, rows, conditions, hashes, first_of, same_mark, marked_sum, state_sum, states_of, mark_in, facts_of}
+use Rattle.log_sum.specs.Summed.{Summed, StateSummed, or_else, state_by, is_validated}
+use Rattle.sum_laws.proofs.Cases.{Mark, plain}
 use Rattle.sum_laws.proofs.Texts.{by_test, bytes_same}
 use Rattle.sum_laws.proofs.Lines.{said_as}
 use Rattle.sum_laws.proofs.Blocks.{entry}
 use Rattle.sum_laws.proofs.Printed.{AllOf, kind_of_test, state_entries, hash_entries, told}
-use Rattle.sum_laws.proofs.Agreeing.{Profile, FitsTo, Agrees, all_of_both, all_of_parts, kinds_both, rows_both, conditions_both, hashes_both, or_first, first_both, map_first, marked_both, state_both, mark_both, marked_one, state_one, mark_one, marked_none, fact_here, fact_elsewhere, facts_both, kind_fits, mark_fits, mark_is, bytes_is}
-use Rattle.sum_laws.proofs.Orders.{Distinct, Ascends, ascends_distinct, fold_ascends, any_fold, fold_sorted, eq_swap, or_false}
+use Rattle.sum_laws.proofs.Agreeing.{rows_both, conditions_both, hashes_both, or_first, marked_both, state_both, mark_both, marked_one, state_one, mark_one, marked_none, fact_here, fact_elsewhere, facts_both, bytes_is}
+use Rattle.sum_laws.proofs.Orders.{Distinct, Ascends, ascends_distinct, fold_ascends, any_fold, eq_swap}
 
 -- the facts that a printed test tells
 abbrev pub state_facts : List StateSummed → List Fact
@@ -193,9 +184,10 @@ no_state x (r ∷ rs) h =
     by_test (bytes_eq x r.state)
     (λ e. let k = rw e at h in absurd (cc))
     (λ e. let further = no_state x rs (rw e at h) in
-    let f : bytes_eq r.state x ≡ false = eq_swap r.state x ∙ e in
-    (state_both x (r ∷ []) rs ∙ ap (λ n. n + state_sum x rs) (state_one x r ∙ ap (λ b. cond b r.count 0) f) ∙ zero-add (state_sum x rs) ∙ further.0,
-    mark_both x (r ∷ []) rs ∙ ap (λ o. or_first o (mark_in x rs)) (mark_one x r ∙ ap (λ b. cond b (Some r.mark) None) f) ∙ further.1))
+    let f : bytes_eq r.state x ≡ false = eq_swap r.state x ∙ e in (
+      state_both x (r ∷ []) rs ∙ ap (λ n. n + state_sum x rs) (state_one x r ∙ ap (λ b. cond b r.count 0) f) ∙ zero-add (state_sum x rs) ∙ further.0,
+      mark_both x (r ∷ []) rs ∙ ap (λ o. or_first o (mark_in x rs)) (mark_one x r ∙ ap (λ b. cond b (Some r.mark) None) f) ∙ further.1,
+    ))
 
 pub a_state_there : (x : List ℕ) (rs : List Row) → list_any (bytes_eq x) (map (λ (r : Row). r.state) rs) ≡ true → mark_in x rs ≡ Some (or_else plain (mark_in x rs))
 a_state_there x [] h = absurd (cc)

@@ -1,6 +1,6 @@
 -- Bytes of texts: what passes a test stays so in parts of the text; words of texts that are put together.
-use Rattle.std.proofs.Common.{◌≡◌, ◌==◌, ℕ, zero, suc, ◌+◌, ◌-◌, ◌<◌, ◌≤◌, List, [], ◌∷◌, ◌++◌, length, take, drop, true, false, refl, sym, ap, ◌∙◌, arith, length-append, append_assoc, append-nil}
-use Rattle.std.specs.Prelude.{Bool, not, ◌&&◌, ◌||◌, cond}
+use Rattle.std.proofs.Common.{◌≡◌, ◌==◌, ℕ, zero, suc, ◌-◌, List, [], ◌∷◌, ◌++◌, length, take, drop, true, false, refl, sym, ap, ◌∙◌, arith, length-append, append_assoc, append-nil}
+use Rattle.std.specs.Prelude.{Bool, not, ◌&&◌}
 use Rattle.std.specs.List.{slice_split, onto_first, filter, list_all}
 use Rattle.std.proofs.lemmas.List.{drop_at, take_at}
 use Rattle.std.proofs.lemmas.List.Elements.{filter-append}
@@ -8,7 +8,7 @@ use Rattle.std.proofs.lemmas.List.Folds.{list_all-append}
 use Rattle.std.proofs.lemmas.Bool.{and_parts, and_from}
 use Rattle.std.specs.Str.{bytes_eq}
 use Rattle.std.proofs.lemmas.Slice.Eq.{bytes_eq-Decides}
-use Rattle.log_sum.specs.Texts.{is_blank, is_inked, is_nil, run_of, after_run, before_blanks, kept_before, words, unblanked, trimmed, later_words, joined_words, ends_with, before_end}
+use Rattle.log_sum.specs.Texts.{is_blank, is_inked, is_nil, after_run, before_blanks, kept_before, words, unblanked, trimmed, later_words, joined_words, ends_with, before_end}
 
 pub by_test : {G : Type 0} (b : Bool) → (b ≡ true → G) → (b ≡ false → G) → G
 by_test true f g = f refl
@@ -184,10 +184,11 @@ words_plain text h = some_plain (slice_split is_blank text) (pieces_plain text h
 
 pub word_parts : (word : List ℕ) → is_word word ≡ true → (is_nil word ≡ false) × (list_all is_inked word ≡ true) × (list_all no_feed word ≡ true)
 word_parts word h =
-    let k : (not (is_nil word) ≡ true) × (list_all is_plain word ≡ true) = and_parts (not (is_nil word)) (list_all is_plain word) h in
-    (not_true (is_nil word) k.0,
-    all_weaker is_plain is_inked (λ b p. (and_parts (is_inked b) (not (b == 10)) p).0) word k.1,
-    all_weaker is_plain no_feed (λ b p. (and_parts (is_inked b) (not (b == 10)) p).1) word k.1)
+    let k : (not (is_nil word) ≡ true) × (list_all is_plain word ≡ true) = and_parts (not (is_nil word)) (list_all is_plain word) h in (
+      not_true (is_nil word) k.0,
+      all_weaker is_plain is_inked (λ b p. (and_parts (is_inked b) (not (b == 10)) p).0) word k.1,
+      all_weaker is_plain no_feed (λ b p. (and_parts (is_inked b) (not (b == 10)) p).1) word k.1,
+    )
 
 pub word_is : (word : List ℕ) → is_word word ≡ true → words word ≡ word ∷ []
 word_is word h = let k = word_parts word h in one_word word k.1 k.0
