@@ -1,3 +1,4 @@
+mod Examples
 pub mod Texts
 pub mod Cases
 pub mod Lines
