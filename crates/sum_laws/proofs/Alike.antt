@@ -1,0 +1,289 @@
+-- Facts and what is printed of them, between other facts.
+use Rattle.std.proofs.Common.{◌≡◌, ℕ, ◌+◌, List, [], ◌∷◌, ◌++◌, true, false, refl, sym, ap, ◌∙◌, arith, subst, Some, None}
+use Rattle.std.specs.Prelude.{Bool, ◌&&◌, ◌||◌, cond, Option, map, fold}
+use Rattle.std.specs.List.{list_any, list_all}
+use Rattle.std.specs.Option.{option_map}
+use Rattle.std.specs.Ordering.{nat_cmp}
+use Rattle.std.specs.Cmp.Lexicographic.{slice_cmp}
+use Rattle.std.specs.BTreeSet.{insert_key}
+use Rattle.std.specs.Str.{bytes_eq}
+use Rattle.std.proofs.lemmas.List.{map-append}
+use Rattle.std.proofs.lemmas.List.Sums.{fold-append}
+use Rattle.std.proofs.lemmas.List.Folds.{list_any-append, list_all-append}
+use Rattle.log_sum.specs.Facts.{Row, Fact, a_kind, a_row, a_condition, a_hash, kinds, rows, conditions, hashes, first_of, marked_sum, state_sum, states_of, mark_in, verdicts, says_validated}
+use Rattle.log_sum.specs.Summed.{Summed, or_else, state_by, summed, validated_by, is_validated}
+use Rattle.log_sum.specs.SumText.{test_text, head_text, verdict_text, claim_text, condition_text, observation_text}
+use Rattle.sum_laws.proofs.Cases.{Kind, Mark, Verdict, allowed, plain, starred, kind_cases}
+use Rattle.sum_laws.proofs.Texts.{by_test, bytes_same}
+use Rattle.sum_laws.proofs.Lines.{said_as}
+use Rattle.sum_laws.proofs.Printed.{AllOf, kind_of_test, IsCondition}
+use Rattle.sum_laws.proofs.Agreeing.{Profile, FitsTo, Agrees, all_of_both, all_of_parts, kinds_both, rows_both, conditions_both, hashes_both, or_first, first_both, map_first, marked_both, state_both, mark_both, kind_fits, condition_fits, hash_fits}
+use Rattle.sum_laws.proofs.Sums.{state_facts, hash_facts, told_facts, told_rows, told_conditions, told_hash_first, row_of_state, printed_rows, printed_state, printed_mark, printed_marked, Marks, mark_law, a_state_there, states_in, states_ascend}
+use Rattle.sum_laws.proofs.Orders.{Ascends, fold_sorted}
+
+-- a test of which whole blocks told
+pub record Complete (facts : List Fact) : Type 0 where
+  pub kind : Kind
+  pub is_kind : first_of (kinds facts) ≡ Some kind
+  pub text : List ℕ
+  pub verdict : Verdict
+  pub is_text : first_of (conditions facts) ≡ Some (text, verdict)
+  pub condition : IsCondition kind text
+
+-- the parts of what is kept
+pub kind_is : (facts : List Fact) → (summed facts).kind ≡ first_of (kinds facts)
+unfolding summed
+kind_is facts = refl
+
+pub condition_is : (facts : List Fact) → (summed facts).condition ≡ option_map (λ c. c.0) (first_of (conditions facts))
+unfolding summed
+condition_is facts = refl
+
+pub hash_is : (facts : List Fact) → (summed facts).hash ≡ first_of (hashes facts)
+unfolding summed
+hash_is facts = refl
+
+pub states_are : (facts : List Fact) → (summed facts).states ≡ map (state_by (rows facts)) (states_of (rows facts))
+unfolding summed
+states_are facts = refl
+
+pub kind_told : (facts : List Fact) (c : Complete facts) → kind_of_test (summed facts) ≡ c.kind
+kind_told facts c = ap (or_else allowed) (kind_is facts ∙ c.is_kind)
+
+pub text_told : (facts : List Fact) (c : Complete facts) → or_else [] (summed facts).condition ≡ c.text
+text_told facts c = ap (or_else []) (condition_is facts ∙ ap (option_map (λ (x : List ℕ × Verdict). x.0)) c.is_text)
+
+pub rows_told : (facts : List Fact) → rows (told_facts (summed facts)) ≡ printed_rows (rows facts)
+rows_told facts = told_rows (summed facts) ∙ ap (map row_of_state) (states_are facts)
+
+-- verdicts
+all_true : Summed
+all_true = record { kind = None; condition = None; hash = None; once_validated = false; always_validated = true; starred = 0; plain = 0; states = [] }
+
+by_all : Option Kind → Bool
+by_all o = validated_by o all_true
+
+validated_so : (o : Option Kind) (t : Summed) → validated_by o t ≡ cond (by_all o) t.always_validated t.once_validated
+unfolding by_all all_true
+validated_so None t = refl
+validated_so (Some kind) t = kind_cases (λ k. validated_by (Some k) t ≡ cond (by_all (Some k)) t.always_validated t.once_validated) refl refl refl kind
+
+by_verdicts : Option Kind → List Bool → Bool
+by_verdicts o vs = cond (by_all o) (list_all (λ v. v) vs) (list_any (λ v. v) vs)
+
+validated_is : (facts : List Fact) → is_validated (summed facts) ≡ by_verdicts (first_of (kinds facts)) (verdicts facts)
+unfolding by_verdicts summed
+validated_is facts = validated_so (first_of (kinds facts)) (summed facts)
+
+says_as : (b : Bool) → says_validated (said_as b) ≡ b
+says_as true = refl
+says_as false = refl
+
+verdicts_both : (facts more : List Fact) → verdicts (facts ++ more) ≡ verdicts facts ++ verdicts more
+verdicts_both facts more =
+    ap (map (λ (c : List ℕ × Verdict). says_validated c.1)) (conditions_both facts more)
+    ∙ map-append (λ (c : List ℕ × Verdict). says_validated c.1) (conditions facts) (conditions more)
+
+verdicts_told : (sum : Summed) → verdicts (told_facts sum) ≡ is_validated sum ∷ []
+verdicts_told sum = ap (map (λ (c : List ℕ × Verdict). says_validated c.1)) (told_conditions sum) ∙ ap (λ b. b ∷ []) (says_as (is_validated sum))
+
+one_verdict : (o : Option Kind) (front mid back : List Bool) → by_verdicts o (front ++ (by_verdicts o mid ∷ back)) ≡ by_verdicts o (front ++ (mid ++ back))
+unfolding by_verdicts
+one_verdict o front mid back =
+    by_test (by_all o)
+    (λ e. rw e (list_all-append (λ v. v) front (list_all (λ v. v) mid ∷ back)
+    ∙ sym (list_all-append (λ v. v) front (mid ++ back) ∙ ap (λ b. list_all (λ v. v) front && b) (list_all-append (λ v. v) mid back))))
+    (λ e. rw e (list_any-append (λ v. v) front (list_any (λ v. v) mid ∷ back)
+    ∙ sym (list_any-append (λ v. v) front (mid ++ back) ∙ ap (λ b. list_any (λ v. v) front || b) (list_any-append (λ v. v) mid back))))
+
+-- what is printed fits to what the facts agree on
+pub marks_fit : (p : Profile) (facts : List Fact) → AllOf (FitsTo p) facts → Marks p.mark (rows facts)
+marks_fit p [] a = tt
+marks_fit p (a_kind kind ∷ facts) a = marks_fit p facts a.1
+marks_fit p (a_row row ∷ facts) a = (a.0, marks_fit p facts a.1)
+marks_fit p (a_condition text verdict ∷ facts) a = marks_fit p facts a.1
+marks_fit p (a_hash text ∷ facts) a = marks_fit p facts a.1
+
+all_in : (all xs : List (List ℕ)) → ((x : List ℕ) → list_any (bytes_eq x) xs ≡ true → list_any (bytes_eq x) all ≡ true) → AllOf (λ x. list_any (bytes_eq x) all ≡ true) xs
+all_in all [] h = tt
+all_in all (x ∷ xs) h = (h x (rw (bytes_same x) refl), all_in all xs (λ y e. h y (or_right (bytes_eq y x) (list_any (bytes_eq y) xs) e)))
+  where
+    or_right : (a b : Bool) → b ≡ true → a || b ≡ true
+    or_right true b e = refl
+    or_right false b e = e
+
+pub states_there : (rs : List Row) → AllOf (λ x. list_any (bytes_eq x) (map (λ (r : Row). r.state) rs) ≡ true) (states_of rs)
+states_there rs = all_in (map (λ (r : Row). r.state) rs) (states_of rs) (λ x e. sym (states_in x rs) ∙ e)
+
+states_fit : (p : Profile) (rs : List Row) (ks : List (List ℕ)) → Marks p.mark rs → AllOf (λ x. list_any (bytes_eq x) (map (λ (r : Row). r.state) rs) ≡ true) ks → AllOf (FitsTo p) (state_facts (map (state_by rs) ks))
+states_fit p rs [] a h = tt
+states_fit p rs (k ∷ ks) a h = (mark_law p.mark rs a k (or_else plain (mark_in k rs)) (a_state_there k rs h.0), states_fit p rs ks a h.1)
+
+hashes_fit : (p : Profile) (facts : List Fact) (o : Option (List ℕ)) → AllOf (FitsTo p) facts → first_of (hashes facts) ≡ o → AllOf (FitsTo p) (hash_facts o)
+hashes_fit p facts None a e = tt
+hashes_fit p facts (Some hash) a e = (hash_fits p facts hash a e, tt)
+
+told_fits : (p : Profile) (facts : List Fact) → AllOf (FitsTo p) facts → Complete facts → AllOf (FitsTo p) (told_facts (summed facts))
+told_fits p facts a c =
+    let kind : kind_of_test (summed facts) ≡ p.kind = kind_told facts c ∙ kind_fits p facts c.kind a c.is_kind in
+    let text : or_else [] (summed facts).condition ≡ p.text = text_told facts c ∙ condition_fits p facts c.text a (ap (option_map (λ (x : List ℕ × Verdict). x.0)) c.is_text) in
+    let states : AllOf (FitsTo p) (state_facts (summed facts).states) = subst (λ t. AllOf (FitsTo p) (state_facts t)) (sym (states_are facts)) (states_fit p (rows facts) (states_of (rows facts)) (marks_fit p facts a) (states_there (rows facts))) in (
+      kind,
+      all_of_both (FitsTo p) (state_facts (summed facts).states) (a_condition (or_else [] (summed facts).condition) (said_as (is_validated (summed facts))) ∷ hash_facts (summed facts).hash) states
+          (text, hashes_fit p facts (summed facts).hash a (sym (hash_is facts))),
+    )
+
+-- rows between others
+marked_between : (m : Mark) (front mid back : List Fact) → marked_sum m (rows (front ++ (mid ++ back))) ≡ marked_sum m (rows front) + (marked_sum m (rows mid) + marked_sum m (rows back))
+marked_between m front mid back =
+    ap (marked_sum m) (rows_both front (mid ++ back)) ∙ marked_both m (rows front) (rows (mid ++ back))
+    ∙ ap (λ n. marked_sum m (rows front) + n) (ap (marked_sum m) (rows_both mid back) ∙ marked_both m (rows mid) (rows back))
+
+marked_told : (m : Mark) (facts : List Fact) (g : Agrees facts) → marked_sum m (rows (told_facts (summed facts))) ≡ marked_sum m (rows facts)
+marked_told m facts g = ap (marked_sum m) (rows_told facts) ∙ printed_marked g.profile.mark m (rows facts) (marks_fit g.profile facts g.fits)
+
+-- parts of agreeing facts agree
+pub agrees_between : (front mid back : List Fact) → Agrees (front ++ (mid ++ back)) → Agrees mid
+agrees_between front mid back g =
+    let one = all_of_parts (FitsTo g.profile) front (mid ++ back) g.fits in
+    let two = all_of_parts (FitsTo g.profile) mid back one.1 in
+    record { profile = g.profile; fits = two.0; small = λ m. let e = marked_between m front mid back in omega (arith, g.small m, e) }
+
+pub told_agrees : (front mid back : List Fact) → Agrees (front ++ (mid ++ back)) → Complete mid → Agrees (front ++ (told_facts (summed mid) ++ back))
+told_agrees front mid back g c =
+    let one = all_of_parts (FitsTo g.profile) front (mid ++ back) g.fits in
+    let two = all_of_parts (FitsTo g.profile) mid back one.1 in
+    let told : List Fact = told_facts (summed mid) in
+    record {
+      profile = g.profile;
+      fits = all_of_both (FitsTo g.profile) front (told ++ back) one.0 (all_of_both (FitsTo g.profile) told back (told_fits g.profile mid two.0 c) two.1);
+      small = λ m.
+          let e = marked_between m front mid back in
+          let f = marked_between m front told back in
+          let h = marked_told m mid (agrees_between front mid back g) in
+          omega (arith, g.small m, e, f, h);
+    }
+
+-- two lists of facts that are printed alike
+pub record Alike (one two : List Fact) : Type 0 where
+  pub kind : first_of (kinds one) ≡ first_of (kinds two)
+  pub text : option_map (λ c. c.0) (first_of (conditions one)) ≡ option_map (λ c. c.0) (first_of (conditions two))
+  pub hash : first_of (hashes one) ≡ first_of (hashes two)
+  pub validated : is_validated (summed one) ≡ is_validated (summed two)
+  pub marked : (m : Mark) → marked_sum m (rows one) ≡ marked_sum m (rows two)
+  pub states : map (state_by (rows one)) (states_of (rows one)) ≡ map (state_by (rows two)) (states_of (rows two))
+
+same_text : (name : List ℕ) (s t : Summed) → is_validated s ≡ is_validated t → s.kind ≡ t.kind → s.condition ≡ t.condition → s.hash ≡ t.hash → s.starred ≡ t.starred → s.plain ≡ t.plain → s.states ≡ t.states → test_text name s ≡ test_text name t
+unfolding test_text head_text verdict_text claim_text condition_text observation_text
+same_text name s t v k c h p q e = rw (v, k, c, h, p, q, e) refl
+
+pub alike_text : (name : List ℕ) (one two : List Fact) → Alike one two → test_text name (summed one) ≡ test_text name (summed two)
+unfolding summed
+alike_text name one two a = same_text name (summed one) (summed two) a.validated a.kind a.text a.hash (a.marked starred) (a.marked plain) a.states
+
+first_kind : (p : Profile) (front mid : List Fact) (k : Kind) (more : Option Kind) → AllOf (FitsTo p) front → k ≡ p.kind → or_first (first_of (kinds front)) (or_first (Some k) more) ≡ Some k
+first_kind p front mid k more a e = by_first (first_of (kinds front)) refl
+  where
+    by_first : (o : Option Kind) → first_of (kinds front) ≡ o → or_first o (or_first (Some k) more) ≡ Some k
+    by_first None h = refl
+    by_first (Some other) h = ap Some (kind_fits p front other a h ∙ sym e)
+
+map_same : {A B : Type 0} (f g : A → B) (xs : List A) → ((x : A) → f x ≡ g x) → map f xs ≡ map g xs
+map_same f g [] h = refl
+map_same f g (x ∷ xs) h = rw (h x, map_same f g xs h) refl
+
+ids : (xs : List (List ℕ)) (rs : List Row) → map (λ (r : Row). r.state) (map row_of_state (map (state_by rs) xs)) ≡ xs
+ids [] rs = refl
+ids (x ∷ xs) rs = ap (λ t. x ∷ t) (ids xs rs)
+
+put_states : (xs : List (List ℕ)) (rs : List Row) → Ascends xs → fold (insert_key (slice_cmp nat_cmp)) xs (states_of rs) ≡ fold (insert_key (slice_cmp nat_cmp)) xs (map (λ (r : Row). r.state) rs)
+unfolding states_of
+put_states xs rs a = fold_sorted xs (map (λ (r : Row). r.state) rs) a
+
+folded : (front mid back : List Row) → states_of (front ++ (mid ++ back))
+    ≡ fold (insert_key (slice_cmp nat_cmp)) (fold (insert_key (slice_cmp nat_cmp)) (states_of front) (map (λ (r : Row). r.state) mid)) (map (λ (r : Row). r.state) back)
+unfolding states_of
+folded front mid back =
+    ap (fold (insert_key (slice_cmp nat_cmp)) []) (map-append (λ (r : Row). r.state) front (mid ++ back) ∙ ap (λ t. map (λ (r : Row). r.state) front ++ t) (map-append (λ (r : Row). r.state) mid back))
+    ∙ fold-append (insert_key (slice_cmp nat_cmp)) [] (map (λ (r : Row). r.state) front) (map (λ (r : Row). r.state) mid ++ map (λ (r : Row). r.state) back)
+    ∙ fold-append (insert_key (slice_cmp nat_cmp)) (fold (insert_key (slice_cmp nat_cmp)) [] (map (λ (r : Row). r.state) front)) (map (λ (r : Row). r.state) mid) (map (λ (r : Row). r.state) back)
+
+put_printed : (xs : List (List ℕ)) (front rs : List Row) → xs ≡ states_of front → fold (insert_key (slice_cmp nat_cmp)) xs (map (λ (r : Row). r.state) (printed_rows rs)) ≡ fold (insert_key (slice_cmp nat_cmp)) xs (map (λ (r : Row). r.state) rs)
+put_printed xs front rs e =
+    ap (fold (insert_key (slice_cmp nat_cmp)) xs) (ids (states_of rs) rs) ∙ put_states xs rs (subst Ascends (sym e) (states_ascend front))
+
+states_between : (front rs back : List Row) → states_of (front ++ (printed_rows rs ++ back)) ≡ states_of (front ++ (rs ++ back))
+states_between front rs back =
+    folded front (printed_rows rs) back
+    ∙ ap (λ t. fold (insert_key (slice_cmp nat_cmp)) t (map (λ (r : Row). r.state) back)) (put_printed (states_of front) front rs refl)
+    ∙ sym (folded front rs back)
+
+state_between : (front rs back : List Row) (x : List ℕ) → state_by (front ++ (printed_rows rs ++ back)) x ≡ state_by (front ++ (rs ++ back)) x
+state_between front rs back x =
+    let mark : mark_in x (front ++ (printed_rows rs ++ back)) ≡ mark_in x (front ++ (rs ++ back)) =
+    mark_both x front (printed_rows rs ++ back)
+    ∙ ap (or_first (mark_in x front)) (mark_both x (printed_rows rs) back ∙ ap (λ o. or_first o (mark_in x back)) (printed_mark x rs) ∙ sym (mark_both x rs back))
+    ∙ sym (mark_both x front (rs ++ back)) in
+    let sum : state_sum x (front ++ (printed_rows rs ++ back)) ≡ state_sum x (front ++ (rs ++ back)) =
+    state_both x front (printed_rows rs ++ back)
+    ∙ ap (λ n. state_sum x front + n) (state_both x (printed_rows rs) back ∙ ap (λ n. n + state_sum x back) (printed_state x rs) ∙ sym (state_both x rs back))
+    ∙ sym (state_both x front (rs ++ back)) in
+    rw (mark, sum) refl
+
+rows_between : (front mid back : List Fact) → rows (front ++ (mid ++ back)) ≡ rows front ++ (rows mid ++ rows back)
+rows_between front mid back = rows_both front (mid ++ back) ∙ ap (λ t. rows front ++ t) (rows_both mid back)
+
+kinds_between : (front mid back : List Fact) → first_of (kinds (front ++ (mid ++ back))) ≡ or_first (first_of (kinds front)) (or_first (first_of (kinds mid)) (first_of (kinds back)))
+kinds_between front mid back =
+    ap first_of (kinds_both front (mid ++ back)) ∙ first_both (kinds front) (kinds (mid ++ back))
+    ∙ ap (or_first (first_of (kinds front))) (ap first_of (kinds_both mid back) ∙ first_both (kinds mid) (kinds back))
+
+abbrev texts : Option (List ℕ × Verdict) → Option (List ℕ)
+texts o = option_map (λ c. c.0) o
+
+texts_between : (front mid back : List Fact) → texts (first_of (conditions (front ++ (mid ++ back)))) ≡ or_first (texts (first_of (conditions front))) (or_first (texts (first_of (conditions mid))) (texts (first_of (conditions back))))
+texts_between front mid back =
+    ap texts (ap first_of (conditions_both front (mid ++ back)) ∙ first_both (conditions front) (conditions (mid ++ back)))
+    ∙ map_first (λ (c : List ℕ × Verdict). c.0) (first_of (conditions front)) (first_of (conditions (mid ++ back)))
+    ∙ ap (or_first (texts (first_of (conditions front)))) (ap texts (ap first_of (conditions_both mid back) ∙ first_both (conditions mid) (conditions back))
+    ∙ map_first (λ (c : List ℕ × Verdict). c.0) (first_of (conditions mid)) (first_of (conditions back)))
+
+hashes_between : (front mid back : List Fact) → first_of (hashes (front ++ (mid ++ back))) ≡ or_first (first_of (hashes front)) (or_first (first_of (hashes mid)) (first_of (hashes back)))
+hashes_between front mid back =
+    ap first_of (hashes_both front (mid ++ back)) ∙ first_both (hashes front) (hashes (mid ++ back))
+    ∙ ap (or_first (first_of (hashes front))) (ap first_of (hashes_both mid back) ∙ first_both (hashes mid) (hashes back))
+
+verdicts_between : (front mid back : List Fact) → verdicts (front ++ (mid ++ back)) ≡ verdicts front ++ (verdicts mid ++ verdicts back)
+verdicts_between front mid back = verdicts_both front (mid ++ back) ∙ ap (λ t. verdicts front ++ t) (verdicts_both mid back)
+
+pub told_alike : (front mid back : List Fact) → Agrees (front ++ (mid ++ back)) → Complete mid → Alike (front ++ (told_facts (summed mid) ++ back)) (front ++ (mid ++ back))
+told_alike front mid back g c =
+    let told : List Fact = told_facts (summed mid) in
+    let one = all_of_parts (FitsTo g.profile) front (mid ++ back) g.fits in
+    let two = all_of_parts (FitsTo g.profile) mid back one.1 in
+    let k : c.kind ≡ g.profile.kind = kind_fits g.profile mid c.kind two.0 c.is_kind in
+    let kinds_here : first_of (kinds told) ≡ first_of (kinds mid) = ap Some (kind_told mid c) ∙ sym c.is_kind in
+    let texts_here : texts (first_of (conditions told)) ≡ texts (first_of (conditions mid)) =
+    ap (λ t. texts (first_of t)) (told_conditions (summed mid)) ∙ ap Some (text_told mid c) ∙ sym (ap texts c.is_text) in
+    let hashes_here : first_of (hashes told) ≡ first_of (hashes mid) = told_hash_first (summed mid) ∙ hash_is mid in
+    let same_kinds : first_of (kinds (front ++ (told ++ back))) ≡ first_of (kinds (front ++ (mid ++ back))) =
+    kinds_between front told back ∙ ap (λ o. or_first (first_of (kinds front)) (or_first o (first_of (kinds back)))) kinds_here ∙ sym (kinds_between front mid back) in
+    let known : first_of (kinds (front ++ (mid ++ back))) ≡ first_of (kinds mid) =
+    kinds_between front mid back ∙ ap (λ o. or_first (first_of (kinds front)) (or_first o (first_of (kinds back)))) c.is_kind
+    ∙ first_kind g.profile front mid c.kind (first_of (kinds back)) one.0 k ∙ sym c.is_kind in
+    let verdict : is_validated (summed (front ++ (told ++ back))) ≡ is_validated (summed (front ++ (mid ++ back))) =
+    validated_is (front ++ (told ++ back)) ∙ ap (λ o. by_verdicts o (verdicts (front ++ (told ++ back)))) (same_kinds ∙ known)
+    ∙ ap (by_verdicts (first_of (kinds mid))) (verdicts_between front told back ∙ ap (λ t. verdicts front ++ (t ++ verdicts back)) (verdicts_told (summed mid) ∙ ap (λ b. b ∷ []) (validated_is mid)))
+    ∙ one_verdict (first_of (kinds mid)) (verdicts front) (verdicts mid) (verdicts back)
+    ∙ sym (validated_is (front ++ (mid ++ back)) ∙ ap (λ o. by_verdicts o (verdicts (front ++ (mid ++ back)))) known ∙ ap (by_verdicts (first_of (kinds mid))) (verdicts_between front mid back)) in
+    let rows_told_here : rows (front ++ (told ++ back)) ≡ rows front ++ (printed_rows (rows mid) ++ rows back) = rows_between front told back ∙ ap (λ t. rows front ++ (t ++ rows back)) (rows_told mid) in
+    record {
+      kind = same_kinds;
+      text = texts_between front told back ∙ ap (λ o. or_first (texts (first_of (conditions front))) (or_first o (texts (first_of (conditions back))))) texts_here ∙ sym (texts_between front mid back);
+      hash = hashes_between front told back ∙ ap (λ o. or_first (first_of (hashes front)) (or_first o (first_of (hashes back)))) hashes_here ∙ sym (hashes_between front mid back);
+      validated = verdict;
+      marked = λ m. marked_between m front told back ∙ ap (λ n. marked_sum m (rows front) + (n + marked_sum m (rows back))) (marked_told m mid (agrees_between front mid back g)) ∙ sym (marked_between m front mid back);
+      states = rw (rows_told_here, rows_between front mid back)
+          (ap (map (state_by (rows front ++ (printed_rows (rows mid) ++ rows back)))) (states_between (rows front) (rows mid) (rows back))
+          ∙ map_same (state_by (rows front ++ (printed_rows (rows mid) ++ rows back))) (state_by (rows front ++ (rows mid ++ rows back))) (states_of (rows front ++ (rows mid ++ rows back))) (state_between (rows front) (rows mid) (rows back)));
+    }

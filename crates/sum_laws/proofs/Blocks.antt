@@ -1,0 +1,122 @@
+-- Printed blocks are read as what they print.
+use Rattle.std.proofs.Common.{◌≡◌, ◌==◌, ℕ, ◌≤◌, List, [], ◌∷◌, ◌++◌, true, false, refl, sym, ap, ◌∙◌, arith, append_assoc, append-nil, Some, None}
+use Rattle.std.specs.Prelude.{not, Option, Ok, decimal}
+use Rattle.std.specs.Char.{is_ascii_digit}
+use Rattle.std.specs.List.{slice_split, list_all}
+use Rattle.std.proofs.lemmas.Bool.Decides.{nat_tests}
+use Rattle.std.proofs.lemmas.Bool.{and_parts}
+use Rattle.log_sum.specs.Texts.{is_nil}
+use Rattle.log_sum.specs.Counts.{last_count}
+use Rattle.log_sum.specs.Facts.{Fact, Entry, facts_of, fault_of}
+use Rattle.log_sum.specs.Lines.{Said, line_said, place_after, fact_said, test_after}
+use Rattle.log_sum.specs.Reading.{Seen, ◌>>=◌, is_too_long, next_line, fact_put, at_next_line, text_judged, without_return, line_judged, lines_judged, but_last, last_of, lines_of, rest_of}
+use Rattle.sum_laws.proofs.Cases.{Place}
+use Rattle.sum_laws.proofs.Texts.{not_true, all_both, all_weaker, no_feed, first_piece, split_both, split_whole}
+use Rattle.sum_laws.proofs.Lines.{digits_all}
+
+-- what was seen
+abbrev pub seen_at : List Entry → List ℕ → Place → ℕ → Seen
+seen_at entries test place line = record { entries = entries; test = test; place = place; line = line }
+
+abbrev pub entry : List ℕ → Fact → Entry
+entry test fact = record { test = test; fact = fact }
+
+-- entries have no fault behind others
+abbrev pub Clean : List Entry → List Entry → Type 0
+Clean before [] = Unit {0}
+Clean before (e ∷ entries) = (fault_of (facts_of e.test before) e.fact ≡ None) × Clean (before ++ e ∷ []) entries
+
+pub clean_parts : (before one two : List Entry) → Clean before (one ++ two) → Clean before one × Clean (before ++ one) two
+clean_parts before [] two c = (tt, rw (append-nil before) c)
+clean_parts before (e ∷ one) two c =
+    let k = clean_parts (before ++ e ∷ []) one two c.1 in
+    ((c.0, k.0), rw (append_assoc before (e ∷ []) one) at k.1)
+
+abbrev pub put_fact : List ℕ → Option Fact → List Entry
+put_fact test None = []
+put_fact test (Some fact) = entry test fact ∷ []
+
+abbrev pub said_entries : List ℕ → Said → List Entry
+said_entries test said = put_fact (test_after test said) (fact_said said)
+
+fact_goes : (before : List Entry) (test : List ℕ) (place : Place) (line : ℕ) (o : Option Fact) → Clean before (put_fact test o)
+    → (fact_put (seen_at before test place line) o >>= at_next_line) ≡ Ok (seen_at (before ++ put_fact test o) test place (next_line line))
+fact_goes before test place line None c = rw (append-nil before) refl
+fact_goes before test place line (Some fact) c = rw c.0 refl
+
+-- reading goes on from one place to another
+pub record Goes (s t : Seen) (bytes rest : List ℕ) : Type 0 where
+  pub lines : lines_judged s (lines_of bytes) ≡ lines_judged t (lines_of rest)
+  pub last : rest_of bytes ≡ rest_of rest
+  pub fits : list_all (λ line. not (is_too_long line)) (lines_of rest) ≡ true
+
+pub goes_on : {s t u : Seen} {a b c : List ℕ} → Goes s t a b → Goes t u b c → Goes s u a c
+goes_on g h = record { lines = g.lines ∙ h.lines; last = g.last ∙ h.last; fits = h.fits }
+
+-- a line and its line feed
+pub line_off : (text rest : List ℕ) → list_all no_feed text ≡ true → lines_of (text ++ 10 ∷ rest) ≡ text ∷ lines_of rest
+unfolding lines_of
+line_off text rest h =
+    let first = first_piece (λ byte. byte == 10) rest in
+    ap but_last (split_both (λ byte. byte == 10) text 10 rest refl ∙ ap (λ t. t ++ slice_split (λ byte. byte == 10) rest) (split_whole (λ byte. byte == 10) text h))
+    ∙ rw first.is refl
+
+pub last_off : (text rest : List ℕ) → list_all no_feed text ≡ true → rest_of (text ++ 10 ∷ rest) ≡ rest_of rest
+unfolding rest_of
+last_off text rest h =
+    let first = first_piece (λ byte. byte == 10) rest in
+    ap last_of (split_both (λ byte. byte == 10) text 10 rest refl ∙ ap (λ t. t ++ slice_split (λ byte. byte == 10) rest) (split_whole (λ byte. byte == 10) text h))
+    ∙ rw first.is refl
+
+-- a text that can be a printed line
+pub record IsLine (text : List ℕ) : Type 0 where
+  pub one : list_all no_feed text ≡ true
+  pub kept : without_return text ≡ text
+
+abbrev pub Fits : List ℕ → Type 0
+Fits bytes = list_all (λ line. not (is_too_long line)) (lines_of bytes) ≡ true
+
+pub step : (before : List Entry) (test : List ℕ) (place : Place) (line : ℕ) (text rest : List ℕ) (said : Said) → IsLine text → line_said place text ≡ Ok said
+    → Fits (text ++ 10 ∷ rest) → Clean before (said_entries test said)
+    → Goes (seen_at before test place line) (seen_at (before ++ said_entries test said) (test_after test said) (place_after place said) (next_line line)) (text ++ 10 ∷ rest) rest
+unfolding line_judged text_judged
+step before test place line text rest said l e f c =
+    let cut : lines_of (text ++ 10 ∷ rest) ≡ text ∷ lines_of rest = line_off text rest l.one in
+    let fit : list_all (λ line. not (is_too_long line)) (text ∷ lines_of rest) ≡ true = ap (list_all (λ line. not (is_too_long line))) (sym cut) ∙ f in
+    let both : (not (is_too_long text) ≡ true) × (list_all (λ line. not (is_too_long line)) (lines_of rest) ≡ true) = and_parts (not (is_too_long text)) (list_all (λ line. not (is_too_long line)) (lines_of rest)) fit in
+    let short : is_too_long text ≡ false = not_true (is_too_long text) both.0 in
+    record {
+      lines = rw (cut, short, l.kept, e) (ap (λ r. r >>= (λ next. lines_judged next (lines_of rest))) (fact_goes before (test_after test said) (place_after place said) line (fact_said said) c));
+      last = last_off text rest l.one;
+      fits = both.1;
+    }
+
+-- texts that end with no carriage return
+pub return_front : (front : List ℕ) (b : ℕ) (text : List ℕ) → without_return (b ∷ text) ≡ b ∷ text → without_return (front ++ b ∷ text) ≡ front ++ b ∷ text
+unfolding without_return
+return_front [] b text h = h
+return_front (c ∷ []) b text h = ap (λ t. c ∷ t) h
+return_front (c ∷ d ∷ front) b text h = ap (λ t. c ∷ t) (return_front (d ∷ front) b text h)
+
+pub no_return : (text : List ℕ) → list_all (λ b. not (b == 13)) text ≡ true → without_return text ≡ text
+unfolding without_return
+no_return [] h = refl
+no_return (b ∷ []) h = rw (not_true (b == 13) (and_parts (not (b == 13)) true h).0) refl
+no_return (b ∷ c ∷ text) h = ap (λ t. b ∷ t) (no_return (c ∷ text) (and_parts (not (b == 13)) (list_all (λ x. not (x == 13)) (c ∷ text)) h).1)
+
+pub append_line : (front text : List ℕ) → list_all no_feed front ≡ true → is_nil text ≡ false → IsLine text → IsLine (front ++ text)
+append_line front [] h some l = absurd (cc)
+append_line front (b ∷ text) h some l = record { one = all_both no_feed front (b ∷ text) h l.one; kept = return_front front b text l.kept }
+
+plain_feed : (text : List ℕ) → list_all no_feed text ≡ true → list_all (λ b. not (b == 13)) text ≡ true → IsLine text
+plain_feed text h k = record { one = h; kept = no_return text k }
+
+digit_feed : (b : ℕ) → is_ascii_digit b ≡ true → no_feed b ≡ true
+digit_feed b h = grind (arith, nat_tests)
+
+digit_return : (b : ℕ) → is_ascii_digit b ≡ true → not (b == 13) ≡ true
+digit_return b h = grind (arith, nat_tests)
+
+pub decimal_line : (n : ℕ) → n ≤ last_count → IsLine (decimal n)
+decimal_line n h =
+    plain_feed (decimal n) (all_weaker is_ascii_digit no_feed digit_feed (decimal n) (digits_all n h)) (all_weaker is_ascii_digit (λ b. not (b == 13)) digit_return (decimal n) (digits_all n h))

@@ -1,0 +1,112 @@
+-- The laws tried on logs.
+use Rattle.std.proofs.Common.{◌≡◌, ℕ, ◌≤◌, List, [], ◌∷◌, ◌++◌, length, drop, refl, sym, ◌∙◌, arith, subst, Some}
+use Rattle.std.specs.Str.{bytes_eq}
+use Rattle.std.proofs.lemmas.Slice.Eq.{bytes_eq-Decides}
+use Rattle.log_sum.specs.Facts.{Fact, Entry, a_kind, a_row, a_condition, a_hash, row_with, facts_of}
+use Rattle.sum_laws.specs.Laws.{IsSum}
+use Rattle.sum_laws.proofs.Cases.{forbidden, plain, not_validated, outside}
+use Rattle.sum_laws.proofs.Texts.{by_test}
+use Rattle.sum_laws.proofs.Blocks.{entry}
+use Rattle.sum_laws.proofs.Agreeing.{fact_elsewhere}
+use Rattle.std.specs.Prelude.{codes, Result, Ok, Err}
+use Rattle.std.specs.Fmt.{digits}
+use Rattle.log_sum.specs.declared.errors.LogKind.TheVariants.{HashDiffers}
+use Rattle.log_sum.specs.declared.errors.LogError.{LogError}
+use Rattle.log_sum.specs.Texts.{run_of, after_run, before_blanks, words}
+use Rattle.log_sum.specs.Counts.{count_read, last_count}
+use Rattle.log_sum.specs.States.{form_read, cut_at, with_pieces, state_read, state_form}
+use Rattle.log_sum.specs.Facts.{marked_sum, state_sum, states_of, mark_in, fault_of}
+use Rattle.log_sum.specs.Lines.{test_line, histogram_line, row_line, condition_line, hash_line, line_said, place_after, fact_said}
+use Rattle.log_sum.specs.Reading.{text_judged, without_return, line_judged, lines_of, rest_of, last_judged, file_judged}
+use Rattle.log_sum.specs.Summed.{summed}
+use Rattle.log_sum.specs.SumText.{state_line, head_text, verdict_text, condition_text, claim_text, hash_text, observation_text, test_text, sum_text}
+use Rattle.log_sum.specs.Standing.{logs_text}
+
+abbrev nl : List ℕ → List ℕ
+nl line = line ++ 10 ∷ []
+
+-- a block of one state, with or without a hash
+abbrev block : List ℕ → List ℕ → List ℕ → List ℕ
+block state verdict hash =
+    nl (codes "Test T Forbidden") ++ nl (codes "Histogram (1 state)") ++ nl state ++ nl (codes "Ok")
+    ++ nl (codes "Condition ~exists (x=1) " ++ verdict) ++ hash ++ nl (codes "Observation T Never 0 1")
+
+abbrev one_log : List ℕ
+one_log = block (codes "7:>y=0;x=0;") (codes "is validated") []
+
+abbrev other_log : List ℕ
+other_log = block (codes "5 :>[x]=0; y=0;") (codes "is NOT validated") (nl (codes "Hash=a"))
+
+abbrev all : List ℕ
+all =
+    nl (codes "Test T Forbidden") ++ nl (codes "Histogram (1 states)") ++ nl (codes "12    :>[x]=0; [y]=0;") ++ nl (codes "No")
+    ++ nl [] ++ nl (codes "Witnesses") ++ nl (codes "Positive: 0, Negative: 12")
+    ++ nl (codes "Condition ~exists (x=1) is NOT validated") ++ nl (codes "Hash=a")
+    ++ nl (codes "Observation T Never 0 12") ++ nl []
+
+abbrev or_nothing : Result (List ℕ) LogError → List ℕ
+or_nothing (Ok text) = text
+or_nothing (Err error) = []
+
+together : logs_text (one_log ∷ other_log ∷ []) ≡ Ok all
+unfolding logs_text form_read digits run_of after_run before_blanks words count_read cut_at with_pieces state_read state_form marked_sum state_sum states_of mark_in fault_of test_line histogram_line row_line condition_line hash_line line_said place_after fact_said text_judged without_return line_judged lines_of rest_of last_judged file_judged summed state_line head_text verdict_text condition_text claim_text hash_text observation_text test_text sum_text
+together = refl
+
+by_sums : logs_text (or_nothing (logs_text (one_log ∷ [])) ∷ or_nothing (logs_text (other_log ∷ [])) ∷ []) ≡ Ok all
+unfolding logs_text form_read digits run_of after_run before_blanks words count_read cut_at with_pieces state_read state_form marked_sum state_sum states_of mark_in fault_of test_line histogram_line row_line condition_line hash_line line_said place_after fact_said text_judged without_return line_judged lines_of rest_of last_judged file_judged summed state_line head_text verdict_text condition_text claim_text hash_text observation_text test_text sum_text
+by_sums = refl
+
+-- a hash that ends with a carriage return isn't read back
+abbrev returned : List ℕ
+returned = block (codes "7:>x=0;") (codes "is validated") (nl (codes "Hash=a" ++ 13 ∷ 13 ∷ []))
+
+not_read_back : logs_text (or_nothing (logs_text (returned ∷ [])) ∷ returned ∷ []) ≡ Err (record { line = 6; kind = HashDiffers })
+unfolding logs_text form_read digits run_of after_run before_blanks words count_read cut_at with_pieces state_read state_form marked_sum state_sum states_of mark_in fault_of test_line histogram_line row_line condition_line hash_line line_said place_after fact_said text_judged without_return line_judged lines_of rest_of last_judged file_judged summed state_line head_text verdict_text condition_text claim_text hash_text observation_text test_text sum_text
+not_read_back = refl
+
+-- a printed sum that keeps the limits
+abbrev name : List ℕ
+name = codes "T"
+
+abbrev told_other : List Entry
+told_other =
+    entry name (a_kind forbidden) ∷ entry name (a_row (row_with (codes "[x]=0; [y]=0;") plain 5))
+    ∷ entry name (a_condition (codes "~exists (x=1)") not_validated) ∷ entry name (a_hash (codes "a")) ∷ []
+
+facts_here : (test : List ℕ) (P : List Fact → Type 0) → P (facts_of name told_other) → P [] → P (facts_of test told_other)
+facts_here test P here none =
+    by_test (bytes_eq name test)
+    (λ e. let same : name ≡ test = (bytes_eq-Decides name test).0 e in subst (λ n. P (facts_of n told_other)) same here)
+    (λ e. let elsewhere : facts_of test told_other ≡ [] =
+    fact_elsewhere test (entry name (a_kind forbidden)) (drop 1 told_other) e ∙ fact_elsewhere test (entry name (a_row (row_with (codes "[x]=0; [y]=0;") plain 5))) (drop 2 told_other) e
+    ∙ fact_elsewhere test (entry name (a_condition (codes "~exists (x=1)") not_validated)) (drop 3 told_other) e ∙ fact_elsewhere test (entry name (a_hash (codes "a"))) [] e in
+    subst P (sym elsewhere) none)
+
+few_here : length (summed (facts_of name told_other)).states ≤ last_count
+unfolding summed states_of
+few_here = omega arith
+
+few_nowhere : length (summed []).states ≤ last_count
+unfolding summed states_of
+few_nowhere = omega arith
+
+hash_here : (hash : List ℕ) → (summed (facts_of name told_other)).hash ≡ Some hash → without_return hash ≡ hash
+unfolding summed without_return
+hash_here hash h = let same : codes "a" ≡ hash = cc in subst (λ t. without_return t ≡ t) same refl
+
+hash_nowhere : (hash : List ℕ) → (summed []).hash ≡ Some hash → without_return hash ≡ hash
+unfolding summed
+hash_nowhere hash h = absurd (cc)
+
+a_sum_that_keeps_them : IsSum (other_log ∷ []) (sum_text told_other)
+unfolding form_read digits run_of after_run before_blanks words count_read cut_at with_pieces state_read state_form marked_sum state_sum states_of mark_in fault_of test_line histogram_line row_line condition_line hash_line line_said place_after fact_said text_judged without_return line_judged lines_of rest_of last_judged file_judged summed state_line head_text verdict_text condition_text claim_text hash_text observation_text test_text sum_text
+a_sum_that_keeps_them = record {
+  seen = record { entries = told_other; test = []; place = outside; line = 1 };
+  judged = refl;
+  printed = refl;
+  limits = record {
+    lines = refl;
+    states = λ test. facts_here test (λ facts. length (summed facts).states ≤ last_count) few_here few_nowhere;
+    hashes = λ test. facts_here test (λ facts. (hash : List ℕ) → (summed facts).hash ≡ Some hash → without_return hash ≡ hash) hash_here hash_nowhere;
+  };
+}

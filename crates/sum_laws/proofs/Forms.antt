@@ -1,0 +1,437 @@
+-- A printed form is read as itself.
+use Rattle.std.proofs.Common.{◌≡◌, ◌==◌, ℕ, List, [], ◌∷◌, ◌++◌, length, take, drop, true, false, refl, sym, ap, ◌∙◌, subst, append_assoc, append-nil, Some, None}
+use Rattle.std.specs.Prelude.{Bool, not, ◌&&◌, ◌||◌, cond, Option, Ok, map}
+use Rattle.std.specs.List.{list_any, list_all, slice_split, onto_first}
+use Rattle.std.specs.Option.{option_map}
+use Rattle.std.specs.Ordering.{nat_cmp, match_ordering}
+use Rattle.std.specs.declared.cmp.Ordering.{Ordering}
+use Rattle.std.specs.declared.cmp.Ordering.TheVariants.{Less, Equal, Greater}
+use Rattle.std.specs.Cmp.Lexicographic.{slice_cmp}
+use Rattle.std.specs.BTreeSet.{insert_key}
+use Rattle.std.specs.Str.{bytes_eq}
+use Rattle.std.proofs.lemmas.Bool.{and_parts, and_from, eqb-true}
+use Rattle.std.proofs.lemmas.List.{take_at, take-append-drop}
+use Rattle.std.proofs.lemmas.Slice.Eq.{bytes_eq-Decides}
+use Rattle.log_sum.specs.Texts.{is_blank, is_inked, is_nil, after_run, before_blanks, unblanked, begins_with}
+use Rattle.log_sum.specs.States.{before_cut, cut_at, is_bracketed, left_kept, is_side, sides_read, has_left, with_equality, and_then, with_pieces, later_unblanked, state_read, later_forms, state_form, or_bad, form_read}
+use Rattle.log_sum.specs.Reading.{without_return}
+use Rattle.sum_laws.proofs.Texts.{by_test, not_true, all_both, all_parts, all_weaker, all_and, all_after, bytes_same, no_feed, split_both, split_whole, end_stays, ink_stays}
+use Rattle.sum_laws.proofs.Blocks.{IsLine, append_line}
+use Rattle.sum_laws.proofs.Printed.{AllOf, IsForm}
+use Rattle.sum_laws.proofs.Agreeing.{all_of_both}
+use Rattle.sum_laws.proofs.Orders.{compare, Above, Ascends, insert_ascends, reversed_less}
+
+-- bytes of an equality, and of its left side
+abbrev pub is_part : ℕ → Bool
+is_part b = is_inked b && (not (b == 59) && no_feed b)
+
+abbrev pub no_sign : ℕ → Bool
+no_sign b = not (b == 61)
+
+abbrev pub no_semi : ℕ → Bool
+no_semi b = not (b == 59)
+
+part_of : (text : List ℕ) → list_all is_inked text ≡ true → list_all no_semi text ≡ true → list_all no_feed text ≡ true → list_all is_part text ≡ true
+part_of text a b c = all_and is_inked (λ b. no_semi b && no_feed b) text a (all_and no_semi no_feed text b c)
+
+semis_of : (text : List ℕ) → list_all is_part text ≡ true → list_all no_semi text ≡ true
+semis_of text h = all_weaker is_part no_semi (λ b p. (and_parts (not (b == 59)) (no_feed b) (and_parts (is_inked b) (not (b == 59) && no_feed b) p).1).0) text h
+
+feeds_of : (text : List ℕ) → list_all is_part text ≡ true → list_all no_feed text ≡ true
+feeds_of text h = all_weaker is_part no_feed (λ b p. (and_parts (not (b == 59)) (no_feed b) (and_parts (is_inked b) (not (b == 59) && no_feed b) p).1).1) text h
+
+inked_of : (text : List ℕ) → list_all is_part text ≡ true → list_all is_inked text ≡ true
+inked_of text h = all_weaker is_part is_inked (λ b p. (and_parts (is_inked b) (not (b == 59) && no_feed b) p).0) text h
+
+-- cuts
+pub record Cut (sign : ℕ) (text left right : List ℕ) : Type 0 where
+  pub whole : text ≡ left ++ sign ∷ right
+  pub before : list_all (λ b. not (b == sign)) left ≡ true
+
+sign_is : (b sign : ℕ) → (b == sign) ≡ true → b ≡ sign
+sign_is b sign h = eqb-true b sign h
+
+cut_parts : (sign : ℕ) (text left right : List ℕ) → cut_at sign text ≡ Some (left, right) → Cut sign text left right
+unfolding cut_at
+cut_parts sign [] left right h = absurd (cc)
+cut_parts sign (b ∷ text) left right h =
+    by_test (b == sign)
+    (λ e. let k = rw e at h in
+    let pair : ◌≡◌ {A = List ℕ × List ℕ} ([], text) (left, right) = cc in
+    let l : left ≡ [] = ap (λ (x : List ℕ × List ℕ). x.0) (sym pair) in
+    let r : right ≡ text = ap (λ (x : List ℕ × List ℕ). x.1) (sym pair) in
+    let same : b ≡ sign = sign_is b sign e in
+    rw (l, r, same) (record { whole = refl; before = refl }))
+    (λ e. by_cut e (cut_at sign text) refl (λ l r f. cut_parts sign text l r f) (rw e at h))
+  where
+    by_cut : (b == sign) ≡ false → (o : Option (List ℕ × List ℕ)) → cut_at sign text ≡ o → ((l r : List ℕ) → cut_at sign text ≡ Some (l, r) → Cut sign text l r) → before_cut b o ≡ Some (left, right) → Cut sign (b ∷ text) left right
+    by_cut e None f law k = absurd (cc)
+    by_cut e (Some parts) f law k =
+        let pair : ◌≡◌ {A = List ℕ × List ℕ} (b ∷ parts.0, parts.1) (left, right) = cc in
+        let l : left ≡ b ∷ parts.0 = ap (λ (x : List ℕ × List ℕ). x.0) (sym pair) in
+        let r : right ≡ parts.1 = ap (λ (x : List ℕ × List ℕ). x.1) (sym pair) in
+        let further : Cut sign text parts.0 parts.1 = law parts.0 parts.1 f in
+        rw (l, r) (record { whole = ap (λ t. b ∷ t) further.whole; before = and_from (not (b == sign)) (list_all (λ c. not (c == sign)) parts.0) (rw e refl) further.before })
+
+cut_again : (sign : ℕ) (left right : List ℕ) → list_all (λ b. not (b == sign)) left ≡ true → (sign == sign) ≡ true → cut_at sign (left ++ sign ∷ right) ≡ Some (left, right)
+unfolding cut_at
+cut_again sign [] right h s = rw s refl
+cut_again sign (b ∷ left) right h s =
+    let k : (not (b == sign) ≡ true) × (list_all (λ c. not (c == sign)) left ≡ true) = and_parts (not (b == sign)) (list_all (λ c. not (c == sign)) left) h in
+    rw (not_true (b == sign) k.0, cut_again sign left right k.1 s) refl
+
+-- an equality as it is kept
+pub record IsEquality (e : List ℕ) : Type 0 where
+  pub left : List ℕ
+  pub value : List ℕ
+  pub is : e ≡ left ++ 61 ∷ value
+  pub left_side : is_side left ≡ true
+  pub value_side : is_side value ≡ true
+  pub left_part : list_all is_part left ≡ true
+  pub value_part : list_all is_part value ≡ true
+  pub one_sign : list_all no_sign left ≡ true
+  pub kept : left_kept left ≡ left
+
+-- the left side and the sign
+abbrev pub front_of : Option (List ℕ × List ℕ) → List ℕ
+front_of None = []
+front_of (Some parts) = parts.0 ++ 61 ∷ []
+
+pub head_of : List ℕ → List ℕ
+head_of e = front_of (cut_at 61 e)
+
+cut_is : (e : List ℕ) (i : IsEquality e) → cut_at 61 e ≡ Some (i.left, i.value)
+cut_is e i = ap (cut_at 61) i.is ∙ cut_again 61 i.left i.value i.one_sign refl
+
+head_is : (e : List ℕ) (i : IsEquality e) → head_of e ≡ i.left ++ 61 ∷ []
+unfolding head_of
+head_is e i = ap front_of (cut_is e i)
+
+-- what begins with a text
+pub begins_so : (text head : List ℕ) → begins_with text head ≡ true → text ≡ head ++ drop (length head) text
+begins_so text head h =
+    let e : head ≡ take (length head) text = (bytes_eq-Decides head (take (length head) text)).0 h in
+    sym (take-append-drop (length head) text) ∙ ap (λ t. t ++ drop (length head) text) (sym e)
+
+begins_again : (head text : List ℕ) → begins_with (head ++ text) head ≡ true
+begins_again head text = ap (bytes_eq head) (take_at head text (length head) refl) ∙ bytes_same head
+
+-- two equalities have different left sides
+abbrev pub Other : List ℕ → List ℕ → Type 0
+Other x y = (begins_with x (head_of y) ≡ false) × (begins_with y (head_of x) ≡ false)
+
+left_same : (p q : List ℕ × List ℕ) → ◌≡◌ {A = Option (List ℕ × List ℕ)} (Some p) (Some q) → p.0 ≡ q.0
+left_same p q e = let pair : p ≡ q = cc in ap (λ (x : List ℕ × List ℕ). x.0) pair
+
+same_head : (x y : List ℕ) → IsEquality x → IsEquality y → begins_with y (head_of x) ≡ true → begins_with x (head_of y) ≡ true
+same_head x y i j h =
+    let at_y : begins_with y (i.left ++ 61 ∷ []) ≡ true = ap (begins_with y) (sym (head_is x i)) ∙ h in
+    let rest : List ℕ = drop (length (i.left ++ 61 ∷ [])) y in
+    let whole : y ≡ i.left ++ 61 ∷ rest = begins_so y (i.left ++ 61 ∷ []) at_y ∙ append_assoc i.left (61 ∷ []) rest in
+    let cut : cut_at 61 y ≡ Some (i.left, rest) = ap (cut_at 61) whole ∙ cut_again 61 i.left rest i.one_sign refl in
+    let both : ◌≡◌ {A = Option (List ℕ × List ℕ)} (Some (i.left, rest)) (Some (j.left, j.value)) = sym cut ∙ cut_is y j in
+    let left : i.left ≡ j.left = left_same (i.left, rest) (j.left, j.value) both in
+    let form : x ≡ (j.left ++ 61 ∷ []) ++ i.value = i.is ∙ ap (λ t. t ++ 61 ∷ i.value) left ∙ sym (append_assoc j.left (61 ∷ []) i.value) in
+    ap (begins_with x) (head_is y j) ∙ ap (λ t. begins_with t (j.left ++ 61 ∷ [])) form ∙ begins_again (j.left ++ 61 ∷ []) i.value
+
+other_so : (x y : List ℕ) → IsEquality x → IsEquality y → begins_with x (head_of y) ≡ false → Other x y
+other_so x y i j h = (h, by_test (begins_with y (head_of x)) (λ e. let k : true ≡ false = sym (same_head x y i j e) ∙ h in absurd (cc)) (λ e. e))
+
+abbrev pub Apart : List (List ℕ) → Type 0
+Apart [] = Unit {0}
+Apart (x ∷ xs) = AllOf (Other x) xs × Apart xs
+
+pub record IsState (state : List (List ℕ)) : Type 0 where
+  pub equalities : AllOf IsEquality state
+  pub ascends : Ascends state
+  pub apart : Apart state
+
+all_insert : (P : List ℕ → Type 0) (k : List ℕ) (xs : List (List ℕ)) → AllOf P xs → P k → AllOf P (insert_key (slice_cmp nat_cmp) xs k)
+all_insert P k [] a h = (h, tt)
+all_insert P k (x ∷ xs) a h = by_ordering (all_insert P k xs a.1 h) (compare k x)
+  where
+    by_ordering : AllOf P (insert_key (slice_cmp nat_cmp) xs k) → (o : Ordering) → AllOf P (match_ordering o (k ∷ x ∷ xs) (x ∷ xs) (x ∷ insert_key (slice_cmp nat_cmp) xs k))
+    by_ordering further Less = (h, a)
+    by_ordering further Equal = a
+    by_ordering further Greater = (a.0, further)
+
+apart_insert : (k : List ℕ) (xs : List (List ℕ)) → AllOf (Other k) xs → Apart xs → Apart (insert_key (slice_cmp nat_cmp) xs k)
+apart_insert k [] o a = (tt, tt)
+apart_insert k (x ∷ xs) o a = by_ordering (apart_insert k xs o.1 a.1) (compare k x)
+  where
+    by_ordering : Apart (insert_key (slice_cmp nat_cmp) xs k) → (c : Ordering) → Apart (match_ordering c (k ∷ x ∷ xs) (x ∷ xs) (x ∷ insert_key (slice_cmp nat_cmp) xs k))
+    by_ordering further Less = (o, a)
+    by_ordering further Equal = a
+    by_ordering further Greater = (all_insert (Other x) k xs a.0 (o.0.1, o.0.0), further)
+
+others : (k : List ℕ) (xs : List (List ℕ)) → IsEquality k → AllOf IsEquality xs → has_left xs (head_of k) ≡ false → AllOf (Other k) xs
+others k [] i a h = tt
+others k (x ∷ xs) i a h =
+    by_test (begins_with x (head_of k))
+    (λ e. let m = rw e at h in absurd (cc))
+    (λ e. let o : Other x k = other_so x k a.0 i e in ((o.1, o.0), others k xs i a.1 (rw e at h)))
+
+put_state : (state : List (List ℕ)) (k : List ℕ) → IsState state → IsEquality k → has_left state (head_of k) ≡ false → IsState (insert_key (slice_cmp nat_cmp) state k)
+put_state state k s i h = record {
+  equalities = all_insert IsEquality k state s.equalities i;
+  ascends = insert_ascends k state s.ascends;
+  apart = apart_insert k state (others k state i s.equalities h) s.apart;
+}
+
+-- left sides
+kept_twice : (left : List ℕ) → left_kept (left_kept left) ≡ left_kept left
+kept_twice left =
+    by_test (list_any (λ byte. byte == 58) left || is_bracketed left)
+    (λ e. rw e (rw e refl))
+    (λ e. rw e (ap (λ b. cond b ((91 ∷ left) ++ 93 ∷ []) ((91 ∷ ((91 ∷ left) ++ 93 ∷ [])) ++ 93 ∷ [])) (or_true (list_any (λ byte. byte == 58) ((91 ∷ left) ++ 93 ∷ [])))))
+  where
+    or_true : (b : Bool) → b || true ≡ true
+    or_true true = refl
+    or_true false = refl
+
+kept_all : (p : ℕ → Bool) (left : List ℕ) → p 91 ≡ true → p 93 ≡ true → list_all p left ≡ true → list_all p (left_kept left) ≡ true
+kept_all p left h k a =
+    by_test (list_any (λ byte. byte == 58) left || is_bracketed left)
+    (λ e. rw e a)
+    (λ e. rw e (and_from (p 91) (list_all p (left ++ 93 ∷ [])) h (all_both p left (93 ∷ []) a (and_from (p 93) true k refl))))
+
+kept_some : (left : List ℕ) → is_nil left ≡ false → is_nil (left_kept left) ≡ false
+kept_some left h = by_test (list_any (λ byte. byte == 58) left || is_bracketed left) (λ e. rw e h) (λ e. rw e refl)
+
+side_parts : (text : List ℕ) → is_side text ≡ true → (is_nil text ≡ false) × (list_all is_inked text ≡ true)
+side_parts text h = let k = and_parts (not (is_nil text)) (list_all is_inked text) h in (not_true (is_nil text) k.0, k.1)
+
+side_from : (text : List ℕ) → is_nil text ≡ false → list_all is_inked text ≡ true → is_side text ≡ true
+side_from text h k = and_from (not (is_nil text)) (list_all is_inked text) (rw h refl) k
+
+-- an equality that was read is as it is kept
+equality_from : (piece left value : List ℕ) → Cut 61 piece left value → is_side left ≡ true → is_side value ≡ true → list_all no_semi piece ≡ true → list_all no_feed piece ≡ true → IsEquality ((left_kept left ++ 61 ∷ []) ++ value)
+equality_from piece left value c l v semi feed =
+    let lp = side_parts left l in
+    let vp = side_parts value v in
+    let semis = all_parts no_semi left (61 ∷ value) (ap (list_all no_semi) (sym c.whole) ∙ semi) in
+    let feeds = all_parts no_feed left (61 ∷ value) (ap (list_all no_feed) (sym c.whole) ∙ feed) in
+    let left_part : list_all is_part left ≡ true = part_of left lp.1 semis.0 feeds.0 in
+    let kept_part : list_all is_part (left_kept left) ≡ true = kept_all is_part left refl refl left_part in
+    record {
+      left = left_kept left;
+      value = value;
+      is = append_assoc (left_kept left) (61 ∷ []) value;
+      left_side = side_from (left_kept left) (kept_some left lp.0) (inked_of (left_kept left) kept_part);
+      value_side = v;
+      left_part = kept_part;
+      value_part = part_of value vp.1 semis.1 feeds.1;
+      one_sign = kept_all no_sign left refl refl c.before;
+      kept = kept_twice left;
+    }
+
+-- what reading puts into a state
+abbrev PutsInto : List (List ℕ) → Option (List (List ℕ)) → Type 0
+PutsInto state None = Unit {0}
+PutsInto state (Some more) = IsState more
+
+sides_put : (state : List (List ℕ)) (piece left value : List ℕ) → IsState state → Cut 61 piece left value → list_all no_semi piece ≡ true → list_all no_feed piece ≡ true
+    → PutsInto state (with_equality state (cond {A = Option (List ℕ × List ℕ)} (is_side left && is_side value) (Some (left, value)) None))
+unfolding equality_from
+sides_put state piece left value s c semi feed =
+    by_test (is_side left && is_side value)
+    (λ e. rw e (let both = and_parts (is_side left) (is_side value) e in
+    let i : IsEquality ((left_kept left ++ 61 ∷ []) ++ value) = equality_from piece left value c both.0 both.1 semi feed in
+    by_test (has_left state (left_kept left ++ 61 ∷ []))
+    (λ f. rw f tt)
+    (λ f. rw f (put_state state ((left_kept left ++ 61 ∷ []) ++ value) s i (ap (has_left state) (head_is ((left_kept left ++ 61 ∷ []) ++ value) i) ∙ f)))))
+    (λ e. rw e tt)
+
+piece_put : (state : List (List ℕ)) (piece : List ℕ) (o : Option (List ℕ × List ℕ)) → cut_at 61 piece ≡ o → IsState state → list_all no_semi piece ≡ true → list_all no_feed piece ≡ true → PutsInto state (with_equality state (sides_read o))
+piece_put state piece None e s semi feed = tt
+piece_put state piece (Some sides) e s semi feed = sides_put state piece sides.0 sides.1 s (cut_parts 61 piece sides.0 sides.1 e) semi feed
+
+any_base : (one two : List (List ℕ)) (o : Option (List (List ℕ))) → PutsInto one o → PutsInto two o
+any_base one two None p = tt
+any_base one two (Some more) p = p
+
+pieces_put : (state : List (List ℕ)) (pieces : List (List ℕ)) → IsState state → list_all (list_all no_semi) pieces ≡ true → list_all (list_all no_feed) pieces ≡ true → PutsInto state (with_pieces state pieces)
+unfolding with_pieces
+pieces_put state [] s semi feed = tt
+pieces_put state (last ∷ []) s semi feed = by_test (is_nil last) (λ e. rw e s) (λ e. rw e tt)
+pieces_put state (piece ∷ next ∷ rest) s semi feed =
+    let a = and_parts (list_all no_semi piece) (list_all (list_all no_semi) (next ∷ rest)) semi in
+    let b = and_parts (list_all no_feed piece) (list_all (list_all no_feed) (next ∷ rest)) feed in
+    by_put (with_equality state (sides_read (cut_at 61 piece))) (piece_put state piece (cut_at 61 piece) refl s a.0 b.0) (λ more t. pieces_put more (next ∷ rest) t a.1 b.1)
+  where
+    by_put : (o : Option (List (List ℕ))) → PutsInto state o → ((more : List (List ℕ)) → IsState more → PutsInto more (with_pieces more (next ∷ rest))) → PutsInto state (and_then o (λ more. with_pieces more (next ∷ rest)))
+    by_put None p law = tt
+    by_put (Some more) p law = any_base more state (with_pieces more (next ∷ rest)) (law more p)
+
+-- what was read is read again from its printed form
+equality_semis : (x : List ℕ) → IsEquality x → list_all no_semi x ≡ true
+equality_semis x i = ap (list_all no_semi) i.is ∙ all_both no_semi i.left (61 ∷ i.value) (semis_of i.left i.left_part) (semis_of i.value i.value_part)
+
+first_stays : (left rest : List ℕ) → is_nil left ≡ false → list_all is_inked left ≡ true → unblanked (left ++ rest) ≡ left ++ rest
+unfolding after_run
+first_stays [] rest h k = absurd (cc)
+first_stays (b ∷ left) rest h k = let n : is_blank b ≡ false = not_true (is_blank b) (and_parts (is_inked b) (list_all is_inked left) k).0 in rw n refl
+
+equality_first : (x : List ℕ) → IsEquality x → unblanked (32 ∷ x) ≡ x
+unfolding after_run
+equality_first x i =
+    let k = side_parts i.left i.left_side in
+    ap unblanked i.is ∙ first_stays i.left (61 ∷ i.value) k.0 k.1 ∙ sym i.is
+
+no_bytes : without_return [] ≡ []
+unfolding without_return
+no_bytes = refl
+
+no_piece : (state : List (List ℕ)) → with_pieces state ([] ∷ []) ≡ Some (state ++ [])
+unfolding with_pieces
+no_piece state = ap Some (sym (append-nil state))
+
+split_later : (xs : List (List ℕ)) → AllOf IsEquality xs → map unblanked (slice_split (λ byte. byte == 59) (later_forms xs)) ≡ xs ++ [] ∷ []
+unfolding after_run
+split_later [] a = refl
+split_later (x ∷ xs) a =
+    let i = a.0 in
+    ap (λ t. map unblanked (slice_split (λ byte. byte == 59) t)) (append_assoc (32 ∷ x) (59 ∷ []) (later_forms xs))
+    ∙ ap (map unblanked) (split_both (λ byte. byte == 59) (32 ∷ x) 59 (later_forms xs) refl ∙ ap (λ t. t ++ slice_split (λ byte. byte == 59) (later_forms xs)) (split_whole (λ byte. byte == 59) (32 ∷ x) (equality_semis x i)))
+    ∙ ap (λ t. t ∷ map unblanked (slice_split (λ byte. byte == 59) (later_forms xs))) (equality_first x i)
+    ∙ ap (λ t. x ∷ t) (split_later xs a.1)
+
+split_form : (xs : List (List ℕ)) → AllOf IsEquality xs → later_unblanked (slice_split (λ byte. byte == 59) (state_form xs)) ≡ xs ++ [] ∷ []
+unfolding state_form
+split_form [] a = refl
+split_form (x ∷ xs) a =
+    ap (λ t. later_unblanked (slice_split (λ byte. byte == 59) t)) (append_assoc x (59 ∷ []) (later_forms xs))
+    ∙ ap later_unblanked (split_both (λ byte. byte == 59) x 59 (later_forms xs) refl ∙ ap (λ t. t ++ slice_split (λ byte. byte == 59) (later_forms xs)) (split_whole (λ byte. byte == 59) x (equality_semis x a.0)))
+    ∙ ap (λ t. x ∷ t) (split_later xs a.1)
+
+one_more_piece : (state : List (List ℕ)) (piece : List ℕ) (xs : List (List ℕ)) → with_pieces state (piece ∷ (xs ++ [] ∷ [])) ≡ and_then (with_equality state (sides_read (cut_at 61 piece))) (λ more. with_pieces more (xs ++ [] ∷ []))
+unfolding with_pieces
+one_more_piece state piece [] = refl
+one_more_piece state piece (x ∷ xs) = refl
+
+-- what stands before an equality
+abbrev Before : List (List ℕ) → List ℕ → Type 0
+Before state e = AllOf (λ t. (compare t e ≡ Less) × (begins_with t (head_of e) ≡ false)) state
+
+none_has : (state : List (List ℕ)) (e : List ℕ) → Before state e → has_left state (head_of e) ≡ false
+none_has [] e b = refl
+none_has (t ∷ state) e b = rw b.0.1 (none_has state e b.1)
+
+put_last : (state : List (List ℕ)) (e : List ℕ) → Before state e → insert_key (slice_cmp nat_cmp) state e ≡ state ++ e ∷ []
+put_last [] e b = refl
+put_last (t ∷ state) e b = rw (reversed_less t e b.0.0) (ap (λ x. t ∷ x) (put_last state e b.1))
+
+before_more : (state : List (List ℕ)) (e : List ℕ) (xs : List (List ℕ)) → AllOf (Before state) xs → Above e xs → AllOf (Other e) xs → AllOf (Before (state ++ e ∷ [])) xs
+before_more state e [] b a o = tt
+before_more state e (x ∷ xs) b a o =
+    (all_of_both (λ t. (compare t x ≡ Less) × (begins_with t (head_of x) ≡ false)) state (e ∷ []) b.0 ((a.0, o.0.0), tt), before_more state e xs b.1 a.1 o.1)
+
+equality_again : (state : List (List ℕ)) (e : List ℕ) → IsEquality e → Before state e → with_equality state (sides_read (cut_at 61 e)) ≡ Some (state ++ e ∷ [])
+equality_again state e i b =
+    let form : (left_kept i.left ++ 61 ∷ []) ++ i.value ≡ e = ap (λ t. (t ++ 61 ∷ []) ++ i.value) i.kept ∙ append_assoc i.left (61 ∷ []) i.value ∙ sym i.is in
+    let head : left_kept i.left ++ 61 ∷ [] ≡ head_of e = ap (λ t. t ++ 61 ∷ []) i.kept ∙ sym (head_is e i) in
+    let none : has_left state (left_kept i.left ++ 61 ∷ []) ≡ false = ap (has_left state) head ∙ none_has state e b in
+    rw (cut_is e i, i.left_side, i.value_side) (rw none (ap Some (ap (insert_key (slice_cmp nat_cmp) state) form ∙ put_last state e b)))
+
+pieces_again : (state xs : List (List ℕ)) → AllOf IsEquality xs → Ascends xs → Apart xs → AllOf (Before state) xs → with_pieces state (xs ++ [] ∷ []) ≡ Some (state ++ xs)
+pieces_again state [] i a o b = no_piece state
+pieces_again state (x ∷ xs) i a o b =
+    one_more_piece state x xs ∙ ap (λ r. and_then r (λ more. with_pieces more (xs ++ [] ∷ []))) (equality_again state x i.0 b.0)
+    ∙ pieces_again (state ++ x ∷ []) xs i.1 a.1 o.1 (before_more state x xs b.1 a.0 o.0)
+    ∙ ap Some (append_assoc state (x ∷ []) xs)
+
+none_before : (xs : List (List ℕ)) → AllOf (Before []) xs
+none_before [] = tt
+none_before (x ∷ xs) = (tt, none_before xs)
+
+form_again : (xs : List (List ℕ)) → IsState xs → form_read (state_form xs) ≡ Ok (state_form xs)
+unfolding form_read state_read
+form_again xs s =
+    ap (λ r. or_bad (option_map state_form r)) (ap (with_pieces []) (split_form xs s.equalities) ∙ pieces_again [] xs s.equalities s.ascends s.apart (none_before xs))
+
+-- a printed form as a part of a line
+equality_line : (x : List ℕ) → IsEquality x → list_all no_feed x ≡ true
+equality_line x i = ap (list_all no_feed) i.is ∙ all_both no_feed i.left (61 ∷ i.value) (feeds_of i.left i.left_part) (feeds_of i.value i.value_part)
+
+semi_return : without_return (59 ∷ []) ≡ 59 ∷ []
+unfolding without_return
+semi_return = refl
+
+semi_line : (rest : List ℕ) → IsLine rest → IsLine (59 ∷ rest)
+semi_line [] l = record { one = refl; kept = semi_return }
+semi_line (b ∷ rest) l = append_line (59 ∷ []) (b ∷ rest) refl refl l
+
+later_line : (xs : List (List ℕ)) → AllOf IsEquality xs → IsLine (later_forms xs)
+later_line [] a = record { one = refl; kept = no_bytes }
+later_line (x ∷ xs) a = subst IsLine (sym (append_assoc (32 ∷ x) (59 ∷ []) (later_forms xs))) (append_line (32 ∷ x) (59 ∷ later_forms xs) (equality_line x a.0) refl (semi_line (later_forms xs) (later_line xs a.1)))
+
+form_line : (xs : List (List ℕ)) → AllOf IsEquality xs → IsLine (state_form xs)
+unfolding state_form
+form_line [] a = record { one = refl; kept = no_bytes }
+form_line (x ∷ xs) a = subst IsLine (sym (append_assoc x (59 ∷ []) (later_forms xs))) (append_line x (59 ∷ later_forms xs) (equality_line x a.0) refl (semi_line (later_forms xs) (later_line xs a.1)))
+
+no_blanks : before_blanks [] ≡ []
+unfolding before_blanks
+no_blanks = refl
+
+later_end : (xs : List (List ℕ)) → before_blanks (later_forms xs) ≡ later_forms xs
+later_end [] = no_blanks
+later_end (x ∷ xs) = subst (λ t. before_blanks t ≡ t) (sym (append_assoc (32 ∷ x) (59 ∷ []) (later_forms xs))) (end_stays (32 ∷ x) 59 (later_forms xs) (ink_stays 59 (later_forms xs) refl (later_end xs)))
+
+form_end : (xs : List (List ℕ)) → before_blanks (state_form xs) ≡ state_form xs
+unfolding state_form
+form_end [] = no_blanks
+form_end (x ∷ xs) = subst (λ t. before_blanks t ≡ t) (sym (append_assoc x (59 ∷ []) (later_forms xs))) (end_stays x 59 (later_forms xs) (ink_stays 59 (later_forms xs) refl (later_end xs)))
+
+is_form : (xs : List (List ℕ)) → IsState xs → IsForm (state_form xs)
+is_form xs s = record { trimmed = form_end xs; read = form_again xs s; line = form_line xs s.equalities }
+
+-- what is read of a text
+onto_semis : (b : ℕ) (pieces : List (List ℕ)) → no_semi b ≡ true → list_all (list_all no_semi) pieces ≡ true → list_all (list_all no_semi) (onto_first b pieces) ≡ true
+onto_semis b [] h k = and_from (list_all no_semi (b ∷ [])) true (and_from (no_semi b) true h refl) refl
+onto_semis b (piece ∷ pieces) h k =
+    let l = and_parts (list_all no_semi piece) (list_all (list_all no_semi) pieces) k in
+    and_from (list_all no_semi (b ∷ piece)) (list_all (list_all no_semi) pieces) (and_from (no_semi b) (list_all no_semi piece) h l.0) l.1
+
+split_semis : (text : List ℕ) → list_all (list_all no_semi) (slice_split (λ byte. byte == 59) text) ≡ true
+split_semis [] = refl
+split_semis (b ∷ text) =
+    by_test (b == 59) (λ e. rw e (split_semis text)) (λ e. rw e (onto_semis b (slice_split (λ byte. byte == 59) text) (rw e refl) (split_semis text)))
+
+onto_feeds : (b : ℕ) (pieces : List (List ℕ)) → no_feed b ≡ true → list_all (list_all no_feed) pieces ≡ true → list_all (list_all no_feed) (onto_first b pieces) ≡ true
+onto_feeds b [] h k = and_from (list_all no_feed (b ∷ [])) true (and_from (no_feed b) true h refl) refl
+onto_feeds b (piece ∷ pieces) h k =
+    let l = and_parts (list_all no_feed piece) (list_all (list_all no_feed) pieces) k in
+    and_from (list_all no_feed (b ∷ piece)) (list_all (list_all no_feed) pieces) (and_from (no_feed b) (list_all no_feed piece) h l.0) l.1
+
+split_feeds : (text : List ℕ) → list_all no_feed text ≡ true → list_all (list_all no_feed) (slice_split (λ byte. byte == 59) text) ≡ true
+split_feeds [] h = refl
+split_feeds (b ∷ text) h =
+    let k = and_parts (no_feed b) (list_all no_feed text) h in
+    by_test (b == 59) (λ e. rw e (split_feeds text k.1)) (λ e. rw e (onto_feeds b (slice_split (λ byte. byte == 59) text) k.0 (split_feeds text k.1)))
+
+all_unblanked : (p : ℕ → Bool) (pieces : List (List ℕ)) → list_all (list_all p) pieces ≡ true → list_all (list_all p) (map unblanked pieces) ≡ true
+all_unblanked p [] h = refl
+all_unblanked p (piece ∷ pieces) h =
+    let k = and_parts (list_all p piece) (list_all (list_all p) pieces) h in
+    and_from (list_all p (unblanked piece)) (list_all (list_all p) (map unblanked pieces)) (all_after p is_blank piece k.0) (all_unblanked p pieces k.1)
+
+all_later : (p : ℕ → Bool) (pieces : List (List ℕ)) → list_all (list_all p) pieces ≡ true → list_all (list_all p) (later_unblanked pieces) ≡ true
+all_later p [] h = refl
+all_later p (piece ∷ pieces) h =
+    let k = and_parts (list_all p piece) (list_all (list_all p) pieces) h in
+    and_from (list_all p piece) (list_all (list_all p) (map unblanked pieces)) k.0 (all_unblanked p pieces k.1)
+
+state_put : (text : List ℕ) → list_all no_feed text ≡ true → PutsInto [] (state_read text)
+unfolding state_read
+state_put text h =
+    pieces_put [] (later_unblanked (slice_split (λ byte. byte == 59) text)) (record { equalities = tt; ascends = tt; apart = tt })
+    (all_later no_semi (slice_split (λ byte. byte == 59) text) (split_semis text)) (all_later no_feed (slice_split (λ byte. byte == 59) text) (split_feeds text h))
+
+pub form_is : (text form : List ℕ) → list_all no_feed text ≡ true → form_read text ≡ Ok form → IsForm form
+unfolding form_read
+form_is text form h e = by_read (state_read text) (state_put text h) e
+  where
+    by_read : (o : Option (List (List ℕ))) → PutsInto [] o → or_bad (option_map state_form o) ≡ Ok form → IsForm form
+    by_read None p k = absurd (cc)
+    by_read (Some state) p k = let same : state_form state ≡ form = cc in subst IsForm same (is_form state p)

@@ -1,0 +1,16 @@
+mod Examples
+pub mod Texts
+pub mod Cases
+pub mod Lines
+pub mod Blocks
+pub mod Printed
+pub mod Scans
+pub mod Agreeing
+pub mod Orders
+pub mod Sums
+pub mod Alike
+pub mod Forms
+pub mod Said
+pub mod Whole
+pub mod Names
+pub mod Laws

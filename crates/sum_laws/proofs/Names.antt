@@ -1,0 +1,159 @@
+-- Tests in the order in which each was first seen.
+use Rattle.std.proofs.Common.{◌≡◌, ℕ, List, [], ◌∷◌, ◌++◌, true, false, refl, sym, ap, ◌∙◌, append-nil}
+use Rattle.std.specs.Prelude.{Bool, ◌||◌, map, fold, Option, Some, None}
+use Rattle.std.specs.List.{list_any, flat_map}
+use Rattle.std.specs.Str.{bytes_eq}
+use Rattle.std.proofs.lemmas.List.{map-append}
+use Rattle.std.proofs.lemmas.List.Sums.{fold-append}
+use Rattle.std.proofs.lemmas.List.Folds.{list_any-append}
+use Rattle.log_sum.specs.Facts.{Entry, a_condition, facts_of, with_name, tests_of}
+use Rattle.log_sum.specs.Summed.{Summed, StateSummed, or_else, is_validated}
+use Rattle.sum_laws.proofs.Texts.{by_test, bytes_same}
+use Rattle.sum_laws.proofs.Lines.{said_as}
+use Rattle.sum_laws.proofs.Blocks.{entry}
+use Rattle.sum_laws.proofs.Printed.{AllOf, state_entries, hash_entries, told}
+use Rattle.sum_laws.proofs.Agreeing.{all_of_both, facts_both, fact_elsewhere, bytes_is}
+use Rattle.sum_laws.proofs.Sums.{told_facts, told_here, told_elsewhere}
+use Rattle.sum_laws.proofs.Orders.{Distinct, eq_swap, or_false, or_same}
+
+or_known : (a b : Bool) → (b ≡ true → a ≡ true) → a ≡ a || b
+or_known true b h = refl
+or_known false true h = h refl
+or_known false false h = refl
+
+any_with : (k : List ℕ) (names : List (List ℕ)) (x : List ℕ) → list_any (bytes_eq k) (with_name names x) ≡ list_any (bytes_eq k) names || bytes_eq k x
+any_with k names x =
+    by_test (list_any (bytes_eq x) names)
+    (λ e. rw e (or_known (list_any (bytes_eq k) names) (bytes_eq k x) (λ h. ap (λ y. list_any (bytes_eq y) names) (bytes_is k x h) ∙ e)))
+    (λ e. rw e (list_any-append (bytes_eq k) names (x ∷ []) ∙ ap (λ b. list_any (bytes_eq k) names || b) (or_false (bytes_eq k x))))
+
+pub any_names : (k : List ℕ) (names xs : List (List ℕ)) → list_any (bytes_eq k) (fold with_name names xs) ≡ list_any (bytes_eq k) names || list_any (bytes_eq k) xs
+any_names k names [] = sym (or_false (list_any (bytes_eq k) names))
+any_names k names (x ∷ xs) =
+    any_names k (with_name names x) xs ∙ ap (λ b. b || list_any (bytes_eq k) xs) (any_with k names x)
+    ∙ sym (or_same (list_any (bytes_eq k) names) (bytes_eq k x) (list_any (bytes_eq k) xs))
+
+distinct_end : (names : List (List ℕ)) (x : List ℕ) → list_any (bytes_eq x) names ≡ false → Distinct names → Distinct (names ++ x ∷ [])
+distinct_end [] x h d = (refl, tt)
+distinct_end (n ∷ names) x h d =
+    by_test (bytes_eq x n)
+    (λ e. let k = rw e at h in absurd (cc))
+    (λ e. (list_any-append (bytes_eq n) names (x ∷ []) ∙ ap (λ b. b || (bytes_eq n x || false)) d.0 ∙ ap (λ b. b || false) (eq_swap n x ∙ e), distinct_end names x (rw e at h) d.1))
+
+distinct_with : (names : List (List ℕ)) (x : List ℕ) → Distinct names → Distinct (with_name names x)
+distinct_with names x d = by_test (list_any (bytes_eq x) names) (λ e. rw e d) (λ e. rw e (distinct_end names x e d))
+
+distinct_fold : (names xs : List (List ℕ)) → Distinct names → Distinct (fold with_name names xs)
+distinct_fold names [] d = d
+distinct_fold names (x ∷ xs) d = distinct_fold (with_name names x) xs (distinct_with names x d)
+
+pub tests_distinct : (entries : List Entry) → Distinct (tests_of entries)
+tests_distinct entries = distinct_fold [] (map (λ (e : Entry). e.test) entries) tt
+
+-- a name that is there changes nothing
+with_known : (names : List (List ℕ)) (x : List ℕ) → list_any (bytes_eq x) names ≡ true → with_name names x ≡ names
+with_known names x h = rw h refl
+
+with_new : (names : List (List ℕ)) (x : List ℕ) → list_any (bytes_eq x) names ≡ false → with_name names x ≡ names ++ x ∷ []
+with_new names x h = rw h refl
+
+or_second : (a b : Bool) → b ≡ true → a || b ≡ true
+or_second true b h = refl
+or_second false b h = h
+
+there : (names : List (List ℕ)) (x : List ℕ) → list_any (bytes_eq x) (with_name names x) ≡ true
+there names x = any_with x names x ∙ or_second (list_any (bytes_eq x) names) (bytes_eq x x) (bytes_same x)
+
+-- names that were put together go to others as they came
+fold_names : (names more xs : List (List ℕ)) → fold with_name names (fold with_name more xs) ≡ fold with_name (fold with_name names more) xs
+fold_names names more [] = refl
+fold_names names more (x ∷ xs) =
+    fold_names names (with_name more x) xs
+    ∙ ap (λ t. fold with_name t xs)
+    (by_test (list_any (bytes_eq x) more)
+    (λ e. ap (fold with_name names) (with_known more x e)
+    ∙ sym (with_known (fold with_name names more) x (any_names x names more ∙ or_second (list_any (bytes_eq x) names) (list_any (bytes_eq x) more) e)))
+    (λ e. ap (fold with_name names) (with_new more x e) ∙ fold-append with_name names more (x ∷ [])))
+
+-- entries of one test
+same_tests : (names : List (List ℕ)) (name : List ℕ) (entries : List Entry) → AllOf (λ (e : Entry). e.test ≡ name) entries → fold with_name (with_name names name) (map (λ (e : Entry). e.test) entries) ≡ with_name names name
+same_tests names name [] a = refl
+same_tests names name (e ∷ entries) a =
+    ap (λ x. fold with_name (with_name (with_name names name) x) (map (λ (e : Entry). e.test) entries)) a.0
+    ∙ ap (λ t. fold with_name t (map (λ (e : Entry). e.test) entries)) (with_known (with_name names name) name (there names name))
+    ∙ same_tests names name entries a.1
+
+states_named : (name : List ℕ) (states : List StateSummed) → AllOf (λ (e : Entry). e.test ≡ name) (state_entries name states)
+states_named name [] = tt
+states_named name (s ∷ states) = (refl, states_named name states)
+
+hash_named : (name : List ℕ) (sum : Summed) → AllOf (λ (e : Entry). e.test ≡ name) (hash_entries name sum.hash)
+hash_named name sum = by_hash sum.hash
+  where
+    by_hash : (o : Option (List ℕ)) → AllOf (λ (e : Entry). e.test ≡ name) (hash_entries name o)
+    by_hash None = tt
+    by_hash (Some h) = (refl, tt)
+
+told_tests : (names : List (List ℕ)) (name : List ℕ) (sum : Summed) → fold with_name names (map (λ (e : Entry). e.test) (told name sum)) ≡ with_name names name
+told_tests names name sum =
+    same_tests names name (state_entries name sum.states ++ entry name (a_condition (or_else [] sum.condition) (said_as (is_validated sum))) ∷ hash_entries name sum.hash)
+    (all_of_both (λ (e : Entry). e.test ≡ name) (state_entries name sum.states) (entry name (a_condition (or_else [] sum.condition) (said_as (is_validated sum))) ∷ hash_entries name sum.hash) (states_named name sum.states) (refl, hash_named name sum))
+
+pub all_told_tests : (names : List (List ℕ)) (sum : List ℕ → Summed) (tests : List (List ℕ)) → fold with_name names (map (λ (e : Entry). e.test) (flat_map (λ name. told name (sum name)) tests)) ≡ fold with_name names tests
+all_told_tests names sum [] = refl
+all_told_tests names sum (t ∷ tests) =
+    ap (fold with_name names) (map-append (λ (e : Entry). e.test) (told t (sum t)) (flat_map (λ name. told name (sum name)) tests))
+    ∙ fold-append with_name names (map (λ (e : Entry). e.test) (told t (sum t))) (map (λ (e : Entry). e.test) (flat_map (λ name. told name (sum name)) tests))
+    ∙ ap (λ x. fold with_name x (map (λ (e : Entry). e.test) (flat_map (λ name. told name (sum name)) tests))) (told_tests names t (sum t))
+    ∙ all_told_tests (with_name names t) sum tests
+
+-- the tests of entries, of what is printed of them, and of others around them
+tests_folded : (front mid back : List Entry) → tests_of (front ++ (mid ++ back)) ≡ fold with_name (fold with_name (tests_of front) (map (λ (e : Entry). e.test) mid)) (map (λ (e : Entry). e.test) back)
+tests_folded front mid back =
+    ap (fold with_name []) (map-append (λ (e : Entry). e.test) front (mid ++ back) ∙ ap (λ t. map (λ (e : Entry). e.test) front ++ t) (map-append (λ (e : Entry). e.test) mid back))
+    ∙ fold-append with_name [] (map (λ (e : Entry). e.test) front) (map (λ (e : Entry). e.test) mid ++ map (λ (e : Entry). e.test) back)
+    ∙ fold-append with_name (fold with_name [] (map (λ (e : Entry). e.test) front)) (map (λ (e : Entry). e.test) mid) (map (λ (e : Entry). e.test) back)
+
+pub tests_between : (front mid back : List Entry) (sum : List ℕ → Summed) → tests_of (front ++ (flat_map (λ name. told name (sum name)) (tests_of mid) ++ back)) ≡ tests_of (front ++ (mid ++ back))
+tests_between front mid back sum =
+    tests_folded front (flat_map (λ name. told name (sum name)) (tests_of mid)) back
+    ∙ ap (λ t. fold with_name t (map (λ (e : Entry). e.test) back)) (all_told_tests (tests_of front) sum (tests_of mid) ∙ fold_names (tests_of front) [] (map (λ (e : Entry). e.test) mid))
+    ∙ sym (tests_folded front mid back)
+
+-- the facts of a test among what is printed
+pub none_told_of : (name : List ℕ) (sum : List ℕ → Summed) (tests : List (List ℕ)) → list_any (bytes_eq name) tests ≡ false → facts_of name (flat_map (λ n. told n (sum n)) tests) ≡ []
+none_told_of name sum [] h = refl
+none_told_of name sum (t ∷ tests) h =
+    by_test (bytes_eq name t)
+    (λ e. let k = rw e at h in absurd (cc))
+    (λ e. facts_both name (told t (sum t)) (flat_map (λ n. told n (sum n)) tests)
+    ∙ ap (λ x. x ++ facts_of name (flat_map (λ n. told n (sum n)) tests)) (told_elsewhere name t (sum t) (eq_swap t name ∙ e))
+    ∙ none_told_of name sum tests (rw e at h))
+
+pub told_of : (name : List ℕ) (sum : List ℕ → Summed) (tests : List (List ℕ)) → Distinct tests → list_any (bytes_eq name) tests ≡ true → facts_of name (flat_map (λ n. told n (sum n)) tests) ≡ told_facts (sum name)
+told_of name sum [] d h = absurd (cc)
+told_of name sum (t ∷ tests) d h =
+    by_test (bytes_eq name t)
+    (λ e. let same : name ≡ t = bytes_is name t e in
+    let none : list_any (bytes_eq name) tests ≡ false = ap (λ y. list_any (bytes_eq y) tests) same ∙ d.0 in
+    facts_both name (told t (sum t)) (flat_map (λ n. told n (sum n)) tests)
+    ∙ ap (λ x. facts_of name (told t (sum t)) ++ x) (none_told_of name sum tests none) ∙ append-nil (facts_of name (told t (sum t)))
+    ∙ ap (λ y. facts_of name (told y (sum y))) (sym same) ∙ told_here name (sum name))
+    (λ e. facts_both name (told t (sum t)) (flat_map (λ n. told n (sum n)) tests)
+    ∙ ap (λ x. x ++ facts_of name (flat_map (λ n. told n (sum n)) tests)) (told_elsewhere name t (sum t) (eq_swap t name ∙ e))
+    ∙ told_of name sum tests d.1 (rw e at h))
+
+-- a test is among the tests of entries where one of them is of it
+mapped : (name : List ℕ) (es : List Entry) → list_any (bytes_eq name) (map (λ (e : Entry). e.test) es) ≡ list_any (λ (e : Entry). bytes_eq e.test name) es
+mapped name [] = refl
+mapped name (e ∷ es) = rw (eq_swap name e.test, mapped name es) refl
+
+pub test_there : (name : List ℕ) (entries : List Entry) → list_any (bytes_eq name) (tests_of entries) ≡ list_any (λ (e : Entry). bytes_eq e.test name) entries
+test_there name entries = any_names name [] (map (λ (e : Entry). e.test) entries) ∙ mapped name entries
+
+pub no_facts : (name : List ℕ) (entries : List Entry) → list_any (λ (e : Entry). bytes_eq e.test name) entries ≡ false → facts_of name entries ≡ []
+no_facts name [] h = refl
+no_facts name (e ∷ entries) h =
+    by_test (bytes_eq e.test name)
+    (λ f. let k = rw f at h in absurd (cc))
+    (λ f. fact_elsewhere name e entries f ∙ no_facts name entries (rw f at h))

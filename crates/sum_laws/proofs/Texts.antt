@@ -1,0 +1,240 @@
+-- Bytes of texts: what passes a test stays so in parts of the text; words of texts that are put together.
+use Rattle.std.proofs.Common.{◌≡◌, ◌==◌, ℕ, zero, suc, ◌-◌, List, [], ◌∷◌, ◌++◌, length, take, drop, true, false, refl, sym, ap, ◌∙◌, arith, length-append, append_assoc, append-nil}
+use Rattle.std.specs.Prelude.{Bool, not, ◌&&◌}
+use Rattle.std.specs.List.{slice_split, onto_first, filter, list_all}
+use Rattle.std.proofs.lemmas.List.{drop_at, take_at}
+use Rattle.std.proofs.lemmas.List.Elements.{filter-append}
+use Rattle.std.proofs.lemmas.List.Folds.{list_all-append}
+use Rattle.std.proofs.lemmas.Bool.{and_parts, and_from}
+use Rattle.std.specs.Str.{bytes_eq}
+use Rattle.std.proofs.lemmas.Slice.Eq.{bytes_eq-Decides}
+use Rattle.log_sum.specs.Texts.{is_blank, is_inked, is_nil, after_run, before_blanks, kept_before, words, unblanked, trimmed, later_words, joined_words, ends_with, before_end}
+
+pub by_test : {G : Type 0} (b : Bool) → (b ≡ true → G) → (b ≡ false → G) → G
+by_test true f g = f refl
+by_test false f g = g refl
+
+pub not_true : (b : Bool) → not b ≡ true → b ≡ false
+not_true true h = cc
+not_true false h = refl
+
+pub not_false : (b : Bool) → not b ≡ false → b ≡ true
+not_false true h = refl
+not_false false h = cc
+
+pub bytes_same : (t : List ℕ) → bytes_eq t t ≡ true
+bytes_same t = (bytes_eq-Decides t t).1 refl
+
+pub all_both : {A : Type 0} (p : A → Bool) (xs ys : List A) → list_all p xs ≡ true → list_all p ys ≡ true → list_all p (xs ++ ys) ≡ true
+all_both p xs ys h k = list_all-append p xs ys ∙ and_from (list_all p xs) (list_all p ys) h k
+
+pub all_parts : {A : Type 0} (p : A → Bool) (xs ys : List A) → list_all p (xs ++ ys) ≡ true → (list_all p xs ≡ true) × (list_all p ys ≡ true)
+all_parts p xs ys h = and_parts (list_all p xs) (list_all p ys) (sym (list_all-append p xs ys) ∙ h)
+
+pub all_weaker : {A : Type 0} (p q : A → Bool) → ((x : A) → p x ≡ true → q x ≡ true) → (xs : List A) → list_all p xs ≡ true → list_all q xs ≡ true
+all_weaker p q weaker [] h = refl
+all_weaker p q weaker (x ∷ xs) h =
+    let k : (p x ≡ true) × (list_all p xs ≡ true) = and_parts (p x) (list_all p xs) h in
+    and_from (q x) (list_all q xs) (weaker x k.0) (all_weaker p q weaker xs k.1)
+
+pub all_and : {A : Type 0} (p q : A → Bool) (xs : List A) → list_all p xs ≡ true → list_all q xs ≡ true → list_all (λ x. p x && q x) xs ≡ true
+all_and p q [] h g = refl
+all_and p q (x ∷ xs) h g =
+    let k : (p x ≡ true) × (list_all p xs ≡ true) = and_parts (p x) (list_all p xs) h in
+    let l : (q x ≡ true) × (list_all q xs ≡ true) = and_parts (q x) (list_all q xs) g in
+    and_from (p x && q x) (list_all (λ y. p y && q y) xs) (and_from (p x) (q x) k.0 l.0) (all_and p q xs k.1 l.1)
+
+pub all_take : {A : Type 0} (p : A → Bool) (n : ℕ) (xs : List A) → list_all p xs ≡ true → list_all p (take n xs) ≡ true
+all_take p zero xs h = refl
+all_take p (suc n) [] h = refl
+all_take p (suc n) (x ∷ xs) h =
+    let k : (p x ≡ true) × (list_all p xs ≡ true) = and_parts (p x) (list_all p xs) h in
+    and_from (p x) (list_all p (take n xs)) k.0 (all_take p n xs k.1)
+
+pub all_drop : {A : Type 0} (p : A → Bool) (n : ℕ) (xs : List A) → list_all p xs ≡ true → list_all p (drop n xs) ≡ true
+all_drop p zero xs h = h
+all_drop p (suc n) [] h = refl
+all_drop p (suc n) (x ∷ xs) h = all_drop p n xs (and_parts (p x) (list_all p xs) h).1
+
+pub all_after : (p q : ℕ → Bool) (text : List ℕ) → list_all p text ≡ true → list_all p (after_run q text) ≡ true
+unfolding after_run
+all_after p q [] h = refl
+all_after p q (b ∷ text) h =
+    by_test (q b) (λ e. rw e (all_after p q text (and_parts (p b) (list_all p text) h).1)) (λ e. rw e h)
+
+all_kept : (p : ℕ → Bool) (b : ℕ) (text : List ℕ) → p b ≡ true → list_all p text ≡ true → list_all p (kept_before b text) ≡ true
+all_kept p b [] h k = by_test (is_blank b) (λ e. rw e refl) (λ e. rw e (and_from (p b) true h refl))
+all_kept p b (c ∷ text) h k = and_from (p b) (list_all p (c ∷ text)) h k
+
+pub all_before : (p : ℕ → Bool) (text : List ℕ) → list_all p text ≡ true → list_all p (before_blanks text) ≡ true
+unfolding before_blanks
+all_before p [] h = refl
+all_before p (b ∷ text) h =
+    let k : (p b ≡ true) × (list_all p text ≡ true) = and_parts (p b) (list_all p text) h in
+    all_kept p b (before_blanks text) k.0 (all_before p text k.1)
+
+pub all_trimmed : (p : ℕ → Bool) (text : List ℕ) → list_all p text ≡ true → list_all p (trimmed text) ≡ true
+all_trimmed p text h = all_before p (unblanked text) (all_after p is_blank text h)
+
+-- blanks at the end
+kept_twice : (b : ℕ) (text : List ℕ) → before_blanks text ≡ text → before_blanks (kept_before b text) ≡ kept_before b text
+unfolding before_blanks
+kept_twice b [] h = by_test (is_blank b) (λ e. rw e refl) (λ e. rw e (rw e refl))
+kept_twice b (c ∷ text) h = ap (kept_before b) h
+
+pub before_twice : (text : List ℕ) → before_blanks (before_blanks text) ≡ before_blanks text
+unfolding before_blanks
+before_twice [] = refl
+before_twice (b ∷ text) = kept_twice b (before_blanks text) (before_twice text)
+
+-- a text that has no blank at its end keeps what stands before it
+kept_whole : (b c : ℕ) (text : List ℕ) → kept_before b (c ∷ text) ≡ b ∷ c ∷ text
+kept_whole b c text = refl
+
+one_more : (c b : ℕ) (text : List ℕ) → before_blanks (b ∷ text) ≡ b ∷ text → before_blanks (c ∷ b ∷ text) ≡ c ∷ b ∷ text
+unfolding before_blanks
+one_more c b text h = ap (kept_before c) h
+
+pub end_stays : (front : List ℕ) (b : ℕ) (text : List ℕ) → before_blanks (b ∷ text) ≡ b ∷ text → before_blanks (front ++ b ∷ text) ≡ front ++ b ∷ text
+end_stays [] b text h = h
+end_stays (c ∷ []) b text h = one_more c b text h
+end_stays (c ∷ d ∷ front) b text h = one_more c d (front ++ b ∷ text) (end_stays (d ∷ front) b text h)
+
+pub ink_stays : (b : ℕ) (text : List ℕ) → is_blank b ≡ false → before_blanks text ≡ text → before_blanks (b ∷ text) ≡ b ∷ text
+unfolding before_blanks
+ink_stays b [] h e = rw h refl
+ink_stays b (c ∷ text) h e = ap (kept_before b) e
+
+-- words
+some_words : List (List ℕ) → List (List ℕ)
+some_words pieces = filter (λ word. not (is_nil word)) pieces
+
+pub record FirstPiece (p : ℕ → Bool) (text : List ℕ) : Type 0 where
+  pub piece : List ℕ
+  pub rest : List (List ℕ)
+  pub is : slice_split p text ≡ piece ∷ rest
+
+pub first_piece : (p : ℕ → Bool) (text : List ℕ) → FirstPiece p text
+first_piece p [] = record { piece = []; rest = []; is = refl }
+first_piece p (b ∷ text) =
+    let further = first_piece p text in
+    by_test (p b)
+    (λ e. record { piece = []; rest = slice_split p text; is = rw e refl })
+    (λ e. record { piece = b ∷ further.piece; rest = further.rest; is = rw (e, further.is) refl })
+
+pub split_both : (p : ℕ → Bool) (front : List ℕ) (b : ℕ) (text : List ℕ) → p b ≡ true → slice_split p (front ++ b ∷ text) ≡ slice_split p front ++ slice_split p text
+split_both p [] b text h = rw h refl
+split_both p (c ∷ front) b text h =
+    let first = first_piece p front in
+    by_test (p c) (λ e. rw e (ap (λ t. [] ∷ t) (split_both p front b text h))) (λ e. rw e (ap (onto_first c) (split_both p front b text h) ∙ rw first.is refl))
+
+pub split_whole : (p : ℕ → Bool) (text : List ℕ) → list_all (λ b. not (p b)) text ≡ true → slice_split p text ≡ text ∷ []
+split_whole p [] h = refl
+split_whole p (b ∷ text) h =
+    let k : (not (p b) ≡ true) × (list_all (λ c. not (p c)) text ≡ true) = and_parts (not (p b)) (list_all (λ c. not (p c)) text) h in
+    let n : p b ≡ false = not_true (p b) k.0 in
+    rw n (ap (onto_first b) (split_whole p text k.1))
+
+pub words_both : (front text : List ℕ) → words (front ++ 32 ∷ text) ≡ words front ++ words text
+unfolding words
+words_both front text =
+    ap (filter (λ word. not (is_nil word))) (split_both is_blank front 32 text refl)
+    ∙ filter-append (λ word. not (is_nil word)) (slice_split is_blank front) (slice_split is_blank text)
+
+pub one_word : (word : List ℕ) → list_all is_inked word ≡ true → is_nil word ≡ false → words word ≡ word ∷ []
+unfolding words
+one_word word h some = ap (filter (λ w. not (is_nil w))) (split_whole is_blank word h) ∙ rw some refl
+
+-- a byte that is in a word
+abbrev pub is_plain : ℕ → Bool
+is_plain b = is_inked b && not (b == 10)
+
+abbrev pub no_feed : ℕ → Bool
+no_feed b = not (b == 10)
+
+abbrev pub is_word : List ℕ → Bool
+is_word word = not (is_nil word) && list_all is_plain word
+
+onto_plain : (b : ℕ) (pieces : List (List ℕ)) → is_plain b ≡ true → list_all (list_all is_plain) pieces ≡ true → list_all (list_all is_plain) (onto_first b pieces) ≡ true
+onto_plain b [] h k = and_from (is_plain b && true) true (and_from (is_plain b) true h refl) refl
+onto_plain b (piece ∷ pieces) h k =
+    let l : (list_all is_plain piece ≡ true) × (list_all (list_all is_plain) pieces ≡ true) = and_parts (list_all is_plain piece) (list_all (list_all is_plain) pieces) k in
+    and_from (is_plain b && list_all is_plain piece) (list_all (list_all is_plain) pieces) (and_from (is_plain b) (list_all is_plain piece) h l.0) l.1
+
+pieces_plain : (text : List ℕ) → list_all no_feed text ≡ true → list_all (list_all is_plain) (slice_split is_blank text) ≡ true
+pieces_plain [] h = refl
+pieces_plain (b ∷ text) h =
+    let k : (no_feed b ≡ true) × (list_all no_feed text ≡ true) = and_parts (no_feed b) (list_all no_feed text) h in
+    let further : list_all (list_all is_plain) (slice_split is_blank text) ≡ true = pieces_plain text k.1 in
+    by_test (is_blank b)
+    (λ e. rw e further)
+    (λ e. rw e (onto_plain b (slice_split is_blank text) (and_from (is_inked b) (not (b == 10)) (rw e refl) k.0) further))
+
+some_plain : (pieces : List (List ℕ)) → list_all (list_all is_plain) pieces ≡ true → list_all is_word (filter (λ word. not (is_nil word)) pieces) ≡ true
+some_plain [] h = refl
+some_plain (piece ∷ pieces) h =
+    let l : (list_all is_plain piece ≡ true) × (list_all (list_all is_plain) pieces ≡ true) = and_parts (list_all is_plain piece) (list_all (list_all is_plain) pieces) h in
+    by_test (is_nil piece)
+    (λ e. rw e (some_plain pieces l.1))
+    (λ e. rw e (and_from (is_word piece) (list_all is_word (filter (λ word. not (is_nil word)) pieces)) (and_from (not (is_nil piece)) (list_all is_plain piece) (rw e refl) l.0) (some_plain pieces l.1)))
+
+pub words_plain : (text : List ℕ) → list_all no_feed text ≡ true → list_all is_word (words text) ≡ true
+unfolding words
+words_plain text h = some_plain (slice_split is_blank text) (pieces_plain text h)
+
+pub word_parts : (word : List ℕ) → is_word word ≡ true → (is_nil word ≡ false) × (list_all is_inked word ≡ true) × (list_all no_feed word ≡ true)
+word_parts word h =
+    let k : (not (is_nil word) ≡ true) × (list_all is_plain word ≡ true) = and_parts (not (is_nil word)) (list_all is_plain word) h in (
+      not_true (is_nil word) k.0,
+      all_weaker is_plain is_inked (λ b p. (and_parts (is_inked b) (not (b == 10)) p).0) word k.1,
+      all_weaker is_plain no_feed (λ b p. (and_parts (is_inked b) (not (b == 10)) p).1) word k.1,
+    )
+
+pub word_is : (word : List ℕ) → is_word word ≡ true → words word ≡ word ∷ []
+word_is word h = let k = word_parts word h in one_word word k.1 k.0
+
+-- words that are joined are its words
+later_is : (ws : List (List ℕ)) (front : List ℕ) → list_all is_word ws ≡ true → words (front ++ later_words ws) ≡ words front ++ ws
+later_is [] front h = ap words (append-nil front) ∙ sym (append-nil (words front))
+later_is (w ∷ ws) front h =
+    let k : (is_word w ≡ true) × (list_all is_word ws ≡ true) = and_parts (is_word w) (list_all is_word ws) h in
+    words_both front (w ++ later_words ws) ∙ ap (λ t. words front ++ t) (later_is ws w k.1 ∙ ap (λ t. t ++ ws) (word_is w k.0))
+
+pub no_words : words [] ≡ []
+unfolding words
+no_words = refl
+
+pub joined_is : (ws : List (List ℕ)) → list_all is_word ws ≡ true → words (joined_words ws) ≡ ws
+joined_is [] h = no_words
+joined_is (w ∷ ws) h =
+    let k : (is_word w ≡ true) × (list_all is_word ws ≡ true) = and_parts (is_word w) (list_all is_word ws) h in
+    later_is ws w k.1 ∙ ap (λ t. t ++ ws) (word_is w k.0)
+
+later_both : (ws vs : List (List ℕ)) → later_words (ws ++ vs) ≡ later_words ws ++ later_words vs
+later_both [] vs = refl
+later_both (w ∷ ws) vs = ap (λ t. (32 ∷ w) ++ t) (later_both ws vs) ∙ sym (append_assoc (32 ∷ w) (later_words ws) (later_words vs))
+
+pub joined_both : (w : List ℕ) (ws vs : List (List ℕ)) → joined_words ((w ∷ ws) ++ vs) ≡ joined_words (w ∷ ws) ++ later_words vs
+joined_both w ws vs = ap (λ t. w ++ t) (later_both ws vs) ∙ sym (append_assoc w (later_words ws) (later_words vs))
+
+later_no_feed : (ws : List (List ℕ)) → list_all is_word ws ≡ true → list_all no_feed (later_words ws) ≡ true
+later_no_feed [] h = refl
+later_no_feed (w ∷ ws) h =
+    let k : (is_word w ≡ true) × (list_all is_word ws ≡ true) = and_parts (is_word w) (list_all is_word ws) h in
+    all_both no_feed w (later_words ws) (word_parts w k.0).2 (later_no_feed ws k.1)
+
+pub joined_no_feed : (ws : List (List ℕ)) → list_all is_word ws ≡ true → list_all no_feed (joined_words ws) ≡ true
+joined_no_feed [] h = refl
+joined_no_feed (w ∷ ws) h =
+    let k : (is_word w ≡ true) × (list_all is_word ws ≡ true) = and_parts (is_word w) (list_all is_word ws) h in
+    all_both no_feed w (later_words ws) (word_parts w k.0).2 (later_no_feed ws k.1)
+
+-- ends of texts
+end_begins : (text tail : List ℕ) → drop (length (text ++ tail) - length tail) (text ++ tail) ≡ tail
+end_begins text tail = let e : length (text ++ tail) - length tail ≡ length text = omega (arith, length-append text tail) in rw e (drop_at text tail (length text) refl)
+
+pub ends_so : (text tail : List ℕ) → ends_with (text ++ tail) tail ≡ true
+ends_so text tail = ap (λ t. bytes_eq t tail) (end_begins text tail) ∙ bytes_same tail
+
+pub before_so : (text tail : List ℕ) → before_end (text ++ tail) tail ≡ text
+before_so text tail = let e : length (text ++ tail) - length tail ≡ length text = omega (arith, length-append text tail) in rw e (take_at text tail (length text) refl)
