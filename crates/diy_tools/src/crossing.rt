@@ -69,6 +69,7 @@ fn cross_places<H: Shelf, O: Sink>(
 
 /// Writes the tests of the choices from lists, on an architecture.
 #[tactic(auto, using(crate::proofs::Crossed::choices_written))]
+#[inline(never)]
 fn cross_on<A: Arch, H: Shelf, O: Sink>(
     alloc: Global,
     mode: ObsMode,

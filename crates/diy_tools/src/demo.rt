@@ -18,6 +18,7 @@ use family_laws::families_have_tests;
 use relax_edges::ArchName;
 
 /// Makes as many tests as are asked for, and prints how many there are of each family.
+#[inline(never)]
 pub(crate) fn demo<O: Sink>(request: &Demo, out: &mut O) -> Status
     requires form { HasForm (requests.Demo request.now) }
     ensures prints { Prints (demo_text (machine_of request.now.arch).puts (machine_of request.now.arch).writing request.now.count) result (O.seen out.old) (O.seen out.new) }

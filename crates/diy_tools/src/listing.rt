@@ -50,6 +50,7 @@ pub(crate) fn list<H: Shelf, O: Sink>(request: Diy, shelf: &mut H, out: &mut O) 
 }
 
 /// Writes the tests of a listing on an architecture, each in a file.
+#[inline(never)]
 fn list_on<H: Shelf, O: Sink>(
     arch: ArchName,
     listing: Listing,

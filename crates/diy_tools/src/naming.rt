@@ -21,6 +21,7 @@ use relax_edges::ArchName;
 use std::alloc::Global;
 
 /// Prints the names of the cycles that are sought, and their edges.
+#[inline(never)]
 pub(crate) fn norm<I: Source, O: Sink>(request: &Norm, input: &mut I, out: &mut O) -> Status
     ensures answers { AnswersKept request.now.arch request.now.cycle result (I.seen input.old) (I.seen input.new) (O.seen out.old) (O.seen out.new) }
     ensures location { NamesLocation result }
@@ -86,6 +87,7 @@ fn norm_status(end: Result<(), NormError>) -> Status
 }
 
 /// Prints the names of the cycles of the input's lines by their families.
+#[inline(never)]
 pub(crate) fn families<I: Source, O: Sink>(
     alloc: Global,
     arch: ArchName,

@@ -15,6 +15,7 @@ use itoa::Buffer;
 use log_sum::LogKind;
 
 /// Writes the line of a status, where it has one.
+#[inline(never)]
 pub(crate) fn report<E: Sink>(status: Status, words: &Words, err: &mut E) -> Result<(), Failed>
     requires { NamesLocation status }
     ensures { Wrote (E.seen err.old) (E.seen err.new) (status_line words.now status) result }

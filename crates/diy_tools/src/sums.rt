@@ -12,6 +12,7 @@ use summed_logs::{SumEnd, sum_files, sum_input};
 
 /// Sums the logs that the words behind the first name, or the input where there is no such word.
 #[tactic(auto, using(crate::proofs::Summed::files_answered, crate::proofs::Summed::input_answered))]
+#[inline(never)]
 pub(crate) fn sum<I: Source, O: Sink, H: Shelf>(
     alloc: Global,
     words: &Words,

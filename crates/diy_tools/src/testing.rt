@@ -41,6 +41,7 @@ pub(crate) fn diyone<O: Sink>(request: &DiyOne, out: &mut O) -> Status
 }
 
 /// Prints the test that is asked for, on an architecture.
+#[inline(never)]
 fn diyone_on<A: Arch, O: Sink>(request: &DiyOne, out: &mut O) -> Status
     ensures answers { AnswersEdges (refused_kept (machine A.puts A.writing) request.now.mode request.now.edges) (cycle_text A.puts A.writing request.now.mode (test_name (name_kept request.now.name) (edges_kept request.now.edges)) (edges_kept request.now.edges)) result (O.seen out.old) (O.seen out.new) }
     ensures location { NamesLocation result }

@@ -55,6 +55,9 @@ pub fn run<I: Source, O: Sink, E: Sink, H: Shelf>(
 }
 
 /// Answers the words, all but the line of the status.
+///
+/// Each tool is a function of its own in the program too (`inline(never)`), so that a call needs the
+/// stack of its tool alone.
 fn answer<I: Source, O: Sink, H: Shelf>(
     alloc: Global,
     words: &Words,
