@@ -1,5 +1,5 @@
 /// The most bytes of the text of a test.
-pub const MAX_TEXT: usize = 262_144;
+pub const MAX_TEXT: usize = 1_048_576;
 
 /// The most bytes of the name of a test.
 pub const MAX_NAME: usize = 800;

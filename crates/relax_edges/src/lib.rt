@@ -28,4 +28,4 @@ pub use relax_error::{RelaxError, RelaxKind};
 pub use relax_list::read_relaxes;
 
 /// The most edges that a cycle has.
-pub const MAX_EDGES: usize = 24;
+pub const MAX_EDGES: usize = 48;
