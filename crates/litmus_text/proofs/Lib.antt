@@ -31,3 +31,5 @@ pub mod ItemLaws
 pub mod PartLoops
 pub mod GiveLaws
 pub mod KeptLaws
+pub mod RunnableRead
+pub mod RegistersRead
