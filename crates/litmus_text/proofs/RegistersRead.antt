@@ -1,7 +1,7 @@
 -- The registers that an initial state names are the machine's.
-use Rattle.std.proofs.Common.{◌≡◌, ◌+◌, ◌<◌, ◌≤◌, ◌==◌, ◌&&◌, ℕ, Bool, true, false, cond, List, [], ◌∷◌, ◌++◌, length, Option, Some, None, Result, Ok, Err, refl, sym, ◌∙◌, subst, arith}
+use Rattle.std.proofs.Common.{◌≡◌, ◌+◌, ◌<◌, ◌≤◌, ◌==◌, ◌&&◌, ℕ, Bool, List, [], ◌∷◌, length, Option, Some, None, Ok, refl, sym, ◌∙◌, subst, arith}
 use Rattle.std.specs.Prelude.{nat_lt, codes}
-use Rattle.std.specs.List.{AllByRecursion, position_from}
+use Rattle.std.specs.List.{position_from}
 use Rattle.std.specs.Str.{bytes_eq}
 use Rattle.relax_edges.specs.declared.kinds.Value.{Value}
 use Rattle.relax_edges.specs.declared.kinds.Value.TheVariants as values
@@ -11,11 +11,10 @@ use Rattle.final_cond.specs.Reading.{left_at_front}
 use Rattle.arch_trait.specs.Names.{number_in, number_added, names_added}
 use Rattle.arch_trait.specs.Reading.{trimmed}
 use Rattle.arch_trait.specs.Writing.{Writing}
-use Rattle.litmus_text.specs.declared.errors.TextError.{TextError}
 use Rattle.litmus_text.specs.declared.limits.TheConstants.{MAX_THREADS}
 use Rattle.litmus_text.specs.Cuts.{cut_at, pieces}
 use Rattle.litmus_text.specs.Joined.{Joined, no_text}
-use Rattle.litmus_text.specs.Lines.{Lines, ends, line, ◌>>=◌, bad}
+use Rattle.litmus_text.specs.Lines.{Lines, ends, line}
 use Rattle.litmus_text.specs.InitialState.{Worth, a_number, a_place, Item, empty, gives, zero_at, worth_of, given, item_with, whole_left, item_if, item_parts, some_item, item_of, Begun, nothing_begun, is_given, with_value, with_address, with_worth, with_named, item_put, item_read, items_read, but_last, Braced, closed, open_to, braced, brace_ends, braced_read, initial_line, initial_read}
 use Rattle.litmus_text.specs.Runnable.{AllNameRegisters}
 use Rattle.litmus_text.proofs.CutBack.{by_test}
@@ -42,7 +41,7 @@ given_below thread (Some r) (Some worth) h = h r refl
 with_below : (w : Writing) (left : LeftSeen) (right : List ℕ) → length w.registers ≤ 32 → ItemBelow (item_with w left right)
 with_below w (InRegister thread name) right b = by_test (nat_lt thread MAX_THREADS)
     (λ e. rw e (given_below thread (number_in w.registers name) (worth_of right)
-      (λ r h. let i = position_within (λ x. bytes_eq x name) 0 w.registers r h in omega (arith, i, b))))
+    (λ r h. let i = position_within (λ x. bytes_eq x name) 0 w.registers r h in omega (arith, i, b))))
     (λ e. rw e tt)
 with_below w (AtPlace name) right b = by_test (is_place_name name && bytes_eq right (codes "0")) (λ e. rw e tt) (λ e. rw e tt)
 

@@ -1,9 +1,8 @@
 -- What is read can be run.
-use Rattle.std.proofs.Common.{◌≡◌, get_or, ◌+◌, ◌*◌, ◌<◌, ◌≤◌, ◌==◌, ◌&&◌, ◌||◌, ℕ, Bool, true, false, cond, not, List, [], ◌∷◌, ◌++◌, map, length, Option, Some, None, Result, Ok, Err, refl, sym, ap, ◌∙◌, subst, arith, length-append}
-use Rattle.std.specs.Prelude.{count_by, nat_lt, All}
-use Rattle.std.specs.List.{AllByRecursion, list_any, filter}
+use Rattle.std.proofs.Common.{◌≡◌, get_or, ◌+◌, ◌<◌, ◌≤◌, ◌==◌, ◌||◌, ℕ, Bool, true, cond, not, List, [], ◌∷◌, ◌++◌, map, length, Option, Some, None, Result, Ok, Err, refl, sym, ap, ◌∙◌, subst, arith, length-append}
+use Rattle.std.specs.Prelude.{count_by, nat_lt}
+use Rattle.std.specs.List.{AllByRecursion, filter}
 use Rattle.std.proofs.lemmas.Bool.{and_parts, and_from, or_left, or_right, eqb-true, ltb-true}
-use Rattle.std.proofs.lemmas.Bool.Decides.{nat_tests}
 use Rattle.std.proofs.lemmas.List.{length-map}
 use Rattle.std.proofs.Math.ListN.{get_or-map}
 use Rattle.std.proofs.lemmas.List.Sums.{sum_by-cons, sum_by_push}
@@ -17,7 +16,7 @@ use Rattle.micro_ops.specs.Running.{is_load, lands, stands, stands_if, target}
 use Rattle.arch_trait.specs.declared.reading.InstrError.{InstrError}
 use Rattle.arch_trait.specs.declared.reading.InstrError.TheVariants as instrs
 use Rattle.text_laws.specs.Names.{is_place_name}
-use Rattle.arch_trait.specs.Names.{number_added, names_added, number_in}
+use Rattle.arch_trait.specs.Names.{number_added, names_added}
 use Rattle.arch_trait.specs.Cells.{is_access, ends_rows}
 use Rattle.arch_trait.specs.Reading.{trimmed, ReadInstr, with_place, with_label, numbered, number_raw, instr_read, written_in}
 use Rattle.arch_trait.specs.Writing.{Writing, Written, RawInstr, Name, nothing, place, label, with_number, is_label_name}
@@ -26,7 +25,7 @@ use Rattle.litmus_text.specs.declared.errors.TextError.{TextError}
 use Rattle.litmus_text.specs.declared.reading.table.Placed.{Placed}
 use Rattle.litmus_text.specs.Cuts.{is_nil, cut_at}
 use Rattle.litmus_text.specs.Lines.{Lines, ends, line, ◌>>=◌, bad}
-use Rattle.litmus_text.specs.Table.{Column, no_column, no_columns, Among, among, has_room, with_op, instr_put, instr_in, instr_or_nothing, cell_if, cell_read, before_columns, row_read, rows_read, cells_of, is_label_of, is_label, lands_once, is_landing, labels_judged, all_labels_judged}
+use Rattle.litmus_text.specs.Table.{Column, no_column, no_columns, Among, among, has_room, instr_put, instr_in, instr_or_nothing, cell_if, cell_read, row_read, rows_read, cells_of, is_label_of, is_label, lands_once, is_landing, labels_judged, all_labels_judged}
 use Rattle.litmus_text.specs.Runnable.{IsRunnable, NamesRegisters, AllNameRegisters, ops_in, AllRunnable}
 use Rattle.litmus_text.specs.TestReading.{values_of}
 use Rattle.litmus_text.specs.declared.reading.table.Column.{Column as ThreadColumn}
@@ -103,8 +102,8 @@ pushed_good m column p g r room = record {
   few = let a = sum_by_push (λ (q : Placed). cond (is_access q.op) 1 0) column.ops p in let b = g.few in
       by_test (is_access p.op)
       (λ e. let t : nat_lt (count_by (λ (q : Placed). is_access q.op) column.ops) 64 ≡ true = ap (λ b. not b || nat_lt (count_by (λ (q : Placed). is_access q.op) column.ops) 64) (sym e) ∙ room in
-          let l = ltb-true (count_by (λ (q : Placed). is_access q.op) column.ops) 64 t in
-          let c : ◌≡◌ {A = ℕ} (cond (is_access p.op) 1 0) 1 = ap (λ b. cond b 1 0) e in omega (arith, a, c, l))
+      let l = ltb-true (count_by (λ (q : Placed). is_access q.op) column.ops) 64 t in
+      let c : ◌≡◌ {A = ℕ} (cond (is_access p.op) 1 0) 1 = ap (λ b. cond b 1 0) e in omega (arith, a, c, l))
       (λ e. let c : ◌≡◌ {A = ℕ} (cond (is_access p.op) 1 0) 0 = ap (λ b. cond b 1 0) e in omega (arith, a, b, c));
   short = let s = g.short in omega (arith, s, length-append column.ops (p ∷ []));
 }
@@ -143,7 +142,7 @@ row_good w n m whole (cell ∷ cells) names (column ∷ columns) r g =
     then_gives (λ (s : Among Column). IsGood (m + 1 + 1) s.value.ops) (λ (s : Among (List Column)). AllGood (m + 1 + 1) s.value) (cell_if w n cell (cut_at 58 cell) (among names column)) _
     (cell_good w n m cell (cut_at 58 cell) (among names column) r g.0)
     (λ t h. then_gives (λ (s : Among (List Column)). AllGood (m + 1 + 1) s.value) (λ (s : Among (List Column)). AllGood (m + 1 + 1) s.value) (row_read w n whole cells t.names columns) _
-      (row_good w n m whole cells t.names columns r g.1) (λ others i. (h, i)))
+    (row_good w n m whole cells t.names columns r g.1) (λ others i. (h, i)))
 
 rows_good : (w : Writing) (k m : ℕ) (s : Among (List Column)) (ls : Lines) → RawInRange w → k ≤ 1024 → m ≡ k + k → AllGood m s.value
     → Gives (λ (x : Among (List Column) × Lines). AllGood 2048 x.0.value) (rows_read w k s ls)
@@ -152,11 +151,11 @@ rows_good w k m s (ends n) r b e g = tt
 rows_good w k m s (line n text rest) r b e g = by_test (ends_rows text)
     (λ h. rw h (all_weaker (λ (c : Column). IsGood m c.ops) (λ (c : Column). IsGood 2048 c.ops) s.value (λ c. good_weaker m 2048 c.ops (omega arith)) g))
     (λ h. rw h (by_test (nat_lt k 1024)
-      (λ i. let less : k < 1024 = ltb-true k 1024 i in
-          rw i (then_gives (λ (s : Among (List Column)). AllGood (m + 1 + 1) s.value) (λ (x : Among (List Column) × Lines). AllGood 2048 x.0.value) (row_read w n (cells_of text).whole (cells_of text).texts s.names s.value) _
-          (row_good w n m (cells_of text).whole (cells_of text).texts s.names s.value r g)
-          (λ t j. rows_good w (k + 1) (m + 1 + 1) t rest r (omega arith) (omega arith) j)))
-      (λ i. rw i tt)))
+    (λ i. let less : k < 1024 = ltb-true k 1024 i in
+    rw i (then_gives (λ (s : Among (List Column)). AllGood (m + 1 + 1) s.value) (λ (x : Among (List Column) × Lines). AllGood 2048 x.0.value) (row_read w n (cells_of text).whole (cells_of text).texts s.names s.value) _
+    (row_good w n m (cells_of text).whole (cells_of text).texts s.names s.value r g)
+    (λ t j. rows_good w (k + 1) (m + 1 + 1) t rest r (omega arith) (omega arith) j)))
+    (λ i. rw i tt)))
 
 no_columns_good : (threads : ℕ) → AllGood 0 (no_columns threads)
 no_columns_good threads = recursion_from_All (λ (c : Column). IsGood 0 c.ops) (no_columns threads)
@@ -172,7 +171,7 @@ stands_counted l [] h = absurd (omega (arith, h))
 stands_counted l (p ∷ placed) h = by_test (is_label_of l p.op)
     (λ e. or_left (run.is_label l p.op) (stands l (map (λ (q : Placed). q.op) placed)) (sym (label_same l p.op) ∙ e))
     (λ e. or_right (run.is_label l p.op) (stands l (map (λ (q : Placed). q.op) placed))
-      (stands_counted l placed (let c : ◌≡◌ {A = ℕ} (cond (is_label l p) 1 0) 0 = ap (λ b. cond b 1 0) e in omega (arith, h, c, sum_by-cons (λ (q : Placed). cond (is_label l q) 1 0) p placed))))
+    (stands_counted l placed (let c : ◌≡◌ {A = ℕ} (cond (is_label l p) 1 0) 0 = ap (λ b. cond b 1 0) e in omega (arith, h, c, sum_by-cons (λ (q : Placed). cond (is_label l q) 1 0) p placed))))
 
 once_stands : (l : ℕ) (all placed : List Placed) → lands_once l all placed ≡ true → stands l (map (λ (p : Placed). p.op) placed) ≡ true
 once_stands l all placed h =
@@ -190,7 +189,7 @@ unfolding labels_judged
 judged_lands all [] h = refl
 judged_lands all (p ∷ placed) h = by_test (is_landing p.op all placed)
     (λ e. and_from (stands_if (target p.op) (map (λ (q : Placed). q.op) placed)) (lands (map (λ (q : Placed). q.op) placed))
-      (landing_stands p.op all placed e) (judged_lands all placed (sym (rw e refl) ∙ h)))
+    (landing_stands p.op all placed e) (judged_lands all placed (sym (rw e refl) ∙ h)))
     (λ e. let f : bad {A = Unit {0}} BadLabel p.at_line ≡ Ok tt = sym (rw e refl) ∙ h in cc)
 
 load_access : (op : Micro) → cond (is_load op) 1 0 ≤ cond (is_access op) 1 0
@@ -204,8 +203,13 @@ load_access op = omega arith
 
 loads_few : (placed : List Placed) → count_by is_load (map (λ (p : Placed). p.op) placed) ≤ count_by (λ (p : Placed). is_access p.op) placed
 loads_few [] = omega arith
-loads_few (p ∷ placed) = omega (arith, loads_few placed, load_access p.op,
-    sum_by-cons (λ op. cond (is_load op) 1 0) p.op (map (λ (q : Placed). q.op) placed), sum_by-cons (λ (q : Placed). cond (is_access q.op) 1 0) p placed)
+loads_few (p ∷ placed) = omega (
+  arith,
+  loads_few placed,
+  load_access p.op,
+  sum_by-cons (λ op. cond (is_load op) 1 0) p.op (map (λ (q : Placed). q.op) placed),
+  sum_by-cons (λ (q : Placed). cond (is_access q.op) 1 0) p placed,
+)
 
 column_runs : (column : Column) → IsGood 2048 column.ops → labels_judged column.ops column.ops ≡ Ok tt → IsRunnable (ops_in column)
 column_runs column g h = record {

@@ -1,4 +1,4 @@
-use Rattle.std.proofs.Common.{◌≡◌, ◌≤◌, length, arith}
+use Rattle.std.proofs.Common.{◌≤◌, length, arith}
 use Rattle.litmus_text.specs.Views.{begun_seen, text_left}
 use Rattle.litmus_text.proofs.RegistersRead.{initial_below}
 use Rattle.litmus_text.proofs.reading.whole.read_body.Goals as goal
