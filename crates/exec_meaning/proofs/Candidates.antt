@@ -1,6 +1,7 @@
 -- The tests of reads and orders decide their definitions.
-use Rattle.std.proofs.Common.{◌≡◌, ℕ, zero, suc, ◌+◌, ◌<◌, Bool, true, false, cond, ◌==◌, ◌&&◌, ◌||◌, not, List, [], ◌∷◌, length, get_or, Option, Some, None, slice_get, refl, sym, ap, subst, ◌∙◌, arith}
+use Rattle.std.proofs.Common.{◌≡◌, ℕ, zero, suc, ◌+◌, ◌<◌, ◌≤◌, Bool, true, false, cond, ◌==◌, ◌&&◌, ◌||◌, not, List, [], ◌∷◌, length, get_or, drop, Option, Some, None, slice_get, refl, sym, ap, subst, ◌∙◌, arith}
 use Rattle.std.specs.Prelude.{unwrap_or}
+use Rattle.std.proofs.lemmas.List.{drop_all}
 use Rattle.std.proofs.lemmas.Option.{slice_get_within, slice_get-get_or}
 use Rattle.std.specs.List.{filter, list_all, list_any}
 use Rattle.std.proofs.lemmas.Bool.{and_parts, and_from, or_left, or_right, eqb-true, eq-eqb}
@@ -10,7 +11,7 @@ use Rattle.program_meaning.specs.declared.WriteAt.{WriteAt}
 use Rattle.program_meaning.specs.Accesses.{Access, write, reads_by, is_read, at_name}
 use Rattle.program_meaning.specs.Executions.{Execution, CanRead, AreReadsOf, IsOrderOf, IsExecutionOf, same_write}
 use Rattle.exec_meaning.specs.Deciding.{every, name, writes_by, writes_to, writes_there, writes_value, can_read, first_read, are_reads, are_distinct, is_covered, thread_covered, is_order, reads_of, reads_fit, orders_fit}
-use Rattle.exec_meaning.proofs.Every.{some_is, by_test, every_means, every_from, every_name, every_name_from}
+use Rattle.exec_meaning.proofs.Every.{some_is, by_test, dropped, got_item, every_means, every_from, every_name, every_name_from}
 
 pub implied : (a b : Bool) → (not a || b) ≡ true → a ≡ true → b ≡ true
 implied true b h e = h
@@ -194,3 +195,16 @@ execution_from threads x n h = and_from (reads_fit threads x) (orders_fit thread
     (every_from (is_order threads) 0 x.orders (λ k place order q e.
       let s : k ≡ place = omega (arith, q) in
       is_order_from threads place order (h.orders place order (subst (λ m. slice_get x.orders m ≡ Some order) s e))))
+
+-- a loop over an order: each write against those after it
+pub distinct_step : (order : List WriteAt) (i : ℕ) (w : WriteAt) → slice_get order i ≡ Some w → list_any (same_write w) (drop (i + 1) order) ≡ false → are_distinct (drop i order) ≡ are_distinct (drop (i + 1) order)
+unfolding are_distinct
+distinct_step order i w is h = rw (dropped order i w is) (rw h refl)
+
+pub distinct_stops : (order : List WriteAt) (i : ℕ) (w : WriteAt) → slice_get order i ≡ Some w → list_any (same_write w) (drop (i + 1) order) ≡ true → are_distinct (drop i order) ≡ false
+unfolding are_distinct
+distinct_stops order i w is h = rw (dropped order i w is) (rw h refl)
+
+pub distinct_ends : (order : List WriteAt) (i : ℕ) → length order ≤ i → are_distinct (drop i order) ≡ true
+unfolding are_distinct
+distinct_ends order i h = rw (drop_all i order h) refl

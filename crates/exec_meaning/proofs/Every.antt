@@ -31,7 +31,7 @@ every_from p n (y ∷ ys) h =
     (every_from p (n + 1) ys (λ k j x q e. h (suc k) j x (omega (arith, q)) e))
 
 -- a loop over the elements
-dropped : {X : Type 0} (xs : List X) (i : ℕ) (x : X) → slice_get xs i ≡ Some x → drop i xs ≡ x ∷ drop (i + 1) xs
+pub dropped : {X : Type 0} (xs : List X) (i : ℕ) (x : X) → slice_get xs i ≡ Some x → drop i xs ≡ x ∷ drop (i + 1) xs
 dropped xs i x h =
     let g : get_or xs i x ≡ x = get_or_from_slice_get xs i x x h in
     rw add-one (drop-cons xs i x (slice_get_within xs i x h) ∙ ap (λ y. y ∷ drop (suc i) xs) g)

@@ -1,5 +1,7 @@
 pub mod Every
+pub mod KeptLists
 pub mod Candidates
-pub mod Coherent
-pub mod Visits
+pub mod CoherenceLaws
+pub mod VisitLaws
 pub mod RunLaws
+pub mod EdgeLaws

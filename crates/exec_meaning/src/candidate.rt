@@ -1,4 +1,4 @@
-ghost use Rattle.std.specs.Prelude.{◌≡◌, ◌↔◌, ◌+◌, ◌<◌, ◌^◌, IsTrue, IfOk, length};
+ghost use Rattle.std.specs.Prelude.{◌≡◌, ◌↔◌, ◌&&◌, IsTrue, IfOk, length};
 ghost use Rattle.std.specs.List.{list_all, list_any};
 ghost use Rattle.program_meaning.specs.Accesses.{at_name};
 ghost use Rattle.program_meaning.specs.Executions.{same_write, IsExecutionOf};
@@ -138,6 +138,7 @@ fn do_reads_fit(all: &[Accesses], exec: &Execution) -> bool
 }
 
 /// Whether the order of each place is that of the place.
+#[tactic(auto, using(crate::proofs::Every::every_step, crate::proofs::Every::every_stops))]
 fn do_orders_fit(all: &[Accesses], exec: &Execution) -> bool
     ensures { result ≡ orders_fit all.now exec.now }
 {
@@ -150,12 +151,19 @@ fn do_orders_fit(all: &[Accesses], exec: &Execution) -> bool
 }
 
 /// Whether the reads and the orders are those of threads that make these accesses.
+fn do_lists_fit(all: &[Accesses], exec: &Execution) -> bool
+    requires { length exec.now.reads ≡ length all.now }
+    ensures { result ≡ (reads_fit all.now exec.now && orders_fit all.now exec.now) }
+{
+    do_reads_fit(all, exec) && do_orders_fit(all, exec)
+}
+
 #[tactic(auto, using(crate::proofs::Candidates::execution_means, crate::proofs::Candidates::execution_from))]
 fn is_execution(all: &[Accesses], exec: &Execution) -> bool
     requires { length exec.now.reads ≡ length all.now }
     ensures { IsTrue result ↔ IsExecutionOf all.now (length exec.now.orders) exec.now }
 {
-    do_reads_fit(all, exec) && do_orders_fit(all, exec)
+    do_lists_fit(all, exec)
 }
 
 /// Whether an execution is a candidate execution of a test: the run of each thread on the values of its
