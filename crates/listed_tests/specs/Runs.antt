@@ -8,7 +8,7 @@ use Rattle.relax_edges.specs.EdgeTable.{is_external}
 -- a list has this many internal edges one after the other
 pub record HasRun (many : ℕ) (edges : List Edge) : Type 0 where
   pub front run back : List Edge
-  pub parts : edges ≡ front ++ run ++ back
+  pub parts : edges ≡ front ++ (run ++ back)
   pub long : length run ≡ many
   pub internal : AllByRecursion (λ edge. is_external edge ≡ false) run
 
