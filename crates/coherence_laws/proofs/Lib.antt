@@ -1,0 +1,5 @@
+pub mod Places
+pub mod Steps
+pub mod Shapes
+pub mod Laws
+mod Examples
