@@ -1,6 +1,6 @@
 -- The law tried on small programs: a coherent execution, the shapes that coherence forbids, each with its cycle, and a program
 -- that writes outside its places, of which the law doesn't hold.
-use Rattle.std.proofs.Common.{◌≡◌, ℕ, ◌<◌, Bool, true, false, List, [], ◌∷◌, Some, None, slice_get, refl, sym, ◌∙◌, ap, arith, ◌||◌}
+use Rattle.std.proofs.Common.{◌≡◌, ℕ, Bool, true, List, [], ◌∷◌, Some, None, slice_get, refl, arith, ◌||◌}
 use Rattle.std.specs.Prelude.{nat_lt}
 use Rattle.std.proofs.lemmas.Bool.{ltb-true}
 use Rattle.micro_ops.specs.declared.operation.Micro.{Micro}
@@ -69,10 +69,13 @@ CoRR : HasCycle passes out_of_turn (name 1 0) (name 1 1 ∷ name 0 0 ∷ [])
 CoRR = record {
   candidate = candidate_means passes out_of_turn refl refl;
   within = within_means (accesses_in passes out_of_turn) 1 refl;
-  cycle =
-      (Po (record { place = 0; first = (read 0 1, refl, refl); second = (read 0 0, refl, refl); thread = refl; earlier = omega arith }),
-      (Fr (record { place = 0; reads = (0, refl); before = (1, refl) }),
-      Rf (record { place = 0; reads = (1, refl); source = refl })));
+  cycle = (
+    Po (record { place = 0; first = (read 0 1, refl, refl); second = (read 0 0, refl, refl); thread = refl; earlier = omega arith }),
+    (
+      Fr (record { place = 0; reads = (0, refl); before = (1, refl) }),
+      Rf (record { place = 0; reads = (1, refl); source = refl }),
+    ),
+  );
 }
 
 -- CoWW: two writes of a thread come in the coherence order the other way round
@@ -86,9 +89,10 @@ CoWW : HasCycle writes_twice turned_round (name 0 0) (name 0 1 ∷ [])
 CoWW = record {
   candidate = candidate_means writes_twice turned_round refl refl;
   within = within_means (accesses_in writes_twice turned_round) 1 refl;
-  cycle =
-      (Po (record { place = 0; first = (write 0 1, refl, refl); second = (write 0 2, refl, refl); thread = refl; earlier = omega arith }),
-      Co 0 (record { earlier = 0; later = 1; first = refl; second = refl; before = omega arith }));
+  cycle = (
+    Po (record { place = 0; first = (write 0 1, refl, refl); second = (write 0 2, refl, refl); thread = refl; earlier = omega arith }),
+    Co 0 (record { earlier = 0; later = 1; first = refl; second = refl; before = omega arith }),
+  );
 }
 
 -- CoRW1: a read reads the write after it
@@ -102,9 +106,10 @@ CoRW1 : HasCycle reads_own from_after (name 0 0) (name 0 1 ∷ [])
 CoRW1 = record {
   candidate = candidate_means reads_own from_after refl refl;
   within = within_means (accesses_in reads_own from_after) 1 refl;
-  cycle =
-      (Po (record { place = 0; first = (read 0 1, refl, refl); second = (write 0 1, refl, refl); thread = refl; earlier = omega arith }),
-      Rf (record { place = 0; reads = (1, refl); source = refl }));
+  cycle = (
+    Po (record { place = 0; first = (read 0 1, refl, refl); second = (write 0 1, refl, refl); thread = refl; earlier = omega arith }),
+    Rf (record { place = 0; reads = (1, refl); source = refl }),
+  );
 }
 
 -- CoRW2: a read reads a write that comes after the write after it
@@ -118,10 +123,13 @@ CoRW2 : HasCycle reads_other from_later (name 0 0) (name 0 1 ∷ name 1 0 ∷ []
 CoRW2 = record {
   candidate = candidate_means reads_other from_later refl refl;
   within = within_means (accesses_in reads_other from_later) 1 refl;
-  cycle =
-      (Po (record { place = 0; first = (read 0 2, refl, refl); second = (write 0 1, refl, refl); thread = refl; earlier = omega arith }),
-      (Co 0 (record { earlier = 0; later = 1; first = refl; second = refl; before = omega arith }),
-      Rf (record { place = 0; reads = (2, refl); source = refl })));
+  cycle = (
+    Po (record { place = 0; first = (read 0 2, refl, refl); second = (write 0 1, refl, refl); thread = refl; earlier = omega arith }),
+    (
+      Co 0 (record { earlier = 0; later = 1; first = refl; second = refl; before = omega arith }),
+      Rf (record { place = 0; reads = (2, refl); source = refl }),
+    ),
+  );
 }
 
 -- CoWR: a read reads from before the write before it
@@ -135,9 +143,10 @@ CoWR : HasCycle (over_x reads_after) from_before (name 0 0) (name 0 1 ∷ [])
 CoWR = record {
   candidate = candidate_means (over_x reads_after) from_before refl refl;
   within = within_means (accesses_in (over_x reads_after) from_before) 1 refl;
-  cycle =
-      (Po (record { place = 0; first = (write 0 1, refl, refl); second = (read 0 0, refl, refl); thread = refl; earlier = omega arith }),
-      Fr (record { place = 0; reads = (0, refl); before = (1, refl) }));
+  cycle = (
+    Po (record { place = 0; first = (write 0 1, refl, refl); second = (read 0 0, refl, refl); thread = refl; earlier = omega arith }),
+    Fr (record { place = 0; reads = (0, refl); before = (1, refl) }),
+  );
 }
 
 -- The same threads over no place at all: their write stands in no coherence order. So it has the coherence place of the
@@ -155,9 +164,10 @@ unordered-coherent : IsCoherentIn over_none unordered
 unordered-coherent = coheres_means (accesses_in over_none unordered) unordered refl
 
 unordered-cycle : IsPath (accesses_in over_none unordered) unordered (name 0 0) (name 0 1 ∷ []) (name 0 0)
-unordered-cycle =
-    (Po (record { place = 0; first = (write 0 1, refl, refl); second = (read 0 0, refl, refl); thread = refl; earlier = omega arith }),
-    Fr (record { place = 0; reads = (0, refl); before = (1, refl) }))
+unordered-cycle = (
+  Po (record { place = 0; first = (write 0 1, refl, refl); second = (read 0 0, refl, refl); thread = refl; earlier = omega arith }),
+  Fr (record { place = 0; reads = (0, refl); before = (1, refl) }),
+)
 
 unordered-not_sc : IsScPerLocation (accesses_in over_none unordered) unordered → ⊥
 unordered-not_sc h = h (name 0 0) (name 0 1 ∷ []) unordered-cycle

@@ -1,9 +1,8 @@
 -- Where the accesses of an execution stand in the coherence orders.
-use Rattle.std.proofs.Common.{◌≡◌, ℕ, zero, suc, ◌+◌, ◌<◌, ◌≤◌, List, [], ◌∷◌, length, Option, Some, None, slice_get, take, refl, sym, ◌∙◌, ap, subst, arith}
+use Rattle.std.proofs.Common.{◌≡◌, ℕ, zero, suc, ◌+◌, List, [], ◌∷◌, Option, Some, None, slice_get, take, refl, sym, ◌∙◌, ap, subst, arith}
 use Rattle.std.specs.Prelude.{unwrap_or}
 use Rattle.std.specs.List.{count_by, filter}
 use Rattle.std.proofs.lemmas.Option.{slice_get_within}
-use Rattle.relax_edges.specs.declared.kinds.Dir.TheVariants as dirs
 use Rattle.list_laws.proofs.Cases.{by_option}
 use Rattle.program_meaning.specs.declared.WriteAt.{WriteAt}
 use Rattle.program_meaning.specs.Accesses.{Access, read, write, is_read, at_name, reads_among, reads_before}
@@ -49,13 +48,13 @@ can_read threads places x h place value r e =
     let g = got_from_list (slice_get threads r.thread) r.access (read place value) e in
     let l = got_below x.reads r.thread (omega (arith, slice_get_within threads r.thread g.list g.list_is, h.read_lists)) in
     let m = made_read threads (filter is_read g.list) l.element (count_by is_read (take r.access g.list)) (read place value)
-        (h.reads r.thread g.list l.element g.list_is l.got)
-        (rank_filter is_read g.list r.access (read place value) g.got refl) in
+    (h.reads r.thread g.list l.element g.list_is l.got)
+    (rank_filter is_read g.list r.access (read place value) g.got refl) in
     let s : source_at threads x r ≡ m.made.1 =
-        ap named_by
-        (ap (λ o. slice_get (unwrap_or o []) (reads_before threads r)) l.got
-        ∙ ap (λ o. slice_get l.element (reads_among o r.access)) g.list_is
-        ∙ m.got) in
+    ap named_by
+    (ap (λ o. slice_get (unwrap_or o []) (reads_before threads r)) l.got
+    ∙ ap (λ o. slice_get l.element (reads_among o r.access)) g.list_is
+    ∙ m.got) in
     subst (λ o. CanRead threads (read place value) o) (sym s) m.can
 
 pub held : (threads : List (List Access)) (places : ℕ) (x : Execution) → IsExecutionOf threads places x → WritesWithin threads places → Held threads x

@@ -1,14 +1,13 @@
 -- Two accesses of a thread that don't follow each other in the coherence order make one of the five shapes, each a cycle.
-use Rattle.std.proofs.Common.{◌≡◌, ℕ, zero, suc, ◌+◌, ◌<◌, ◌≤◌, List, [], ◌∷◌, Option, Some, None, slice_get, refl, sym, ◌∙◌, ap, subst, arith, inl, inr}
-use Rattle.std.specs.Prelude.{◌⊎◌}
+use Rattle.std.proofs.Common.{◌≡◌, ℕ, ◌<◌, ◌≤◌, List, [], ◌∷◌, Option, Some, None, slice_get, refl, sym, ◌∙◌, ap, subst, arith}
 use Rattle.relax_edges.specs.declared.kinds.Dir.{Dir}
 use Rattle.relax_edges.specs.declared.kinds.Dir.TheVariants as dirs
 use Rattle.list_laws.proofs.Cases.{by_less, by_same}
 use Rattle.program_meaning.specs.declared.WriteAt.{WriteAt}
-use Rattle.program_meaning.specs.Accesses.{Access, read, write, at_name}
+use Rattle.program_meaning.specs.Accesses.{Access, read, at_name}
 use Rattle.program_meaning.specs.Executions.{Execution, CanRead}
 use Rattle.program_meaning.specs.Coherence.{MayFollow, IsCoherent, order_place, order_at, source_at, coherence_place}
-use Rattle.coherence_laws.specs.Relations.{IsWriteTo, IsReadOf, IsAccessOf, ProgramOrder, ReadsFrom, CoherenceOrder, ComesBefore, FromRead, Step, Po, Rf, Co, Fr, IsPath, IsScPerLocation}
+use Rattle.coherence_laws.specs.Relations.{IsWriteTo, IsReadOf, ProgramOrder, ReadsFrom, CoherenceOrder, ComesBefore, Po, Rf, Co, Fr, IsScPerLocation}
 use Rattle.coherence_laws.proofs.Places.{Held, place_in}
 
 -- the coherence place of what can be read at a place
@@ -125,7 +124,7 @@ pub coherent : (threads : List (List Access)) (x : Execution) → Held threads x
 coherent threads x held acyclic thread e f a b l p q same =
     let s : acts b.dir a.place b.value ≡ b = λ i. acts b.dir (same i) b.value in
     let m : MayFollow b.dir (coherence_place threads x (record { thread = thread; access = e }) a) (coherence_place threads x (record { thread = thread; access = f }) (acts b.dir a.place b.value)) =
-        follows threads x a.place (record { thread = thread; access = e }) (record { thread = thread; access = f }) a.dir b.dir a.value b.value held acyclic
-        (record { place = a.place; first = (a, p, refl); second = (b, q, sym same); thread = refl; earlier = l })
-        p (q ∙ ap Some (sym s)) in
+    follows threads x a.place (record { thread = thread; access = e }) (record { thread = thread; access = f }) a.dir b.dir a.value b.value held acyclic
+    (record { place = a.place; first = (a, p, refl); second = (b, q, sym same); thread = refl; earlier = l })
+    p (q ∙ ap Some (sym s)) in
     subst (λ c. MayFollow b.dir (coherence_place threads x (record { thread = thread; access = e }) a) (coherence_place threads x (record { thread = thread; access = f }) c)) s m

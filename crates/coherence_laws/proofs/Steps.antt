@@ -1,5 +1,5 @@
 -- Along each step the coherence place doesn't fall, and it rises into each write.
-use Rattle.std.proofs.Common.{◌≡◌, ℕ, zero, suc, ◌+◌, ◌<◌, ◌≤◌, List, [], ◌∷◌, Option, Some, None, slice_get, refl, sym, ◌∙◌, ap, subst, arith, inl, inr}
+use Rattle.std.proofs.Common.{◌≡◌, ℕ, ◌<◌, ◌≤◌, List, [], ◌∷◌, Option, Some, None, refl, sym, ◌∙◌, ap, subst, arith, inl, inr}
 use Rattle.std.specs.Prelude.{◌⊎◌}
 use Rattle.relax_edges.specs.declared.kinds.Dir.{Dir}
 use Rattle.relax_edges.specs.declared.kinds.Dir.TheVariants as dirs
@@ -28,7 +28,7 @@ abbrev pub Rises : List (List Access) → Execution → WriteAt → WriteAt → 
 Rises threads x e f = (level threads x e < level threads x f) ⊎ Settles threads x e f
 
 not_both : (threads : List (List Access)) (p q : ℕ) (e : WriteAt) → IsReadOf threads p e → IsWriteTo threads q e → ⊥
-not_both threads p q e r w = 
+not_both threads p q e r w =
     let s : Some (read p r.0) ≡ Some (write q w.0) = sym r.1 ∙ w.1 in
     let t : read p r.0 ≡ write q w.0 = cc in
     let d : dirs.R ≡ dirs.W = ap (λ a. a.dir) t in
@@ -73,7 +73,7 @@ po_rises threads x e f coherent h = by_second b.0.dir refl
     follows =
         let p : a.0.place ≡ b.0.place = a.2 ∙ sym b.2 in
         let m : MayFollow b.0.dir (coherence_place threads x from a.0) (coherence_place threads x f b.0) =
-            coherent f.thread e.access f.access a.0 b.0 h.earlier (ap (at_name threads) (sym from_is) ∙ a.1) b.1 p in
+        coherent f.thread e.access f.access a.0 b.0 h.earlier (ap (at_name threads) (sym from_is) ∙ a.1) b.1 p in
         subst (λ n. MayFollow b.0.dir n (level threads x f)) (ap (λ n. coherence_place threads x n a.0) (sym from_is) ∙ sym (level_is threads x e a.0 a.1))
         (subst (λ n. MayFollow b.0.dir (coherence_place threads x from a.0) n) (sym (level_is threads x f b.0 b.1)) m)
 
@@ -105,8 +105,12 @@ co_places threads x place w v held h =
 
 co_rises : (threads : List (List Access)) (x : Execution) (place : ℕ) (w v : WriteAt) → Held threads x → CoherenceOrder x place w v → Rises threads x w v
 co_rises threads x place w v held h =
-    inl (omega (arith, co_places threads x place w v held h,
-    level_write threads x place w (held.writes place h.earlier w h.first), level_write threads x place v (held.writes place h.later v h.second)))
+    inl (omega (
+      arith,
+      co_places threads x place w v held h,
+      level_write threads x place w (held.writes place h.earlier w h.first),
+      level_write threads x place v (held.writes place h.later v h.second),
+    ))
 
 -- along from-read
 fr_rises : (threads : List (List Access)) (x : Execution) (r w : WriteAt) → Held threads x → FromRead threads x r w → Rises threads x r w
