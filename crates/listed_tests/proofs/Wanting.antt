@@ -22,7 +22,7 @@ use Rattle.diy_io.specs.Shelf.{ShelfSeen}
 use Rattle.listed_tests.specs.Plans.{has_few_threads, has_few_accesses, is_wanted, may_lead}
 use Rattle.listed_tests.specs.Runs.{HasLongRun}
 use Rattle.listed_tests.specs.Ends.{WritesAll, StopsAtTest, StopsAtAll}
-use Rattle.listed_tests.proofs.Runs.{long_run_crowds}
+use Rattle.listed_tests.proofs.RunLaws.{long_run_crowds}
 use Rattle.listed_tests.proofs.Behind.{next_too, listed_too, all_too}
 
 none_is : {X : Type 0} (o : Option X) → is_none o ≡ true → o ≡ None
