@@ -32,7 +32,7 @@ impl Wanted<'_> {
     /// Whether a cycle that is wanted may begin with the edges, by the accesses of its threads: the edges
     /// don't have as many internal ones one after the other as a thread may have accesses, since these
     /// join one more.
-    #[tactic(auto, using(crate::proofs::Runs::long_run_exactly))]
+    #[tactic(auto, using(crate::proofs::RunLaws::long_run_exactly))]
     pub(crate) fn may_fit(&self, edges: &[Edge]) -> bool
         ensures { IsFalse result ↔ HasLongRun self.now.accesses edges.now }
     {
@@ -44,7 +44,7 @@ impl Wanted<'_> {
 
     /// Whether a cycle is wanted: it has a test, no more threads than are asked for, and no more
     /// accesses in each of them.
-    #[tactic(auto, unfolding(crate::specs::Plans::is_wanted))]
+    #[tactic(auto, using(crate::proofs::Wanting::tested_threads), unfolding(crate::specs::Plans::is_wanted))]
     pub(crate) fn takes<A: Arch>(&self, cycle: &Cycle) -> bool
         ensures { result ≡ is_wanted A.puts self.now.mode self.now.threads self.now.accesses cycle.now }
     {

@@ -1,5 +1,5 @@
 -- Runs of internal edges, and how many accesses the threads of a cycle have.
-use Rattle.std.proofs.Common.{◌≡◌, ℕ, zero, suc, ◌+◌, ◌<◌, ◌≤◌, Bool, true, false, ◌&&◌, Option, Some, None, List, [], ◌∷◌, ◌++◌, length, take, drop, nat_lt, nat_le, refl, sym, ◌∙◌, ap, arith, add-one, append_assoc, length-append}
+use Rattle.std.proofs.Common.{◌≡◌, ℕ, zero, suc, ◌+◌, ◌-◌, ◌<◌, ◌≤◌, Bool, true, false, ◌&&◌, Option, Some, None, List, [], ◌∷◌, ◌++◌, length, take, drop, nat_lt, nat_le, refl, sym, ◌∙◌, ap, arith, add-one, append_assoc, length-append, length-take-le}
 use Rattle.std.specs.Prelude.{◌↔◌, IsFalse}
 use Rattle.std.specs.Cmp.{both_ways}
 use Rattle.std.specs.List.{AllByRecursion, list_all}
@@ -88,15 +88,16 @@ round m (x ∷ f) back h =
     )
 
 -- the run up to an event is its slot
+slot_next : (es : List Edge) (j : ℕ) → j < length es → run_after 0 (take j es) ≡ slot_of es j → run_after 0 (take (j + 1) es) ≡ slot_of es (j + 1)
+slot_next es j h so_far =
+    ap (run_after 0) (take_more es j (edges.Com Rf Internal) h) ∙ run_append 0 (take j es) (edge_at es j ∷ []) ∙ ap (λ c. next_run c (edge_at es j)) so_far
+    ∙ by_test (is_external (edge_at es j))
+    (λ t. next_out (slot_of es j) (edge_at es j) t ∙ sym (slot_out es j h t))
+    (λ f. next_in (slot_of es j) (edge_at es j) f ∙ sym (slot_in es j h f))
+
 run_slot : (es : List Edge) (j : ℕ) → j ≤ length es → run_after 0 (take j es) ≡ slot_of es j
 run_slot es zero h = sym (slot-zero es)
-run_slot es (suc j) h =
-    let here : take (suc j) es ≡ take j es ++ edge_at es j ∷ [] = ap (λ n. take n es) (sym (add-one j)) ∙ take_more es j (edges.Com Rf Internal) (omega (arith, h)) in
-    let on : run_after 0 (take (suc j) es) ≡ next_run (slot_of es j) (edge_at es j) =
-    ap (run_after 0) here ∙ run_append 0 (take j es) (edge_at es j ∷ []) ∙ ap (λ c. next_run c (edge_at es j)) (run_slot es j (omega (arith, h))) in
-    rw (← add-one j) (on ∙ by_test (is_external (edge_at es j))
-    (λ t. next_out (slot_of es j) (edge_at es j) t ∙ sym (slot_out es j (omega (arith, h)) t))
-    (λ f. next_in (slot_of es j) (edge_at es j) f ∙ sym (slot_in es j (omega (arith, h)) f)))
+run_slot es (suc j) h = rw (← add-one j) (slot_next es j (omega (arith, h)) (run_slot es j (omega (arith, h))))
 
 -- so the count says whether each slot is below a number
 below_slots : (m : ℕ) (es : List Edge) → stays_below m 0 es ≡ true → (j : ℕ) → j ≤ length es → slot_of es j < m
@@ -208,7 +209,7 @@ run_here m run u a h = record {
   front = [];
   run = take m run;
   back = drop m run ++ u;
-  parts = sym (append_assoc (take m run) (drop m run) u ∙ ap (λ w. w ++ u) (take-append-drop m run));
+  parts = sym (sym (append_assoc (take m run) (drop m run) u) ∙ ap (λ w. w ++ u) (take-append-drop m run));
   long = length-take-le m run h;
   internal = internal_take m run a;
 }
@@ -218,7 +219,7 @@ run_further m w u r = record {
   front = w ++ r.front;
   run = r.run;
   back = r.back;
-  parts = rw r.parts (append_assoc w r.front (r.run ++ r.back));
+  parts = rw r.parts (sym (append_assoc w r.front (r.run ++ r.back)));
   long = r.long;
   internal = r.internal;
 }
