@@ -8,6 +8,7 @@ mod listing;
 mod making;
 mod names;
 mod putting;
+mod runs;
 mod text;
 mod wanted;
 
