@@ -1,0 +1,8 @@
+pub mod Files
+pub mod Texts
+pub mod Putting
+pub mod Plans
+pub mod Runs
+pub mod Ends
+pub mod Given
+pub mod Keeping

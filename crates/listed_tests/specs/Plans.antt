@@ -31,7 +31,7 @@ has_few_accesses (Some most) cycle = list_all (λ thread. nat_le (length (events
 -- a cycle has a test, has at most so many threads, and has at most so many accesses in each
 unfoldable pub is_wanted : Puts → ObsMode → ℕ → Option ℕ → List Edge → Bool
 is_wanted puts mode threads accesses cycle =
-    is_none (refusal_of puts cycle mode) && has_few_threads threads cycle && has_few_accesses accesses cycle
+    is_none (refusal_of puts cycle mode) && (has_few_threads threads cycle && has_few_accesses accesses cycle)
 
 -- such a cycle may begin with these edges: all are of the architecture, and there are no more threads yet
 unfoldable pub may_lead : ArchName → ℕ → List Edge → Bool

@@ -9,6 +9,7 @@ mod making;
 mod names;
 mod putting;
 mod runs;
+mod runs;
 mod text;
 mod wanted;
 

@@ -8,7 +8,7 @@ use relax_edges::Edge;
 
 /// Whether each own thread of a cycle has at most so many accesses: nowhere round the cycle do so many
 /// internal edges come one after the other. `None` is no limit.
-#[tactic(auto, using(crate::proofs::Runs::few_accesses_round))]
+#[tactic(auto, using(crate::proofs::RunLaws::few_accesses_round), unfolding(crate::specs::Plans::has_few_accesses))]
 pub(crate) fn has_few_accesses(cycle: &[Edge], accesses: Option<u8>) -> bool
     requires few { length cycle.now ≤ MAX_EDGES }
     requires threads { 0 < external_count cycle.now }

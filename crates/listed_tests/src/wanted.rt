@@ -32,7 +32,7 @@ impl Wanted<'_> {
     /// Whether a cycle that is wanted may begin with the edges, by the accesses of its threads: the edges
     /// don't have as many internal ones one after the other as a thread may have accesses, since these
     /// join one more.
-    #[tactic(auto, using(crate::proofs::Runs::long_run_exactly))]
+    #[tactic(auto, using(crate::proofs::RunLaws::long_run_exactly))]
     pub(crate) fn may_fit(&self, edges: &[Edge]) -> bool
         ensures { IsFalse result ↔ HasLongRun self.now.accesses edges.now }
     {

@@ -1,4 +1,4 @@
-use Rattle.std.proofs.Common.{◌≡◌, ◌++◌, ◌+◌, true, drop, refl, sym, arith}
+use Rattle.std.proofs.Common.{◌≡◌, ◌++◌, ◌+◌, drop, refl, sym, arith}
 use Rattle.std.proofs.lemmas.List.{drop_all}
 use Rattle.listing_laws.specs.Search.{LeadsNowhere}
 use Rattle.listing_laws.proofs.Raising.{kept_more, cut_refused, cut_whole, one_further}
