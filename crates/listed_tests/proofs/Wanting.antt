@@ -44,7 +44,7 @@ wanted_few puts mode threads accesses cycle h =
     (and_parts (is_none (refusal_of puts cycle mode)) (has_few_threads threads cycle && has_few_accesses accesses cycle) h).1
 
 -- a cycle that has a test has two threads
-tested_threads : (puts : Puts) (mode : ObsMode) (cycle : List Edge) → refusal_of puts cycle mode ≡ None → 0 < external_count cycle
+pub tested_threads : (puts : Puts) (mode : ObsMode) (cycle : List Edge) → refusal_of puts cycle mode ≡ None → 0 < external_count cycle
 tested_threads puts mode cycle h = by_less 0 (external_count cycle) (λ some. some) (λ none. absurd (refused (lt-ltb (external_count cycle) 2 (omega (arith, none)))))
   where
     refused : nat_lt (external_count cycle) 2 ≡ true → ⊥
@@ -57,7 +57,6 @@ tested_threads puts mode cycle h = by_less 0 (external_count cycle) (λ some. so
     or_none : (a b : Option MakeRefusal) → or_else a b ≡ None → b ≡ None
     or_none None b e = e
     or_none (Some reason) b e = cc
-
 
 -- a cycle may begin with edges with which one that is wanted does
 pub wanted_leads : (puts : Puts) (mode : ObsMode) (threads : ℕ) (accesses : Option ℕ) (u r : List Edge) → is_wanted puts mode threads accesses (u ++ r) ≡ true → may_lead puts.name threads u ≡ true

@@ -67,7 +67,7 @@ pub struct Listing<'a> {
 /// whole, that one is as it was or has a front of its text, no other file changed, and nothing is
 /// written to `out`. `OutFault` comes only where the count of `out` rose. Then all files are whole,
 /// and `out` has a front of the line. In each case the shelf is at nothing again.
-#[tactic(auto, using(crate::proofs::Wanting::refused_leads_none))]
+#[tactic(auto, using(crate::proofs::Wanting::refused_leads_none, crate::proofs::Wanting::long_run_leads_none))]
 pub fn list_tests<A: Arch, H: Shelf, O: Sink>(
     listing: Listing,
     shelf: &mut H,
@@ -119,12 +119,14 @@ fn begin_behind<K: Fn(&[Edge]) -> bool, J: Fn(&[Edge]) -> bool, P: Fn(&Cycle) ->
 }
 
 /// Writes the files of a walk's cycles from where it stands, and the line on their number.
-fn list_walk<A: Arch, H: Shelf, O: Sink, K: Fn(&[Edge]) -> bool, J: Fn(&[Edge]) -> bool, P: Fn(&Cycle) -> bool>(
-    wanted: &Wanted,
-    walk: &mut Walk<K, J, P>,
-    shelf: &mut H,
-    out: &mut O,
-) -> ListingEnd
+fn list_walk<
+    A: Arch,
+    H: Shelf,
+    O: Sink,
+    K: Fn(&[Edge]) -> bool,
+    J: Fn(&[Edge]) -> bool,
+    P: Fn(&Cycle) -> bool,
+>(wanted: &Wanted, walk: &mut Walk<K, J, P>, shelf: &mut H, out: &mut O) -> ListingEnd
     requires knows { KnowsOf K.pre K.Fn.post J.pre J.Fn.post P.pre P.Fn.post walk.old.keep walk.old.fit walk.old.take }
     requires wanted { (cycle : List EdgeValue) → IsCycle cycle → Says P.Fn.post walk.old.take cycle true ↔ (is_wanted A.puts wanted.now.mode wanted.now.threads wanted.now.accesses cycle ≡ true) }
     requires folder { ForSome wanted.now.folder (λ folder. length folder.now ≤ MAX_FOLDER) }
@@ -148,7 +150,13 @@ fn list_walk<A: Arch, H: Shelf, O: Sink, K: Fn(&[Edge]) -> bool, J: Fn(&[Edge]) 
 
 /// Puts the files of a walk's cycles on the shelf, from where it stands, keeps the lines that name
 /// them, and gives their number.
-fn put_tests<A: Arch, H: Shelf, K: Fn(&[Edge]) -> bool, J: Fn(&[Edge]) -> bool, P: Fn(&Cycle) -> bool>(
+fn put_tests<
+    A: Arch,
+    H: Shelf,
+    K: Fn(&[Edge]) -> bool,
+    J: Fn(&[Edge]) -> bool,
+    P: Fn(&Cycle) -> bool,
+>(
     wanted: &Wanted,
     walk: &mut Walk<K, J, P>,
     names: &mut Names,

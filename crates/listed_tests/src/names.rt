@@ -87,7 +87,12 @@ pub(crate) fn file_of(cycle: &Cycle, number: u128) -> FileName
 
 /// Puts the file that names all others on the shelf. The lines that weren't kept are those of the
 /// walk's cycles behind the last one that was.
-pub(crate) fn put_names<H: Shelf, K: Fn(&[Edge]) -> bool, J: Fn(&[Edge]) -> bool, P: Fn(&Cycle) -> bool>(
+pub(crate) fn put_names<
+    H: Shelf,
+    K: Fn(&[Edge]) -> bool,
+    J: Fn(&[Edge]) -> bool,
+    P: Fn(&Cycle) -> bool,
+>(
     names: &mut Names,
     folder: Option<&str>,
     walk: &mut Walk<K, J, P>,

@@ -44,7 +44,7 @@ impl Wanted<'_> {
 
     /// Whether a cycle is wanted: it has a test, no more threads than are asked for, and no more
     /// accesses in each of them.
-    #[tactic(auto, unfolding(crate::specs::Plans::is_wanted))]
+    #[tactic(auto, using(crate::proofs::Wanting::tested_threads), unfolding(crate::specs::Plans::is_wanted))]
     pub(crate) fn takes<A: Arch>(&self, cycle: &Cycle) -> bool
         ensures { result ≡ is_wanted A.puts self.now.mode self.now.threads self.now.accesses cycle.now }
     {
