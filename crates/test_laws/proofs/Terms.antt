@@ -4,7 +4,7 @@ use Rattle.std.specs.Prelude.{nat_le}
 use Rattle.std.specs.List.{count_by, filter, sum_by, zip}
 use Rattle.std.proofs.lemmas.Bool.{leb-true}
 use Rattle.std.proofs.lemmas.List.{length-map, take-append-drop, take_more}
-use Rattle.std.proofs.lemmas.List.Sums.{sum_by-cons, sum_by-append, sum_by_push, count_by-le-length, length-filter}
+use Rattle.std.proofs.lemmas.List.Sums.{sum_by-cons, sum_by-append, count_by-le-length, length-filter}
 use Rattle.std.proofs.lemmas.Slice.Zip.{length-zip}
 use Rattle.relax_edges.specs.declared.kinds.Dir.{Dir}
 use Rattle.relax_edges.specs.declared.kinds.Dir.TheVariants as dirs
@@ -150,7 +150,7 @@ chosen_fewer f p q (x ∷ xs) h =
   where
     more : (b : Bool) → sum_by f (cond b (x ∷ filter p xs) (filter p xs)) ≡ cond b (f x) 0 + sum_by f (filter p xs)
     more true = sum_by-cons f x (filter p xs)
-    more false = refl
+    more false = omega arith
 
 -- a location whose last value is named has a write, and one with an observer isn't named
 named_or_observed : (es : List Edge) (mode : ObsMode) (l : ℕ) → cond (is_named es mode l) 1 0 + cond (is_observed es mode l) (write_count es l) 0 ≤ write_count es l
