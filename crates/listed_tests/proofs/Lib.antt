@@ -4,5 +4,4 @@ pub mod Behind
 pub mod Going
 pub mod GivenLaws
 pub mod Walks
-pub mod Texts
 pub mod Wanting

@@ -8,7 +8,6 @@ mod listing;
 mod making;
 mod names;
 mod putting;
-mod text;
 mod wanted;
 
 pub use ending::ListingEnd;
