@@ -4,4 +4,5 @@ pub mod Behind
 pub mod Going
 pub mod GivenLaws
 pub mod Walks
+pub mod Texts
 pub mod Wanting
