@@ -3,7 +3,7 @@ use Rattle.std.specs.List.{All}
 use Rattle.litmus_text.specs.TestText.{columns_of, width_of}
 use Rattle.litmus_text.specs.KeptCells.{all_texts}
 use Rattle.arch_trait.specs.Codes.{thread_of}
-use Rattle.litmus_text.proofs.column.widths_of.Given as goal
+use Rattle.litmus_text.proofs.column.set_widths.Given as goal
 
 -- the widths so far, and the cells of these columns are kept
 abbrev pub invariant-loop-thread : goal.invariant-loop-thread

@@ -2,7 +2,7 @@ use Rattle.std.proofs.Common.{arith}
 use Rattle.litmus_text.proofs.TableLaws.{widths_more, widths_whole}
 use Rattle.litmus_text.proofs.KeptLaws.{column_more, columns_whole, kept_few}
 use Rattle.litmus_text.proofs.ElementLaws.{short_more}
-use Rattle.litmus_text.proofs.column.widths_of.Goals as goal
+use Rattle.litmus_text.proofs.column.set_widths.Goals as goal
 
 pub loop-thread-preserved : goal.loop-thread-preserved
 loop-thread-preserved g c = record {
