@@ -8,6 +8,8 @@ mod listing;
 mod making;
 mod names;
 mod putting;
+mod runs;
+mod runs;
 mod text;
 mod wanted;
 
