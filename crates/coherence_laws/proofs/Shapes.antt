@@ -7,7 +7,7 @@ use Rattle.program_meaning.specs.declared.WriteAt.{WriteAt}
 use Rattle.program_meaning.specs.Accesses.{Access, read, at_name}
 use Rattle.program_meaning.specs.Executions.{Execution, CanRead}
 use Rattle.program_meaning.specs.Coherence.{MayFollow, IsCoherent, order_place, order_at, source_at, coherence_place}
-use Rattle.coherence_laws.specs.Relations.{IsWriteTo, IsReadOf, ProgramOrder, ReadsFrom, CoherenceOrder, ComesBefore, Po, Rf, Co, Fr, IsScPerLocation}
+use Rattle.coherence_laws.specs.Relations.{IsWriteTo, IsReadOf, ProgramOrder, ReadsFrom, CoherenceOrder, IsBefore, Po, Rf, Co, Fr, IsScPerLocation}
 use Rattle.coherence_laws.proofs.Places.{Held, place_in}
 
 -- the coherence place of what can be read at a place
@@ -37,7 +37,7 @@ writes_same threads x place w v held p q e =
     cc t
 
 -- what a read reads of lesser coherence place comes before a write
-read_before : (threads : List (List Access)) (x : Execution) (place value : ℕ) (o : Option WriteAt) (w : WriteAt) → Held threads x → CanRead threads (read place value) o → IsWriteTo threads place w → spot x place o < spot x place (Some w) → ComesBefore threads x place o w
+read_before : (threads : List (List Access)) (x : Execution) (place value : ℕ) (o : Option WriteAt) (w : WriteAt) → Held threads x → CanRead threads (read place value) o → IsWriteTo threads place w → spot x place o < spot x place (Some w) → IsBefore threads x place o w
 read_before threads x place value None w held can q l = q
 read_before threads x place value (Some v) w held can q l = writes_ordered threads x place v w held (value, can) q l
 

@@ -8,7 +8,7 @@ use Rattle.program_meaning.specs.declared.WriteAt.{WriteAt}
 use Rattle.program_meaning.specs.Accesses.{Access, read, write, at_name}
 use Rattle.program_meaning.specs.Executions.{Execution, CanRead}
 use Rattle.program_meaning.specs.Coherence.{MayFollow, IsCoherent, order_place, order_at, source_at, coherence_place}
-use Rattle.coherence_laws.specs.Relations.{IsWriteTo, IsReadOf, IsAccessOf, ProgramOrder, ReadsFrom, CoherenceOrder, ComesBefore, FromRead, Step, Po, Rf, Co, Fr, IsPath, IsScPerLocation}
+use Rattle.coherence_laws.specs.Relations.{IsWriteTo, IsReadOf, IsAccessOf, ProgramOrder, ReadsFrom, CoherenceOrder, IsBefore, FromRead, Step, Po, Rf, Co, Fr, IsPath, IsScPerLocation}
 use Rattle.coherence_laws.proofs.Places.{Held, place_in, level, level_is, level_write, level_read}
 
 -- e comes before f in a thread
@@ -116,7 +116,7 @@ co_rises threads x place w v held h =
 fr_rises : (threads : List (List Access)) (x : Execution) (r w : WriteAt) → Held threads x → FromRead threads x r w → Rises threads x r w
 fr_rises threads x r w held h = inl (by_source (source_at threads x r) refl h.before)
   where
-    by_source : (o : Option WriteAt) → source_at threads x r ≡ o → ComesBefore threads x h.place o w → level threads x r < level threads x w
+    by_source : (o : Option WriteAt) → source_at threads x r ≡ o → IsBefore threads x h.place o w → level threads x r < level threads x w
     by_source None e before =
         let k = held.each h.place w before in
         let s : order_place (order_at x h.place) (source_at threads x r) ≡ 0 = ap (order_place (order_at x h.place)) e in

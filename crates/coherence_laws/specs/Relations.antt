@@ -42,15 +42,15 @@ pub record CoherenceOrder (x : Execution) (place : ℕ) (w v : WriteAt) : Type 0
 
 -- what can be read at a place comes before a write: the initial value before each write to the place, a write before those
 -- that follow it in the coherence order
-abbrev pub ComesBefore : List (List Access) → Execution → ℕ → Option WriteAt → WriteAt → Type 0
-ComesBefore threads x place None w = IsWriteTo threads place w
-ComesBefore threads x place (Some v) w = CoherenceOrder x place v w
+abbrev pub IsBefore : List (List Access) → Execution → ℕ → Option WriteAt → WriteAt → Type 0
+IsBefore threads x place None w = IsWriteTo threads place w
+IsBefore threads x place (Some v) w = CoherenceOrder x place v w
 
 -- from-read (fr): what r reads comes before w
 pub record FromRead (threads : List (List Access)) (x : Execution) (r w : WriteAt) : Type 0 where
   pub place : ℕ
   pub reads : IsReadOf threads place r
-  pub before : ComesBefore threads x place (source_at threads x r) w
+  pub before : IsBefore threads x place (source_at threads x r) w
 
 -- a step from an access to another, by one of the four
 pub data Step (threads : List (List Access)) (x : Execution) (e f : WriteAt) : Type 0 where
