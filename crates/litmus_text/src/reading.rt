@@ -13,5 +13,7 @@ mod test;
 mod text;
 mod whole;
 
+pub use cuts::{cut, first_word};
+pub use lines::without_return;
 pub use test::ReadTest;
 pub use whole::{arch_of, read_test};
