@@ -11,6 +11,7 @@ mod table;
 mod terms;
 mod test;
 mod text;
+mod thread;
 mod whole;
 
 pub use cuts::{cut, first_word};
