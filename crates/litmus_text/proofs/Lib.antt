@@ -31,3 +31,5 @@ pub mod PartLoops
 pub mod GiveLaws
 pub mod KeptLaws
 pub mod TextParts
+pub mod RunnableRead
+pub mod RegistersRead

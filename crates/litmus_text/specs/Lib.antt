@@ -9,8 +9,10 @@ pub mod Header
 pub mod Joined
 pub mod InitialState
 pub mod Table
+pub mod Runnable
 pub mod Condition
 pub mod TestReading
+pub mod Programs
 pub mod Printable
 pub mod Placing
 pub mod TablePlan
