@@ -1,7 +1,8 @@
 pub mod TestText
 pub mod Tests
 pub mod Separators
-pub mod Parts
+pub mod TextParts
+pub mod TextPartLaws
 pub mod Lines
 pub mod Cuts
 pub mod Header

@@ -14,5 +14,7 @@ mod text;
 mod thread;
 mod whole;
 
+pub use cuts::{cut, first_word};
+pub use lines::without_return;
 pub use test::ReadTest;
 pub use whole::{arch_of, read_test};
