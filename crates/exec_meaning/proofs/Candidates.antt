@@ -1,17 +1,17 @@
 -- The tests of reads and orders decide their definitions.
-use Rattle.std.proofs.Common.{◌≡◌, ℕ, zero, suc, ◌+◌, ◌<◌, ◌≤◌, Bool, true, false, cond, ◌==◌, ◌&&◌, ◌||◌, not, List, [], ◌∷◌, length, get_or, drop, Option, Some, None, slice_get, refl, sym, ap, subst, ◌∙◌, arith}
+use Rattle.std.proofs.Common.{◌≡◌, ℕ, zero, suc, ◌+◌, ◌≤◌, Bool, true, false, cond, ◌==◌, ◌&&◌, ◌||◌, not, List, [], ◌∷◌, length, get_or, take, drop, ◌-◌, Option, Some, None, slice_get, refl, sym, ap, subst, ◌∙◌, arith}
 use Rattle.std.specs.Prelude.{unwrap_or}
-use Rattle.std.proofs.lemmas.List.{drop_all}
+use Rattle.std.proofs.lemmas.List.{drop_all, take_all, length-drop}
 use Rattle.std.proofs.lemmas.Option.{slice_get_within, slice_get-get_or}
 use Rattle.std.specs.List.{filter, list_all, list_any}
 use Rattle.std.proofs.lemmas.Bool.{and_parts, and_from, or_left, or_right, eqb-true, eq-eqb}
 use Rattle.relax_edges.specs.declared.kinds.Dir.{Dir}
 use Rattle.relax_edges.specs.declared.kinds.Dir.TheVariants as dirs
 use Rattle.program_meaning.specs.declared.WriteAt.{WriteAt}
-use Rattle.program_meaning.specs.Accesses.{Access, write, reads_by, is_read, at_name}
+use Rattle.program_meaning.specs.Accesses.{Access, write, is_read, at_name}
 use Rattle.program_meaning.specs.Executions.{Execution, CanRead, AreReadsOf, IsOrderOf, IsExecutionOf, same_write}
-use Rattle.exec_meaning.specs.Deciding.{every, name, writes_by, writes_to, writes_there, writes_value, can_read, first_read, are_reads, are_distinct, is_covered, thread_covered, is_order, reads_of, reads_fit, orders_fit}
-use Rattle.exec_meaning.proofs.Every.{some_is, by_test, dropped, got_item, every_means, every_from, every_name, every_name_from}
+use Rattle.exec_meaning.specs.Deciding.{every, writes_by, writes_to, writes_there, writes_value, can_read, first_read, are_reads, are_distinct, is_covered, thread_covered, is_order, reads_of, reads_fit, orders_fit}
+use Rattle.exec_meaning.proofs.Every.{some_is, by_test, dropped, every_means, every_from, every_name, every_name_from}
 
 pub implied : (a b : Bool) → (not a || b) ≡ true → a ≡ true → b ≡ true
 implied true b h e = h
@@ -208,3 +208,7 @@ distinct_stops order i w is h = rw (dropped order i w is) (rw h refl)
 pub distinct_ends : (order : List WriteAt) (i : ℕ) → length order ≤ i → are_distinct (drop i order) ≡ true
 unfolding are_distinct
 distinct_ends order i h = rw (drop_all i order h) refl
+
+-- what stands behind a place of an order
+pub behind_is : (order : List WriteAt) (k : ℕ) → take (length order - k) (drop k order) ≡ drop k order
+behind_is order k = take_all (length order - k) (drop k order) (omega (arith, length-drop k order))

@@ -1,15 +1,14 @@
 -- The test of coherence decides it.
-use Rattle.std.proofs.Common.{◌≡◌, ℕ, ◌+◌, ◌<◌, Bool, true, false, ◌==◌, ◌&&◌, ◌||◌, not, List, Option, Some, slice_get, refl, sym, ap, subst, ◌∙◌, arith}
+use Rattle.std.proofs.Common.{◌≡◌, ℕ, true, ◌==◌, ◌||◌, not, List, Some, slice_get, sym, subst, ◌∙◌, arith}
 use Rattle.std.specs.Prelude.{nat_lt}
-use Rattle.std.proofs.lemmas.Bool.{and_parts, and_from, eqb-true, eq-eqb, lt-ltb, ltb-true, leb-true, le-leb}
+use Rattle.std.proofs.lemmas.Bool.{eqb-true, eq-eqb, lt-ltb, ltb-true, leb-true, le-leb}
 use Rattle.relax_edges.specs.declared.kinds.Dir.{Dir}
 use Rattle.relax_edges.specs.declared.kinds.Dir.TheVariants as dirs
-use Rattle.program_meaning.specs.declared.WriteAt.{WriteAt}
-use Rattle.program_meaning.specs.Accesses.{Access, at_name}
+use Rattle.program_meaning.specs.Accesses.{Access}
 use Rattle.program_meaning.specs.Executions.{Execution}
 use Rattle.program_meaning.specs.Coherence.{MayFollow, IsCoherent, coherence_place}
 use Rattle.exec_meaning.specs.Deciding.{every, name, may_follow, agrees, agrees_later, thread_coheres}
-use Rattle.exec_meaning.proofs.Every.{InThread, in_thread, every_means, every_from, at_name_of}
+use Rattle.exec_meaning.proofs.Every.{in_thread, every_means, every_from, at_name_of}
 use Rattle.exec_meaning.proofs.Candidates.{implied, implies}
 
 follow_means : (d : Dir) (m n : ℕ) → may_follow d m n ≡ true → MayFollow d m n

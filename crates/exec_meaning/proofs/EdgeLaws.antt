@@ -1,7 +1,10 @@
 -- The tests of edges decide their definitions.
-use Rattle.std.proofs.Common.{◌≡◌, ◌≢◌, ℕ, ◌+◌, ◌^◌, Bool, true, false, ◌==◌, ◌&&◌, not, List, [], ◌∷◌, map, Option, Some, None, refl, sym, ap, subst, ◌∙◌}
-use Rattle.std.specs.Prelude.{nat_lt}
-use Rattle.std.specs.List.{list_all}
+use Rattle.std.proofs.Common.{◌≡◌, ◌≢◌, ℕ, ◌+◌, ◌^◌, ◌<◌, ◌≤◌, length, arith, Bool, true, false, ◌==◌, ◌&&◌, not, List, [], ◌∷◌, map, Option, Some, None, refl, sym, ap, subst, ◌∙◌}
+use Rattle.std.specs.Int.{bit_at}
+use Rattle.std.proofs.lemmas.Bool.Decides.{nat_tests}
+use Rattle.std.proofs.lemmas.Nat.Bits.{bit_at_above}
+use Rattle.std.proofs.Math.Pow.{pow_mono}
+use Rattle.resolution_laws.specs.Resolution.{event_after}
 use Rattle.std.proofs.lemmas.Bool.{and_parts, and_from, eqb-true, eq-eqb, lt-ltb, ltb-true}
 use Rattle.relax_edges.specs.declared.kinds.Dir.{Dir}
 use Rattle.relax_edges.specs.declared.kinds.Dir.TheVariants as dirs
@@ -28,7 +31,7 @@ use Rattle.micro_ops.specs.declared.operation.Barrier.TheVariants as barriers
 use Rattle.program_meaning.specs.declared.WriteAt.{WriteAt}
 use Rattle.program_meaning.specs.Accesses.{Access, Barred}
 use Rattle.program_meaning.specs.Executions.{Execution, same_write}
-use Rattle.program_meaning.specs.Coherence.{coherence_place, source_at}
+use Rattle.program_meaning.specs.Coherence.{source_at}
 use Rattle.program_meaning.specs.Standing.{AccessAt, Named, access_at, AreAt, ComesBefore, Communicates, CommunicatesBy, Reaches, Joins, mask_of, is_in_mask, IsTied, BarriersWait, DependsBy, TiesBy, Stands}
 use Rattle.exec_meaning.specs.Edges.{same_mark, same_pick, same_fence, same_barrier, is_alone, is_none, are_at, is_source, comes_before, communicates, communicates_by, reaches, joins, same_answer, depends, barriers_wait, depends_by, ties_by, stands}
 use Rattle.exec_meaning.proofs.Every.{some_is}
@@ -125,13 +128,13 @@ source_decides (Some w) e = (
 before_decides : (threads : List (List Access)) (x : Execution) (e f : AccessAt) → Decides (comes_before threads x e f) (ComesBefore threads x e f)
 before_decides threads x e f = (ltb-true _ _, lt-ltb _ _)
 
-com_decides : (com : Com) (threads : List (List Access)) (x : Execution) (e f : AccessAt) → Decides (communicates com threads x e f) (Communicates com threads x e f)
+com_decides : (how : Com) (threads : List (List Access)) (x : Execution) (e f : AccessAt) → Decides (communicates how threads x e f) (Communicates how threads x e f)
 com_decides coms.Rf threads x e f = source_decides (source_at threads x f.name) e.name
 com_decides coms.Fr threads x e f = before_decides threads x e f
 com_decides coms.Ws threads x e f = before_decides threads x e f
 
 kind_decides : (kind : Kind) (threads : List (List Access)) (x : Execution) (e f : AccessAt) → Decides (communicates_by kind threads x e f) (CommunicatesBy kind threads x e f)
-kind_decides (edges.Com com reach) threads x e f = com_decides com threads x e f
+kind_decides (edges.Com how reach) threads x e f = com_decides how threads x e f
 kind_decides (edges.Po sd from to) threads x e f = (λ h. tt, λ h. refl)
 kind_decides (edges.Fenced kind sd from to) threads x e f = (λ h. tt, λ h. refl)
 kind_decides (edges.Dep kind sd to) threads x e f = (λ h. tt, λ h. refl)
@@ -193,12 +196,15 @@ dependency_decides deps.CtrlIsync threads e f = waits_decides threads e f (barri
 dependency_decides deps.CtrlIsb threads e f = waits_decides threads e f barriers.Isb
 
 ties_decides : (kind : Kind) (threads : List (List Access)) (e f : Named) → Decides (ties_by kind threads e f.visit) (TiesBy kind threads e f)
-ties_decides (edges.Com com Internal) threads e f = tied_decides threads e f [] (is_none f.visit.barriers) 0 0 false (none_decides f.visit.barriers)
-ties_decides (edges.Com com External) threads e f = (λ h. tt, λ h. refl)
+ties_decides (edges.Com how Internal) threads e f = tied_decides threads e f [] (is_none f.visit.barriers) 0 0 false (none_decides f.visit.barriers)
+ties_decides (edges.Com how External) threads e f = (λ h. tt, λ h. refl)
 ties_decides (edges.Po sd from to) threads e f = tied_decides threads e f [] (is_none f.visit.barriers) 0 0 false (none_decides f.visit.barriers)
 ties_decides (edges.Fenced kind sd from to) threads e f = tied_decides threads e f (barriers.Fence kind ∷ []) (is_alone (barriers.Fence kind) f.visit.barriers) 0 0 false (alone_decides (barriers.Fence kind) f.visit.barriers)
 ties_decides (edges.Dep kind sd to) threads e f = dependency_decides kind threads e f
 ties_decides (edges.Data sd) threads e f = tied_decides threads e f [] (is_none f.visit.barriers) 0 (mask_of threads e) false (none_decides f.visit.barriers)
+
+other : (m n : ℕ) → m < n → m == n ≡ false
+other m n h = grind (arith, nat_tests)
 
 pub stands_means : (threads : List (List Access)) (x : Execution) (edge : Edge) (e f : Named) → stands threads x edge e f ≡ true → Stands threads x edge e f
 stands_means threads x edge e f h =
@@ -220,3 +226,21 @@ stands_from threads x edge e f h =
       ((mark_decides e.visit.mark (source_mark edge)).1 h.leaves_mark)
       (and_from (same_mark f.visit.mark (target_mark edge)) (ties_by (kind_of edge) threads e f.visit)
         ((mark_decides f.visit.mark (target_mark edge)).1 h.enters_mark) ((ties_decides (kind_of edge) threads e f).1 h.ties)))
+
+-- the event that an edge enters
+pub next_event : (es : List Edge) (i : ℕ) → i + 1 < length es → event_after es i ≡ i + 1
+unfolding event_after
+next_event es i h = rw (other (i + 1) (length es) h) refl
+
+pub first_event : (es : List Edge) (i : ℕ) → i + 1 ≡ length es → event_after es i ≡ 0
+unfolding event_after
+first_event es i h = rw (eq-eqb (i + 1) (length es) h) refl
+
+-- a mask of 64 loads has no later one
+pub no_mask : (mask load : ℕ) → mask < 2 ^ 64 → 64 ≤ load → mask == 2 ^ load ≡ false
+no_mask mask load small far =
+    let p : 2 ^ 64 ≤ 2 ^ load = pow_mono far in
+    other mask (2 ^ load) (omega (arith, p, small))
+
+pub no_load : (mask load : ℕ) → mask < 2 ^ 64 → 64 ≤ load → bit_at mask load == 1 ≡ false
+no_load mask load small far = rw (bit_at_above mask 64 load small far) refl

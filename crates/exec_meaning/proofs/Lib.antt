@@ -3,5 +3,5 @@ pub mod KeptLists
 pub mod Candidates
 pub mod CoherenceLaws
 pub mod VisitLaws
-pub mod RunLaws
 pub mod EdgeLaws
+pub mod RunLaws

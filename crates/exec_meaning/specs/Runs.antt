@@ -1,6 +1,6 @@
 -- The runs of a test's threads, as far as they came to their ends.
 -- Source: own.
-use Rattle.std.specs.Prelude.{◌≡◌, ℕ, Bool, true, false, ◌&&◌, List, [], ◌∷◌, map, Option, Some, None}
+use Rattle.std.specs.Prelude.{◌≡◌, Bool, true, false, ◌&&◌, List, [], ◌∷◌, map, Option, Some, None}
 use Rattle.micro_ops.specs.declared.operation.Item.{Item}
 use Rattle.micro_ops.specs.declared.operation.Item.TheVariants as items
 use Rattle.program_meaning.specs.Accesses.{Access}

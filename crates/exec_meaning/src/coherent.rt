@@ -35,7 +35,7 @@ fn reads_among(accesses: &[Access], first: usize) -> usize
 }
 
 /// How many accesses of a thread before this one read.
-pub(crate) fn reads_before(all: &[Accesses], thread: usize, access: usize) -> usize
+fn reads_before(all: &[Accesses], thread: usize, access: usize) -> usize
     ensures { result ≡ reads_before all.now (name thread access) }
 {
     match all.get(thread) {
@@ -58,7 +58,7 @@ fn read_at(all: &[Accesses], exec: &Execution, thread: usize, access: usize) -> 
 }
 
 /// The write that an access reads.
-pub(crate) fn source_at(
+fn source_at(
     all: &[Accesses],
     exec: &Execution,
     thread: usize,
@@ -99,7 +99,7 @@ fn place_of_write(exec: &Execution, place: u8, thread: usize, access: usize) -> 
 }
 
 /// The coherence place of an access: of a write its own, of a read that of what it reads.
-pub(crate) fn coherence_place(
+fn coherence_place(
     all: &[Accesses],
     exec: &Execution,
     thread: usize,
@@ -118,6 +118,33 @@ pub(crate) fn coherence_place(
             None => 0,
         },
     }
+}
+
+/// The coherence place of an access with this name.
+pub(crate) fn place_of_name(
+    all: &[Accesses],
+    exec: &Execution,
+    name: WriteAt,
+    access: &Access,
+) -> usize
+    ensures { result ≡ coherence_place all.now exec.now name access.now }
+{
+    let thread = usize::from(name.thread);
+    coherence_place(all, exec, thread, usize::from(name.access), access)
+}
+
+/// The write that an access with this name reads.
+pub(crate) fn source_of_name(all: &[Accesses], exec: &Execution, name: WriteAt) -> Option<WriteAt>
+    ensures { result ≡ source_at all.now exec.now name }
+{
+    source_at(all, exec, usize::from(name.thread), usize::from(name.access))
+}
+
+/// How many accesses of a thread before the one with this name read.
+pub(crate) fn reads_before_name(all: &[Accesses], name: WriteAt) -> usize
+    ensures { result ≡ reads_before all.now name }
+{
+    reads_before(all, usize::from(name.thread), usize::from(name.access))
 }
 
 /// Whether an access may follow another at its place: a read not before it in the coherence order, a

@@ -9,7 +9,7 @@ ghost use Rattle.litmus_text.specs.Programs.{program_read};
 ghost use Rattle.exec_meaning.specs.Edges.{EdgeStands, same_mark, same_pick, same_fence, same_barrier, is_alone, are_at, is_source, reaches, comes_before, communicates_by, joins, depends_as, barriers_wait, waits, depends_by, ties_by, stands};
 
 use crate::accesses::{Accesses, all_accesses, is_read};
-use crate::coherent::{coherence_place, reads_before, source_at};
+use crate::coherent::{place_of_name, reads_before_name, source_of_name};
 use crate::execution::Execution;
 use crate::runs::candidate_runs;
 use crate::visits::{Visit, visit_at};
@@ -138,9 +138,7 @@ fn comes_before(
 ) -> bool
     ensures { result ≡ comes_before all.now exec.now (record { name = from; access = e.now }) (record { name = to; access = f.now }) }
 {
-    let before = coherence_place(all, exec, from.thread.into(), from.access.into(), e);
-    let after = coherence_place(all, exec, to.thread.into(), to.access.into(), f);
-    before < after
+    place_of_name(all, exec, from, e) < place_of_name(all, exec, to, f)
 }
 
 /// Whether two accesses communicate as an edge says, if it is a communication.
@@ -159,10 +157,7 @@ fn communicates_by(
         return true;
     };
     match com {
-        Com::Rf => is_source(
-            source_at(all, exec, to.thread.into(), to.access.into()),
-            from,
-        ),
+        Com::Rf => is_source(source_of_name(all, exec, to), from),
         Com::Fr | Com::Ws => comes_before(all, exec, from, e, to, f),
     }
 }
@@ -187,6 +182,7 @@ fn joins(
 }
 
 /// Whether a mask names load number `load` alone.
+#[tactic(auto, using(crate::proofs::EdgeLaws::no_mask))]
 fn is_mask_of(mask: u64, load: usize) -> bool
     ensures { result ≡ (mask == 2 ^ load) }
 {
@@ -194,6 +190,7 @@ fn is_mask_of(mask: u64, load: usize) -> bool
 }
 
 /// Whether load number `load` stands in a mask.
+#[tactic(auto, using(crate::proofs::EdgeLaws::no_load))]
 fn has_load(mask: u64, load: usize) -> bool
     ensures { result ≡ (bit_at mask load == 1) }
 {
@@ -204,11 +201,7 @@ fn has_load(mask: u64, load: usize) -> bool
 fn is_in_mask(all: &[Accesses], name: WriteAt, visit: &Visit, mask: u64) -> bool
     ensures { result ≡ is_in_mask all.now (record { name = name; visit = visit.now }) mask }
 {
-    is_read(visit.access())
-        && has_load(
-            mask,
-            reads_before(all, name.thread.into(), name.access.into()),
-        )
+    is_read(visit.access()) && has_load(mask, reads_before_name(all, name))
 }
 
 /// How the second of two accesses depends on the first.
@@ -224,7 +217,7 @@ enum Tie {
 fn depends(tie: Tie, all: &[Accesses], from: WriteAt, e: &Visit, f: &Visit) -> bool
     ensures { result ≡ depends_as tie all.now (record { name = from; visit = e.now }) f.now }
 {
-    let load = reads_before(all, from.thread.into(), from.access.into());
+    let load = reads_before_name(all, from);
     let controlled = is_in_mask(all, from, e, f.control_mask());
     match tie {
         Tie::Nothing => f.address_mask() == 0 && f.data_mask() == 0 && !controlled,
@@ -327,15 +320,13 @@ fn event_name(resolved: &Resolved, i: u8) -> WriteAt
 }
 
 /// The event that edge `i` enters.
+#[tactic(auto, using(crate::proofs::EdgeLaws::next_event, crate::proofs::EdgeLaws::first_event))]
 fn event_after(resolved: &Resolved, i: u8) -> u8
     requires { i < length resolved.now }
     ensures { result ≡ event_after resolved.now i }
 {
-    if i + 1 == resolved.cycle().len() {
-        0
-    } else {
-        i + 1
-    }
+    let count = resolved.cycle().len();
+    if i < count - 1 { i + 1 } else { 0 }
 }
 
 /// Whether edge `i` of a cycle stands in a candidate execution of a test: event `i` and the one after it
