@@ -1,5 +1,4 @@
 pub mod Files
-pub mod Texts
 pub mod Putting
 pub mod Plans
 pub mod Runs

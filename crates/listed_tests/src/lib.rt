@@ -9,7 +9,6 @@ mod making;
 mod names;
 mod putting;
 mod runs;
-mod text;
 mod wanted;
 
 pub use ending::ListingEnd;

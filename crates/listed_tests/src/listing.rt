@@ -17,7 +17,7 @@ use crate::ending::ListingEnd;
 use crate::files::{FileName, MAX_FOLDER, Path, file_named, set_path};
 use crate::making::Desk;
 use crate::names::{Names, put_names};
-use crate::putting::put_file;
+use crate::putting::put_text;
 use crate::wanted::Wanted;
 use arch_trait::Arch;
 use arrayvec::ArrayString;
@@ -205,10 +205,17 @@ pub(crate) fn put_test<A: Arch, H: Shelf>(
     ensures failed { OnErr result (PutPart (H.seen shelf.old) (H.seen shelf.new) [] (path_of (folder_of wanted.now) (file_of number cycle.now)) (named_text A.puts A.writing wanted.now.mode cycle.now)) }
 {
     name_of(cycle, name);
-    desk.make::<A>(cycle, wanted.mode, name.as_str());
+    desk.make::<A>(cycle, wanted.mode);
     let file = file_named(number, name.as_str());
     set_path(wanted.folder, file.as_str(), path);
-    put_file(path.as_str(), desk.text.as_slice(), shelf)?;
+    put_text::<A, H>(
+        path.as_str(),
+        name.as_str(),
+        &desk.test,
+        &desk.table,
+        &mut desk.page,
+        shelf,
+    )?;
     Ok(file)
 }
 
