@@ -137,8 +137,8 @@ unfolding are_distinct
 distinct_from [] h = refl
 distinct_from (v ∷ order) h = and_from (not (list_any (same_write v) order)) (are_distinct order)
     (by_test (list_any (same_write v) order)
-      (λ e. let m = any_means v order e in let z : zero ≡ suc m.0 = h zero (suc m.0) v refl m.1 in absurd (omega (arith, z)))
-      (λ e. ap not e))
+    (λ e. let m = any_means v order e in let z : zero ≡ suc m.0 = h zero (suc m.0) v refl m.1 in absurd (omega (arith, z)))
+    (λ e. ap not e))
     (distinct_from order (λ j k w d e. let s : suc j ≡ suc k = h (suc j) (suc k) w d e in omega (arith, s)))
 
 all_at : {X : Type 0} (p : X → Bool) (xs : List X) → list_all p xs ≡ true → (k : ℕ) (x : X) → slice_get xs k ≡ Some x → p x ≡ true
@@ -167,10 +167,10 @@ is_order_from threads place order h =
     and_from (list_all (λ w. writes_there place (at_name threads w)) order) (are_distinct order && every (thread_covered place order) 0 threads)
     (all_from (λ w. writes_there place (at_name threads w)) order (λ k w e. let d = h.writes k w e in rw d.1 (writes_to_from place d.0)))
     (and_from (are_distinct order) (every (thread_covered place order) 0 threads)
-      (distinct_from order h.once)
-      (every_name_from (is_covered place order) threads
-        (λ w a e. implies (writes_to place a) (list_any (same_write w) order)
-          (λ t. let d = h.each w a.value (e ∙ ap Some (writes_to_means place a t)) in any_from w order d.0 d.1))))
+    (distinct_from order h.once)
+    (every_name_from (is_covered place order) threads
+    (λ w a e. implies (writes_to place a) (list_any (same_write w) order)
+    (λ t. let d = h.each w a.value (e ∙ ap Some (writes_to_means place a t)) in any_from w order d.0 d.1))))
 
 -- an execution of threads that make these accesses
 pub execution_means : (threads : List (List Access)) (x : Execution) → length x.reads ≡ length threads → reads_fit threads x && orders_fit threads x ≡ true → IsExecutionOf threads (length x.orders) x
@@ -188,13 +188,13 @@ execution_means threads x n h =
 pub execution_from : (threads : List (List Access)) (x : Execution) → length x.reads ≡ length threads → IsExecutionOf threads (length x.orders) x → reads_fit threads x && orders_fit threads x ≡ true
 execution_from threads x n h = and_from (reads_fit threads x) (orders_fit threads x)
     (every_from (λ thread accesses. are_reads threads accesses (reads_of x thread)) 0 threads (λ k thread accesses q e.
-      let s : k ≡ thread = omega (arith, q) in
-      let d = slice_get-get_or x.reads k [] (let w = slice_get_within threads k accesses e in omega (arith, n, w)) in
-      let r : are_reads threads accesses (reads_of x k) ≡ true = rw d (are_reads_from threads accesses (get_or x.reads k []) (h.reads k accesses (get_or x.reads k []) e d)) in
-      subst (λ m. are_reads threads accesses (reads_of x m) ≡ true) s r))
+    let s : k ≡ thread = omega (arith, q) in
+    let d = slice_get-get_or x.reads k [] (let w = slice_get_within threads k accesses e in omega (arith, n, w)) in
+    let r : are_reads threads accesses (reads_of x k) ≡ true = rw d (are_reads_from threads accesses (get_or x.reads k []) (h.reads k accesses (get_or x.reads k []) e d)) in
+    subst (λ m. are_reads threads accesses (reads_of x m) ≡ true) s r))
     (every_from (is_order threads) 0 x.orders (λ k place order q e.
-      let s : k ≡ place = omega (arith, q) in
-      is_order_from threads place order (h.orders place order (subst (λ m. slice_get x.orders m ≡ Some order) s e))))
+    let s : k ≡ place = omega (arith, q) in
+    is_order_from threads place order (h.orders place order (subst (λ m. slice_get x.orders m ≡ Some order) s e))))
 
 -- a loop over an order: each write against those after it
 pub distinct_step : (order : List WriteAt) (i : ℕ) (w : WriteAt) → slice_get order i ≡ Some w → list_any (same_write w) (drop (i + 1) order) ≡ false → are_distinct (drop i order) ≡ are_distinct (drop (i + 1) order)

@@ -223,9 +223,9 @@ stands_from threads x edge e f h =
     and_from (joins threads x edge (access_at e) (access_at f)) (same_mark e.visit.mark (source_mark edge) && (same_mark f.visit.mark (target_mark edge) && ties_by (kind_of edge) threads e f.visit))
     ((joins_decides threads x edge (access_at e) (access_at f)).1 h.joins)
     (and_from (same_mark e.visit.mark (source_mark edge)) (same_mark f.visit.mark (target_mark edge) && ties_by (kind_of edge) threads e f.visit)
-      ((mark_decides e.visit.mark (source_mark edge)).1 h.leaves_mark)
-      (and_from (same_mark f.visit.mark (target_mark edge)) (ties_by (kind_of edge) threads e f.visit)
-        ((mark_decides f.visit.mark (target_mark edge)).1 h.enters_mark) ((ties_decides (kind_of edge) threads e f).1 h.ties)))
+    ((mark_decides e.visit.mark (source_mark edge)).1 h.leaves_mark)
+    (and_from (same_mark f.visit.mark (target_mark edge)) (ties_by (kind_of edge) threads e f.visit)
+    ((mark_decides f.visit.mark (target_mark edge)).1 h.enters_mark) ((ties_decides (kind_of edge) threads e f).1 h.ties)))
 
 -- the event that an edge enters
 pub next_event : (es : List Edge) (i : ℕ) → i + 1 < length es → event_after es i ≡ i + 1

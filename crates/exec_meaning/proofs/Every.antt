@@ -76,5 +76,5 @@ pub every_name_from : {X : Type 0} (p : WriteAt → X → Bool) (threads : List 
 every_name_from p threads h =
     every_from (λ thread xs. every (λ i x. p (name thread i) x) 0 xs) 0 threads
     (λ k thread xs q e. every_from (λ i x. p (name thread i) x) 0 xs
-      (λ l i x r f. h (name thread i) x (at_name_of threads thread i xs x
-        (let s : k ≡ thread = omega (arith, q) in subst (λ m. slice_get threads m ≡ Some xs) s e) (let s : l ≡ i = omega (arith, r) in subst (λ m. slice_get xs m ≡ Some x) s f))))
+    (λ l i x r f. h (name thread i) x (at_name_of threads thread i xs x
+    (let s : k ≡ thread = omega (arith, q) in subst (λ m. slice_get threads m ≡ Some xs) s e) (let s : l ≡ i = omega (arith, r) in subst (λ m. slice_get xs m ≡ Some x) s f))))

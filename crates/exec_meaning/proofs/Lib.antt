@@ -5,3 +5,4 @@ pub mod CoherenceLaws
 pub mod VisitLaws
 pub mod EdgeLaws
 pub mod RunLaws
+pub mod EdgesHeld

@@ -167,3 +167,9 @@ abbrev pub stands : List (List Access) → Execution → Edge → Named → Name
 stands threads x edge e f =
     joins threads x edge (access_at e) (access_at f) &&
     (same_mark e.visit.mark (source_mark edge) && (same_mark f.visit.mark (target_mark edge) && ties_by (kind_of edge) threads e f.visit))
+
+-- two accesses are there, and an edge stands between them
+abbrev pub stands_if : List (List Access) → Execution → Edge → WriteAt → Option Visit → WriteAt → Option Visit → Bool
+stands_if threads x edge n None m target = false
+stands_if threads x edge n (Some e) m None = false
+stands_if threads x edge n (Some e) m (Some f) = stands threads x edge (record { name = n; visit = e }) (record { name = m; visit = f })

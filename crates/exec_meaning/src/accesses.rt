@@ -40,7 +40,10 @@ fn push_access(list: &mut Vec<Access>, item: &Item) -> Result<(), AllocError>
 {
     match *item {
         Item::Access {
-            dir, place, value, ..
+            dir,
+            place,
+            value,
+            ..
         } => list.push(Access { dir, place, value })?,
         Item::Barrier { .. } => {}
     }

@@ -87,9 +87,8 @@ fn are_distinct(order: &[WriteAt]) -> bool
 fn is_named(order: &[WriteAt], thread: usize, access: usize) -> bool
     ensures { result ≡ list_any (same_write (name thread access)) order.now }
 {
-    order
-        .iter()
-        .any(|write| thread == usize::from(write.thread) && access == usize::from(write.access))
+    order.iter().any(|write| thread == usize::from(write.thread)
+        && access == usize::from(write.access))
 }
 
 /// Whether each write of a thread to the place stands in the place's order.
@@ -178,9 +177,11 @@ pub fn is_candidate<A: Arch>(
     requires places { length exec.now.orders ≡ length test.now.places }
     ensures { IfOk result (λ answer. IsTrue answer ↔ IsCandidate (program_read test.now) exec.now) }
 {
-    let Some(traces) = run_all(alloc, test, exec)? else {
-        return Ok(false);
-    };
-    let all = all_accesses(alloc, &traces)?;
-    Ok(is_execution(&all, exec))
+    match run_all(alloc, test, exec)? {
+        Some(traces) => {
+            let all = all_accesses(alloc, &traces)?;
+            Ok(is_execution(&all, exec))
+        }
+        None => Ok(false),
+    }
 }

@@ -51,19 +51,17 @@ fn read_at(all: &[Accesses], exec: &Execution, thread: usize, access: usize) -> 
     if thread >= usize::from(exec.threads()) {
         return None;
     }
-    match exec.reads(thread as u8).get(reads_before(all, thread, access)) {
+    match exec
+        .reads(thread as u8)
+        .get(reads_before(all, thread, access))
+    {
         Some(read) => Some(*read),
         None => None,
     }
 }
 
 /// The write that an access reads.
-fn source_at(
-    all: &[Accesses],
-    exec: &Execution,
-    thread: usize,
-    access: usize,
-) -> Option<WriteAt>
+fn source_at(all: &[Accesses], exec: &Execution, thread: usize, access: usize) -> Option<WriteAt>
     ensures { result ≡ source_at all.now exec.now (name thread access) }
 {
     read_at(all, exec, thread, access)?.1
@@ -72,9 +70,7 @@ fn source_at(
 fn position_of(order: &[WriteAt], thread: usize, access: usize) -> Option<usize>
     ensures { result ≡ position (same_write (name thread access)) order.now }
 {
-    order
-        .iter()
-        .position(|w| thread == usize::from(w.thread) && access == usize::from(w.access))
+    order.iter().position(|w| thread == usize::from(w.thread) && access == usize::from(w.access))
 }
 
 /// The place of a write in an order, from 1; 0 where it doesn't stand there.
@@ -137,7 +133,12 @@ pub(crate) fn place_of_name(
 pub(crate) fn source_of_name(all: &[Accesses], exec: &Execution, name: WriteAt) -> Option<WriteAt>
     ensures { result ≡ source_at all.now exec.now name }
 {
-    source_at(all, exec, usize::from(name.thread), usize::from(name.access))
+    source_at(
+        all,
+        exec,
+        usize::from(name.thread),
+        usize::from(name.access),
+    )
 }
 
 /// How many accesses of a thread before the one with this name read.

@@ -6,7 +6,7 @@ ghost use Rattle.program_meaning.specs.Accesses.{at_name, visits_of};
 ghost use Rattle.program_meaning.specs.Standing.{is_in_mask, event_name};
 ghost use Rattle.program_meaning.specs.Programs.{IsCandidate};
 ghost use Rattle.litmus_text.specs.Programs.{program_read};
-ghost use Rattle.exec_meaning.specs.Edges.{EdgeStands, same_mark, same_pick, same_fence, same_barrier, is_alone, are_at, is_source, reaches, comes_before, communicates_by, joins, depends_as, barriers_wait, waits, depends_by, ties_by, stands};
+ghost use Rattle.exec_meaning.specs.Edges.{EdgeStands, same_mark, same_pick, same_fence, same_barrier, is_alone, are_at, is_source, reaches, comes_before, communicates_by, joins, depends_as, barriers_wait, waits, depends_by, ties_by, stands, stands_if};
 
 use crate::accesses::{Accesses, all_accesses, is_read};
 use crate::coherent::{place_of_name, reads_before_name, source_of_name};
@@ -293,12 +293,29 @@ fn stands(
         && ties_by(edge.kind(), all, from, e, f)
 }
 
+/// Whether two accesses are there and an edge stands between them.
+fn stands_if(
+    all: &[Accesses],
+    exec: &Execution,
+    edge: Edge,
+    from: WriteAt,
+    source: &Option<Visit>,
+    to: WriteAt,
+    target: &Option<Visit>,
+) -> bool
+    ensures { result ≡ stands_if all.now exec.now edge from source.now to target.now }
+{
+    match source {
+        Some(e) => match target {
+            Some(f) => stands(all, exec, edge, from, e, to, f),
+            None => false,
+        },
+        None => false,
+    }
+}
+
 /// The access of an event, if it is there.
-fn visit_of(
-    alloc: Global,
-    traces: &[Trace],
-    name: WriteAt,
-) -> Result<Option<Visit>, AllocError>
+fn visit_of(alloc: Global, traces: &[Trace], name: WriteAt) -> Result<Option<Visit>, AllocError>
     ensures { IfOk result (λ visit. visit ≡ at_name (map (λ trace. visits_of trace.items) traces.now) name) }
 {
     match traces.get(usize::from(name.thread)) {
@@ -346,12 +363,8 @@ pub fn edge_stands<A: Arch>(
     let all = all_accesses(alloc, &traces)?;
     let from = event_name(resolved, i);
     let to = event_name(resolved, event_after(resolved, i));
-    let Some(source) = visit_of(alloc, &traces, from)? else {
-        return Ok(false);
-    };
-    let Some(target) = visit_of(alloc, &traces, to)? else {
-        return Ok(false);
-    };
+    let source = visit_of(alloc, &traces, from)?;
+    let target = visit_of(alloc, &traces, to)?;
     let edge = resolved.cycle().edge(i);
-    Ok(stands(&all, exec, edge, from, &source, to, &target))
+    Ok(stands_if(&all, exec, edge, from, &source, to, &target))
 }

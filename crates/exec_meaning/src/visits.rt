@@ -66,11 +66,7 @@ impl Visit {
 }
 
 /// Access number `slot` of a run, if it is there.
-pub(crate) fn visit_at(
-    alloc: Global,
-    items: &[Item],
-    slot: u8,
-) -> Result<Option<Visit>, AllocError>
+pub(crate) fn visit_at(alloc: Global, items: &[Item], slot: u8) -> Result<Option<Visit>, AllocError>
     ensures { IfOk result (λ visit. visit ≡ slice_get (visits_of items.now) slot) }
 {
     let mut barriers = Vec::new(alloc);
