@@ -6,3 +6,4 @@ pub mod VisitLaws
 pub mod EdgeLaws
 pub mod RunLaws
 pub mod EdgesHeld
+pub mod FinalLaws

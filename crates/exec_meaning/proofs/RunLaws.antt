@@ -177,3 +177,11 @@ made_visits (t ∷ traces) = ap (λ l. visits_of t.items ∷ l) (made_visits tra
 
 pub visits_are : (p : Program) (x : Execution) (traces : List EndedRun) → runs_of p.threads x.reads ≡ map ended_run traces → visits_in p x ≡ map (λ (t : EndedRun). visits_of t.items) traces
 visits_are p x traces e = ap (λ l. map visits_of (map made_in l)) e ∙ ap (map visits_of) (made_items traces) ∙ made_visits traces
+
+-- as many runs as threads
+pub trace_count : (test : TestRead) (x : Execution) (traces : List EndedRun) → runs_of (program_read test).threads x.reads ≡ map ended_run traces → length traces ≡ length test.threads
+trace_count test x traces e =
+    let p = runs_count (map thread_read test.threads) x.reads in
+    let q : length (map thread_read test.threads) ≡ length test.threads = length-map test.threads thread_read in
+    let r : length (runs_of (map thread_read test.threads) x.reads) ≡ length traces = ap length e ∙ length-map traces ended_run in
+    omega (arith, p, q, r)

@@ -6,6 +6,7 @@ mod candidate;
 mod coherent;
 mod edges;
 mod execution;
+mod final_state;
 mod runs;
 mod visits;
 
@@ -13,4 +14,5 @@ pub use candidate::is_candidate;
 pub use coherent::is_coherent;
 pub use edges::edge_stands;
 pub use execution::{Execution, Read};
+pub use final_state::final_of;
 pub use program_meaning::WriteAt;
