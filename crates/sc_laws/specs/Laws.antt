@@ -1,16 +1,24 @@
--- The law of this crate: the candidate executions of a cycle's test, with SC per location in place of coherence.
+-- The laws of this crate: the candidate executions of a cycle's test, made or read of its text, with SC per location in place of
+-- coherence.
 -- Source: own.
-use Rattle.std.specs.Prelude.{ℕ, ◌↔◌, List}
+use Rattle.std.specs.Prelude.{ℕ, ◌≡◌, ◌↔◌, List, Ok}
+use Rattle.relax_edges.specs.declared.kinds.ArchName.{ArchName}
 use Rattle.relax_edges.specs.declared.kinds.ObsMode.{ObsMode}
 use Rattle.relax_edges.specs.declared.edge.Edge.{Edge}
 use Rattle.arch_trait.specs.Laws.{IsArch}
 use Rattle.arch_trait.specs.Threads.{Puts}
+use Rattle.arch_trait.specs.Writing.{Writing}
+use Rattle.litmus_text.specs.Printable.{IsTestName}
+use Rattle.litmus_text.specs.TestReading.{TestRead, test_read}
+use Rattle.litmus_text.specs.TestText.{test_text}
 use Rattle.program_meaning.specs.Executions.{Execution}
 use Rattle.program_meaning.specs.Programs.{Program, IsCandidate, IsCoherentIn, accesses_in}
 use Rattle.coherence_laws.specs.Relations.{IsScPerLocation}
 use Rattle.test_laws.specs.Headline.{HasTest, IsRenumbered}
 use Rattle.test_laws.specs.Programs.{test_program}
 use Rattle.test_laws.specs.TestOf.{TestSeen, test_of}
+use Rattle.printed_tests.specs.Headline.{shown_test}
+use Rattle.printed_tests.specs.Readings.{program_read}
 
 -- each candidate execution of a program is coherent per location exactly where it is SC per location
 abbrev pub ScDecides : Program → Type 0
@@ -22,3 +30,10 @@ TestsAreScPerLocation =
     (a : Puts) (register_name : ℕ → List ℕ) (es : List Edge) (mode : ObsMode) (test : TestSeen) (number : ℕ → ℕ) →
     IsArch a → HasTest a es mode → IsRenumbered (test_of a register_name es mode) test number →
     ScDecides (test_program test)
+
+-- and of the program that is read of the printed text of the test of a cycle
+abbrev pub PrintedAreScPerLocation : Puts → ArchName → Writing → Type 0
+PrintedAreScPerLocation a arch w =
+    (name : List ℕ) (es : List Edge) (mode : ObsMode) (test : TestRead) →
+    IsTestName name → HasTest a es mode → test_read arch w (test_text arch w name (shown_test a w es mode)) ≡ Ok test →
+    ScDecides (program_read test)
