@@ -35,7 +35,8 @@ use Rattle.log_sum.specs.Standing.{logs_text}
 use Rattle.summed_logs.specs.declared.sum_end.SumEnd.{SumEnd}
 use Rattle.summed_logs.specs.declared.sum_end.SumEnd.TheVariants as sums
 use Rattle.summed_logs.specs.Logs.{IsText, IsShort, IsTooMuch, AreRight}
-use Rattle.summed_logs.specs.SumEnds.{IsLog, AreLogs, IsAtWord, FilesSummed, InputWrong, FileWrong, FileTooMuch, FileMissing}
+use Rattle.opened_files.specs.Opened.{IsFile}
+use Rattle.summed_logs.specs.SumEnds.{AreLogs, IsAtWord, FilesSummed, InputWrong, FileWrong, FileTooMuch, FileMissing}
 use Rattle.diy_tools.specs.declared.status.Status.{Status}
 use Rattle.diy_tools.specs.declared.status.Refusal.{Refusal}
 use Rattle.diy_tools.proofs.Opened.{long_taken}
@@ -199,8 +200,8 @@ splits (b ∷ before) (y ∷ all) x same here =
     (rest.0, ap (λ z. z ∷ all) first ∙ ap (λ zs. b ∷ zs) rest.1)
 
 -- the log of a word is the one that the file of its name has
-told_log : (told : Option Files) (files : Files) (name log : List ℕ) → told ≡ Some files → IsLog told name log → files name ≡ Some log
-told_log told files name log e h = let here : IsLog (Some files) name log = subst (λ (t : Option Files). IsLog t name log) e h in here
+told_log : (told : Option Files) (files : Files) (name log : List ℕ) → told ≡ Some files → IsFile told name log → files name ≡ Some log
+told_log told files name log e h = let here : IsFile (Some files) name log = subst (λ (t : Option Files). IsFile t name log) e h in here
 
 module _ (words : List (List ℕ)) (files : Files) (right : AreRightLogs files words) where
   -- at each place behind the first word there is a log
