@@ -59,7 +59,7 @@ fn gather<I: Source>(
 
 /// Puts the name of a last cycle, if there is one.
 fn put_last(families: Families, cycle: &Option<Cycle>) -> Result<Families, ClassifyError>
-    ensures { PutsLast families.entry cycle.now result }
+    ensures { PutsLast families cycle.now result }
 {
     let mut families = families;
     match cycle {

@@ -86,7 +86,7 @@ pub(crate) fn put_cycle(
 ) -> Result<(), NoMemory>
     requires { length table.old.items ≡ 15 }
     ensures adds { OnOk result (Adds (map entry_view table.old.items) (map entry_view table.new.items) cycle.now) }
-    ensures whole { OnOk result (length table.new.items ≡ 15) }
+    ensures whole { length table.new.items ≡ 15 }
 {
     name_of(cycle, text);
     let name = Vec::from_slice(*table.allocator(), text.as_str().as_bytes())?;
@@ -96,7 +96,7 @@ pub(crate) fn put_cycle(
 fn put_name(table: &mut Vec<FamilyNames>, place: usize, name: Vec<u8>) -> Result<(), NoMemory>
     requires { place < length table.old.items }
     ensures put { OnOk result (map entry_view table.new.items ≡ name_put place name.items (map entry_view table.old.items)) }
-    ensures whole { OnOk result (length table.new.items ≡ length table.old.items) }
+    ensures whole { length table.new.items ≡ length table.old.items }
 {
     table[place].names.insert(name)?;
     Ok(())
