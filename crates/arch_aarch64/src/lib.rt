@@ -6,7 +6,7 @@ ghost use Rattle.relax_edges.specs.declared.kinds.ArchName.TheVariants as archs;
 ghost use Rattle.arch_aarch64.specs.Puts.{puts as a64};
 ghost use Rattle.arch_aarch64.specs.Table.{writing as a64_writing};
 ghost use Rattle.arch_aarch64.specs.Laws.{laws as a64_laws};
-ghost use Rattle.arch_aarch64.specs.ReadsBack.{reads_back as a64_reads_back};
+ghost use Rattle.arch_aarch64.specs.ReadsBack.{reads_back as a64_reads_back, reads_own as a64_reads_own};
 ghost use Rattle.arch_aarch64.specs.InCells.{writes_cells as a64_writes_cells, makes_one_access as a64_makes_one_access};
 
 mod own;
@@ -98,4 +98,6 @@ impl Arch for A64 {
     ghost writes_cells = { a64_writes_cells };
 
     ghost makes_one_access = { a64_makes_one_access };
+
+    ghost reads_own = { a64_reads_own };
 }

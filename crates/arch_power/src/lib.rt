@@ -5,7 +5,7 @@ ghost use Rattle.std.specs.Prelude.{refl};
 ghost use Rattle.relax_edges.specs.declared.kinds.ArchName.TheVariants as archs;
 ghost use Rattle.arch_power.specs.Puts.{puts as power};
 ghost use Rattle.arch_power.specs.Laws.{laws as power_laws};
-ghost use Rattle.arch_power.specs.ReadsBack.{reads_back as power_reads_back};
+ghost use Rattle.arch_power.specs.ReadsBack.{reads_back as power_reads_back, reads_own as power_reads_own};
 ghost use Rattle.arch_power.specs.InCells.{writes_cells as power_writes_cells, makes_one_access as power_makes_one_access};
 ghost use Rattle.arch_power.specs.Table.{writing as power_writing};
 
@@ -98,4 +98,6 @@ impl Arch for Power {
     ghost writes_cells = { power_writes_cells };
 
     ghost makes_one_access = { power_makes_one_access };
+
+    ghost reads_own = { power_reads_own };
 }

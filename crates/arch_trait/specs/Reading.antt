@@ -1,13 +1,15 @@
 -- How an instruction is read from the text of its cell, and its name gets a number.
 -- Source: the litmus format of the herdtools; where blanks may stand is own.
-use Rattle.std.specs.Prelude.{ℕ, ◌==◌, Bool, cond, not, List, [], ◌∷◌, Option, Some, None, Result, Ok, Err, map}
+use Rattle.std.specs.Prelude.{ℕ, ◌≡◌, ◌==◌, Bool, true, cond, not, List, [], ◌∷◌, Option, Some, None, Result, Ok, Err, map}
 use Rattle.std.specs.List.{slice_split}
 use Rattle.text_laws.specs.Names.{is_place_name}
 use Rattle.text_laws.specs.Runs.{is_blank, run_of, after_run, unblanked}
 use Rattle.micro_ops.specs.declared.operation.Micro.{Micro}
+use Rattle.micro_ops.specs.Machines.{InRange}
 use Rattle.arch_trait.specs.declared.reading.InstrError.{InstrError}
 use Rattle.arch_trait.specs.declared.reading.InstrError.TheVariants as errors
 use Rattle.arch_trait.specs.Names.{number_added, names_added}
+use Rattle.arch_trait.specs.Threads.{Puts}
 use Rattle.arch_trait.specs.Writing.{OperandTexts, none, one, two, three, four, more, Written, Name, nothing, place, label, RawInstr, Writing, is_label_name, with_number}
 
 -- a byte before what stands behind it without blanks at its end
@@ -89,3 +91,8 @@ number_raw (Some raw) places labels = numbered raw.op raw.name places labels
 -- the instruction that a text is, with the tables of places and labels before it
 abbrev pub instr_read : Writing → List ℕ → List (List ℕ) → List (List ℕ) → Result ReadInstr InstrError
 instr_read w text places labels = number_raw (w.raw (written_in text)) places labels
+
+-- what is read is an instruction of the architecture, and its instructions name registers that the machine of a thread has
+pub record ReadsOwn (a : Puts) (w : Writing) : Type 0 where
+  pub had : (written : Written) (raw : RawInstr) → w.raw written ≡ Some raw → a.has raw.op ≡ true
+  pub in_range : (op : Micro) → a.has op ≡ true → InRange op

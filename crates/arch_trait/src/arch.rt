@@ -6,7 +6,7 @@ ghost use Rattle.arch_trait.specs.Threads.{Puts};
 ghost use Rattle.arch_trait.specs.Laws.{link_room, access_room, IsArch};
 ghost use Rattle.arch_trait.specs.Names.{number_in};
 ghost use Rattle.arch_trait.specs.Writing.{Writing, WritesBack, op_text, name_in, place_below, label_below};
-ghost use Rattle.arch_trait.specs.Reading.{instr_read};
+ghost use Rattle.arch_trait.specs.Reading.{instr_read, ReadsOwn};
 ghost use Rattle.arch_trait.specs.Pieces.{texts_of, raw_seen, Reads};
 ghost use Rattle.arch_trait.specs.Cells.{WritesCells, MakesOneAccess};
 ghost use Rattle.relax_edges.specs.declared.kinds.Dir.TheVariants as dirs;
@@ -163,4 +163,6 @@ pub trait Arch {
     ghost writes_cells: { WritesCells puts writing };
 
     ghost makes_one_access: { MakesOneAccess puts };
+
+    ghost reads_own: { ReadsOwn puts writing };
 }

@@ -3,11 +3,13 @@ use Rattle.std.proofs.Common.{◌≡◌, refl, true, rules}
 use Rattle.std.specs.List.{list_all, IsDistinct}
 use Rattle.std.specs.Str.{bytes_eq}
 use Rattle.text_laws.specs.Names.{is_register_name}
+use Rattle.arch_trait.specs.Reading.{ReadsOwn}
 use Rattle.arch_trait.specs.Writing.{WritesBack}
+use Rattle.form_laws.proofs.ReadsHad.{reads_what_it_has}
 use Rattle.form_laws.proofs.ReadsBack.{AreNames, writes_back}
 use Rattle.arch_x86.specs.Puts.{puts}
 use Rattle.arch_x86.specs.Table.{table, register_names, writing}
-use Rattle.arch_x86.specs.Clear.{is_clear_table}
+use Rattle.arch_x86.specs.Clear.{is_clear_table, table_in_range}
 
 registers_formed : list_all is_register_name register_names ≡ true
 unfolding is_register_name
@@ -22,3 +24,7 @@ are_names = record { count = refl; formed = registers_formed; once = registers_o
 
 pub reads_back : WritesBack puts writing
 reads_back = writes_back puts table register_names is_clear_table (λ op h. h) are_names
+
+-- what is read is one of its instructions
+pub reads_own : ReadsOwn puts writing
+reads_own = record { had = reads_what_it_has table; in_range = table_in_range }

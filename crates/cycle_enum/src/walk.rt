@@ -1,10 +1,10 @@
-ghost use Rattle.std.specs.Prelude.{◌≡◌, ◌<◌, ◌≤◌, Some, None, IfSome, IfNone, MatchOption, IsTrue, IsFalse, length, true};
+ghost use Rattle.std.specs.Prelude.{◌≡◌, ◌<◌, ◌≤◌, Some, None, IfSome, IfNone, MatchOption, IsTrue, IsFalse, length};
 ghost use Rattle.listing_laws.specs.Asked.{KeptBelow, KeptWhole};
 ghost use Rattle.listing_laws.specs.Counting.{later};
 ghost use Rattle.listing_laws.specs.Listing.{IsAnswer, KeepsLimits};
 ghost use Rattle.walk_laws.specs.Order.{IsLeast};
 ghost use Rattle.listing_laws.specs.Search.{IsCut, IsFirst, LeadsNowhere, LongerThan, OfLength};
-ghost use Rattle.cycle_enum.specs.Walking.{KnowsOf, Lists, Says, Walking};
+ghost use Rattle.cycle_enum.specs.Walking.{Keeps, KnowsOf, Lists, Walking};
 
 use crate::alphabet::{Alphabet, Edges, closes};
 use crate::limits::Limits;
@@ -15,49 +15,52 @@ use std::marker::Model;
 
 /// A walk over the listed cycles, in order.
 ///
-/// Contracts see its relaxations, its limits, its pruner `keep` and its test `take`, and the last
-/// cycle in normal form: the last answer or the one given to `after`.
+/// Contracts see its relaxations, its limits, its pruners `keep` and `fit` and its test `take`, and
+/// the last cycle in normal form: the last answer or the one given to `after`.
 #[derive(Drop)]
-pub struct Walk<K, P> {
+pub struct Walk<K, J, P> {
     relaxes: Alphabet,
     limits: Limits,
     keep: K,
+    fit: J,
     take: P,
     last: Option<Cycle>,
 }
 
-impl<K, P> Model for Walk<K, P> {
+impl<K, J, P> Model for Walk<K, J, P> {
     ghost use Rattle.std.specs.Prelude.{◌≤◌};
     ghost use Rattle.relax_edges.specs.declared.TheConstants.{MAX_EDGES};
     ghost use Rattle.cycle_enum.specs.Walking.{Walking};
 
-    ghost Value = { Walking K P };
+    ghost Value = { Walking K J P };
 
-    ghost view = { λ w. record { relaxes = w.relaxes; limits = w.limits; keep = w.keep; take = w.take; last = w.last } };
+    ghost view = { λ w. record { relaxes = w.relaxes; limits = w.limits; keep = w.keep; fit = w.fit; take = w.take; last = w.last } };
 
     ghost invariant = { λ w. w.limits.size ≤ MAX_EDGES };
 }
 
-impl<K: Fn(&[Edge]) -> bool, P: Fn(&Cycle) -> bool> Walk<K, P> {
+impl<K: Fn(&[Edge]) -> bool, J: Fn(&[Edge]) -> bool, P: Fn(&Cycle) -> bool> Walk<K, J, P> {
     /// A walk that begins with the first listed cycle.
     ///
-    /// `keep` is a pruner: where it says no on a list of edges, no cycle that begins with the list
-    /// is to be listed. `take` is the test of which cycles are listed. It is asked only of cycles
-    /// in normal form, and only where the pruner said yes on all their front parts.
+    /// `keep` and `fit` are pruners: where one of them says no on a list of edges, no cycle that begins
+    /// with the list is to be listed. `take` is the test of which cycles are listed. It is asked only
+    /// of cycles in normal form, and only where both pruners said yes on all their prefixes.
     ///
-    /// The conditions: the size is at most `MAX_EDGES`; `keep` may be called on every list of 1 to
-    /// `MAX_EDGES` edges; `take` may be called on every cycle on all of whose front parts `keep`
-    /// says yes, and gives one answer for one cycle; where `keep` says no on a list, `take` says no
-    /// on every cycle that begins with it.
-    pub fn new(relaxes: Relaxes, limits: Limits, keep: K, take: P) -> Walk<K, P>
+    /// The conditions: the size is at most `MAX_EDGES`; `keep` and `fit` may be called on every list of
+    /// 1 to `MAX_EDGES` edges; `take` may be called on every cycle on all of whose prefixes, from one
+    /// edge to the whole, both pruners say yes, and the walk knows of no other cycle on which it may be
+    /// called; each closure gives one answer for one list or cycle; where a pruner says no on a list,
+    /// `take` says no on every cycle that begins with it.
+    pub fn new(relaxes: Relaxes, limits: Limits, keep: K, fit: J, take: P) -> Walk<K, J, P>
         requires few { limits.size ≤ MAX_EDGES }
-        requires knows { KnowsOf K.pre K.Fn.post P.pre P.Fn.post keep take }
-        ensures { result ≡ record { relaxes = relaxes; limits = limits; keep = keep; take = take; last = None } }
+        requires knows { KnowsOf K.pre K.Fn.post J.pre J.Fn.post P.pre P.Fn.post keep fit take }
+        ensures { result ≡ record { relaxes = relaxes; limits = limits; keep = keep; fit = fit; take = take; last = None } }
     {
         Walk {
             relaxes: Alphabet::of(relaxes),
             limits,
             keep,
+            fit,
             take,
             last: None,
         }
@@ -82,7 +85,7 @@ impl<K: Fn(&[Edge]) -> bool, P: Fn(&Cycle) -> bool> Walk<K, P> {
     ///
     /// The condition on the closures is that of `new`, once more.
     pub fn next(&mut self) -> Option<Cycle>
-        requires knows { KnowsOf K.pre K.Fn.post P.pre P.Fn.post self.old.keep self.old.take }
+        requires knows { KnowsOf K.pre K.Fn.post J.pre J.Fn.post P.pre P.Fn.post self.old.keep self.old.fit self.old.take }
         ensures next { IsAnswer (Lists P.Fn.post self.old) self.old.last result }
         ensures some { IfSome result (λ cycle. self.new ≡ record self.old { last = Some cycle }) }
         ensures none { IfNone result (self.new ≡ self.old) }
@@ -99,7 +102,7 @@ impl<K: Fn(&[Edge]) -> bool, P: Fn(&Cycle) -> bool> Walk<K, P> {
 
     /// The least listed cycle that comes after the last one.
     fn find(&self) -> Option<Cycle>
-        requires knows { KnowsOf K.pre K.Fn.post P.pre P.Fn.post self.now.keep self.now.take }
+        requires knows { KnowsOf K.pre K.Fn.post J.pre J.Fn.post P.pre P.Fn.post self.now.keep self.now.fit self.now.take }
         ensures { IsAnswer (Lists P.Fn.post self.now) self.now.last result }
     {
         match &self.last {
@@ -116,7 +119,7 @@ impl<K: Fn(&[Edge]) -> bool, P: Fn(&Cycle) -> bool> Walk<K, P> {
 
     /// The first listed cycle of more than `len` edges.
     fn longer(&self, len: u8) -> Option<Cycle>
-        requires knows { KnowsOf K.pre K.Fn.post P.pre P.Fn.post self.now.keep self.now.take }
+        requires knows { KnowsOf K.pre K.Fn.post J.pre J.Fn.post P.pre P.Fn.post self.now.keep self.now.fit self.now.take }
         requires few { len ≤ MAX_EDGES }
         ensures { IsAnswer (LongerThan len (Lists P.Fn.post self.now)) None result }
     {
@@ -131,7 +134,7 @@ impl<K: Fn(&[Edge]) -> bool, P: Fn(&Cycle) -> bool> Walk<K, P> {
 
     /// The first listed cycle of `len` edges.
     fn of_len(&self, len: u8) -> Option<Cycle>
-        requires knows { KnowsOf K.pre K.Fn.post P.pre P.Fn.post self.now.keep self.now.take }
+        requires knows { KnowsOf K.pre K.Fn.post J.pre J.Fn.post P.pre P.Fn.post self.now.keep self.now.fit self.now.take }
         requires some { 0 < len }
         requires few { len ≤ MAX_EDGES }
         ensures { IsAnswer (OfLength len (Lists P.Fn.post self.now)) None result }
@@ -146,7 +149,7 @@ impl<K: Fn(&[Edge]) -> bool, P: Fn(&Cycle) -> bool> Walk<K, P> {
 
     /// The first listed cycle of as many edges as the last one that follows it.
     fn as_long(&self, last: &Cycle) -> Option<Cycle>
-        requires knows { KnowsOf K.pre K.Fn.post P.pre P.Fn.post self.now.keep self.now.take }
+        requires knows { KnowsOf K.pre K.Fn.post J.pre J.Fn.post P.pre P.Fn.post self.now.keep self.now.fit self.now.take }
         ensures { IsAnswer (OfLength (length last.now) (Lists P.Fn.post self.now)) (Some last.now) result }
     {
         if !self.limits.keeps(last.len()) {
@@ -157,12 +160,12 @@ impl<K: Fn(&[Edge]) -> bool, P: Fn(&Cycle) -> bool> Walk<K, P> {
         self.search(&mut list, last.len())
     }
 
-    /// The shortest front part of a list on which the pruner says no, so that no listed cycle begins
-    /// with it, else the list.
+    /// The shortest prefix of a list on which a pruner says no, so that no listed cycle begins with it,
+    /// else the list.
     fn first_refused(&self, edges: &[Edge]) -> Edges
-        requires knows { KnowsOf K.pre K.Fn.post P.pre P.Fn.post self.now.keep self.now.take }
+        requires knows { KnowsOf K.pre K.Fn.post J.pre J.Fn.post P.pre P.Fn.post self.now.keep self.now.fit self.now.take }
         requires few { length edges.now ≤ MAX_EDGES }
-        ensures { IsCut (Lists P.Fn.post self.now) (Says K.Fn.post self.now.keep) edges.now result.items }
+        ensures { IsCut (Lists P.Fn.post self.now) (Keeps K.Fn.post J.Fn.post self.now) edges.now result.items }
     {
         let mut list = ArrayVec::new();
         for edge in edges {
@@ -176,11 +179,11 @@ impl<K: Fn(&[Edge]) -> bool, P: Fn(&Cycle) -> bool> Walk<K, P> {
 
     /// The first listed cycle of `len` edges from the list on.
     fn search(&self, list: &mut Edges, len: u8) -> Option<Cycle>
-        requires knows { KnowsOf K.pre K.Fn.post P.pre P.Fn.post self.now.keep self.now.take }
+        requires knows { KnowsOf K.pre K.Fn.post J.pre J.Fn.post P.pre P.Fn.post self.now.keep self.now.fit self.now.take }
         requires few { len ≤ MAX_EDGES }
         requires limits { KeepsLimits self.now.limits.size self.now.limits.exact len }
         requires within { length list.old.items ≤ len }
-        requires kept { KeptBelow (Says K.Fn.post self.now.keep) (length list.old.items) list.old.items }
+        requires kept { KeptBelow (Keeps K.Fn.post J.Fn.post self.now) (length list.old.items) list.old.items }
         ensures { IsFirst (OfLength len (Lists P.Fn.post self.now)) list.old.items result }
     {
         while !list.is_empty() {
@@ -202,10 +205,10 @@ impl<K: Fn(&[Edge]) -> bool, P: Fn(&Cycle) -> bool> Walk<K, P> {
 
     /// Whether a listed cycle may begin with the list.
     fn leads_on(&self, list: &[Edge]) -> bool
-        requires knows { KnowsOf K.pre K.Fn.post P.pre P.Fn.post self.now.keep self.now.take }
+        requires knows { KnowsOf K.pre K.Fn.post J.pre J.Fn.post P.pre P.Fn.post self.now.keep self.now.fit self.now.take }
         requires some { 0 < length list.now }
         requires few { length list.now ≤ MAX_EDGES }
-        ensures kept { IsTrue result → Says K.Fn.post self.now.keep list.now true }
+        ensures kept { IsTrue result → Keeps K.Fn.post J.Fn.post self.now list.now }
         ensures refused { IsFalse result → LeadsNowhere (Lists P.Fn.post self.now) list.now }
     {
         if !may_begin(list) {
@@ -217,24 +220,24 @@ impl<K: Fn(&[Edge]) -> bool, P: Fn(&Cycle) -> bool> Walk<K, P> {
         self.relaxes.may_stand(list)
     }
 
-    /// Whether the pruner says yes on the list.
+    /// Whether both pruners say yes on the list.
     fn is_kept(&self, list: &[Edge]) -> bool
-        requires knows { KnowsOf K.pre K.Fn.post P.pre P.Fn.post self.now.keep self.now.take }
+        requires knows { KnowsOf K.pre K.Fn.post J.pre J.Fn.post P.pre P.Fn.post self.now.keep self.now.fit self.now.take }
         requires some { 0 < length list.now }
         requires few { length list.now ≤ MAX_EDGES }
-        ensures kept { IsTrue result → Says K.Fn.post self.now.keep list.now true }
+        ensures kept { IsTrue result → Keeps K.Fn.post J.Fn.post self.now list.now }
         ensures refused { IsFalse result → LeadsNowhere (Lists P.Fn.post self.now) list.now }
     {
-        (self.keep)(list)
+        (self.keep)(list) && (self.fit)(list)
     }
 
     /// The cycle of these edges, where it is listed.
     fn listed(&self, list: &[Edge]) -> Option<Cycle>
-        requires knows { KnowsOf K.pre K.Fn.post P.pre P.Fn.post self.now.keep self.now.take }
+        requires knows { KnowsOf K.pre K.Fn.post J.pre J.Fn.post P.pre P.Fn.post self.now.keep self.now.fit self.now.take }
         requires limits { KeepsLimits self.now.limits.size self.now.limits.exact (length list.now) }
         requires some { 0 < length list.now }
         requires few { length list.now ≤ MAX_EDGES }
-        requires kept { KeptBelow (Says K.Fn.post self.now.keep) (length list.now) list.now }
+        requires kept { KeptBelow (Keeps K.Fn.post J.Fn.post self.now) (length list.now) list.now }
         ensures some { IfSome result (λ cycle. (cycle ≡ list.now) × Lists P.Fn.post self.now cycle) }
         ensures none { IfNone result (Lists P.Fn.post self.now list.now → ⊥) }
     {
@@ -258,9 +261,9 @@ impl<K: Fn(&[Edge]) -> bool, P: Fn(&Cycle) -> bool> Walk<K, P> {
 
     /// Whether a cycle is listed, where its number of edges keeps the limits.
     fn is_listed(&self, cycle: &Cycle) -> bool
-        requires knows { KnowsOf K.pre K.Fn.post P.pre P.Fn.post self.now.keep self.now.take }
+        requires knows { KnowsOf K.pre K.Fn.post J.pre J.Fn.post P.pre P.Fn.post self.now.keep self.now.fit self.now.take }
         requires limits { KeepsLimits self.now.limits.size self.now.limits.exact (length cycle.now) }
-        requires kept { KeptWhole (Says K.Fn.post self.now.keep) cycle.now }
+        requires kept { KeptWhole (Keeps K.Fn.post J.Fn.post self.now) cycle.now }
         ensures listed { IsTrue result → Lists P.Fn.post self.now cycle.now }
         ensures other { IsFalse result → Lists P.Fn.post self.now cycle.now → ⊥ }
     {

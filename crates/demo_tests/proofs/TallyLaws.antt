@@ -20,6 +20,7 @@ use Rattle.arch_trait.specs.Cells.{WritesCells, MakesOneAccess}
 use Rattle.arch_trait.specs.Laws.{IsArch}
 use Rattle.arch_trait.specs.Threads.{Puts}
 use Rattle.arch_trait.specs.Writing.{Writing, WritesBack}
+use Rattle.litmus_text.specs.declared.limits.TheConstants.{MAX_TEXT}
 use Rattle.diy_io.specs.Sink.{Tally, line_feed_count}
 use Rattle.diy_io.specs.Sink as sinks
 use Rattle.test_maker.specs.CycleText.{cycle_text}
@@ -75,7 +76,7 @@ accepted puts arch all family seed cycle h same e =
     rw (e, same) (all family h (filled puts.name seed (family_edges family)) (is_filled puts.name seed (family_edges family)))
 
 -- the texts of tests are short
-pub texts_short : (puts : Puts) (w : Writing) → IsArch puts → WritesBack puts w → WritesCells puts w → MakesOneAccess puts → MakesAll puts → (number : ℕ) → length (numbered_text puts w number) ≤ 262144
+pub texts_short : (puts : Puts) (w : Writing) → IsArch puts → WritesBack puts w → WritesCells puts w → MakesOneAccess puts → MakesAll puts → (number : ℕ) → length (numbered_text puts w number) ≤ MAX_TEXT
 unfolding numbered_text numbered_cycle
 texts_short puts w laws back cells one all number =
     let family = slice_index_or all_families (number % 14) Other in
@@ -84,19 +85,19 @@ texts_short puts w laws back cells one all number =
     (accepted puts puts.name all family (seed_of number) (filled puts.name (seed_of number) (family_edges family)) among refl refl)
 
 -- so that there is room for one more
-fits_of : (T : ℕ → List ℕ) (numbers : List ℕ) (number n : ℕ) → ((k : ℕ) → length (T k) ≤ 262144) → length numbers ≤ n → n < 4294967296 → Fits (text_tally (T number)) (tally_of T numbers)
+fits_of : (T : ℕ → List ℕ) (numbers : List ℕ) (number n : ℕ) → ((k : ℕ) → length (T k) ≤ MAX_TEXT) → length numbers ≤ n → n < 4294967296 → Fits (text_tally (T number)) (tally_of T numbers)
 unfolding tally_of
 fits_of T numbers number n short few small =
-    let bytes : sum_by (λ k. length (T k)) numbers ≤ length numbers * 262144 = sum_by-le (λ k. length (T k)) 262144 numbers (λ k d h. short (get_or numbers k d)) in
-    let lines : sum_by (λ k. line_feed_count (T k)) numbers ≤ length numbers * 262144 =
-    sum_by-le (λ k. line_feed_count (T k)) 262144 numbers (λ k d h. omega (arith, short (get_or numbers k d), line_feeds_few (T (get_or numbers k d)))) in
+    let bytes : sum_by (λ k. length (T k)) numbers ≤ length numbers * MAX_TEXT = sum_by-le (λ k. length (T k)) MAX_TEXT numbers (λ k d h. short (get_or numbers k d)) in
+    let lines : sum_by (λ k. line_feed_count (T k)) numbers ≤ length numbers * MAX_TEXT =
+    sum_by-le (λ k. line_feed_count (T k)) MAX_TEXT numbers (λ k d h. omega (arith, short (get_or numbers k d), line_feeds_few (T (get_or numbers k d)))) in
     record {
       tests = omega arith;
       lines = omega (arith, lines, short number, line_feeds_few (T number));
       bytes = omega (arith, bytes, short number);
     }
 
-all_fits : (T : ℕ → List ℕ) (text : Tally) (all : TestTally) (number : ℕ) → ((k : ℕ) → length (T k) ≤ 262144) → number < 4294967296 → text ≡ text_tally (T number) → all ≡ tally_of T (upto number) → Fits text all
+all_fits : (T : ℕ → List ℕ) (text : Tally) (all : TestTally) (number : ℕ) → ((k : ℕ) → length (T k) ≤ MAX_TEXT) → number < 4294967296 → text ≡ text_tally (T number) → all ≡ tally_of T (upto number) → Fits text all
 all_fits T text all number short small e a =
     rw (e, a) (fits_of T (upto number) number number short (omega (arith, length-upto number)) small)
 
@@ -105,7 +106,7 @@ few_numbers number place =
     let p = λ (n : ℕ). place_of n == place in
     omega (arith, length-filter p (upto number), count_by-le-length p (upto number), length-upto number)
 
-families_fit : (T : ℕ → List ℕ) (text : Tally) (families : List TestTally) (number : ℕ) → ((k : ℕ) → length (T k) ≤ 262144) → number < 4294967296 → text ≡ text_tally (T number) → families ≡ family_tallies T number
+families_fit : (T : ℕ → List ℕ) (text : Tally) (families : List TestTally) (number : ℕ) → ((k : ℕ) → length (T k) ≤ MAX_TEXT) → number < 4294967296 → text ≡ text_tally (T number) → families ≡ family_tallies T number
     → All (Fits text) families
 unfolding family_tallies
 families_fit T text families number short small e f =
@@ -117,7 +118,7 @@ pub record HasRoom (text : Tally) (families : List TestTally) (all : TestTally) 
   pub each : All (Fits text) families
   pub whole : Fits text all
 
-pub has_room : (T : ℕ → List ℕ) (text : Tally) (families : List TestTally) (all : TestTally) (number : ℕ) → ((k : ℕ) → length (T k) ≤ 262144) → number < 4294967296
+pub has_room : (T : ℕ → List ℕ) (text : Tally) (families : List TestTally) (all : TestTally) (number : ℕ) → ((k : ℕ) → length (T k) ≤ MAX_TEXT) → number < 4294967296
     → text ≡ text_tally (T number) → families ≡ family_tallies T number → all ≡ tally_of T (upto number) → HasRoom text families all
 has_room T text families all number short small e f a = record { each = families_fit T text families number short small e f; whole = all_fits T text all number short small e a }
 

@@ -10,16 +10,16 @@ use arrayvec::ArrayString;
 use cycle_names::{MAX_NAME, name_of};
 use diy_io::{Failed, Page, TallySink};
 use edge_algebra::Cycle;
-use litmus_text::{KeptCells, Test, print_test_by};
+use litmus_text::{KeptTable, Test, print_test_by};
 use relax_edges::ObsMode;
 use test_maker::make_into;
 
-/// Where tests are made, one after another: a test, its name, room for its cells, and the page that it is printed to.
+/// Where tests are made, one after another: a test, its name, what is kept of its table, and the page that it is printed to.
 #[derive(Drop)]
 pub(crate) struct Desk {
     test: Test,
     name: ArrayString<MAX_NAME>,
-    cells: KeptCells,
+    table: KeptTable,
     page: Page,
 }
 
@@ -28,7 +28,7 @@ impl Desk {
         Desk {
             test: Test::new(),
             name: ArrayString::new(),
-            cells: KeptCells::new(),
+            table: KeptTable::new(),
             page: Page::new(),
         }
     }
@@ -49,7 +49,7 @@ impl Desk {
         match print_test_by::<A, TallySink>(
             &self.test,
             self.name.as_str(),
-            &mut self.cells,
+            &mut self.table,
             &mut self.page,
             &mut tally,
         ) {

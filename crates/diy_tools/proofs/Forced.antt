@@ -153,9 +153,9 @@ text_forces arch mode name es named whole unrefused =
     (accepted_has_test m.puts es mode whole unrefused)
 
 -- a cycle that is wanted in a listing has a test
-wanted_unrefused : (a : Puts) (mode : ObsMode) (threads : ℕ) (es : List Edge) → is_wanted a mode threads es ≡ true → refusal_of a es mode ≡ None
+wanted_unrefused : (a : Puts) (mode : ObsMode) (threads : ℕ) (accesses : Option ℕ) (es : List Edge) → is_wanted a mode threads accesses es ≡ true → refusal_of a es mode ≡ None
 unfolding is_wanted
-wanted_unrefused a mode threads es h = of_none (refusal_of a es mode) (and_parts (is_none (refusal_of a es mode)) _ h).0
+wanted_unrefused a mode threads accesses es h = of_none (refusal_of a es mode) (and_parts (is_none (refusal_of a es mode)) _ h).0
   where
     of_none : (refused : Option MakeRefusal) → is_none refused ≡ true → refused ≡ None
     of_none None h = refl
@@ -182,7 +182,7 @@ asked_force words status old new h = of_asked (asked_of words) refl h
       lists = h;
       forces = λ cycle planned.
           text_forces asked.arch asked.mode (name_of cycle) cycle (cycle_named cycle planned.cycle) planned.cycle
-          (wanted_unrefused (machine_of asked.arch).puts asked.mode asked.threads cycle planned.taken);
+          (wanted_unrefused (machine_of asked.arch).puts asked.mode asked.threads asked.accesses cycle planned.taken);
     }
 
     of_cross : (asked : CrossAsked) → AnswersCross asked status old.shelf new.shelf old.out new.out → HeadlineAsked (Ok (AsksCross asked)) status old new

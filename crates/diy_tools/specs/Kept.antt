@@ -82,7 +82,8 @@ AnswersCrossing _ status old new before after = ⊥
 abbrev pub EndsOn : Machine → Listing → ListingEnd → ShelfSeen → ShelfSeen → SinkSeen → SinkSeen → Type 0
 EndsOn m listing end old new before after =
     EndsListing (λ (sink : SinkSeen). sink)
-    (plan_of m.puts m.writing (record { threads = listing.threads; mode = listing.mode; folder = listing.folder }) listing.relaxes listing.limits)
+    (plan_of m.puts m.writing (record { threads = listing.threads; accesses = listing.accesses; mode = listing.mode; folder = listing.folder })
+      listing.relaxes listing.limits)
     listing.after end old new before after
 
 -- the input is summed as one log, or there is a reason why it can't be

@@ -18,6 +18,7 @@ plan_asked asked = record {
   writing = (machine_of asked.arch).writing;
   mode = asked.mode;
   threads = asked.threads;
+  accesses = asked.accesses;
   folder = asked.folder;
   relaxes = asked.relaxes;
   limits = record { size = asked.size; exact = asked.exact };

@@ -21,7 +21,7 @@ use Rattle.diy_words.specs.declared.options.OptionName.{OptionName}
 use Rattle.diy_words.specs.Parts.{Alone, Valued, Unvalued, Waits, parts_from, parts_of, option_named, tool_named}
 use Rattle.diy_words.specs.declared.options.Tool.{Tool}
 use Rattle.diy_words.specs.declared.options.Tool.TheVariants as tools
-use Rattle.diy_words.specs.Requests.{Said, SaysArch, SaysName, SaysMode, SaysFrom, SaysEdges, SaysRelaxes, SaysSize, SaysExact, SaysThreads, SaysAfter, SaysFolder, SaysLog, SaysPlace, SaysCount, NameAsked, ListAsked, DemoAsked, Asked, AsksTest, AsksName, AsksList, AsksFamilies, AsksSum, AsksCross, AsksDemo, OfEdges, OfName, OfLines, said_by, saying, is_count, said_first, said_all, or_later, last_given, first_given, arch_in, name_in, mode_in, from_in, operand_in, edges_in, relaxes_in, size_in, is_exact, threads_in, after_in, folder_in, places_in, count_in, given_or, mode_or_accept, list_with, families_with, cross_with, places_given, choice_count, edges_given, asks, asked_with, named_with, asked_of, asked_for, tool_asked, files_given}
+use Rattle.diy_words.specs.Requests.{Said, SaysArch, SaysName, SaysMode, SaysFrom, SaysEdges, SaysRelaxes, SaysSize, SaysExact, SaysThreads, SaysAfter, SaysFolder, SaysLog, SaysPlace, SaysCount, NameAsked, ListAsked, DemoAsked, Asked, AsksTest, AsksName, AsksList, AsksFamilies, AsksSum, AsksCross, AsksDemo, OfEdges, OfName, OfLines, said_by, saying, is_count, said_first, said_all, or_later, last_given, first_given, arch_in, name_in, mode_in, from_in, operand_in, edges_in, relaxes_in, size_in, is_exact, threads_in, after_in, folder_in, places_in, count_in, given_or, mode_or_accept, list_with, families_with, cross_with, places_given, choice_count, edges_given, asks, asked_with, named_with, asked_of, asked_for, tool_asked, files_given, SaysAccesses, accesses_in}
 use Rattle.diy_words.specs.Given.{Held, absorbed, all_absorbed, saying_from, finished, named, Kept, keeps, KeepsTest, KeepsName, KeepsList, KeepsFamilies, KeepsSum, KeepsCross, KeepsDemo, CrossHeld, crossed, classified, held_at_end, tool_held, shown, shown_request, nothing_held, AskedHeld, NameHeld, SoughtHeld, HeldEdges, HeldName, HeldLines, sought_held, Gives, IsKept, IsSought}
 use Rattle.diy_words.specs.Requests as req
 
@@ -86,6 +86,7 @@ held_after h said = record {
   size = given_or h.size (last_given size_in said);
   exact = h.exact || list_any is_exact said;
   threads = given_or h.threads (last_given threads_in said);
+  accesses = or_later h.accesses (last_given accesses_in said);
   after = or_later h.after (last_given after_in said);
   folder = or_later h.folder (last_given folder_in said);
   choices = choices_after h.choices (places_given said);
@@ -113,6 +114,7 @@ held_with h said = record {
   size = given_or h.size (size_in said);
   exact = h.exact || is_exact said;
   threads = given_or h.threads (threads_in said);
+  accesses = or_later h.accesses (accesses_in said);
   after = or_later h.after (after_in said);
   folder = or_later h.folder (folder_in said);
   choices = choices_after h.choices (places_in said);
@@ -179,11 +181,12 @@ held_one h said rest =
     let size = or_given_twice h.size (size_in said) (last_given size_in rest) in
     let exact = exact_twice h.exact (is_exact said) (list_any is_exact rest) in
     let threads = or_given_twice h.threads (threads_in said) (last_given threads_in rest) in
+    let accesses = later_twice h.accesses (accesses_in said) (last_given accesses_in rest) in
     let after = later_twice h.after (after_in said) (last_given after_in rest) in
     let folder = later_twice h.folder (folder_in said) (last_given folder_in rest) in
     let choices = choices_more h.choices (places_in said) (places_given rest) in
     let count = later_twice h.count (count_in said) (last_given count_in rest) in
-    cc (arch, name, mode, from, operand, edges, relaxes, size, exact, threads, after, folder, choices, count)
+    cc (arch, name, mode, from, operand, edges, relaxes, size, exact, threads, accesses, after, folder, choices, count)
 
 abbrev held_or_fault : Held → Result (List Said) Usage → Result Held Usage
 held_or_fault h (Ok said) = Ok (held_after h said)
@@ -331,7 +334,13 @@ gives_held tools.DiyOne count request (Ok said) h =
     (rw (sym (later_none (last_given arch_in said)), sym (later_none (last_given name_in said))) h)
 gives_held tools.Diy count request (Ok said) h =
     gives_kept KeepsList AsksList kept_list request _
-    (rw (sym (later_none (last_given arch_in said)), sym (later_none (last_given relaxes_in said)), sym (later_none (last_given after_in said)), sym (later_none (last_given folder_in said))) h)
+    (rw (
+      sym (later_none (last_given arch_in said)),
+      sym (later_none (last_given relaxes_in said)),
+      sym (later_none (last_given accesses_in said)),
+      sym (later_none (last_given after_in said)),
+      sym (later_none (last_given folder_in said)),
+    ) h)
 gives_held tools.Norm count request (Ok said) h =
     gives_name count request _ _ _ (edges_given said)
     (rw (sym (later_none (last_given arch_in said)), sym (later_none (last_given from_in said))) h)

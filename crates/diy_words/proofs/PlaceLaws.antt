@@ -26,7 +26,7 @@ use Rattle.diy_words.specs.Given.{saying_from}
 use Rattle.diy_words.specs.Names.{is_name}
 use Rattle.diy_words.specs.Numbers.{number_to}
 use Rattle.diy_words.specs.Parts.{Part, Alone, Valued, Unvalued, parts_of, tool_named, option_named, arch_named, mode_named}
-use Rattle.diy_words.specs.Requests.{Said, SaysName, SaysFolder, Asked, AsksTest, AsksName, AsksList, AsksFamilies, AsksCross, AsksDemo, fault, place_said, arch_said, mode_said, relaxes_said, size_said, threads_said, cycle_said, after_said, begins_option, is_count, said_by, saying, said_first, said_all, places_in, places_given, files_given, choice_count, asks, cross_with, families_with, demo_with, diyone_asked, diy_asked, norm_asked, mode_or_accept, last_given, arch_in, mode_in, folder_in, count_in, tool_asked, asked_for, asked_of, IsCrossing, places_of}
+use Rattle.diy_words.specs.Requests.{Said, SaysName, SaysFolder, Asked, AsksTest, AsksName, AsksList, AsksFamilies, AsksCross, AsksDemo, fault, place_said, arch_said, mode_said, relaxes_said, size_said, threads_said, cycle_said, after_said, begins_option, is_count, said_by, saying, said_first, said_all, places_in, places_given, files_given, choice_count, asks, cross_with, families_with, demo_with, diyone_asked, diy_asked, norm_asked, mode_or_accept, last_given, arch_in, mode_in, folder_in, count_in, tool_asked, asked_for, asked_of, IsCrossing, places_of, accesses_said}
 use Rattle.diy_words.proofs.Judged.{alone_first, value_first, unvalued_last}
 
 -- the relaxations of the places among what words say
@@ -100,6 +100,10 @@ threads_none : (at : ℕ) (threads : Option ℕ) → places_by (threads_said at 
 threads_none at None = refl
 threads_none at (Some threads) = refl
 
+accesses_none : (at : ℕ) (accesses : Option ℕ) → places_by (accesses_said at accesses) ≡ []
+accesses_none at None = refl
+accesses_none at (Some accesses) = refl
+
 cycle_none : (at : ℕ) (cycle : Result (List Edge) CycleError) → places_by (cycle_said at cycle) ≡ []
 cycle_none at (Ok cycle) = refl
 cycle_none at (Err error) = refl
@@ -121,6 +125,7 @@ value_none opts.From at value = refl
 value_none opts.Edges at value = relaxes_none (at + 1) (relaxes_of value)
 value_none opts.Size at value = size_none (at + 1) (number_to MAX_EDGES value)
 value_none opts.Nprocs at value = threads_none (at + 1) (number_to MAX_EDGES value)
+value_none opts.Accesses at value = accesses_none (at + 1) (number_to MAX_EDGES value)
 value_none opts.After at value = after_none (at + 1) (edges_of BlanksAndCommas value)
 value_none opts.Folder at value = folder_none (at + 1) value (nat_lt 0 (length value) && nat_le (length value) MAX_FOLDER)
 

@@ -30,7 +30,7 @@ use Rattle.diy_words.specs.declared.options.OptionName.TheVariants as opts
 use Rattle.diy_words.specs.Names.{is_name}
 use Rattle.diy_words.specs.Edges.{operand_edges}
 use Rattle.diy_words.specs.Parts.{Part, Alone, Valued, Unvalued, parts_of, tool_named, arch_named, mode_named}
-use Rattle.diy_words.specs.Requests.{Said, SaysName, SaysSize, SaysExact, SaysFolder, SaysCount, Asked, AsksTest, AsksName, AsksList, AsksFamilies, AsksCross, AsksDemo, NameAsked, ListAsked, FamiliesAsked, fault, dashed_said, operand_said, relaxes_said, size_said, threads_said, after_said, cycle_said, size_in, given_or, list_with, families_with, cross_with, demo_with, choice_count, places_given, files_given, place_said, count_said, count_in, saying, is_count, said_by, said_first, said_all, arch_said, mode_said, edges_said, begins_option, or_later, last_given, arch_in, name_in, mode_in, relaxes_in, is_exact, threads_in, after_in, folder_in, mode_or_accept, edges_given, asks, asked_with, asked_for, norm_asked, tool_asked, asked_of}
+use Rattle.diy_words.specs.Requests.{Said, SaysName, SaysSize, SaysExact, SaysFolder, SaysCount, Asked, AsksTest, AsksName, AsksList, AsksFamilies, AsksCross, AsksDemo, NameAsked, ListAsked, FamiliesAsked, fault, dashed_said, operand_said, relaxes_said, size_said, threads_said, after_said, cycle_said, size_in, given_or, list_with, families_with, cross_with, demo_with, choice_count, places_given, files_given, place_said, count_said, count_in, saying, is_count, said_by, said_first, said_all, arch_said, mode_said, edges_said, begins_option, or_later, last_given, arch_in, name_in, mode_in, relaxes_in, is_exact, threads_in, after_in, folder_in, mode_or_accept, edges_given, asks, asked_with, asked_for, norm_asked, tool_asked, asked_of, accesses_said, accesses_in}
 use Rattle.arrayvec.specs.ArrayString.{ArrayString}
 use Rattle.diy_words.specs.Given.{Gives, HasForm, list_kept}
 use Rattle.diy_words.specs.Numbers.{is_number, number_to}
@@ -116,6 +116,10 @@ threads_form : (at : ℕ) (threads : Option ℕ) → SaysForm (threads_said at t
 threads_form at (Some threads) = tt
 threads_form at None = tt
 
+accesses_form : (at : ℕ) (accesses : Option ℕ) → SaysForm (accesses_said at accesses)
+accesses_form at (Some accesses) = tt
+accesses_form at None = tt
+
 cycle_form : (at : ℕ) (cycle : Result (List Edge) CycleError) → SaysForm (cycle_said at cycle)
 cycle_form at (Ok cycle) = tt
 cycle_form at (Err error) = tt
@@ -142,6 +146,7 @@ said_form tool counted (Valued opts.From at value) = tt
 said_form tool counted (Valued opts.Edges at value) = relaxes_form _ (relaxes_of value)
 said_form tool counted (Valued opts.Size at value) = size_form _ (number_to MAX_EDGES value) (λ n e. (number_form MAX_EDGES value n e).1)
 said_form tool counted (Valued opts.Nprocs at value) = threads_form _ (number_to MAX_EDGES value)
+said_form tool counted (Valued opts.Accesses at value) = accesses_form _ (number_to MAX_EDGES value)
 said_form tool counted (Valued opts.After at value) = after_form _ (edges_of BlanksAndCommas value)
 said_form tool counted (Valued opts.Folder at value) = folder_form _ value (nat_lt 0 (length value)) (nat_le (length value) MAX_FOLDER) refl
 said_form tool counted (Unvalued option at) = tt
@@ -219,11 +224,11 @@ norm_form : (asked : Result NameAsked Usage) → AskedSo (asks AsksName asked)
 norm_form (Ok asked) = tt
 norm_form (Err usage) = tt
 
-list_form : (count : ℕ) (arch : Option ArchName) (relaxes : Option (List (List Edge))) (size : ℕ) (exact : Bool) (threads : ℕ) (mode : ObsMode) (after : Option (List Edge)) (folder : Option (List ℕ))
-    → size ≤ MAX_EDGES → IfSome folder (λ folder. length folder ≤ MAX_FOLDER) → AskedSo (asks AsksList (list_with count arch relaxes size exact threads mode after folder))
-list_form count None relaxes size exact threads mode after folder h k = tt
-list_form count (Some arch) None size exact threads mode after folder h k = tt
-list_form count (Some arch) (Some relaxes) size exact threads mode after folder h k = (h, k)
+list_form : (count : ℕ) (arch : Option ArchName) (relaxes : Option (List (List Edge))) (size : ℕ) (exact : Bool) (threads : ℕ) (accesses : Option ℕ) (mode : ObsMode) (after : Option (List Edge)) (folder : Option (List ℕ))
+    → size ≤ MAX_EDGES → IfSome folder (λ folder. length folder ≤ MAX_FOLDER) → AskedSo (asks AsksList (list_with count arch relaxes size exact threads accesses mode after folder))
+list_form count None relaxes size exact threads accesses mode after folder h k = tt
+list_form count (Some arch) None size exact threads accesses mode after folder h k = tt
+list_form count (Some arch) (Some relaxes) size exact threads accesses mode after folder h k = (h, k)
 
 families_form : (asked : Result FamiliesAsked Usage) → AskedSo (asks AsksFamilies asked)
 families_form (Ok asked) = tt
@@ -249,7 +254,7 @@ tool_form tools.DiyOne count (Ok said) h =
     test_form count (last_given arch_in said) (last_given name_in said) (mode_or_accept (last_given mode_in said)) (edges_given said)
     (given_fit (λ name. is_name name ≡ true) name_in name_fit said h)
 tool_form tools.Diy count (Ok said) h =
-    list_form count (last_given arch_in said) (last_given relaxes_in said) _ (list_any is_exact said) (given_or 4 (last_given threads_in said)) (mode_or_accept (last_given mode_in said)) (last_given after_in said) (last_given folder_in said)
+    list_form count (last_given arch_in said) (last_given relaxes_in said) _ (list_any is_exact said) (given_or 4 (last_given threads_in said)) (last_given accesses_in said) (mode_or_accept (last_given mode_in said)) (last_given after_in said) (last_given folder_in said)
     (size_few (last_given size_in said) (given_fit (λ size. size ≤ MAX_EDGES) size_in size_fit said h)) (given_folder said h)
 tool_form tools.Norm count (Ok said) h = norm_form (norm_asked count said)
 tool_form tools.Classify count (Ok said) h = families_form (families_with count (last_given arch_in said) (files_given said))

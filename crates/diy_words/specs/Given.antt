@@ -25,7 +25,7 @@ use Rattle.diy_words.specs.declared.said.Said.{Said}
 use Rattle.diy_words.specs.declared.usage.Usage.{Usage}
 use Rattle.diy_words.specs.declared.usage.UsageKind.TheVariants.{MissingArch, StrayWord, TooManyChoices}
 use Rattle.diy_words.specs.Parts.{parts_of, option_named}
-use Rattle.diy_words.specs.Requests.{Asked, AsksTest, AsksName, AsksList, AsksFamilies, AsksSum, AsksCross, AsksDemo, ListAsked, DemoAsked, OfEdges, OfName, OfLines, SaysArch, SaysName, SaysMode, SaysFrom, SaysEdges, SaysRelaxes, SaysSize, SaysExact, SaysThreads, SaysAfter, SaysFolder, SaysLog, SaysFile, SaysPlace, SaysCount, said_by, saying, list_with, demo_with}
+use Rattle.diy_words.specs.Requests.{Asked, AsksTest, AsksName, AsksList, AsksFamilies, AsksSum, AsksCross, AsksDemo, ListAsked, DemoAsked, OfEdges, OfName, OfLines, SaysArch, SaysName, SaysMode, SaysFrom, SaysEdges, SaysRelaxes, SaysSize, SaysExact, SaysThreads, SaysAfter, SaysFolder, SaysLog, SaysFile, SaysPlace, SaysCount, said_by, saying, list_with, demo_with, SaysAccesses}
 use Rattle.diy_words.specs.Requests as req
 
 -- what is held: the last of each thing that was given, where the last value of `-from` and the first operand of edges
@@ -41,6 +41,7 @@ pub record Held : Type 0 where
   pub size : ℕ
   pub exact : Bool
   pub threads : ℕ
+  pub accesses : Option ℕ
   pub after : Option (List Edge)
   pub folder : Option (List ℕ)
   pub choices : ℕ
@@ -59,6 +60,7 @@ held said = record {
   size = said.limits.size;
   exact = said.limits.exact;
   threads = said.threads;
+  accesses = said.accesses;
   after = said.after;
   folder = option_map (λ folder. folder.now) said.folder;
   choices = said.choices;
@@ -78,6 +80,7 @@ nothing_held = record {
   size = 6;
   exact = false;
   threads = 4;
+  accesses = None;
   after = None;
   folder = None;
   choices = 1;
@@ -99,6 +102,7 @@ absorbed h (Ok (SaysRelaxes relaxes)) = Ok (record h { relaxes = Some relaxes })
 absorbed h (Ok (SaysSize size)) = Ok (record h { size = size })
 absorbed h (Ok SaysExact) = Ok (record h { exact = true })
 absorbed h (Ok (SaysThreads threads)) = Ok (record h { threads = threads })
+absorbed h (Ok (SaysAccesses accesses)) = Ok (record h { accesses = Some accesses })
 absorbed h (Ok (SaysAfter cycle)) = Ok (record h { after = Some cycle })
 absorbed h (Ok (SaysFolder folder)) = Ok (record h { folder = Some folder })
 absorbed h (Ok SaysLog) = Ok h
@@ -141,6 +145,7 @@ list_kept request = record {
   size = request.limits.size;
   exact = request.limits.exact;
   threads = request.threads;
+  accesses = request.accesses;
   mode = request.mode;
   after = request.after;
   folder = option_map (λ folder. folder.now) request.folder;
@@ -254,7 +259,7 @@ abbrev pub name_held : ℕ → Held → Result NameHeld Usage
 name_held count h = named count h.arch h.from h.operand h.edges
 
 abbrev pub list_held : ℕ → Held → Result ListAsked Usage
-list_held count h = list_with count h.arch h.relaxes h.size h.exact h.threads h.mode h.after h.folder
+list_held count h = list_with count h.arch h.relaxes h.size h.exact h.threads h.accesses h.mode h.after h.folder
 
 abbrev pub cross_held : ℕ → Held → Result CrossHeld Usage
 cross_held count h = crossed count h.arch h.mode h.folder h.choices

@@ -25,7 +25,7 @@ abbrev pub options_of : Tool → List (List ℕ × OptionName)
 options_of tools.DiyOne = (codes "-arch", opts.Arch) ∷ (codes "-name", opts.Name) ∷ (codes "-obs", opts.Obs) ∷ []
 options_of tools.Diy =
     (codes "-arch", opts.Arch) ∷ (codes "-edges", opts.Edges) ∷ (codes "-size", opts.Size) ∷ (codes "-nprocs", opts.Nprocs)
-    ∷ (codes "-obs", opts.Obs) ∷ (codes "-after", opts.After) ∷ (codes "-o", opts.Folder) ∷ []
+    ∷ (codes "-accesses", opts.Accesses) ∷ (codes "-obs", opts.Obs) ∷ (codes "-after", opts.After) ∷ (codes "-o", opts.Folder) ∷ []
 options_of tools.Norm = (codes "-arch", opts.Arch) ∷ (codes "-from", opts.From) ∷ []
 options_of tools.Classify = (codes "-arch", opts.Arch) ∷ []
 options_of tools.Msum = []

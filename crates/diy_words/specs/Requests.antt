@@ -42,6 +42,7 @@ pub data Said : Type 0 where
   SaysSize : ℕ → Said
   SaysExact : Said
   SaysThreads : ℕ → Said
+  SaysAccesses : ℕ → Said
   SaysAfter : List Edge → Said
   SaysFolder : List ℕ → Said
   SaysLog : Said
@@ -68,13 +69,15 @@ pub record NameAsked : Type 0 where
   pub arch : ArchName
   pub cycle : Sought
 
--- what diy7 is asked for: the tests of the cycles of a listing, each in a file
+-- what diy7 is asked for: the tests of the cycles of a listing, each in a file; no limit is set to the accesses of a thread
+-- unless words give one
 pub record ListAsked : Type 0 where
   pub arch : ArchName
   pub relaxes : List (List Edge)
   pub size : ℕ
   pub exact : Bool
   pub threads : ℕ
+  pub accesses : Option ℕ
   pub mode : ObsMode
   pub after : Option (List Edge)
   pub folder : Option (List ℕ)
@@ -150,7 +153,7 @@ abbrev pub place_said : ℕ → Result (List (List Edge)) RelaxError → Result 
 place_said at (Ok relaxes) = Ok (SaysPlace relaxes)
 place_said at (Err error) = fault at (relax_usage error.kind)
 
--- the value of `-size`, and that of `-nprocs`, at its place
+-- the value of `-size`, that of `-nprocs`, and that of `-accesses`, at its place
 abbrev pub size_said : ℕ → Option ℕ → Result Said Usage
 size_said at (Some size) = Ok (SaysSize size)
 size_said at None = fault at BadNumber
@@ -158,6 +161,10 @@ size_said at None = fault at BadNumber
 abbrev pub threads_said : ℕ → Option ℕ → Result Said Usage
 threads_said at (Some threads) = Ok (SaysThreads threads)
 threads_said at None = fault at BadNumber
+
+abbrev pub accesses_said : ℕ → Option ℕ → Result Said Usage
+accesses_said at (Some accesses) = Ok (SaysAccesses accesses)
+accesses_said at None = fault at BadNumber
 
 -- the number that is the operand of demo, at its place
 abbrev pub count_said : ℕ → Option ℕ → Result Said Usage
@@ -209,6 +216,7 @@ said_by tool counted (Valued opts.From at value) = Ok (SaysFrom (at + 1) value)
 said_by tool counted (Valued opts.Edges at value) = relaxes_said (at + 1) (relaxes_of value)
 said_by tool counted (Valued opts.Size at value) = size_said (at + 1) (number_to MAX_EDGES value)
 said_by tool counted (Valued opts.Nprocs at value) = threads_said (at + 1) (number_to MAX_EDGES value)
+said_by tool counted (Valued opts.Accesses at value) = accesses_said (at + 1) (number_to MAX_EDGES value)
 said_by tool counted (Valued opts.After at value) = after_said (at + 1) (edges_of BlanksAndCommas value)
 said_by tool counted (Valued opts.Folder at value) = folder_said (at + 1) value
 said_by tool counted (Unvalued _ at) = fault at MissingValue
@@ -264,7 +272,7 @@ abbrev pub operand_in : Said → Option ℕ
 operand_in (SaysEdges at _) = Some at
 operand_in _ = None
 
--- the relaxations, the sizes, the cycle and the folder of a listing
+-- the relaxations, the sizes, the limits, the cycle and the folder of a listing
 abbrev pub relaxes_in : Said → Option (List (List Edge))
 relaxes_in (SaysRelaxes relaxes) = Some relaxes
 relaxes_in _ = None
@@ -280,6 +288,10 @@ is_exact _ = false
 abbrev pub threads_in : Said → Option ℕ
 threads_in (SaysThreads threads) = Some threads
 threads_in _ = None
+
+abbrev pub accesses_in : Said → Option ℕ
+accesses_in (SaysAccesses accesses) = Some accesses
+accesses_in _ = None
 
 abbrev pub after_in : Said → Option (List Edge)
 after_in (SaysAfter cycle) = Some cycle
@@ -357,11 +369,11 @@ named_with count (Some arch) None (Some operand) edges = Ok (record { arch = arc
 named_with count (Some arch) (Some from) (Some operand) edges = Err (record { word = operand; kind = StrayWord })
 
 -- the request of diy7 from what was given
-abbrev pub list_with : ℕ → Option ArchName → Option (List (List Edge)) → ℕ → Bool → ℕ → ObsMode → Option (List Edge) → Option (List ℕ) → Result ListAsked Usage
-list_with count None relaxes size exact threads mode after folder = Err (record { word = count; kind = MissingArch })
-list_with count (Some arch) None size exact threads mode after folder = Err (record { word = count; kind = MissingEdges })
-list_with count (Some arch) (Some relaxes) size exact threads mode after folder =
-    Ok (record { arch = arch; relaxes = relaxes; size = size; exact = exact; threads = threads; mode = mode; after = after; folder = folder })
+abbrev pub list_with : ℕ → Option ArchName → Option (List (List Edge)) → ℕ → Bool → ℕ → Option ℕ → ObsMode → Option (List Edge) → Option (List ℕ) → Result ListAsked Usage
+list_with count None relaxes size exact threads accesses mode after folder = Err (record { word = count; kind = MissingArch })
+list_with count (Some arch) None size exact threads accesses mode after folder = Err (record { word = count; kind = MissingEdges })
+list_with count (Some arch) (Some relaxes) size exact threads accesses mode after folder =
+    Ok (record { arch = arch; relaxes = relaxes; size = size; exact = exact; threads = threads; accesses = accesses; mode = mode; after = after; folder = folder })
 
 -- the request of classify7 from what was given
 abbrev pub families_with : ℕ → Option ArchName → List ℕ → Result FamiliesAsked Usage
@@ -396,11 +408,13 @@ abbrev pub norm_asked : ℕ → List Said → Result NameAsked Usage
 norm_asked count said =
     named_with count (last_given arch_in said) (last_given from_in said) (first_given operand_in said) (edges_given said)
 
--- the request of diy7 from what its words say; a cycle has at most 6 edges and 4 threads unless words say otherwise
+-- the request of diy7 from what its words say; a cycle has at most 6 edges and 4 threads unless words say otherwise, and a
+-- thread has at most so many accesses only where words say so
 abbrev pub diy_asked : ℕ → List Said → Result ListAsked Usage
 diy_asked count said =
     list_with count (last_given arch_in said) (last_given relaxes_in said) (given_or 6 (last_given size_in said)) (list_any is_exact said)
-    (given_or 4 (last_given threads_in said)) (mode_or_accept (last_given mode_in said)) (last_given after_in said) (last_given folder_in said)
+    (given_or 4 (last_given threads_in said)) (last_given accesses_in said) (mode_or_accept (last_given mode_in said)) (last_given after_in said)
+    (last_given folder_in said)
 
 -- the request of diycross7 from what its words say
 abbrev pub cross_asked : ℕ → List Said → Result CrossAsked Usage

@@ -26,6 +26,7 @@ pub enum OptionName {
     Edges,
     Size,
     Nprocs,
+    Accesses,
     After,
     Folder,
 }
@@ -79,6 +80,7 @@ fn diy_option(text: &str) -> Option<OptionName>
         "-edges" => Some(OptionName::Edges),
         "-size" => Some(OptionName::Size),
         "-nprocs" => Some(OptionName::Nprocs),
+        "-accesses" => Some(OptionName::Accesses),
         "-obs" => Some(OptionName::Obs),
         "-after" => Some(OptionName::After),
         "-o" => Some(OptionName::Folder),

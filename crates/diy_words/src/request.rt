@@ -94,6 +94,8 @@ pub struct Diy<'a> {
     pub limits: Limits,
     /// The most threads of a cycle, those of observers not counted.
     pub threads: u8,
+    /// The most accesses of a thread, where there is a limit; those of observers are not counted.
+    pub accesses: Option<u8>,
     /// When locations have observers.
     pub mode: ObsMode,
     /// The cycle behind which the listing begins, if it doesn't begin with the first.

@@ -9,7 +9,7 @@ ghost use Rattle.diy_words.specs.Given.{cycle_kept, more_choices};
 ghost use Rattle.diy_words.specs.Numbers.{number_to};
 ghost use Rattle.diy_words.specs.declared.options.Tool.TheVariants as tools;
 ghost use Rattle.diy_words.specs.Parts.{Part, Alone, Valued, Unvalued, arch_named, mode_named};
-ghost use Rattle.diy_words.specs.Requests.{said_by, arch_said, name_said, mode_said, edges_said, relaxes_said, relax_usage, size_said, threads_said, after_said, cycle_said, folder_said, place_said, count_said, dashed_said, operand_said, begins_option};
+ghost use Rattle.diy_words.specs.Requests.{said_by, arch_said, name_said, mode_said, edges_said, relaxes_said, relax_usage, size_said, threads_said, accesses_said, after_said, cycle_said, folder_said, place_said, count_said, dashed_said, operand_said, begins_option};
 
 use crate::name::name_of;
 use crate::number::number_to;
@@ -35,6 +35,8 @@ pub struct Said<'a> {
     pub relaxes: Option<Relaxes>,
     pub limits: Limits,
     pub threads: u8,
+    /// The most accesses of a thread, where one is given.
+    pub accesses: Option<u8>,
     pub after: Option<Cycle>,
     pub folder: Option<&'a str>,
     /// In how many ways a relaxation can be chosen for each place, up to one more than may be.
@@ -62,6 +64,7 @@ impl<'a> Said<'a> {
                 exact: false,
             },
             threads: 4,
+            accesses: None,
             after: None,
             folder: None,
             choices: 1,
@@ -95,6 +98,7 @@ impl<'a> Said<'a> {
             OptionName::Edges => self.take_relaxes(at + 1, value),
             OptionName::Size => self.take_size(at + 1, value),
             OptionName::Nprocs => self.take_threads(at + 1, value),
+            OptionName::Accesses => self.take_accesses(at + 1, value),
             OptionName::After => self.take_after(at + 1, value),
             OptionName::Folder => self.take_folder(at + 1, value),
         }
@@ -182,6 +186,21 @@ impl<'a> Said<'a> {
         match number_to(MAX_EDGES as u32, value) {
             Some(threads) => {
                 self.threads = threads as u8;
+                Ok(())
+            }
+            None => Err(Usage {
+                word: at,
+                kind: UsageKind::BadNumber,
+            }),
+        }
+    }
+
+    fn take_accesses(&mut self, at: usize, value: &str) -> Result<(), Usage>
+        ensures { left_by result (held self.new) ≡ absorbed (held self.old) (accesses_said at (number_to MAX_EDGES value.now)) }
+    {
+        match number_to(MAX_EDGES as u32, value) {
+            Some(accesses) => {
+                self.accesses = Some(accesses as u8);
                 Ok(())
             }
             None => Err(Usage {

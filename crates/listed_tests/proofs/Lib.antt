@@ -6,3 +6,4 @@ pub mod GivenLaws
 pub mod Walks
 pub mod Texts
 pub mod Wanting
+pub mod RunLaws

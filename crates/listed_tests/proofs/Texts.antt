@@ -1,33 +1,67 @@
--- A text that is shorter than the room for it is kept whole.
-use Rattle.std.proofs.Common.{◌≡◌, ◌<◌, ◌≤◌, ℕ, List, [], length, Some, ap, arith, length-append}
-use Rattle.diy_io.specs.Count.{Rose}
-use Rattle.diy_io.specs.Sink.{Grew, GrewByPrefix, told_kept, told_after, written_told}
-use Rattle.diy_io.specs.Wrote.{WroteAll, WrotePart}
-use Rattle.listed_tests.specs.Texts.{text_seen}
-use Rattle.listed_tests.specs.declared.text.TestText.{TestText}
-use Rattle.listed_tests.specs.declared.text.TheConstants.{TEXT_ROOM}
+-- The text of a test that is put to its file part by part.
+use Rattle.std.proofs.Common.{◌≡◌, ◌≤◌, ◌<◌, ℕ, List, [], ◌++◌, length, sym, ap, ◌∙◌, subst, arith, append_assoc, append-nil}
+use Rattle.std.specs.Prelude.{Option, Some, None}
+use Rattle.diy_io.specs.declared.page.TheConstants.{SPILL, LINE_ROOM}
+use Rattle.diy_io.specs.Page.{page_after}
+use Rattle.diy_io.specs.PageLaws.{page_fits}
+use Rattle.diy_io.specs.Shelf.{ShelfSeen, name_written, Appended, AppendedPart}
+use Rattle.arch_trait.specs.Writing.{Writing}
+use Rattle.litmus_text.specs.declared.parts.TextPart.{TextPart}
+use Rattle.litmus_text.specs.declared.parts.TextPart.TheVariants.{Edges}
+use Rattle.litmus_text.specs.TestText.{TestSeen}
+use Rattle.litmus_text.specs.TextParts.{text_from, PutsPart}
+use Rattle.listed_tests.specs.Putting.{Filling, PutPart}
+use Rattle.listed_tests.proofs.Shelves.{filling_more, filling_part, part_more}
 
--- what a sink that tells its bytes has of a text, from nothing on
-front_of : (bytes text : List ℕ) → GrewByPrefix (written_told []) (written_told bytes) text → length bytes ≤ length text
-unfolding told_kept told_after
-front_of bytes text h =
-    let e : Some bytes ≡ Some h.front = ap (λ t. t.written) h.grew in
-    let f : bytes ≡ h.front = cc in
-    rw (f, h.parts) (omega (arith, length-append h.front h.rest))
+-- a file has a text so far, but for what the page holds and what stands from a part on
+pub record FilledTo (w : Writing) (test : TestSeen) (old : ShelfSeen) (path whole : List ℕ) (new : ShelfSeen) (page : List ℕ) (next : Option TextPart) : Type 0 where
+  pub written : List ℕ
+  pub file : Filling old new path written
+  pub text : written ++ (page ++ text_from w test next) ≡ whole
 
-grown_is : (bytes text : List ℕ) → Grew (written_told []) (written_told bytes) text → bytes ≡ text
-unfolding told_kept told_after
-grown_is bytes text h =
-    let e : Some bytes ≡ Some text = ap (λ t. t.written) h in cc
+module _ (w : Writing) (test : TestSeen) (a : ShelfSeen) (path whole : List ℕ) where
+  -- the page holds the header
+  pub filled_first : (b : ShelfSeen) (empty page header : List ℕ) → Filling a b path [] → empty ≡ [] → page ≡ page_after empty header → length header ≤ LINE_ROOM
+      → whole ≡ header ++ text_from w test (Some Edges) → FilledTo w test a path whole b page (Some Edges)
+  filled_first b empty page header begun none put short same =
+      let holds : page ≡ header = put ∙ ap (λ empty. page_after empty header) none ∙ page_fits [] header (omega arith) in
+      record { written = []; file = begun; text = ap (λ page. page ++ text_from w test (Some Edges)) holds ∙ sym same }
 
--- a text that was written to an empty one
-pub all_of : (old new : TestText) (text : List ℕ) → old.bytes.items ≡ [] → WroteAll (text_seen old) (text_seen new) text → new.bytes.items ≡ text
-all_of old new text none h = grown_is new.bytes.items text (rw none at h.grew)
+  -- the page goes to the file
+  pub filled_appended : (b c : ShelfSeen) (page bytes : List ℕ) (next : Option TextPart) → FilledTo w test a path whole b page next → bytes ≡ page → Appended b c (name_written b.mode) bytes
+      → FilledTo w test a path whole c [] next
+  filled_appended b c page bytes next f same x = record {
+    written = f.written ++ page;
+    file = filling_more a b c path f.written page f.file (subst (Appended b c (name_written b.mode)) same x);
+    text = append_assoc f.written page (text_from w test next) ∙ f.text;
+  }
 
--- no shorter text fails
-pub never_full : (old new : TestText) (text : List ℕ) → old.bytes.items ≡ [] → old.faults ≡ 0 → WrotePart (text_seen old) (text_seen new) text
-    → (0 < new.faults → length new.bytes.items ≡ TEXT_ROOM) → length text ≤ 262144 → ⊥
-never_full old new text empty none h full short =
-    let rose : Rose old.faults new.faults = h.fault in
-    let long : length new.bytes.items ≡ TEXT_ROOM = full (omega arith) in
-    omega (arith, front_of new.bytes.items text (rw empty at h.grew))
+  -- it goes there in part
+  pub filled_part : (b c : ShelfSeen) (page bytes : List ℕ) (next : Option TextPart) → FilledTo w test a path whole b page next → bytes ≡ page → AppendedPart b c (name_written b.mode) bytes
+      → PutPart a c [] path whole
+  filled_part b c page bytes next f same x =
+      part_more a c [] path (f.written ++ page) (text_from w test next) whole
+      (filling_part a b c path f.written page f.file (subst (AppendedPart b c (name_written b.mode)) same x))
+      (sym f.text ∙ sym (append_assoc f.written page (text_from w test next)))
+
+  -- a part is put to the page
+  pub filled_more : (b : ShelfSeen) (page new : List ℕ) (part : TextPart) (next : Option TextPart) → FilledTo w test a path whole b page (Some part) → length page < SPILL
+      → PutsPart w test part page new next → FilledTo w test a path whole b new next
+  filled_more b page new part next f room put =
+      let rest = text_from w test next in
+      let holds : new ≡ page ++ put.piece = put.page ∙ page_fits page put.piece (omega (arith, put.short)) in
+      record {
+        written = f.written;
+        file = f.file;
+        text =
+            ap (λ text. f.written ++ text)
+            (ap (λ new. new ++ rest) holds ∙ append_assoc page put.piece rest ∙ ap (λ more. page ++ more) (sym put.text))
+            ∙ f.text;
+      }
+
+  -- all parts are put, and the page goes to the file
+  pub filled_whole : (b c : ShelfSeen) (page bytes : List ℕ) → FilledTo w test a path whole b page None → bytes ≡ page → Appended b c (name_written b.mode) bytes
+      → Filling a c path whole
+  filled_whole b c page bytes f same x =
+      let all : f.written ++ page ≡ whole = ap (λ page. f.written ++ page) (sym (append-nil page)) ∙ f.text in
+      subst (Filling a c path) all (filling_more a b c path f.written page f.file (subst (Appended b c (name_written b.mode)) same x))

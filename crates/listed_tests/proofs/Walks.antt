@@ -26,31 +26,31 @@ least_again u None normal h = absurd h
 least_again u (Some v) normal h =
     ap Some ((normal_forms_decide u u v u h (record { rotation = same_cycle_is_equivalence.itself u; normal = normal })).1 (same_cycle_is_equivalence.itself u))
 
-module _ {K P : Type 0} where
+module _ {K J P : Type 0} where
   -- it answers as before
-  pub answers_as : (post : P → (Bor (List Edge) × Unit {0}) → Bool → Type 0) (v w : Walking K P) (last answer : Option (List Edge))
+  pub answers_as : (post : P → (Bor (List Edge) × Unit {0}) → Bool → Type 0) (v w : Walking K J P) (last answer : Option (List Edge))
       → w ≡ record v { last = w.last } → IsAnswer (Lists post w) last answer → IsAnswer (Lists post v) last answer
   answers_as post v w last answer e h = subst (λ x. IsAnswer (Lists post x) last answer) e h
 
   -- it lists what it listed
-  lists_as : (post : P → (Bor (List Edge) × Unit {0}) → Bool → Type 0) (v w : Walking K P) (Said : (List Edge → Type 0) → Type 0) → w ≡ record v { last = w.last } → Said (Lists post w) → Said (Lists post v)
+  lists_as : (post : P → (Bor (List Edge) × Unit {0}) → Bool → Type 0) (v w : Walking K J P) (Said : (List Edge → Type 0) → Type 0) → w ≡ record v { last = w.last } → Said (Lists post w) → Said (Lists post v)
   lists_as post v w Said e h = subst (λ x. Said (Lists post x)) e h
 
   -- it went on
-  pub went_on : (v w x : Walking K P) (u : List Edge) → w ≡ record v { last = w.last } → x ≡ record w { last = Some u } → x ≡ record v { last = x.last }
+  pub went_on : (v w x : Walking K J P) (u : List Edge) → w ≡ record v { last = w.last } → x ≡ record w { last = Some u } → x ≡ record v { last = x.last }
   went_on v w x u e f =
-      let behind : Walking K P → Walking K P = λ y. record y { last = Some u } in
+      let behind : Walking K J P → Walking K J P = λ y. record y { last = Some u } in
       subst (λ l. x ≡ record v { last = l }) (sym (ap (λ y. y.last) f)) (f ∙ ap behind e)
 
   -- it lists what a plan lists
-  pub planned : (post : P → (Bor (List Edge) × Unit {0}) → Bool → Type 0) (v : Walking K P) (puts : Puts) (writing : Writing) (wanted : Wanted)
-      → ((u : List Edge) → IsCycle u → Says post v.take u true ↔ (is_wanted puts wanted.mode wanted.threads u ≡ true))
+  pub planned : (post : P → (Bor (List Edge) × Unit {0}) → Bool → Type 0) (v : Walking K J P) (puts : Puts) (writing : Writing) (wanted : Wanted)
+      → ((u : List Edge) → IsCycle u → Says post v.take u true ↔ (is_wanted puts wanted.mode wanted.threads wanted.accesses u ≡ true))
       → (u : List Edge) → Lists post v u ↔ IsPlanned (plan_of puts writing wanted v.relaxes v.limits) u
   planned post v puts writing wanted same =
-      listed_alike (λ u. Says post v.take u true) (λ u. is_wanted puts wanted.mode wanted.threads u ≡ true) v.relaxes v.limits.size v.limits.exact same
+      listed_alike (λ u. Says post v.take u true) (λ u. is_wanted puts wanted.mode wanted.threads wanted.accesses u ≡ true) v.relaxes v.limits.size v.limits.exact same
 
   -- what it leaves, by another word for the cycles that it lists: all files and the line on their number
-  pub all_written : (post : P → (Bor (List Edge) × Unit {0}) → Bool → Type 0) (v w : Walking K P) (other : List Edge → Type 0) (folder : Option (List ℕ)) (text : List Edge → List ℕ) (given : Option (List Edge))
+  pub all_written : (post : P → (Bor (List Edge) × Unit {0}) → Bool → Type 0) (v w : Walking K J P) (other : List Edge → Type 0) (folder : Option (List ℕ)) (text : List Edge → List ℕ) (given : Option (List Edge))
       (a b c : ShelfSeen) (number : ℕ) (lines : List ℕ) (closed : Option Closed) (SaysLine : List ℕ → Type 0)
       → ((u : List Edge) → Lists post v u ↔ other u) → w ≡ record v { last = w.last } → HasGone (Lists post v) folder text given a b number lines closed
       → NamesAll (Lists post w) (all_path folder) lines closed b c → SaysLine (count_line number) → WritesAll other folder text given a c SaysLine
@@ -59,7 +59,7 @@ module _ {K P : Type 0} where
       (names_put (Lists post v) folder text given a b c number lines closed SaysLine gone (lists_as post v w (λ listed. NamesAll listed (all_path folder) lines closed b c) e named) line)
 
   -- or all but the file that names them
-  pub naming_stopped : (post : P → (Bor (List Edge) × Unit {0}) → Bool → Type 0) (v w : Walking K P) (other : List Edge → Type 0) (folder : Option (List ℕ)) (text : List Edge → List ℕ) (given : Option (List Edge))
+  pub naming_stopped : (post : P → (Bor (List Edge) × Unit {0}) → Bool → Type 0) (v w : Walking K J P) (other : List Edge → Type 0) (folder : Option (List ℕ)) (text : List Edge → List ℕ) (given : Option (List Edge))
       (a b c : ShelfSeen) (number : ℕ) (lines : List ℕ) (closed : Option Closed)
       → ((u : List Edge) → Lists post v u ↔ other u) → w ≡ record v { last = w.last } → HasGone (Lists post v) folder text given a b number lines closed
       → StopsNaming (Lists post w) (all_path folder) lines closed b c → StopsAtAll other folder text given a c

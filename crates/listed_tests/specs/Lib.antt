@@ -1,7 +1,7 @@
 pub mod Files
-pub mod Texts
 pub mod Putting
 pub mod Plans
+pub mod Runs
 pub mod Ends
 pub mod Given
 pub mod Keeping

@@ -1,15 +1,16 @@
 -- What a listing asks for: which cycles have a test in it, and what their tests are.
 -- Source: own, after diy.
-use Rattle.std.specs.Prelude.{◌≡◌, ℕ, Bool, true, ◌&&◌, nat_le, is_none, List, Option}
+use Rattle.std.specs.Prelude.{◌≡◌, ℕ, Bool, true, ◌&&◌, nat_le, is_none, List, length, Option, Some, None}
 use Rattle.std.specs.List.{list_all}
 use Rattle.std.specs.Option.{option_map}
 use Rattle.relax_edges.specs.declared.edge.Edge.{Edge}
 use Rattle.relax_edges.specs.declared.kinds.ArchName.{ArchName}
 use Rattle.relax_edges.specs.declared.kinds.ObsMode.{ObsMode}
 use Rattle.relax_edges.specs.EdgeTable.{is_of_arch}
+use Rattle.list_laws.specs.Numbers.{upto}
 use Rattle.listing_laws.specs.Listing.{IsListed}
 use Rattle.cycle_names.specs.Names.{name_of}
-use Rattle.resolution_laws.specs.Resolution.{external_count}
+use Rattle.resolution_laws.specs.Resolution.{external_count, turned, events_in}
 use Rattle.arch_trait.specs.Threads.{Puts}
 use Rattle.arch_trait.specs.Writing.{Writing}
 use Rattle.test_maker.specs.Refusals.{refusal_of}
@@ -21,9 +22,16 @@ use Rattle.listed_tests.specs.declared.wanted.Wanted.{Wanted}
 abbrev pub has_few_threads : ℕ → List Edge → Bool
 has_few_threads threads cycle = nat_le (external_count cycle) threads
 
--- a cycle has a test, and has at most so many threads
-unfoldable pub is_wanted : Puts → ObsMode → ℕ → List Edge → Bool
-is_wanted puts mode threads cycle = is_none (refusal_of puts cycle mode) && has_few_threads threads cycle
+-- each of a cycle's own threads has at most so many accesses, observers not counted: so many of its events are in a thread of
+-- the cycle as it is resolved; without a limit all cycles are so
+unfoldable pub has_few_accesses : Option ℕ → List Edge → Bool
+has_few_accesses None cycle = true
+has_few_accesses (Some most) cycle = list_all (λ thread. nat_le (length (events_in (turned cycle) thread)) most) (upto (external_count cycle))
+
+-- a cycle has a test, has at most so many threads, and has at most so many accesses in each
+unfoldable pub is_wanted : Puts → ObsMode → ℕ → Option ℕ → List Edge → Bool
+is_wanted puts mode threads accesses cycle =
+    is_none (refusal_of puts cycle mode) && (has_few_threads threads cycle && has_few_accesses accesses cycle)
 
 -- such a cycle may begin with these edges: all are of the architecture, and there are no more threads yet
 unfoldable pub may_lead : ArchName → ℕ → List Edge → Bool
@@ -35,6 +43,7 @@ pub record Plan : Type 0 where
   pub writing : Writing
   pub mode : ObsMode
   pub threads : ℕ
+  pub accesses : Option ℕ
   pub folder : Option (List ℕ)
   pub relaxes : List (List Edge)
   pub limits : Limits
@@ -50,6 +59,7 @@ plan_of puts writing wanted relaxes limits = record {
   writing = writing;
   mode = wanted.mode;
   threads = wanted.threads;
+  accesses = wanted.accesses;
   folder = folder_of wanted;
   relaxes = relaxes;
   limits = limits;
@@ -57,7 +67,7 @@ plan_of puts writing wanted relaxes limits = record {
 
 -- a cycle is listed
 abbrev pub IsPlanned : Plan → List Edge → Type 0
-IsPlanned plan = IsListed (λ cycle. is_wanted plan.puts plan.mode plan.threads cycle ≡ true) plan.relaxes plan.limits.size plan.limits.exact
+IsPlanned plan = IsListed (λ cycle. is_wanted plan.puts plan.mode plan.threads plan.accesses cycle ≡ true) plan.relaxes plan.limits.size plan.limits.exact
 
 -- the text of the test of a cycle, under the cycle's name
 abbrev pub named_text : Puts → Writing → ObsMode → List Edge → List ℕ

@@ -46,6 +46,7 @@ pub fn put_cycles<A: Arch, H: Shelf, O: Sink>(
 {
     let wanted = Wanted {
         threads: MAX_EDGES as u8,
+        accesses: None,
         mode,
         folder,
     };

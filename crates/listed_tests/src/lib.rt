@@ -8,7 +8,7 @@ mod listing;
 mod making;
 mod names;
 mod putting;
-mod text;
+mod runs;
 mod wanted;
 
 pub use ending::ListingEnd;

@@ -17,7 +17,7 @@ use crate::ending::ListingEnd;
 use crate::files::{FileName, MAX_FOLDER, Path, file_named, set_path};
 use crate::making::Desk;
 use crate::names::{Names, put_names};
-use crate::putting::put_file;
+use crate::putting::put_text;
 use crate::wanted::Wanted;
 use arch_trait::Arch;
 use arrayvec::ArrayString;
@@ -40,6 +40,9 @@ pub struct Listing<'a> {
     pub limits: Limits,
     /// The most threads of a cycle, observers not counted.
     pub threads: u8,
+    /// The most accesses of each of a cycle's own threads, from 1, observers not counted; `None` is no
+    /// limit.
+    pub accesses: Option<u8>,
     /// How observers are treated.
     pub mode: ObsMode,
     /// The cycle behind whose normal form the listing begins, where it doesn't begin with the first.
@@ -52,8 +55,9 @@ pub struct Listing<'a> {
 /// line on their number to `out`. It takes no memory.
 ///
 /// A cycle is listed where it is in normal form, keeps the limits, is made of the relaxations, has
-/// a test on the architecture in the mode, and has no more threads than are asked for; behind a
-/// cycle, where it also follows that cycle's normal form. Its file has the text of its test under
+/// a test on the architecture in the mode, and has no more threads than are asked for, and no more
+/// accesses in each of its own threads; after a cycle, where it also follows that cycle's normal form.
+/// Its file has the text of its test under
 /// its name. The file is called by that name where it has at most 200 bytes, else by `long` and the
 /// number of the test in this listing, from 0; then `.litmus`. In a folder the file's name stands
 /// behind the folder's and a slash; `@all` has the names alone, each on a line. Numbers stop at the
@@ -63,7 +67,7 @@ pub struct Listing<'a> {
 /// whole, that one is as it was or has a front of its text, no other file changed, and nothing is
 /// written to `out`. `OutFault` comes only where the count of `out` rose. Then all files are whole,
 /// and `out` has a front of the line. In each case the shelf is at nothing again.
-#[tactic(auto, using(crate::proofs::Wanting::refused_leads_none))]
+#[tactic(auto, using(crate::proofs::Wanting::refused_leads_none, crate::proofs::Wanting::long_run_leads_none))]
 pub fn list_tests<A: Arch, H: Shelf, O: Sink>(
     listing: Listing,
     shelf: &mut H,
@@ -72,33 +76,36 @@ pub fn list_tests<A: Arch, H: Shelf, O: Sink>(
     requires size { listing.limits.size ≤ MAX_EDGES }
     requires folder { ForSome listing.folder (λ folder. length folder.now ≤ MAX_FOLDER) }
     requires idle { (H.seen shelf.old).mode ≡ Idle }
-    ensures { EndsListing O.seen (plan_of A.puts A.writing (record { threads = listing.entry.threads; mode = listing.entry.mode; folder = listing.entry.folder }) listing.entry.relaxes listing.entry.limits) listing.entry.after result (H.seen shelf.old) (H.seen shelf.new) out.old out.new }
+    ensures { EndsListing O.seen (plan_of A.puts A.writing (record { threads = listing.entry.threads; accesses = listing.entry.accesses; mode = listing.entry.mode; folder = listing.entry.folder }) listing.entry.relaxes listing.entry.limits) listing.entry.after result (H.seen shelf.old) (H.seen shelf.new) out.old out.new }
 {
     let Listing {
         relaxes,
         limits,
         threads,
+        accesses,
         mode,
         after,
         folder,
     } = listing;
     let wanted = Wanted {
         threads,
+        accesses,
         mode,
         folder,
     };
     let keep = |edges: &[Edge]| wanted.may_lead::<A>(edges);
+    let fit = |edges: &[Edge]| wanted.may_fit(edges);
     let take = |cycle: &Cycle| -> bool
-        ensures { result ≡ is_wanted A.puts wanted.entry.mode wanted.entry.threads cycle.now }
+        ensures { result ≡ is_wanted A.puts wanted.entry.mode wanted.entry.threads wanted.entry.accesses cycle.now }
     { wanted.takes::<A>(cycle) };
-    let mut walk = Walk::new(relaxes, limits, keep, take);
+    let mut walk = Walk::new(relaxes, limits, keep, fit, take);
     begin_behind(&mut walk, &after);
-    list_walk::<A, H, O, _, _>(&wanted, &mut walk, shelf, out)
+    list_walk::<A, H, O, _, _, _>(&wanted, &mut walk, shelf, out)
 }
 
 /// Lets a walk go on behind a cycle, where there is one.
-fn begin_behind<K: Fn(&[Edge]) -> bool, P: Fn(&Cycle) -> bool>(
-    walk: &mut Walk<K, P>,
+fn begin_behind<K: Fn(&[Edge]) -> bool, J: Fn(&[Edge]) -> bool, P: Fn(&Cycle) -> bool>(
+    walk: &mut Walk<K, J, P>,
     after: &Option<Cycle>,
 )
     requires { walk.old.last ≡ None }
@@ -112,20 +119,22 @@ fn begin_behind<K: Fn(&[Edge]) -> bool, P: Fn(&Cycle) -> bool>(
 }
 
 /// Writes the files of a walk's cycles from where it stands, and the line on their number.
-fn list_walk<A: Arch, H: Shelf, O: Sink, K: Fn(&[Edge]) -> bool, P: Fn(&Cycle) -> bool>(
-    wanted: &Wanted,
-    walk: &mut Walk<K, P>,
-    shelf: &mut H,
-    out: &mut O,
-) -> ListingEnd
-    requires knows { KnowsOf K.pre K.Fn.post P.pre P.Fn.post walk.old.keep walk.old.take }
-    requires wanted { (cycle : List EdgeValue) → IsCycle cycle → Says P.Fn.post walk.old.take cycle true ↔ (is_wanted A.puts wanted.now.mode wanted.now.threads cycle ≡ true) }
+fn list_walk<
+    A: Arch,
+    H: Shelf,
+    O: Sink,
+    K: Fn(&[Edge]) -> bool,
+    J: Fn(&[Edge]) -> bool,
+    P: Fn(&Cycle) -> bool,
+>(wanted: &Wanted, walk: &mut Walk<K, J, P>, shelf: &mut H, out: &mut O) -> ListingEnd
+    requires knows { KnowsOf K.pre K.Fn.post J.pre J.Fn.post P.pre P.Fn.post walk.old.keep walk.old.fit walk.old.take }
+    requires wanted { (cycle : List EdgeValue) → IsCycle cycle → Says P.Fn.post walk.old.take cycle true ↔ (is_wanted A.puts wanted.now.mode wanted.now.threads wanted.now.accesses cycle ≡ true) }
     requires folder { ForSome wanted.now.folder (λ folder. length folder.now ≤ MAX_FOLDER) }
     requires idle { (H.seen shelf.old).mode ≡ Idle }
     ensures { EndsBehind O.seen (plan_of A.puts A.writing wanted.now walk.old.relaxes walk.old.limits) walk.old.last result (H.seen shelf.old) (H.seen shelf.new) out.old out.new }
 {
     let mut names = Names::new();
-    let count = match put_tests::<A, H, K, P>(wanted, walk, &mut names, shelf) {
+    let count = match put_tests::<A, H, K, J, P>(wanted, walk, &mut names, shelf) {
         Ok(count) => count,
         Err(Failed) => return ListingEnd::ShelfFault,
     };
@@ -141,13 +150,19 @@ fn list_walk<A: Arch, H: Shelf, O: Sink, K: Fn(&[Edge]) -> bool, P: Fn(&Cycle) -
 
 /// Puts the files of a walk's cycles on the shelf, from where it stands, keeps the lines that name
 /// them, and gives their number.
-fn put_tests<A: Arch, H: Shelf, K: Fn(&[Edge]) -> bool, P: Fn(&Cycle) -> bool>(
+fn put_tests<
+    A: Arch,
+    H: Shelf,
+    K: Fn(&[Edge]) -> bool,
+    J: Fn(&[Edge]) -> bool,
+    P: Fn(&Cycle) -> bool,
+>(
     wanted: &Wanted,
-    walk: &mut Walk<K, P>,
+    walk: &mut Walk<K, J, P>,
     names: &mut Names,
     shelf: &mut H,
 ) -> Result<u128, Failed>
-    requires knows { KnowsOf K.pre K.Fn.post P.pre P.Fn.post walk.old.keep walk.old.take }
+    requires knows { KnowsOf K.pre K.Fn.post J.pre J.Fn.post P.pre P.Fn.post walk.old.keep walk.old.fit walk.old.take }
     requires have_tests { (cycle : List EdgeValue) → IsCycle cycle → Says P.Fn.post walk.old.take cycle true → refusal_of A.puts cycle wanted.now.mode ≡ None }
     requires folder { ForSome wanted.now.folder (λ folder. length folder.now ≤ MAX_FOLDER) }
     requires idle { (H.seen shelf.old).mode ≡ Idle }
@@ -190,10 +205,17 @@ pub(crate) fn put_test<A: Arch, H: Shelf>(
     ensures failed { OnErr result (PutPart (H.seen shelf.old) (H.seen shelf.new) [] (path_of (folder_of wanted.now) (file_of number cycle.now)) (named_text A.puts A.writing wanted.now.mode cycle.now)) }
 {
     name_of(cycle, name);
-    desk.make::<A>(cycle, wanted.mode, name.as_str());
+    desk.make::<A>(cycle, wanted.mode);
     let file = file_named(number, name.as_str());
     set_path(wanted.folder, file.as_str(), path);
-    put_file(path.as_str(), desk.text.as_slice(), shelf)?;
+    put_text::<A, H>(
+        path.as_str(),
+        name.as_str(),
+        &desk.test,
+        &desk.table,
+        &mut desk.page,
+        shelf,
+    )?;
     Ok(file)
 }
 

@@ -87,13 +87,18 @@ pub(crate) fn file_of(cycle: &Cycle, number: u128) -> FileName
 
 /// Puts the file that names all others on the shelf. The lines that weren't kept are those of the
 /// walk's cycles behind the last one that was.
-pub(crate) fn put_names<H: Shelf, K: Fn(&[Edge]) -> bool, P: Fn(&Cycle) -> bool>(
+pub(crate) fn put_names<
+    H: Shelf,
+    K: Fn(&[Edge]) -> bool,
+    J: Fn(&[Edge]) -> bool,
+    P: Fn(&Cycle) -> bool,
+>(
     names: &mut Names,
     folder: Option<&str>,
-    walk: &mut Walk<K, P>,
+    walk: &mut Walk<K, J, P>,
     shelf: &mut H,
 ) -> Result<(), Failed>
-    requires knows { KnowsOf K.pre K.Fn.post P.pre P.Fn.post walk.old.keep walk.old.take }
+    requires knows { KnowsOf K.pre K.Fn.post J.pre J.Fn.post P.pre P.Fn.post walk.old.keep walk.old.fit walk.old.take }
     requires idle { (H.seen shelf.old).mode ≡ Idle }
     requires folder { ForSome folder (λ folder. length folder.now ≤ MAX_FOLDER) }
     requires normal { ForSome names.old.closed (λ closed. IsNormal closed.cycle) }
@@ -108,14 +113,14 @@ pub(crate) fn put_names<H: Shelf, K: Fn(&[Edge]) -> bool, P: Fn(&Cycle) -> bool>
 }
 
 /// Puts a file on the shelf that has the lines, and then those of the walk's cycles behind a cycle.
-fn put_behind<H: Shelf, K: Fn(&[Edge]) -> bool, P: Fn(&Cycle) -> bool>(
+fn put_behind<H: Shelf, K: Fn(&[Edge]) -> bool, J: Fn(&[Edge]) -> bool, P: Fn(&Cycle) -> bool>(
     path: &str,
     lines: &mut Lines,
     closed: &Closed,
-    walk: &mut Walk<K, P>,
+    walk: &mut Walk<K, J, P>,
     shelf: &mut H,
 ) -> Result<(), Failed>
-    requires knows { KnowsOf K.pre K.Fn.post P.pre P.Fn.post walk.old.keep walk.old.take }
+    requires knows { KnowsOf K.pre K.Fn.post J.pre J.Fn.post P.pre P.Fn.post walk.old.keep walk.old.fit walk.old.take }
     requires idle { (H.seen shelf.old).mode ≡ Idle }
     requires normal { IsNormal closed.now.cycle }
     ensures ok { OnOk result (NamesBehind (Lists P.Fn.post walk.old) path.now lines.old.items closed.now (H.seen shelf.old) (H.seen shelf.new)) }

@@ -1,8 +1,10 @@
-ghost use Rattle.std.specs.Prelude.{◌≡◌};
+ghost use Rattle.std.specs.Prelude.{◌≡◌, ◌↔◌, IsFalse};
 ghost use Rattle.std.specs.List.{list_all};
 ghost use Rattle.relax_edges.specs.EdgeTable.{is_of_arch};
 ghost use Rattle.listed_tests.specs.Plans.{has_few_threads, is_wanted, may_lead};
+ghost use Rattle.listed_tests.specs.Runs.{HasLongRun};
 
+use crate::runs::{has_few_accesses, stays_below};
 use arch_trait::Arch;
 use edge_algebra::Cycle;
 use relax_edges::{Edge, ObsMode};
@@ -12,12 +14,14 @@ use test_maker::accepted;
 #[derive(Clone, Copy)]
 pub(crate) struct Wanted<'a> {
     pub(crate) threads: u8,
+    pub(crate) accesses: Option<u8>,
     pub(crate) mode: ObsMode,
     pub(crate) folder: Option<&'a str>,
 }
 
 impl Wanted<'_> {
-    /// Whether a cycle that is wanted may begin with the edges.
+    /// Whether a cycle that is wanted may begin with the edges, by their architecture and by how many of
+    /// them lead to another thread.
     #[tactic(auto, unfolding(crate::specs::Plans::may_lead))]
     pub(crate) fn may_lead<A: Arch>(&self, edges: &[Edge]) -> bool
         ensures { result ≡ may_lead A.puts.name self.now.threads edges.now }
@@ -25,12 +29,28 @@ impl Wanted<'_> {
         are_of_arch::<A>(edges) && has_few_threads(edges, self.threads)
     }
 
-    /// Whether a cycle is wanted: it has a test, and no more threads than are asked for.
-    #[tactic(auto, unfolding(crate::specs::Plans::is_wanted))]
-    pub(crate) fn takes<A: Arch>(&self, cycle: &Cycle) -> bool
-        ensures { result ≡ is_wanted A.puts self.now.mode self.now.threads cycle.now }
+    /// Whether a cycle that is wanted may begin with the edges, by the accesses of its threads: the edges
+    /// don't have as many internal ones one after the other as a thread may have accesses, since these
+    /// join one more.
+    #[tactic(auto, using(crate::proofs::RunLaws::long_run_exactly))]
+    pub(crate) fn may_fit(&self, edges: &[Edge]) -> bool
+        ensures { IsFalse result ↔ HasLongRun self.now.accesses edges.now }
     {
-        accepted::<A>(cycle, self.mode).is_ok() && has_few_threads(cycle.edges(), self.threads)
+        match self.accesses {
+            Some(most) => stays_below(most, 0, edges),
+            None => true,
+        }
+    }
+
+    /// Whether a cycle is wanted: it has a test, no more threads than are asked for, and no more
+    /// accesses in each of them.
+    #[tactic(auto, using(crate::proofs::Wanting::tested_threads), unfolding(crate::specs::Plans::is_wanted))]
+    pub(crate) fn takes<A: Arch>(&self, cycle: &Cycle) -> bool
+        ensures { result ≡ is_wanted A.puts self.now.mode self.now.threads self.now.accesses cycle.now }
+    {
+        accepted::<A>(cycle, self.mode).is_ok()
+            && has_few_threads(cycle.edges(), self.threads)
+            && has_few_accesses(cycle.edges(), self.accesses)
     }
 }
 

@@ -1,7 +1,6 @@
 -- From the answer of a search to the next of the sought lists.
 use Rattle.std.proofs.Common.{◌<◌, inl, inr, ℕ, suc, Option, Some, None, List, [], ◌∷◌, ◌++◌, length, sym, arith}
 use Rattle.std.proofs.lemmas.List.{append-nil}
-use Rattle.std.specs.Prelude.{Bool}
 use Rattle.std.proofs.lemmas.Bool.{cases_lt}
 use Rattle.relax_edges.specs.declared.edge.Edge.{Edge}
 use Rattle.walk_laws.specs.Order.{Above, Follows}
@@ -10,7 +9,7 @@ use Rattle.listing_laws.specs.Search.{Reaches, ToCome, StepsOver, over, replaced
 use Rattle.walk_laws.proofs.Ordering.{above_longer, above_transitive}
 use Rattle.listing_laws.proofs.Searching.{reaches_cases, above_replaced, above_u, to_come_reaches}
 
-module _ (listed : List Edge → Type 0) (says : List Edge → Bool → Type 0) where
+module _ (listed : List Edge → Type 0) (keeps : List Edge → Type 0) where
   -- all sought lists of n edges are to come where a search begins
   pub answer_of_length : (n : ℕ) (start : List Edge) (answer : Option (List Edge)) → 0 < n → IsExtended listed [] start → IsFirst (OfLength n listed) start answer
       → IsAnswer (OfLength n listed) None answer
@@ -31,7 +30,7 @@ module _ (listed : List Edge → Type 0) (says : List Edge → Bool → Type 0) 
       }
 
   -- the list cut off the last one, with one sought behind it, goes on: what is to come is what is above the last one
-  cut_above : (last list m : List Edge) → IsCut listed says last list → listed m → Above last m → Above list m
+  cut_above : (last list m : List Edge) → IsCut listed keeps last list → listed m → Above last m → Above list m
   cut_above last list m c is a =
       elim c.whole [
         | inl e ↦ rw (append-nil list) at (rw e at (rw c.front at a))
@@ -43,7 +42,7 @@ module _ (listed : List Edge → Type 0) (says : List Edge → Bool → Type 0) 
       front_of (x ∷ u) r [] h = h
       front_of (x ∷ u) r (y ∷ v) h = elim h [ inl less ↦ inl less | inr both ↦ inr (both.0, front_of u r v both.1) ]
 
-  above_raised : (last list new m : List Edge) → IsCut listed says last list → StepsOver list new → ToCome new m → Above last m
+  above_raised : (last list new m : List Edge) → IsCut listed keeps last list → StepsOver list new → ToCome new m → Above last m
   above_raised last list new m c (over e) h = absurd (rw e at h)
   above_raised last list new m c (replaced front x y back u v more) h =
       let up : Above list new = rw (u, v) (above_replaced front x y back more) in
@@ -53,7 +52,7 @@ module _ (listed : List Edge → Type 0) (says : List Edge → Bool → Type 0) 
       ]
 
   -- from the last list on: the next of its length
-  pub answer_as_long : (last list new : List Edge) (answer : Option (List Edge)) → IsCut listed says last list → IsRaised listed list new
+  pub answer_as_long : (last list new : List Edge) (answer : Option (List Edge)) → IsCut listed keeps last list → IsRaised listed list new
       → IsFirst (OfLength (length last) listed) new answer → IsAnswer (OfLength (length last) listed) (Some last) answer
   answer_as_long last list new None c r f = λ v is h. f v is (later v is h)
     where

@@ -1,7 +1,6 @@
 -- Why no listed cycle begins with a list.
-use Rattle.std.proofs.Common.{◌≡◌, ◌<◌, ℕ, Bool, true, false, List, length}
+use Rattle.std.proofs.Common.{◌≡◌, ℕ, Bool, false, List}
 use Rattle.relax_edges.specs.declared.edge.Edge.{Edge}
-use Rattle.listing_laws.specs.Asked.{Knows}
 use Rattle.walk_laws.specs.Beginning.{may_begin}
 use Rattle.listing_laws.specs.Listing.{IsListed, IsMadeOf, KeepsLimits}
 use Rattle.listing_laws.specs.Search.{LeadsNowhere, OfLength}
@@ -19,9 +18,3 @@ module _ (takes : List Edge → Type 0) (relaxes : List (List Edge)) (size : ℕ
   -- of a number of edges that doesn't keep the limits there is none
   pub none_of_length : (n : ℕ) → (KeepsLimits size exact n → ⊥) → (u : List Edge) → OfLength n (IsListed takes relaxes size exact) u → ⊥
   none_of_length n h u o = h (rw o.long at o.is.limits)
-
--- the pruner says no on it
-pub refused_nowhere : (may_ask : List Edge → Type 0) (says : List Edge → Bool → Type 0) (may_test : List Edge → Type 0) (finds : List Edge → Bool → Type 0)
-    (relaxes : List (List Edge)) (size : ℕ) (exact : Bool) → Knows may_ask says may_test finds
-    → (u : List Edge) → 0 < length u → says u false → LeadsNowhere (IsListed (λ v. finds v true) relaxes size exact) u
-refused_nowhere may_ask says may_test finds relaxes size exact k u some h r l = k.refused u r some h l.cycle l.taken

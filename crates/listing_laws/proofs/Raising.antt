@@ -1,5 +1,5 @@
 -- A list goes on: the edges that were taken off its end, and the cut of a list.
-use Rattle.std.proofs.Common.{◌≡◌, ◌<◌, ◌≤◌, ◌⊎◌, inl, inr, ℕ, zero, suc, ◌+◌, Bool, true, Some, None, List, [], ◌∷◌, ◌++◌, length, take, drop, get_or, add-one, refl, sym, ◌∙◌, ap, arith, append_assoc, length-append}
+use Rattle.std.proofs.Common.{◌≡◌, ◌<◌, ◌≤◌, ◌⊎◌, inl, inr, ℕ, zero, suc, ◌+◌, Some, None, List, [], ◌∷◌, ◌++◌, length, take, drop, get_or, add-one, refl, sym, ◌∙◌, ap, arith, append_assoc, length-append}
 use Rattle.std.proofs.lemmas.List.{append-nil, take_all, take-append-le}
 use Rattle.std.proofs.lemmas.Bool.{cases_lt}
 use Rattle.relax_edges.specs.declared.order.TheConstants.{EDGES}
@@ -108,29 +108,29 @@ module _ (sought : List Edge → Type 0) where
         (λ a. r.all m s a);
   }
 
-module _ (sought : List Edge → Type 0) (says : List Edge → Bool → Type 0) where
-  -- the pruner says yes on a front part and all that are shorter
-  pub kept_none : KeptWhole says []
+module _ (sought : List Edge → Type 0) (keeps : List Edge → Type 0) where
+  -- a prefix is kept and all that are shorter
+  pub kept_none : KeptWhole keeps []
   kept_none k p l = absurd (omega arith)
 
-  pub kept_more : (list new : List Edge) (x : Edge) → new ≡ list ++ x ∷ [] → KeptWhole says list → says new true → KeptWhole says new
+  pub kept_more : (list new : List Edge) (x : Edge) → new ≡ list ++ x ∷ [] → KeptWhole keeps list → keeps new → KeptWhole keeps new
   kept_more list new x is kept agreed k p l =
       elim (cases_lt k (suc (length list))) [
         | inl b ↦ rw (is, take-append-le k list (x ∷ []) (omega arith)) (kept k p (omega arith))
         | inr b ↦ rw (take_all k new (omega (arith, ap length is, length-append list (x ∷ [])))) agreed
       ]
 
-  kept_below : (list new : List Edge) (x : Edge) → new ≡ list ++ x ∷ [] → KeptWhole says list → KeptBelow says (length new) new
+  kept_below : (list new : List Edge) (x : Edge) → new ≡ list ++ x ∷ [] → KeptWhole keeps list → KeptBelow keeps (length new) new
   kept_below list new x is kept k p l =
       let short : k ≤ length list = omega (arith, ap length is, length-append list (x ∷ [])) in
       rw (is, take-append-le k list (x ∷ []) short) (kept k p short)
 
   -- no sought list begins with the front part: the list is cut
-  pub cut_refused : (u list new rest : List Edge) (x : Edge) → new ≡ list ++ x ∷ [] → u ≡ new ++ rest → KeptWhole says list → LeadsNowhere sought new → IsCut sought says u new
+  pub cut_refused : (u list new rest : List Edge) (x : Edge) → new ≡ list ++ x ∷ [] → u ≡ new ++ rest → KeptWhole keeps list → LeadsNowhere sought new → IsCut sought keeps u new
   cut_refused u list new rest x is parts kept none = record { rest = rest; front = parts; kept = kept_below list new x is kept; whole = inr none }
 
   -- the whole list
-  pub cut_whole : (u list rest : List Edge) → u ≡ list ++ rest → rest ≡ [] → KeptWhole says list → IsCut sought says u list
+  pub cut_whole : (u list rest : List Edge) → u ≡ list ++ rest → rest ≡ [] → KeptWhole keeps list → IsCut sought keeps u list
   cut_whole u list rest parts none kept = record { rest = rest; front = parts; kept = λ k p l. kept k p (omega arith); whole = inl none }
 
 -- one more edge of a list is taken over
@@ -143,7 +143,7 @@ pub one_further : (list new edges : List Edge) (i : ℕ) (d : Edge) → list ++ 
 one_further list new edges i d parts h is =
     rw (is, add-one i) (append_assoc list (get_or edges i d ∷ []) (drop (suc i) edges) ∙ ap (λ w. list ++ w) (sym (drop_edge i edges d h)) ∙ parts)
 
--- a list that went on is no longer, and the pruner said yes on its shorter front parts
+-- a list that went on is no longer, and its shorter prefixes are kept
 steps_few : (u v : List Edge) → StepsOver u v → length v ≤ length u
 steps_few u v (over e) = omega (arith, ap length e)
 steps_few u v (replaced front x y back a b more) =
@@ -156,10 +156,10 @@ pub extended_few : (sought : List Edge → Type 0) (u v : List Edge) → IsExten
 extended_few sought u v x =
     elim x.step [ inl e ↦ omega (arith, ap length e.is, length-append u (e.edge ∷ [])) | inr o ↦ omega (arith, steps_few u v o) ]
 
-pub raised_kept : (sought : List Edge → Type 0) (says : List Edge → Bool → Type 0) (u v : List Edge) → IsRaised sought u v → KeptBelow says (length u) u → KeptBelow says (length v) v
-raised_kept sought says u v r = by r.step
+pub raised_kept : (sought : List Edge → Type 0) (keeps : List Edge → Type 0) (u v : List Edge) → IsRaised sought u v → KeptBelow keeps (length u) u → KeptBelow keeps (length v) v
+raised_kept sought keeps u v r = by r.step
   where
-    by : StepsOver u v → KeptBelow says (length u) u → KeptBelow says (length v) v
+    by : StepsOver u v → KeptBelow keeps (length u) u → KeptBelow keeps (length v) v
     by (over e) kept k p l = absurd (omega (arith, ap length e))
     by (replaced front x y back a b more) kept k p l =
         let short : k ≤ length front = omega (arith, ap length b, length-append front (y ∷ [])) in
@@ -167,14 +167,14 @@ raised_kept sought says u v r = by r.step
         rw (b, take-append-le k front (y ∷ []) short) (rw (a, take-append-le k front (x ∷ back) short) at (kept k p within))
 
 -- the front part that a list is cut to is no longer
-pub cut_few : (sought : List Edge → Type 0) (says : List Edge → Bool → Type 0) (u v : List Edge) → IsCut sought says u v → length v ≤ length u
-cut_few sought says u v c = omega (arith, ap length c.front, length-append v c.rest)
+pub cut_few : (sought : List Edge → Type 0) (keeps : List Edge → Type 0) (u v : List Edge) → IsCut sought keeps u v → length v ≤ length u
+cut_few sought keeps u v c = omega (arith, ap length c.front, length-append v c.rest)
 
 -- of one edge there is no shorter front part
-pub kept_one : (sought : List Edge → Type 0) (says : List Edge → Bool → Type 0) (v : List Edge) → IsExtended sought [] v → KeptBelow says (length v) v
-kept_one sought says v x k p l = by x.step
+pub kept_one : (sought : List Edge → Type 0) (keeps : List Edge → Type 0) (v : List Edge) → IsExtended sought [] v → KeptBelow keeps (length v) v
+kept_one sought keeps v x k p l = by x.step
   where
-    by : (IsLonger [] v) ⊎ StepsOver [] v → says (take k v) true
+    by : (IsLonger [] v) ⊎ StepsOver [] v → keeps (take k v)
     by (inl e) = absurd (omega (arith, ap length e.is))
     by (inr (over e)) = absurd (omega (arith, ap length e))
     by (inr (replaced [] x y back a b more)) = cc

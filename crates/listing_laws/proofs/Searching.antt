@@ -1,5 +1,5 @@
 -- The steps of the search for the first list in order that is sought.
-use Rattle.std.proofs.Common.{◌≡◌, ◌<◌, ◌≤◌, ◌⊎◌, inl, inr, ℕ, suc, ◌+◌, Bool, true, List, [], ◌∷◌, ◌++◌, length, None, refl, ◌∙◌, ap, arith, length-append}
+use Rattle.std.proofs.Common.{◌≡◌, ◌<◌, ◌≤◌, ◌⊎◌, inl, inr, ℕ, suc, ◌+◌, List, [], ◌∷◌, ◌++◌, length, None, refl, ◌∙◌, ap, arith, length-append}
 use Rattle.std.proofs.lemmas.List.{append-nil, take_at, take-append-le}
 use Rattle.std.proofs.lemmas.Bool.{cases_lt}
 use Rattle.relax_edges.specs.declared.edge.Edge.{Edge}
@@ -92,14 +92,14 @@ reaches_to_come [] m l h = absurd (omega arith)
 reaches_to_come (x ∷ u) m l h = h
 
 -- where the search stands at the list from `start` on: what is still to come, and what it may ask of the list
-module _ (sought : List Edge → Type 0) (says : List Edge → Bool → Type 0) (n : ℕ) (sized : (m : List Edge) → sought m → length m ≡ n) where
+module _ (sought : List Edge → Type 0) (keeps : List Edge → Type 0) (n : ℕ) (sized : (m : List Edge) → sought m → length m ≡ n) where
   pub record Searching (start list : List Edge) : Type 0 where
     pub few : length list ≤ n
-    pub kept : KeptBelow says (length list) list
+    pub kept : KeptBelow keeps (length list) list
     pub since : (m : List Edge) → sought m → ToCome start m → ToCome list m
     pub from : 0 < length list → ToCome start list
 
-  pub search_begins : (start : List Edge) → length start ≤ n → KeptBelow says (length start) start → Searching start start
+  pub search_begins : (start : List Edge) → length start ≤ n → KeptBelow keeps (length start) start → Searching start start
   search_begins start few kept = record { few = few; kept = kept; since = λ m s h. h; from = to_come_itself start }
 
   -- over: nothing is to come
@@ -135,7 +135,7 @@ module _ (sought : List Edge → Type 0) (says : List Edge → Bool → Type 0) 
       }
 
   -- the search goes on with a longer list: the pruner said yes on the list
-  longer : (start list new : List Edge) (e : Edge) → Searching start list → 0 < length list → length list < n → says list true → new ≡ list ++ e ∷ []
+  longer : (start list new : List Edge) (e : Edge) → Searching start list → 0 < length list → length list < n → keeps list → new ≡ list ++ e ∷ []
       → ((m : List Edge) → sought m → ToCome start m → ToCome new m) → Searching start new
   longer start list new e s some less agreed is since =
       let long : length new ≡ length list + 1 = ap length is ∙ length-append list (e ∷ []) in
@@ -150,7 +150,7 @@ module _ (sought : List Edge → Type 0) (says : List Edge → Bool → Type 0) 
       }
 
   -- sought lists may begin with the list: the search goes on with the longer ones
-  pub search_goes_on : (start list new : List Edge) → Searching start list → 0 < length list → length list < n → says list true → IsExtended sought list new → Searching start new
+  pub search_goes_on : (start list new : List Edge) → Searching start list → 0 < length list → length list < n → keeps list → IsExtended sought list new → Searching start new
   search_goes_on start list new s some less agreed x =
       elim x.step [ inl l ↦ longer start list new l.edge s some less agreed l.is since | inr o ↦ stepped start list new s some o since ]
     where

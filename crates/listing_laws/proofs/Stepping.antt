@@ -1,5 +1,5 @@
 -- The steps of the search for the listed cycles of one length.
-use Rattle.std.proofs.Common.{◌≡◌, ◌<◌, ◌≤◌, inl, inr, ℕ, Bool, true, List, length, arith}
+use Rattle.std.proofs.Common.{◌≡◌, ◌<◌, ◌≤◌, inl, inr, ℕ, List, length, arith}
 use Rattle.std.proofs.lemmas.List.{take_all}
 use Rattle.std.proofs.lemmas.Bool.{cases_lt}
 use Rattle.relax_edges.specs.declared.edge.Edge.{Edge}
@@ -8,34 +8,34 @@ use Rattle.listing_laws.specs.Search.{LeadsNowhere, OfLength, IsRaised, IsExtend
 use Rattle.listing_laws.proofs.Searching.{Searching, search_begins, search_raised, search_goes_on, search_found, nowhere_whole}
 use Rattle.listing_laws.proofs.Raising.{raised_within, extended_within}
 
-module _ (listed : List Edge → Type 0) (says : List Edge → Bool → Type 0) (n : ℕ) where
+module _ (listed : List Edge → Type 0) (keeps : List Edge → Type 0) (n : ℕ) where
   -- where the search stands
   abbrev pub Standing : List Edge → List Edge → Type 0
-  Standing start list = Searching (OfLength n listed) says n (λ m is. is.long) start list
+  Standing start list = Searching (OfLength n listed) keeps n (λ m is. is.long) start list
 
-  pub stands_first : (start : List Edge) → length start ≤ n → KeptBelow says (length start) start → Standing start start
-  stands_first start few kept = search_begins (OfLength n listed) says n (λ m is. is.long) start few kept
+  pub stands_first : (start : List Edge) → length start ≤ n → KeptBelow keeps (length start) start → Standing start start
+  stands_first start few kept = search_begins (OfLength n listed) keeps n (λ m is. is.long) start few kept
 
   pub stands_raised : (start list new : List Edge) → Standing start list → 0 < length list → LeadsNowhere listed list → IsRaised listed list new → Standing start new
   stands_raised start list new s some none r =
-      search_raised (OfLength n listed) says n (λ m is. is.long) start list new s some (λ b o. none b o.is) (raised_within listed (OfLength n listed) list new (λ m o. o.is) r)
+      search_raised (OfLength n listed) keeps n (λ m is. is.long) start list new s some (λ b o. none b o.is) (raised_within listed (OfLength n listed) list new (λ m o. o.is) r)
 
-  pub stands_extended : (start list new : List Edge) → Standing start list → 0 < length list → length list < n → says list true → IsExtended listed list new → Standing start new
+  pub stands_extended : (start list new : List Edge) → Standing start list → 0 < length list → length list < n → keeps list → IsExtended listed list new → Standing start new
   stands_extended start list new s some less agreed x =
-      search_goes_on (OfLength n listed) says n (λ m is. is.long) start list new s some less agreed (extended_within listed (OfLength n listed) list new (λ m o. o.is) x)
+      search_goes_on (OfLength n listed) keeps n (λ m is. is.long) start list new s some less agreed (extended_within listed (OfLength n listed) list new (λ m o. o.is) x)
 
   pub stands_past : (start list new : List Edge) → Standing start list → 0 < length list → n ≤ length list → (listed list → ⊥) → IsRaised listed list new → Standing start new
   stands_past start list new s some long none r =
-      search_raised (OfLength n listed) says n (λ m is. is.long) start list new s some
-      (nowhere_whole (OfLength n listed) says n (λ m is. is.long) list (omega (arith, s.few)) (λ o. none o.is))
+      search_raised (OfLength n listed) keeps n (λ m is. is.long) start list new s some
+      (nowhere_whole (OfLength n listed) keeps n (λ m is. is.long) list (omega (arith, s.few)) (λ o. none o.is))
       (raised_within listed (OfLength n listed) list new (λ m o. o.is) r)
 
   pub stands_found : (start list m : List Edge) → Standing start list → 0 < length list → n ≤ length list → m ≡ list → listed m → IsFirstFrom (OfLength n listed) start m
   stands_found start list m s some long e is =
-      rw e (search_found (OfLength n listed) says n (λ m is. is.long) start list s some (record { is = rw e at is; long = omega (arith, s.few) }))
+      rw e (search_found (OfLength n listed) keeps n (λ m is. is.long) start list s some (record { is = rw e at is; long = omega (arith, s.few) }))
 
-  -- the pruner says yes on all front parts, as on the shorter ones and on the whole
-  pub kept_all : (list : List Edge) → KeptBelow says (length list) list → says list true → KeptWhole says list
+  -- all prefixes are kept, as the shorter ones and the whole
+  pub kept_all : (list : List Edge) → KeptBelow keeps (length list) list → keeps list → KeptWhole keeps list
   kept_all list kept agreed k p l =
       elim (cases_lt k (length list)) [
         | inl b ↦ kept k p b

@@ -1,6 +1,6 @@
 -- The search for the first list of edges in order that is sought: which lists are still to come.
 -- Source: own.
-use Rattle.std.specs.Prelude.{◌≡◌, ◌<◌, ◌≤◌, ◌⊎◌, ⊤, ℕ, Bool, true, Option, Some, None, List, [], ◌∷◌, ◌++◌, length}
+use Rattle.std.specs.Prelude.{◌≡◌, ◌<◌, ◌≤◌, ◌⊎◌, ⊤, ℕ, true, Option, Some, None, List, [], ◌∷◌, ◌++◌, length}
 use Rattle.std.specs.List.{AllByRecursion}
 use Rattle.relax_edges.specs.declared.order.TheConstants.{EDGES}
 use Rattle.relax_edges.specs.declared.edge.Edge.{Edge}
@@ -87,10 +87,10 @@ pub record IsRaised (sought : List Edge → Type 0) (u v : List Edge) : Type 0 w
   pub all : (m : List Edge) → sought m → Above u m → ToCome v m
 
 -- a front part of a list: the whole, or the shortest with which no sought list begins
-pub record IsCut (sought : List Edge → Type 0) (says : List Edge → Bool → Type 0) (u v : List Edge) : Type 0 where
+pub record IsCut (sought : List Edge → Type 0) (keeps : List Edge → Type 0) (u v : List Edge) : Type 0 where
   pub rest : List Edge
   pub front : u ≡ v ++ rest
-  pub kept : KeptBelow says (length v) v
+  pub kept : KeptBelow keeps (length v) v
   pub whole : (rest ≡ []) ⊎ LeadsNowhere sought v
 
 -- v is u with one more edge

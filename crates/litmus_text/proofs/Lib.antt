@@ -5,7 +5,6 @@ pub mod SendLaws
 pub mod ElementLaws
 pub mod InitialLaws
 pub mod TableLaws
-pub mod PartLaws
 pub mod CutBack
 pub mod LineBack
 pub mod HeadBack
@@ -31,3 +30,6 @@ pub mod ItemLaws
 pub mod PartLoops
 pub mod GiveLaws
 pub mod KeptLaws
+pub mod TextParts
+pub mod RunnableRead
+pub mod RegistersRead

@@ -12,8 +12,7 @@ use Rattle.relax_edges.specs.declared.kinds.ArchName.{ArchName}
 use Rattle.arch_trait.specs.Writing.{Writing}
 use Rattle.litmus_text.specs.Header.{after_settings, is_setting, header_read, quote_read}
 use Rattle.litmus_text.specs.declared.reading.table.Column.{Column as ThreadColumn}
-use Rattle.litmus_text.specs.declared.reading.test.Thread.{Thread}
-use Rattle.litmus_text.specs.Views.{column_seen, thread_seen, rest_read, table_read, body_read}
+use Rattle.litmus_text.specs.Views.{column_seen, rest_read, table_read, body_read}
 use Rattle.litmus_text.specs.Lines.{Lines, ends, line}
 use Rattle.litmus_text.specs.InitialState.{Begun}
 use Rattle.litmus_text.specs.Table.{Column, among, rows_read, no_columns, all_labels_judged}
@@ -62,14 +61,14 @@ thread_more begun columns i d inside =
     ∙ map_push f (enumerate_from 0 (take i columns)) (i, get_or columns i d)
 
 -- a thread more, of the code's columns
-pub thread_step : (begun : Begun) (xs : List ThreadColumn) (i : ℕ) (d : ThreadColumn) (threads : List Thread) (t : Thread) → i < length xs → d ≡ get_or xs i d
-    → thread_seen t ≡ record { init = values_of i begun.values; code = map (λ placed. placed.op) d.ops.items }
-    → map thread_seen threads ≡ threads_of begun (take i (map column_seen xs)) → map thread_seen (threads ++ t ∷ []) ≡ threads_of begun (take (i + 1) (map column_seen xs))
+pub thread_step : (begun : Begun) (xs : List ThreadColumn) (i : ℕ) (d : ThreadColumn) (threads : List ThreadRead) (t : ThreadRead) → i < length xs → d ≡ get_or xs i d
+    → t ≡ record { init = values_of i begun.values; code = map (λ placed. placed.op) d.ops.items }
+    → threads ≡ threads_of begun (take i (map column_seen xs)) → threads ++ t ∷ [] ≡ threads_of begun (take (i + 1) (map column_seen xs))
 thread_step begun xs i d threads t inside is e so_far =
     let k : i < length (map column_seen xs) = rw length-map inside in
     let g : get_or (map column_seen xs) i (column_seen d) ≡ column_seen d = get_or-map column_seen xs i d ∙ ap column_seen (sym is) in
     let m = thread_more begun (map column_seen xs) i (column_seen d) k in
-    map_push thread_seen threads t ∙ rw (so_far, e) (sym (m ∙ rw g refl))
+    rw (so_far, e) (sym (m ∙ rw g refl))
 
 -- a test from its table on, of the columns of the code
 pub table_is : (w : Writing) (l4 l5 : Lines) (name : List ℕ) (quoted : Option (List ℕ)) (begun : Begun) (threads count : ℕ) (c0 c r j t : List ThreadColumn) (names : List (List ℕ))

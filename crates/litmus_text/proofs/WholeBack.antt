@@ -16,6 +16,7 @@ use Rattle.final_cond.specs.CondText.{cond_text}
 use Rattle.arch_trait.specs.Threads.{Puts, ThreadCode}
 use Rattle.arch_trait.specs.Writing.{Writing, WritesBack, op_text, name_in}
 use Rattle.arch_trait.specs.Cells.{WritesCells}
+use Rattle.litmus_text.specs.declared.limits.TheConstants.{MAX_TEXT}
 use Rattle.litmus_text.specs.Lines.{Lines, ends, line}
 use Rattle.litmus_text.specs.Header.{header_read, quote_read, after_settings}
 use Rattle.litmus_text.specs.InitialState.{Begun, initial_read}
@@ -286,5 +287,5 @@ unfolding test_read test_text
 whole_back a arch w name edges places [] condition laws cells h = let none = h.threads_some in absurd (omega arith)
 whole_back a arch w name edges places (t ∷ threads) condition laws cells h =
     let lines = test_lines arch w name (seen edges places (t ∷ threads) condition) in
-    rw (not_longer 262144 (length (flat_map ended lines)) h.short)
+    rw (not_longer MAX_TEXT (length (flat_map ended lines)) h.short)
     (ap (lines_read arch w) (lines_back 1 lines (lines_are a arch w name edges places t threads condition laws cells h)) ∙ parts_back a arch w name edges places t threads condition laws cells h)

@@ -1,6 +1,9 @@
--- Which cells of a table are kept.
+-- What is kept of a table that is printed.
 -- Source: own.
-use Rattle.std.specs.Prelude.{◌≡◌, ◌<◌, ◌+◌, ℕ, List, [], ◌∷◌, ◌++◌, length, slice_index_or}
+use Rattle.std.specs.Prelude.{◌≡◌, ◌<◌, ◌≤◌, ◌+◌, ℕ, List, [], ◌∷◌, ◌++◌, length, map, take, slice_index_or}
+use Rattle.std.specs.List.{All}
+use Rattle.arch_trait.specs.Writing.{Writing}
+use Rattle.litmus_text.specs.TestText.{TestSeen, columns_of, width_of, row_count}
 
 -- the texts of all columns, one column after the other
 abbrev pub all_texts : List (List (List ℕ)) → List (List ℕ)
@@ -11,3 +14,16 @@ all_texts (column ∷ columns) = column ++ all_texts columns
 abbrev pub HoldsColumn : List (List ℕ) → ℕ → List (List ℕ) → Type 0
 HoldsColumn kept first column =
     (row : ℕ) → row < length column → first + row < length kept → slice_index_or kept (first + row) [] ≡ slice_index_or column row []
+
+-- the first texts of a table, the widths of its columns, and how many rows it has
+pub record TableSeen : Type 0 where
+  pub texts : List (List ℕ)
+  pub widths : List ℕ
+  pub rows : ℕ
+
+-- they are those of the table of a test, whose columns are no wider than a text can be
+pub record HoldsTable (w : Writing) (test : TestSeen) (table : TableSeen) : Type 0 where
+  pub texts : table.texts ≡ take 128 (all_texts (columns_of w test.places test.threads))
+  pub widths : table.widths ≡ map width_of (columns_of w test.places test.threads)
+  pub rows : table.rows ≡ row_count (columns_of w test.places test.threads)
+  pub short : All (λ width. width ≤ 40) table.widths

@@ -23,7 +23,6 @@ use Rattle.litmus_text.specs.declared.reading.table.Cells.{Cells as RowCells}
 use Rattle.litmus_text.specs.declared.reading.table.Column.{Column as ThreadColumn}
 use Rattle.litmus_text.specs.declared.reading.terms.Setting.{Setting as Here}
 use Rattle.litmus_text.specs.declared.reading.terms.Mentioned.{Mentioned as Names}
-use Rattle.litmus_text.specs.declared.reading.test.Thread.{Thread}
 use Rattle.litmus_text.specs.Cuts.{pieces}
 use Rattle.litmus_text.specs.Lines.{Lines, ends, line, lines_from, ◌>>=◌}
 use Rattle.arch_trait.specs.Writing.{Writing}
@@ -32,7 +31,7 @@ use Rattle.litmus_text.specs.Joined.{Joined}
 use Rattle.litmus_text.specs.InitialState.{Worth, a_number, a_place, Item, empty, gives, zero_at, Begun, initial_read, Braced, closed, open_to}
 use Rattle.litmus_text.specs.Table.{Cells, Column, among, no_columns, rows_read, head_read, all_labels_judged, after_locations}
 use Rattle.litmus_text.specs.Condition.{Setting, Mentioned, TermRead, TermsRead, CondRead, condition_read}
-use Rattle.litmus_text.specs.TestReading.{ThreadRead, TestRead, threads_of}
+use Rattle.litmus_text.specs.TestReading.{TestRead, threads_of}
 
 -- two texts of a cut
 abbrev pub cut_seen : Option (Bor (List ℕ) × Bor (List ℕ)) → Option (List ℕ × List ℕ)
@@ -153,7 +152,3 @@ body_read w name quoted ls = do
   initial ← initial_read w ls
   head ← head_read initial.0 initial.1
   table_read w name quoted initial.0 head.0 head.1
-
--- a thread that was read
-abbrev pub thread_seen : Thread → ThreadRead
-thread_seen t = record { init = t.init.items; code = t.code.items }

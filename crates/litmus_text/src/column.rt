@@ -37,12 +37,12 @@ pub(crate) fn set_cell<A: Arch>(
 /// How many cells of a table are kept.
 const KEPT_CELLS: usize = 128;
 
-/// Room for the first cells of a table, column by column. A cell is printed to find how wide its column is, and put into
-/// its row from here. The room can be lent again and again, and what it held doesn't count.
+/// The first cells of a table, column by column. A cell is printed to find how wide its column is, and put into its row from
+/// here.
 ///
 /// Contracts see the texts that are kept.
 #[derive(Drop)]
-pub struct KeptCells {
+pub(crate) struct KeptCells {
     texts: ArrayVec<Cell, KEPT_CELLS>,
 }
 
@@ -54,15 +54,9 @@ impl Model for KeptCells {
     ghost view = { λ c. map (λ text. text.bytes) c.texts.items };
 }
 
-impl Default for KeptCells {
-    fn default() -> KeptCells {
-        KeptCells::new()
-    }
-}
-
 impl KeptCells {
     /// Room in which nothing is kept yet.
-    pub fn new() -> KeptCells
+    pub(crate) fn new() -> KeptCells
         ensures { result ≡ [] }
     {
         KeptCells {
@@ -137,24 +131,24 @@ pub(crate) fn width_of<A: Arch>(
     width
 }
 
-/// The widths of all columns, whose cells are kept.
-pub(crate) fn widths_of<A: Arch>(
+/// Makes `widths` the widths of all columns, whose cells are kept.
+pub(crate) fn set_widths<A: Arch>(
     threads: &[Code],
     places: &Places,
     cells: &mut KeptCells,
-) -> ArrayVec<usize, MAX_EDGES>
+    widths: &mut ArrayVec<usize, MAX_EDGES>,
+)
     requires printable { All (λ code. IsPrintable A.puts.has A.REGISTERS (length places.now) code) threads.now }
     requires few { length threads.now ≤ MAX_EDGES }
-    ensures widths { result.items ≡ map width_of (columns_of A.writing places.now (map thread_of threads.now)) }
-    ensures short { All (λ width. width ≤ MAX_TEXT) result.items }
+    ensures widths { widths.new.items ≡ map width_of (columns_of A.writing places.now (map thread_of threads.now)) }
+    ensures short { All (λ width. width ≤ MAX_TEXT) widths.new.items }
     ensures kept { cells.new ≡ take KEPT_CELLS (all_texts (columns_of A.writing places.now (map thread_of threads.now))) }
 {
     cells.clear();
-    let mut widths = ArrayVec::new();
+    widths.clear();
     for (thread, code) in threads.iter().enumerate() {
         widths.push(width_of::<A>(thread, code, places, cells));
     }
-    widths
 }
 
 /// Makes `cell` the text of a thread's column in a row, from the cells that are kept, where the first of the column is at

@@ -5,7 +5,9 @@ ghost use Rattle.diy_io.specs.Page.{page_after, Sends};
 ghost use Rattle.litmus_text.specs.TestText.{header_line, edges_line, ended};
 ghost use Rattle.litmus_text.specs.Separators.{separator_at};
 
+use crate::limits::MAX_NAME;
 use crate::separators::separator;
+use arch_trait::Arch;
 use arrayvec::ArrayString;
 use diy_io::{Failed, LINE_ROOM, Page, Sink};
 use relax_edges::{ArchName, Edge, MAX_EDGES};
@@ -31,29 +33,30 @@ fn send_names<O: Sink>(arch: &[u8], name: &[u8], page: &mut Page, out: &mut O) -
     page.send_pieces(&[arch, b" ", name, b"\n"], out)
 }
 
-/// Sends the line of the edges.
-pub(crate) fn send_edges<O: Sink>(
-    edges: &[Edge],
-    page: &mut Page,
-    out: &mut O,
-) -> Result<(), Failed>
-    requires { length edges.now ≤ MAX_EDGES }
-    ensures { Sends (O.seen out.old) page.old (O.seen out.new) page.new (ended (edges_line edges.now)) result }
+/// Puts the header to the page.
+#[tactic(auto, using(diy_io::specs::PageLaws::page_more, std::proofs::Common::append_assoc), unfolding(crate::specs::TestText::header_line))]
+pub fn put_header<A: Arch>(name: &str, page: &mut Page)
+    requires { length name.now ≤ MAX_NAME }
+    ensures text { page.new ≡ page_after page.old (ended (header_line A.NAME name.now)) }
+    ensures short { length (ended (header_line A.NAME name.now)) ≤ LINE_ROOM }
 {
-    page.spill(out)?;
-    print_edges(edges, page);
-    Ok(())
+    let arch = A::NAME;
+    page.put(arch.name().as_bytes());
+    page.put(b" ");
+    page.put(name.as_bytes());
+    page.put(b"\n");
 }
 
+/// Puts the line of the edges and the opening brace to the page.
 #[tactic(auto, using(diy_io::specs::PageLaws::page_more, std::proofs::Common::append_assoc), unfolding(crate::specs::TestText::edges_line))]
-fn print_edges(edges: &[Edge], page: &mut Page)
+pub(crate) fn print_opening(edges: &[Edge], page: &mut Page)
     requires { length edges.now ≤ MAX_EDGES }
-    ensures text { page.new ≡ page_after page.old (ended (edges_line edges.now)) }
-    ensures short { length (ended (edges_line edges.now)) ≤ LINE_ROOM }
+    ensures text { page.new ≡ page_after page.old (ended (edges_line edges.now) ++ codes "{\n") }
+    ensures short { length (ended (edges_line edges.now) ++ codes "{\n") ≤ LINE_ROOM }
 {
     page.put(b"\"");
     print_words(edges, page);
-    page.put(b"\"\n");
+    page.put(b"\"\n{\n");
 }
 
 fn print_words(edges: &[Edge], page: &mut Page)

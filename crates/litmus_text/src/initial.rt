@@ -8,62 +8,15 @@ ghost use Rattle.litmus_text.specs.Separators.{separator_at};
 
 use crate::separators::separator;
 use arch_trait::{Arch, Code, Places};
-use diy_io::{Failed, LINE_ROOM, Page, Sink};
+use diy_io::{LINE_ROOM, Page};
 use final_cond::RegName;
 use itoa::Buffer;
 
 /// The most bytes of an item with a blank before it.
 const ITEM_ROOM: usize = 56;
 
-/// Sends the lines of the initial state.
-pub(crate) fn send_initial<A: Arch, O: Sink>(
-    threads: &[Code],
-    places: &Places,
-    page: &mut Page,
-    out: &mut O,
-) -> Result<(), Failed>
-    requires { All (λ code. IsPrintable A.puts.has A.REGISTERS (length places.now) code) threads.now }
-    ensures { Sends (O.seen out.old) page.old (O.seen out.new) page.new
-        (flat_map ended (initial_lines A.writing places.now (map thread_of threads.now))) result }
-{
-    page.send(b"{\n", out)?;
-    send_item_lines::<A, O>(threads, places, page, out)?;
-    page.send(b"}\n", out)
-}
-
-fn send_item_lines<A: Arch, O: Sink>(
-    threads: &[Code],
-    places: &Places,
-    page: &mut Page,
-    out: &mut O,
-) -> Result<(), Failed>
-    requires { All (λ code. IsPrintable A.puts.has A.REGISTERS (length places.now) code) threads.now }
-    ensures { Sends (O.seen out.old) page.old (O.seen out.new) page.new
-        (flat_map (λ t. flat_map ended (items_lines A.writing places.now t.0 t.1.links)) (enumerate_from 0 (map thread_of threads.now))) result }
-{
-    for (thread, code) in threads.iter().enumerate() {
-        send_item_line::<A, O>(thread, code, places, page, out)?;
-    }
-    Ok(())
-}
-
-fn send_item_line<A: Arch, O: Sink>(
-    thread: usize,
-    code: &Code,
-    places: &Places,
-    page: &mut Page,
-    out: &mut O,
-) -> Result<(), Failed>
-    requires { IsPrintable A.puts.has A.REGISTERS (length places.now) code.now }
-    ensures { Sends (O.seen out.old) page.old (O.seen out.new) page.new (flat_map ended (items_lines A.writing places.now thread code.now.links.items)) result }
-{
-    page.spill(out)?;
-    print_item_line::<A>(thread, code, places, page);
-    Ok(())
-}
-
 /// Prints the line of the items of a thread, where it has some.
-fn print_item_line<A: Arch>(thread: usize, code: &Code, places: &Places, page: &mut Page)
+pub(crate) fn print_item_line<A: Arch>(thread: usize, code: &Code, places: &Places, page: &mut Page)
     requires { IsPrintable A.puts.has A.REGISTERS (length places.now) code.now }
     ensures text { page.new ≡ page_after page.old (flat_map ended (items_lines A.writing places.now thread code.now.links.items)) }
     ensures short { length (flat_map ended (items_lines A.writing places.now thread code.now.links.items)) ≤ LINE_ROOM }

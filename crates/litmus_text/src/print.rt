@@ -1,17 +1,18 @@
-ghost use Rattle.std.specs.Prelude.{◌≡◌, ◌≤◌, [], length, OnOk};
+ghost use Rattle.std.specs.Prelude.{◌≡◌, ◌≤◌, [], length, OnOk, Some};
 ghost use Rattle.std.specs.List.{All};
 ghost use Rattle.diy_io.specs.Page.{page_after, Sends};
 ghost use Rattle.diy_io.specs.Wrote.{Wrote};
 ghost use Rattle.final_cond.specs.Conditions.{cond_view};
 ghost use Rattle.final_cond.specs.CondText.{cond_text};
+ghost use Rattle.litmus_text.specs.KeptCells.{HoldsTable};
 ghost use Rattle.litmus_text.specs.TestText.{test_text, ended};
 ghost use Rattle.litmus_text.specs.Tests.{IsPrintable, test_seen};
-ghost use Rattle.litmus_text.specs.Parts.{code_text};
+ghost use Rattle.litmus_text.specs.TextParts.{text_from};
+ghost use Rattle.litmus_text.specs.declared.parts.TextPart.TheVariants as parts;
 
-use crate::column::KeptCells;
-use crate::head::{send_edges, send_header};
-use crate::initial::send_initial;
-use crate::table::send_table;
+use crate::head::send_header;
+use crate::kept::KeptTable;
+use crate::parts::{TextPart, put_part};
 use crate::test::Test;
 use arch_trait::Arch;
 use diy_io::{Failed, LINE_ROOM, Page, Sink};
@@ -26,14 +27,14 @@ pub fn print_test<A: Arch, O: Sink>(test: &Test, name: &str, out: &mut O) -> Res
     ensures { Wrote (O.seen out.old) (O.seen out.new) (test_text A.NAME A.writing name.now (test_seen test.now)) result }
 {
     let mut page = Page::new();
-    print_test_by::<A, O>(test, name, &mut KeptCells::new(), &mut page, out)
+    print_test_by::<A, O>(test, name, &mut KeptTable::new(), &mut page, out)
 }
 
-/// The same by way of a page that is empty before and, where the sink didn't fail, after, and of room for cells.
+/// The same by way of a page that is empty before and, where the sink didn't fail, after, and of room for what is kept of the table.
 pub fn print_test_by<A: Arch, O: Sink>(
     test: &Test,
     name: &str,
-    cells: &mut KeptCells,
+    table: &mut KeptTable,
     page: &mut Page,
     out: &mut O,
 ) -> Result<(), Failed>
@@ -42,51 +43,47 @@ pub fn print_test_by<A: Arch, O: Sink>(
     ensures wrote { Wrote (O.seen out.old) (O.seen out.new) (test_text A.NAME A.writing name.now (test_seen test.now)) result }
     ensures empty { OnOk result (page.new ≡ []) }
 {
-    send_test::<A, O>(test, name, cells, page, out)?;
+    send_test::<A, O>(test, name, table, page, out)?;
     page.flush(out)
 }
 
 fn send_test<A: Arch, O: Sink>(
     test: &Test,
     name: &str,
-    cells: &mut KeptCells,
+    table: &mut KeptTable,
     page: &mut Page,
     out: &mut O,
 ) -> Result<(), Failed>
     requires { All (λ code. IsPrintable A.puts.has A.REGISTERS (length test.now.places) code) test.now.threads.items }
     ensures { Sends (O.seen out.old) page.old (O.seen out.new) page.new (test_text A.NAME A.writing name.now (test_seen test.now)) result }
 {
+    table.keep::<A>(test);
     send_header(A::NAME, name, page, out)?;
-    send_edges(test.edges.as_slice(), page, out)?;
-    send_code::<A, O>(test, cells, page, out)
+    send_parts::<A, O>(test, table, page, out)
 }
 
-/// Sends what stands after the line of the edges.
-fn send_code<A: Arch, O: Sink>(
+/// Sends what stands after the header.
+fn send_parts<A: Arch, O: Sink>(
     test: &Test,
-    cells: &mut KeptCells,
+    table: &KeptTable,
     page: &mut Page,
     out: &mut O,
 ) -> Result<(), Failed>
-    requires { All (λ code. IsPrintable A.puts.has A.REGISTERS (length test.now.places) code) test.now.threads.items }
-    ensures { Sends (O.seen out.old) page.old (O.seen out.new) page.new (code_text A.writing (test_seen test.now)) result }
+    requires printable { All (λ code. IsPrintable A.puts.has A.REGISTERS (length test.now.places) code) test.now.threads.items }
+    requires kept { HoldsTable A.writing (test_seen test.now) table.now }
+    ensures { Sends (O.seen out.old) page.old (O.seen out.new) page.new (text_from A.writing (test_seen test.now) (Some parts.Edges)) result }
 {
-    let threads = test.threads.as_slice();
-    send_initial::<A, O>(threads, &test.places, page, out)?;
-    send_table::<A, O>(threads, &test.places, cells, page, out)?;
-    send_condition(&test.cond, page, out)
-}
-
-fn send_condition<O: Sink>(cond: &Cond, page: &mut Page, out: &mut O) -> Result<(), Failed>
-    ensures { Sends (O.seen out.old) page.old (O.seen out.new) page.new (ended (cond_text (cond_view cond.now))) result }
-{
-    page.spill(out)?;
-    print_condition(cond, page);
+    let mut next = Some(TextPart::Edges);
+    while let Some(part) = next {
+        page.spill(out)?;
+        next = put_part::<A>(part, test, table, page);
+    }
     Ok(())
 }
 
+/// Puts the condition to the page.
 #[tactic(auto, using(diy_io::specs::PageLaws::page_more))]
-fn print_condition(cond: &Cond, page: &mut Page)
+pub(crate) fn print_condition(cond: &Cond, page: &mut Page)
     ensures text { page.new ≡ page_after page.old (ended (cond_text (cond_view cond.now))) }
     ensures short { length (ended (cond_text (cond_view cond.now))) ≤ LINE_ROOM }
 {

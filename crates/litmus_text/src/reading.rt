@@ -11,7 +11,10 @@ mod table;
 mod terms;
 mod test;
 mod text;
+mod thread;
 mod whole;
 
+pub use cuts::{cut, first_word};
+pub use lines::without_return;
 pub use test::ReadTest;
 pub use whole::{arch_of, read_test};

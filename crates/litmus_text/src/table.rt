@@ -9,10 +9,10 @@ ghost use Rattle.litmus_text.specs.TestText.{columns_of, width_of, cell_text, ro
 ghost use Rattle.litmus_text.specs.Tests.{IsPrintable};
 ghost use Rattle.litmus_text.specs.Separators.{separator_at};
 
-use crate::column::{Cell, KeptCells, row_count, take_cell, widths_of};
+use crate::column::{Cell, KeptCells, take_cell};
 use crate::separators::separator;
 use arch_trait::{Arch, Code, MAX_TEXT, Places};
-use diy_io::{Failed, LINE_ROOM, Page, Sink};
+use diy_io::{LINE_ROOM, Page};
 use relax_edges::MAX_EDGES;
 
 const BLANKS: [u8; MAX_TEXT] = [b' '; MAX_TEXT];
@@ -20,49 +20,8 @@ const BLANKS: [u8; MAX_TEXT] = [b' '; MAX_TEXT];
 /// The most bytes of a cell with ` | ` before it.
 const CELL_ROOM: usize = MAX_TEXT + 3;
 
-/// Sends the rows of the table.
-pub(crate) fn send_table<A: Arch, O: Sink>(
-    threads: &[Code],
-    places: &Places,
-    cells: &mut KeptCells,
-    page: &mut Page,
-    out: &mut O,
-) -> Result<(), Failed>
-    requires printable { All (λ code. IsPrintable A.puts.has A.REGISTERS (length places.now) code) threads.now }
-    requires few { length threads.now ≤ MAX_EDGES }
-    ensures { Sends (O.seen out.old) page.old (O.seen out.new) page.new
-        (flat_map ended (table_lines (columns_of A.writing places.now (map thread_of threads.now)))) result }
-{
-    let widths = widths_of::<A>(threads, places, cells);
-    for row in 0..row_count(threads) {
-        send_row::<A, O>(row, threads, widths.as_slice(), places, cells, page, out)?;
-    }
-    Ok(())
-}
-
-fn send_row<A: Arch, O: Sink>(
-    row: usize,
-    threads: &[Code],
-    widths: &[usize],
-    places: &Places,
-    cells: &KeptCells,
-    page: &mut Page,
-    out: &mut O,
-) -> Result<(), Failed>
-    requires printable { All (λ code. IsPrintable A.puts.has A.REGISTERS (length places.now) code) threads.now }
-    requires few { length threads.now ≤ MAX_EDGES }
-    requires kept { cells.now ≡ take KEPT_CELLS (all_texts (columns_of A.writing places.now (map thread_of threads.now))) }
-    requires widths { widths.now ≡ map width_of (columns_of A.writing places.now (map thread_of threads.now)) }
-    requires short { All (λ width. width ≤ MAX_TEXT) widths.now }
-    ensures { Sends (O.seen out.old) page.old (O.seen out.new) page.new
-        (ended (row_line (columns_of A.writing places.now (map thread_of threads.now)) row)) result }
-{
-    page.spill(out)?;
-    print_row::<A>(row, threads, widths, places, cells, page);
-    Ok(())
-}
-
-fn print_row<A: Arch>(
+/// Puts a row to the page.
+pub(crate) fn print_row<A: Arch>(
     row: usize,
     threads: &[Code],
     widths: &[usize],

@@ -1,9 +1,8 @@
--- The printed text of the test of a cycle, under the cycle's name: it is short, and is what is printed of the test that is made.
-use Rattle.std.proofs.Common.{◌≡◌, ◌≤◌, ℕ, Bool, true, false, List, length, None, refl, sym, ◌∙◌, ap, arith}
+-- The printed text of the test of a cycle, under the cycle's name, is short.
+use Rattle.std.proofs.Common.{◌≡◌, ◌≤◌, ℕ, Bool, true, false, List, length, None, refl, arith}
 use Rattle.std.specs.Char.{is_ascii_alphanumeric}
 use Rattle.std.specs.Prelude.{◌==◌, ◌||◌}
 use Rattle.std.proofs.lemmas.Bool.Decides.{nat_tests}
-use Rattle.relax_edges.specs.declared.kinds.ArchName.{ArchName}
 use Rattle.relax_edges.specs.declared.kinds.ObsMode.{ObsMode}
 use Rattle.relax_edges.specs.declared.edge.Edge.{Edge}
 use Rattle.walk_laws.specs.Composable.{IsCycle}
@@ -14,16 +13,11 @@ use Rattle.resolution_laws.specs.Resolution.{turned}
 use Rattle.arch_trait.specs.Cells.{WritesCells, MakesOneAccess}
 use Rattle.arch_trait.specs.Laws.{IsArch}
 use Rattle.arch_trait.specs.Threads.{Puts}
-use Rattle.arch_trait.specs.Writing.{Writing, WritesBack, name_in}
+use Rattle.arch_trait.specs.Writing.{Writing, WritesBack}
 use Rattle.litmus_text.specs.declared.limits.TheConstants.{MAX_TEXT}
-use Rattle.litmus_text.specs.declared.test.Test.{Test}
 use Rattle.litmus_text.specs.Printable as printable
 use Rattle.litmus_text.specs.Printable.{IsTestName}
-use Rattle.litmus_text.specs.Tests.{test_seen}
-use Rattle.litmus_text.specs.TestText.{test_text}
 use Rattle.litmus_text.proofs.CutBack.{weaker}
-use Rattle.test_laws.specs.TestOf.{test_of}
-use Rattle.test_maker.specs.Made.{shown, test_view}
 use Rattle.test_maker.specs.CycleText.{cycle_text}
 use Rattle.test_maker.specs.Refusals.{refusal_of}
 use Rattle.test_maker.proofs.HavingTests.{accepted_has_test}
@@ -52,10 +46,3 @@ pub cycle_text_short : (a : Puts) (w : Writing) (mode : ObsMode) (cycle : List E
 unfolding cycle_text
 cycle_text_short a w mode cycle laws back cells one whole accepted =
     (readable a a.name w (name_of cycle) (turned cycle) mode laws back cells one (cycle_named cycle whole) (accepted_has_test a cycle mode whole accepted)).short
-
--- it is what is printed of the test that is made
-pub made_text : (a : Puts) (w : Writing) (mode : ObsMode) (name : List ℕ) (cycle : List Edge) (arch : ArchName) (test : Test)
-    → a.name ≡ arch → test_view test ≡ test_of a (name_in w.registers) (turned cycle) mode → test_text arch w name (test_seen test) ≡ cycle_text a w mode name cycle
-unfolding cycle_text
-made_text a w mode name cycle arch test same made =
-    ap (λ arch. test_text arch w name (test_seen test)) (sym same) ∙ ap (λ t. test_text a.name w name (shown t)) made

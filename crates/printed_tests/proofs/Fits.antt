@@ -20,6 +20,7 @@ use Rattle.relax_edges.specs.declared.edge.Edge.{Edge}
 use Rattle.value_laws.proofs.Along.{write_count_most}
 use Rattle.resolution_laws.specs.Resolution.{IsResolved, move_count}
 use Rattle.text_laws.specs.Names.{is_place_name, is_register_name}
+use Rattle.arch_trait.specs.declared.arch.TheConstants.{MAX_INSTRS}
 use Rattle.arch_trait.specs.declared.step.Step.{Step}
 use Rattle.arch_trait.specs.Cells.{MakesOneAccess}
 use Rattle.arch_trait.specs.Codes.{AllBelow, IsFormed}
@@ -97,7 +98,7 @@ thread_is a es mode k ss laws t g =
     let thread = steps_fit es mode plain a.name k ss t.resolved t.of_arch g in
     record { thread = thread; formed = is_formed a laws ss thread.fit (t.room k ss g) }
 
-pub code_short : (a : Puts) (es : List Edge) (mode : ObsMode) (k : ℕ) (ss : List Step) → IsArch a → HasTest a es mode → slice_get (cycle_steps es mode plain) k ≡ Some ss → length (compiled a ss).instrs ≤ 144
+pub code_short : (a : Puts) (es : List Edge) (mode : ObsMode) (k : ℕ) (ss : List Step) → IsArch a → HasTest a es mode → slice_get (cycle_steps es mode plain) k ≡ Some ss → length (compiled a ss).instrs ≤ MAX_INSTRS
 code_short a es mode k ss laws t g =
     let thread = (thread_is a es mode k ss laws t g).thread in
     omega (arith, thread_short a laws false (setting_out a.registers) ss thread.fit, thread.few)

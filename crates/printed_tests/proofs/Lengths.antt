@@ -9,6 +9,7 @@ use Rattle.std.proofs.lemmas.Fmt.{length-decimal-le}
 use Rattle.std.proofs.lemmas.Grind.{flat_map-append}
 use Rattle.std.proofs.lemmas.List.{length-map, length-replicate}
 use Rattle.std.proofs.lemmas.List.FromFn.{length-range_with_len}
+use Rattle.relax_edges.specs.declared.TheConstants.{MAX_EDGES}
 use Rattle.relax_edges.specs.declared.kinds.ArchName.{ArchName}
 use Rattle.relax_edges.specs.declared.kinds.ArchName.TheVariants as archs
 use Rattle.relax_edges.specs.declared.edge.Edge.{Edge}
@@ -24,6 +25,7 @@ use Rattle.text_laws.specs.Names.{is_register_name}
 use Rattle.final_cond.specs.ReadBack.{IsFormedTerm}
 use Rattle.final_cond.specs.Reading.{has_form}
 use Rattle.text_laws.proofs.NameLaws.{place_name_short, register_name_short}
+use Rattle.arch_trait.specs.declared.arch.TheConstants.{MAX_INSTRS}
 use Rattle.arch_trait.specs.Threads.{ThreadCode}
 use Rattle.arch_trait.specs.Writing.{Writing, op_text, name_in}
 use Rattle.litmus_text.specs.declared.limits.TheConstants.{MAX_TEXT}
@@ -88,7 +90,7 @@ unfolding header_line
 header_short arch name h =
     omega (arith, arch_short arch, length-append (arch_word arch) (codes " " ++ name), length-append (arch_word arch ++ (codes " " ++ name)) (codes "\n"))
 
-edges_short : (edges : List Edge) → length edges ≤ 24 → length (ended (edges_line edges)) ≤ 363
+edges_short : (edges : List Edge) → length edges ≤ MAX_EDGES → length (ended (edges_line edges)) ≤ 15 * MAX_EDGES + 3
 unfolding edges_line
 edges_short edges h =
     let words = join_by word_of (codes " ") edges in
@@ -123,7 +125,7 @@ item_short w places thread link registers names h =
 -- a thread without too many address registers, and not too long
 pub record IsSmall (w : Writing) (places : List (List ℕ)) (t : ThreadCode) : Type 0 where
   pub links : length t.links ≤ 32
-  pub code : length t.instrs ≤ 144
+  pub code : length t.instrs ≤ MAX_INSTRS
   pub texts : AllByRecursion (λ op. length (op_text w (name_in places) op) ≤ 40) t.instrs
 
 -- the line of items of a thread
@@ -145,8 +147,8 @@ length-enumerate : (n : ℕ) (threads : List ThreadCode) → length (enumerate_f
 length-enumerate n [] = refl
 length-enumerate n (t ∷ threads) = ap suc (length-enumerate (n + 1) threads)
 
-initial_short : (w : Writing) (places : List (List ℕ)) (threads : List ThreadCode) → AreShort w.registers → AreShort places → length threads ≤ 24 → AllByRecursion (IsSmall w places) threads
-    → length (flat_map ended (initial_lines w places threads)) ≤ 29212
+initial_short : (w : Writing) (places : List (List ℕ)) (threads : List ThreadCode) → AreShort w.registers → AreShort places → length threads ≤ MAX_EDGES → AllByRecursion (IsSmall w places) threads
+    → length (flat_map ended (initial_lines w places threads)) ≤ 1217 * MAX_EDGES + 4
 unfolding initial_lines
 initial_short w places threads registers names few small =
     let items = flat_map (λ (t : ℕ × ThreadCode). items_lines w places t.0 t.1.links) (enumerate_from 0 threads) in
@@ -166,7 +168,7 @@ initial_short w places threads registers names few small =
 -- a column of short texts, not too many
 record IsNarrow (column : List (List ℕ)) : Type 0 where
   texts : AllByRecursion (λ text. length text ≤ 40) column
-  rows : length column ≤ 145
+  rows : length column ≤ MAX_INSTRS + 1
 
 columns_narrow : (w : Writing) (places : List (List ℕ)) (n : ℕ) (threads : List ThreadCode) → n + length threads ≤ 64 → AllByRecursion (IsSmall w places) threads → AllByRecursion IsNarrow (map (column_of w places) (enumerate_from n threads))
 unfolding column_of
@@ -196,26 +198,30 @@ cells_short : (row : ℕ) (columns : List (List (List ℕ))) → AllByRecursion 
 cells_short row [] narrow = tt
 cells_short row (column ∷ columns) narrow = (cell_short row column narrow.0, cells_short row columns narrow.1)
 
-row_short : (columns : List (List (List ℕ))) (row : ℕ) → length columns ≤ 24 → AllByRecursion IsNarrow columns → length (ended (row_line columns row)) ≤ 1036
+-- the longest row of a table: a cell for each column, and what ends it
+abbrev row_room : ℕ
+row_room = 43 * MAX_EDGES + 4
+
+row_short : (columns : List (List (List ℕ))) (row : ℕ) → length columns ≤ MAX_EDGES → AllByRecursion IsNarrow columns → length (ended (row_line columns row)) ≤ row_room
 unfolding row_line
 row_short columns row few narrow =
     let cells = join_by (cell_text row) (codes " | ") columns in
     let short = joined_short (cell_text row) (codes " | ") 40 43 columns (omega arith) (cells_short row columns narrow) in
     omega (arith, short, length-append cells (codes " ;"), length-append (codes " ") (cells ++ codes " ;"), length-append (codes " " ++ (cells ++ codes " ;")) (codes "\n"))
 
-rows_few : (columns : List (List (List ℕ))) → AllByRecursion IsNarrow columns → row_count columns ≤ 145
+rows_few : (columns : List (List (List ℕ))) → AllByRecursion IsNarrow columns → row_count columns ≤ MAX_INSTRS + 1
 unfolding row_count
-rows_few columns narrow = greatest_short {X = List (List ℕ)} (λ column. length column) 0 145 columns (omega arith) (sizes columns narrow)
+rows_few columns narrow = greatest_short {X = List (List ℕ)} (λ column. length column) 0 (MAX_INSTRS + 1) columns (omega arith) (sizes columns narrow)
   where
-    sizes : (columns : List (List (List ℕ))) → AllByRecursion IsNarrow columns → AllByRecursion (λ column. length column ≤ 145) columns
+    sizes : (columns : List (List (List ℕ))) → AllByRecursion IsNarrow columns → AllByRecursion (λ column. length column ≤ MAX_INSTRS + 1) columns
     sizes [] narrow = tt
     sizes (column ∷ columns) narrow = (narrow.0.rows, sizes columns narrow.1)
 
-table_short : (columns : List (List (List ℕ))) → length columns ≤ 24 → AllByRecursion IsNarrow columns → length (flat_map ended (table_lines columns)) ≤ 150220
+table_short : (columns : List (List (List ℕ))) → length columns ≤ MAX_EDGES → AllByRecursion IsNarrow columns → length (flat_map ended (table_lines columns)) ≤ (MAX_INSTRS + 1) * row_room
 unfolding table_lines
 table_short columns few narrow =
     let rows = range_with_len 0 (row_count columns) in
-    let short = pieces_short ended 1036 (map (row_line columns) rows) (map_all (row_line columns) (λ line. length (ended line) ≤ 1036) rows (λ row. row_short columns row few narrow)) in
+    let short = pieces_short ended row_room (map (row_line columns) rows) (map_all (row_line columns) (λ line. length (ended line) ≤ row_room) rows (λ row. row_short columns row few narrow)) in
     omega (arith, short, length-map rows (row_line columns), length-range_with_len 0 (row_count columns), rows_few columns narrow)
 
 quantifier_short : (q : Quantifier) → length (quantifier_word q) ≤ 7
@@ -250,7 +256,7 @@ terms_short (term ∷ terms) formed =
     further [] formed = tt
     further (term ∷ terms) formed = (omega (arith, term_short term formed.0, length-append (codes " /\\ ") (term_text term)), further terms formed.1)
 
-cond_short : (condition : CondSeen) → AllByRecursion IsFormedTerm condition.terms → length condition.terms ≤ 72 → length (ended (cond_text condition)) ≤ 2459
+cond_short : (condition : CondSeen) → AllByRecursion IsFormedTerm condition.terms → length condition.terms ≤ MAX_EDGES → length (ended (cond_text condition)) ≤ 34 * MAX_EDGES + 11
 unfolding cond_text
 cond_short condition formed few =
     let word = quantifier_word condition.quantifier in
@@ -265,9 +271,9 @@ cond_short condition formed few =
       length-append (word ++ codes " (" ++ terms ++ codes ")") (codes "\n"),
     )
 
--- the text of a test of at most 24 edges, 24 such threads and 72 terms is shorter than the format's longest
-pub text_short : (arch : ArchName) (w : Writing) (name : List ℕ) (test : TestSeen) → length name ≤ 800 → length test.edges ≤ 24 → length test.threads ≤ 24 → AreShort w.registers → AreShort test.places
-    → AllByRecursion (IsSmall w test.places) test.threads → AllByRecursion IsFormedTerm test.cond.terms → length test.cond.terms ≤ 72 → length (test_text arch w name test) ≤ MAX_TEXT
+-- the text of a test of so many edges, such threads and terms is shorter than the format's longest
+pub text_short : (arch : ArchName) (w : Writing) (name : List ℕ) (test : TestSeen) → length name ≤ 800 → length test.edges ≤ MAX_EDGES → length test.threads ≤ MAX_EDGES → AreShort w.registers → AreShort test.places
+    → AllByRecursion (IsSmall w test.places) test.threads → AllByRecursion IsFormedTerm test.cond.terms → length test.cond.terms ≤ MAX_EDGES → length (test_text arch w name test) ≤ MAX_TEXT
 unfolding test_text test_lines
 text_short arch w name test short edges threads registers names small formed few =
     let head = ended (header_line arch name) in

@@ -4,6 +4,7 @@ use Rattle.std.specs.List.{AllByRecursion, list_all}
 use Rattle.std.proofs.lemmas.Bool.{and_parts, leb-true}
 use Rattle.std.proofs.lemmas.List.{length-map}
 use Rattle.std.proofs.lemmas.Option.{slice_get_within}
+use Rattle.relax_edges.specs.declared.TheConstants.{MAX_EDGES}
 use Rattle.relax_edges.specs.declared.kinds.ArchName.{ArchName}
 use Rattle.relax_edges.specs.declared.kinds.ObsMode.{ObsMode}
 use Rattle.relax_edges.specs.declared.edge.Edge.{Edge}
@@ -43,7 +44,7 @@ registers_short [] h = tt
 registers_short (name ∷ names) h =
     let parts = and_parts (is_register_name name) (list_all is_register_name names) h in (register_name_short name parts.0, registers_short names parts.1)
 
-letters_short : (n : ℕ) → n ≤ 48 → AreShort (letters n)
+letters_short : (n : ℕ) → n ≤ MAX_EDGES → AreShort (letters n)
 letters_short n few =
     all_from (λ (name : List ℕ). length name ≤ 16) (letters n) (λ k name g.
     let below : k < n = omega (arith, slice_get_within (letters n) k name g, length-letters n) in
@@ -73,7 +74,7 @@ pub readable : (a : Puts) (arch : ArchName) (w : Writing) (name : List ℕ) (es 
 readable a arch w name es mode laws back cells one named t = record {
   named = named;
   short = text_short arch w name (shown_test a w es mode) (leb-true (length name) 800 named.short) t.resolved.composes.few (omega (arith, threads, steps, t.resolved.composes.few)) (registers_short w.registers back.formed)
-      (letters_short (move_count es) (omega (arith, few))) small (formed_terms w (length (map (compiled a) (cycle_steps es mode plain))) (letters (move_count es)) (last_terms es mode ++ load_terms a (name_in w.registers) 0 (cycle_steps es mode plain)) terms) (terms_few a (name_in w.registers) es mode plain t.resolved);
+      (letters_short (move_count es) (omega (arith, few))) small (formed_terms w (length (map (compiled a) (cycle_steps es mode plain))) (letters (move_count es)) (last_terms es mode ++ load_terms a (name_in w.registers) 0 (cycle_steps es mode plain)) terms) terms_number;
   threads_some = omega (arith, threads, steps-count es mode plain, t.resolved.threads);
   threads_few = omega (arith, threads, steps, t.resolved.composes.few);
   places_few = omega (arith, length-letters (move_count es), few);
@@ -83,7 +84,7 @@ readable a arch w name es mode laws back cells one named t = record {
   links = all_links_fit a w es mode laws back t (omega (arith, steps, t.resolved.composes.few));
   links_single = links_single a.registers (map (compiled a) (cycle_steps es mode plain)) (each_code a es mode (λ c. InOrder 0 c.links a.registers) (λ k ss g. (thread_is a es mode k ss laws t g).formed.links));
   terms_some = some_term a (name_in w.registers) es mode t.resolved;
-  terms_few = omega (arith, terms_few a (name_in w.registers) es mode plain t.resolved);
+  terms_few = omega (arith, terms_number);
   terms = terms;
 }
   where
@@ -93,7 +94,10 @@ readable a arch w name es mode laws back cells one named t = record {
     steps : length (cycle_steps es mode plain) ≤ length es
     steps = steps_few es mode plain
 
-    few : move_count es < 48
+    terms_number : length (last_terms es mode ++ load_terms a (name_in w.registers) 0 (cycle_steps es mode plain)) ≤ MAX_EDGES
+    terms_number = omega (arith, terms_few a (name_in w.registers) es mode plain t.resolved, t.resolved.composes.few)
+
+    few : move_count es < MAX_EDGES
     few = locations_few es t.resolved
 
     small : AllByRecursion (IsSmall w (letters (move_count es))) (map (compiled a) (cycle_steps es mode plain))

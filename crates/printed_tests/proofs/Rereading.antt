@@ -4,6 +4,7 @@ use Rattle.std.specs.Prelude.{unwrap_or}
 use Rattle.std.specs.List.{AllByRecursion, find}
 use Rattle.std.proofs.lemmas.List.Folds.{find-append}
 use Rattle.std.proofs.lemmas.Option.{slice_get_within, slice_get-get_or}
+use Rattle.relax_edges.specs.declared.TheConstants.{MAX_EDGES}
 use Rattle.relax_edges.specs.declared.kinds.ObsMode.{ObsMode}
 use Rattle.relax_edges.specs.declared.kinds.Value.{Value}
 use Rattle.relax_edges.specs.declared.kinds.Value.TheVariants as values
@@ -109,7 +110,7 @@ location_stands a es mode table location laws t inside linked h =
     subst (λ name. is_in table name ≡ true) (ap names v.place_is ∙ got_is (letters (move_count es)) location (location_name location) (letter_at (move_count es) location h)) stands
 
 -- the names of the locations are among those of the table
-letters_among : (table : List (List ℕ)) (n : ℕ) → n ≤ 48 → ((l : ℕ) → l < n → is_in table (location_name l) ≡ true) → IsAmong (letters n) table
+letters_among : (table : List (List ℕ)) (n : ℕ) → n ≤ MAX_EDGES → ((l : ℕ) → l < n → is_in table (location_name l) ≡ true) → IsAmong (letters n) table
 letters_among table zero few h = none_among table
 letters_among table (suc n) few h =
     let one : n + 1 ≡ suc n = omega arith in

@@ -4,16 +4,15 @@ use Rattle.std.specs.Prelude.{ℕ, Bool, true, false, List, [], ◌∷◌, ◌++
 use Rattle.relax_edges.specs.declared.kinds.Dir.{Dir}
 use Rattle.relax_edges.specs.declared.kinds.Dir.TheVariants as dirs
 use Rattle.relax_edges.specs.declared.kinds.Mark.{Mark}
-use Rattle.micro_ops.specs.declared.operation.Barrier.{Barrier}
 use Rattle.micro_ops.specs.declared.operation.Item.{Item}
 use Rattle.micro_ops.specs.declared.operation.Item.TheVariants as items
+use Rattle.program_meaning.specs.declared.Access.{Access as TheAccess}
+use Rattle.program_meaning.specs.declared.Barred.{Barred as TheBarred}
 use Rattle.program_meaning.specs.declared.WriteAt.{WriteAt}
 
 -- an access: what it does, at which place, and the value that it reads or writes
-pub record Access : Type 0 where
-  pub dir : Dir
-  pub place : ℕ
-  pub value : ℕ
+abbrev pub Access : Type 0
+Access = TheAccess
 
 -- a read and a write
 abbrev pub read : ℕ → ℕ → Access
@@ -23,9 +22,8 @@ abbrev pub write : ℕ → ℕ → Access
 write place value = record { dir = dirs.W; place = place; value = value }
 
 -- a barrier, with the loads in its control mask
-pub record Barred : Type 0 where
-  pub kind : Barrier
-  pub control : ℕ
+abbrev pub Barred : Type 0
+Barred = TheBarred
 
 -- an access with its mark, the barriers between it and the access before it, and the loads that its address, its data
 -- and the branches before it depend on. Bit k of a mask names load number k of the thread

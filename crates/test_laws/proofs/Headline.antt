@@ -5,6 +5,7 @@ use Rattle.std.specs.List.{position_from}
 use Rattle.std.proofs.lemmas.Bool.{ltb-false}
 use Rattle.std.proofs.lemmas.Option.{slice_get_within}
 use Rattle.std.proofs.lemmas.Slice.Eq.{bytes_eq-Decides}
+use Rattle.relax_edges.specs.declared.TheConstants.{MAX_EDGES}
 use Rattle.relax_edges.specs.declared.kinds.ObsMode.{ObsMode}
 use Rattle.relax_edges.specs.declared.edge.Edge.{Edge}
 use Rattle.resolution_laws.specs.Resolution.{move_count}
@@ -102,7 +103,7 @@ renumbered_numbers a register_name es mode test number t e = record {
     named : AreNamed es number test.places
     named = renumbered_names a register_name es mode test number e
 
-    few : move_count es < 48
+    few : move_count es < MAX_EDGES
     few = locations_few es t.resolved
 
 -- its program is that of the cycle's test, under these numbers

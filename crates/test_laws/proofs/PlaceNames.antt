@@ -4,6 +4,7 @@ use Rattle.std.specs.Str.{bytes_eq}
 use Rattle.std.proofs.lemmas.Slice.Eq.{bytes_eq-Decides}
 use Rattle.std.proofs.lemmas.Option.{slice_get-get_or}
 use Rattle.std.proofs.lemmas.List.FromFn.{get_or-map-range_with_len, length-map-range_with_len}
+use Rattle.relax_edges.specs.declared.TheConstants.{MAX_EDGES}
 use Rattle.relax_edges.specs.declared.edge.Edge.{Edge}
 use Rattle.list_laws.proofs.Cases.{by_test, by_less}
 use Rattle.resolution_laws.specs.Resolution.{IsResolved, move_count}
@@ -21,10 +22,10 @@ letter_at n l h =
     ∙ ap Some (get_or-map-range_with_len location_name 0 n l l [] h (omega arith))
 
 -- the names of two locations differ
-earlier_differs : (m l : ℕ) → m < l → l < 48 → bytes_eq (location_name m) (location_name l) ≡ false
+earlier_differs : (m l : ℕ) → m < l → l < MAX_EDGES → bytes_eq (location_name m) (location_name l) ≡ false
 earlier_differs m l h b = position_none (λ name. bytes_eq name (location_name l)) 0 (letters l) m (location_name m) (location_new l b).new (letter_at l m h)
 
-pub names_differ : (m l : ℕ) → m < 48 → l < 48 → bytes_eq (location_name m) (location_name l) ≡ true → m ≡ l
+pub names_differ : (m l : ℕ) → m < MAX_EDGES → l < MAX_EDGES → bytes_eq (location_name m) (location_name l) ≡ true → m ≡ l
 names_differ m l a b h =
     by_less m l
     (λ k. absurd (apart (h) (earlier_differs m l k b)))
@@ -40,8 +41,8 @@ names_differ m l a b h =
 abbrev pub AreNamed : List Edge → (ℕ → ℕ) → List (List ℕ) → Type 0
 AreNamed es number names = (location : ℕ) → location < move_count es → slice_get names (number location) ≡ Some (location_name location)
 
-pub locations_few : (es : List Edge) → IsResolved es → move_count es < 48
-locations_few es r = omega (arith, external_and_moves es, r.composes.few)
+pub locations_few : (es : List Edge) → IsResolved es → move_count es < MAX_EDGES
+locations_few es r = omega (arith, external_and_moves es, r.composes.few, r.threads)
 
 -- the place of a location is found by its name
 pub place_found : (es : List Edge) (number : ℕ → ℕ) (names : List (List ℕ)) (l : ℕ) → IsResolved es → IsNumbering es number → AreNamed es number names → l < move_count es → number_in names (location_name l) ≡ Some (number l)

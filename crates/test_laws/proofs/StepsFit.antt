@@ -17,7 +17,7 @@ use Rattle.relax_edges.specs.declared.kinds.Kind.TheVariants as kinds
 use Rattle.relax_edges.specs.declared.edge.Edge.{Edge}
 use Rattle.relax_edges.specs.declared.edge.Edge.TheVariants as edges
 use Rattle.relax_edges.specs.declared.TheConstants.{MAX_EDGES}
-use Rattle.relax_edges.specs.EdgeTable.{kind_of, kind_source, kind_target, source_of, source_mark, target_of, mark_fits, mark_is_of, is_of_arch, is_external}
+use Rattle.relax_edges.specs.EdgeTable.{kind_of, kind_source, kind_target, source_of, mark_fits, mark_is_of, is_of_arch, is_external}
 use Rattle.walk_laws.proofs.Marks.{source_mark_fits}
 use Rattle.list_laws.specs.Numbers.{upto}
 use Rattle.list_laws.proofs.Cases.{by_test}

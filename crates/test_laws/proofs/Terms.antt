@@ -1,24 +1,24 @@
 -- The terms of a test's condition: those of some threads and then of others, and how many there are.
-use Rattle.std.proofs.Common.{◌≡◌, ℕ, zero, suc, ◌+◌, ◌*◌, ◌<◌, ◌≤◌, not, ◌==◌, List, [], ◌∷◌, ◌++◌, length, get_or, take, drop, map, refl, sym, ◌∙◌, ap, arith, add-one, length-append, append_assoc, append-nil, length-take, drop-cons}
+use Rattle.std.proofs.Common.{◌≡◌, ℕ, zero, suc, ◌+◌, ◌<◌, ◌≤◌, Bool, true, false, not, ◌==◌, ◌&&◌, cond, List, [], ◌∷◌, ◌++◌, length, get_or, take, drop, map, refl, sym, ◌∙◌, ap, arith, add-one, length-append, append_assoc, append-nil, length-take, drop-cons}
+use Rattle.std.specs.Prelude.{nat_le}
 use Rattle.std.specs.List.{count_by, filter, sum_by, zip}
-use Rattle.std.proofs.lemmas.Bool.{and_parts}
+use Rattle.std.proofs.lemmas.Bool.{leb-true}
 use Rattle.std.proofs.lemmas.List.{length-map, take-append-drop, take_more}
-use Rattle.std.proofs.lemmas.List.Sums.{sum_by-cons, sum_by-append, sum_by_push, count_by-le-length, length-filter}
-use Rattle.std.proofs.lemmas.List.Filters.{sum_by-filter_both}
+use Rattle.std.proofs.lemmas.List.Sums.{sum_by-cons, sum_by-append, count_by-le-length, length-filter}
 use Rattle.std.proofs.lemmas.Slice.Zip.{length-zip}
+use Rattle.relax_edges.specs.declared.kinds.Dir.{Dir}
 use Rattle.relax_edges.specs.declared.kinds.Dir.TheVariants as dirs
 use Rattle.relax_edges.specs.declared.kinds.ObsMode.{ObsMode}
 use Rattle.relax_edges.specs.declared.edge.Edge.{Edge}
-use Rattle.relax_edges.specs.declared.TheConstants.{MAX_EDGES}
 use Rattle.relax_edges.specs.EdgeTable.{source_of, same_dir}
 use Rattle.list_laws.specs.Numbers.{upto}
-use Rattle.list_laws.proofs.Numbers.{length-upto, length-map-upto}
-use Rattle.list_laws.proofs.Counts.{count_upto_fewer}
-use Rattle.list_laws.proofs.Totals.{classes_total}
-use Rattle.resolution_laws.specs.Resolution.{IsResolved, edge_at, external_count, move_count, events_in, location_of}
-use Rattle.resolution_laws.proofs.Arcs.{location_below}
-use Rattle.resolution_laws.proofs.Sizes.{external_and_moves, thread_sizes_total}
-use Rattle.value_laws.specs.Values.{is_write_at, is_observed, write_count}
+use Rattle.list_laws.proofs.Numbers.{length-map-upto}
+use Rattle.list_laws.proofs.Counts.{count_upto-suc, count_upto_none, count_upto_same}
+use Rattle.list_laws.proofs.Totals.{count_upto_single, sum_upto_same, sum_upto-add}
+use Rattle.resolution_laws.specs.Resolution.{IsResolved, edge_at, external_count, move_count, events_in, location_of, thread_of}
+use Rattle.resolution_laws.proofs.Arcs.{location_below, thread_below}
+use Rattle.value_laws.specs.Values.{is_observed, is_write, write_count}
+use Rattle.value_laws.proofs.Lists.{count_filter}
 use Rattle.arch_trait.specs.declared.step.Step.{Step}
 use Rattle.arch_trait.specs.Threads.{Puts, is_load_dir, loads_in, setting_out, compiled}
 use Rattle.arch_trait.proofs.Codes.{thread_loads_length}
@@ -79,63 +79,127 @@ sum_fewer : {X : Type 0} (f g : X → ℕ) (xs : List X) → ((x : X) → f x �
 sum_fewer f g [] h = omega arith
 sum_fewer f g (x ∷ xs) h = omega (arith, sum_by-cons f x xs, sum_by-cons g x xs, h x, sum_fewer f g xs h)
 
-sum_upto_fewer : (f g : ℕ → ℕ) (n : ℕ) → ((i : ℕ) → i < n → f i ≤ g i) → sum_by f (upto n) ≤ sum_by g (upto n)
-sum_upto_fewer f g zero h = omega arith
-sum_upto_fewer f g (suc n) h =
-    omega (arith, sum_by_push f (upto n) n, sum_by_push g (upto n) n, sum_upto_fewer f g n (λ i l. h i (omega arith)), h n (omega arith))
+-- a number that passes a test falls into one class
+class_passing : (b : Bool) (m c : ℕ) → m < c → sum_by (λ k. cond (b && (m == k)) 1 0) (upto c) ≡ cond b 1 0
+class_passing true m c h = count_upto_single m c h
+class_passing false m c h = count_upto_none (λ k. false) c (λ i l. refl)
 
--- the writes of all locations are at most as many as the edges
-writes_total : (es : List Edge) → IsResolved es → sum_by (write_count es) (upto (move_count es)) ≤ length es
-unfolding write_count
-writes_total es r =
+-- the numbers below n that pass a test, by their classes
+classes_passing : (q : ℕ → Bool) (f : ℕ → ℕ) (c n : ℕ) → ((i : ℕ) → i < n → f i < c) → sum_by (λ k. count_by (λ i. q i && (f i == k)) (upto n)) (upto c) ≡ count_by q (upto n)
+classes_passing q f c zero h = count_upto_none (λ k. false) c (λ i l. refl)
+classes_passing q f c (suc n) h =
     omega (
       arith,
-      sum_upto_fewer (λ l. count_by (is_write_at es l) (upto (length es))) (λ l. count_by (λ i. location_of es i == l) (upto (length es))) (move_count es)
-          (λ l b. count_upto_fewer (is_write_at es l) (λ i. location_of es i == l) (length es)
-          (λ i h t. (and_parts (same_dir (source_of (edge_at es i)) dirs.W) (location_of es i == l) t).1)),
-      classes_total (location_of es) (move_count es) (length es) (λ i h. location_below es i r h),
+      sum_upto_same (λ k. count_by (λ i. q i && (f i == k)) (upto (suc n))) (λ k. count_by (λ i. q i && (f i == k)) (upto n) + cond (q n && (f n == k)) 1 0) c (λ k l. count_upto-suc (λ i. q i && (f i == k)) n),
+      sum_upto-add (λ k. count_by (λ i. q i && (f i == k)) (upto n)) (λ k. cond (q n && (f n == k)) 1 0) c,
+      classes_passing q f c n (λ i l. h i (omega arith)),
+      count_upto-suc q n,
+      class_passing (q n) (f n) c (h n (omega arith)),
     )
 
--- and so are those of some locations
-observed_total : (es : List Edge) (mode : ObsMode) → IsResolved es → sum_by (write_count es) (observed_locations es mode) ≤ length es
-observed_total es mode r =
-    omega (arith, sum_by-filter_both (is_observed es mode) (λ l. not (is_observed es mode l)) (λ l. refl) (write_count es) (upto (move_count es)), writes_total es r)
+-- of two tests of which one passes where the other doesn't, each number passes one
+one_passes : (a b : Bool) → b ≡ not a → cond a 1 0 + cond b 1 0 ≡ 1
+one_passes true b h = rw h refl
+one_passes false b h = rw h refl
 
-loads_most : (steps : List Step) → loads_in steps ≤ length steps
-loads_most steps = count_by-le-length (λ s. is_load_dir s.dir) steps
+either_passes : (p q : ℕ → Bool) (n : ℕ) → ((i : ℕ) → q i ≡ not (p i)) → count_by p (upto n) + count_by q (upto n) ≡ n
+either_passes p q zero h = refl
+either_passes p q (suc n) h = omega (arith, count_upto-suc p n, count_upto-suc q n, either_passes p q n h, one_passes (p n) (q n) (h n))
 
--- the loads of all threads of the test are at most twice as many as the edges
-pub loads_total : (es : List Edge) (mode : ObsMode) (number : ℕ → ℕ) → IsResolved es → sum_by loads_in (cycle_steps es mode number) ≤ 2 * length es
+and_turned : (a b : Bool) → (a && b) ≡ (b && a)
+and_turned true true = refl
+and_turned true false = refl
+and_turned false true = refl
+and_turned false false = refl
+
+-- event i is a read
+abbrev is_load : List Edge → ℕ → Bool
+is_load es i = is_load_dir (source_of (edge_at es i))
+
+load_or_store : (es : List Edge) (i : ℕ) → is_load es i ≡ not (is_write es i)
+load_or_store es i = of_dir (source_of (edge_at es i))
+  where
+    of_dir : (d : Dir) → is_load_dir d ≡ not (same_dir d dirs.W)
+    of_dir dirs.R = refl
+    of_dir dirs.W = refl
+
+-- the loads of a thread are its events that read
+thread_loads : (es : List Edge) (number : ℕ → ℕ) (k : ℕ) → loads_in (thread_steps es number k) ≡ count_by (λ i. is_load es i && (thread_of es i == k)) (upto (length es))
+unfolding events_in
+thread_loads es number k =
+    sum_map (λ (s : Step). cond (is_load_dir s.dir) 1 0) (event_step es number) (events_in es k)
+    ∙ count_filter (is_load es) (λ i. thread_of es i == k) (upto (length es))
+    ∙ count_upto_same (λ i. (thread_of es i == k) && is_load es i) (λ i. is_load es i && (thread_of es i == k)) (length es) (λ i l. and_turned (thread_of es i == k) (is_load es i))
+
+-- and so all threads of the cycle have as many loads as it has reads
+cycle_loads : (es : List Edge) (number : ℕ → ℕ) → IsResolved es → sum_by (λ k. loads_in (thread_steps es number k)) (upto (external_count es)) ≡ count_by (is_load es) (upto (length es))
+cycle_loads es number r =
+    sum_upto_same (λ k. loads_in (thread_steps es number k)) (λ k. count_by (λ i. is_load es i && (thread_of es i == k)) (upto (length es))) (external_count es) (λ k l. thread_loads es number k)
+    ∙ classes_passing (is_load es) (thread_of es) (external_count es) (length es) (λ i l. thread_below es i r l)
+
+-- the writes of all locations are those of the cycle
+writes_total : (es : List Edge) → IsResolved es → sum_by (write_count es) (upto (move_count es)) ≡ count_by (is_write es) (upto (length es))
+unfolding write_count
+writes_total es r = classes_passing (is_write es) (location_of es) (move_count es) (length es) (λ i l. location_below es i r l)
+
+-- where some numbers are counted once, others by a size, and none by more than its size
+chosen_fewer : (f : ℕ → ℕ) (p q : ℕ → Bool) (xs : List ℕ) → ((x : ℕ) → cond (q x) 1 0 + cond (p x) (f x) 0 ≤ f x) → count_by q xs + sum_by f (filter p xs) ≤ sum_by f xs
+chosen_fewer f p q [] h = omega arith
+chosen_fewer f p q (x ∷ xs) h =
+    omega (arith, sum_by-cons (λ y. cond (q y) 1 0) x xs, sum_by-cons f x xs, h x, chosen_fewer f p q xs h, more (p x))
+  where
+    more : (b : Bool) → sum_by f (cond b (x ∷ filter p xs) (filter p xs)) ≡ cond b (f x) 0 + sum_by f (filter p xs)
+    more true = sum_by-cons f x (filter p xs)
+    more false = omega arith
+
+-- a location whose last value is named has a write, and one with an observer isn't named
+named_or_observed : (es : List Edge) (mode : ObsMode) (l : ℕ) → cond (is_named es mode l) 1 0 + cond (is_observed es mode l) (write_count es l) 0 ≤ write_count es l
+named_or_observed es mode l = either (is_observed es mode l) (nat_le 2 (write_count es l)) refl
+  where
+    either : (seen two : Bool) → nat_le 2 (write_count es l) ≡ two → cond (two && not seen) 1 0 + cond seen (write_count es l) 0 ≤ write_count es l
+    either true true e = omega arith
+    either true false e = omega arith
+    either false true e = let t = leb-true 2 (write_count es l) e in omega (arith, t)
+    either false false e = omega arith
+
+-- the loads of the observers
+observer_loads : (es : List Edge) (mode : ObsMode) (number : ℕ → ℕ) → sum_by (λ l. loads_in (observer_steps es number l)) (observed_locations es mode) ≤ sum_by (write_count es) (observed_locations es mode)
+observer_loads es mode number =
+    sum_fewer (λ l. loads_in (observer_steps es number l)) (write_count es) (observed_locations es mode)
+    (λ l. let steps = observer_steps es number l in
+    omega (arith, count_by-le-length (λ (s : Step). is_load_dir s.dir) steps, length-map-upto (observing (number l)) (write_count es l)))
+
+-- the loads of all threads of the test are those of the cycle's threads and those of the observers
+loads_total : (es : List Edge) (mode : ObsMode) (number : ℕ → ℕ) → IsResolved es
+    → sum_by loads_in (cycle_steps es mode number) ≤ count_by (is_load es) (upto (length es)) + sum_by (write_count es) (observed_locations es mode)
 unfolding cycle_steps
 loads_total es mode number r =
-    let all = sum_by-append loads_in (map (thread_steps es number) (upto (external_count es))) (map (observer_steps es number) (observed_locations es mode)) in
-    let a = sum_map loads_in (thread_steps es number) (upto (external_count es)) in
-    let b = sum_map loads_in (observer_steps es number) (observed_locations es mode) in
-    let c = sum_fewer (λ k. loads_in (thread_steps es number k)) (λ k. length (events_in es k)) (upto (external_count es))
-    (λ k. omega (arith, loads_most (thread_steps es number k), length-map (events_in es k) (event_step es number))) in
-    let d = sum_fewer (λ l. loads_in (observer_steps es number l)) (write_count es) (observed_locations es mode)
-    (λ l. omega (arith, loads_most (observer_steps es number l), length-map-upto (observing (number l)) (write_count es l))) in
-    let t = thread_sizes_total es r in
-    let o = observed_total es mode r in
-    omega (arith, all, a, b, c, d, t, o)
+    omega (
+      arith,
+      sum_by-append loads_in (map (thread_steps es number) (upto (external_count es))) (map (observer_steps es number) (observed_locations es mode)),
+      sum_map loads_in (thread_steps es number) (upto (external_count es)),
+      sum_map loads_in (observer_steps es number) (observed_locations es mode),
+      cycle_loads es number r,
+      observer_loads es mode number,
+    )
 
--- the locations whose last value is named are at most as many as the edges
-pub last_terms_few : (es : List Edge) (mode : ObsMode) → length (last_terms es mode) ≤ length es
-last_terms_few es mode =
-    let l = length-map (filter (is_named es mode) (upto (move_count es))) (last_term es) in
-    let f = length-filter (is_named es mode) (upto (move_count es)) in
-    let m = count_by-le-length (is_named es mode) (upto (move_count es)) in
-    omega (arith, l, f, m, length-upto (move_count es), external_and_moves es)
-
--- a condition has at most three terms for each edge
-pub terms_few : (a : Puts) (name : ℕ → List ℕ) (es : List Edge) (mode : ObsMode) (number : ℕ → ℕ) → IsResolved es → length (last_terms es mode ++ load_terms a name 0 (cycle_steps es mode number)) ≤ 3 * MAX_EDGES
+-- a condition has at most one term for each event of the cycle
+pub terms_few : (a : Puts) (name : ℕ → List ℕ) (es : List Edge) (mode : ObsMode) (number : ℕ → ℕ) → IsResolved es → length (last_terms es mode ++ load_terms a name 0 (cycle_steps es mode number)) ≤ length es
 terms_few a name es mode number r =
-    let l = length-append (last_terms es mode) (load_terms a name 0 (cycle_steps es mode number)) in
-    let c = load_terms-count a name 0 (cycle_steps es mode number) in
-    omega (arith, l, c, loads_total es mode number r, last_terms_few es mode, r.composes.few)
+    omega (
+      arith,
+      length-append (last_terms es mode) (load_terms a name 0 (cycle_steps es mode number)),
+      length-map (filter (is_named es mode) (upto (move_count es))) (last_term es),
+      length-filter (is_named es mode) (upto (move_count es)),
+      load_terms-count a name 0 (cycle_steps es mode number),
+      loads_total es mode number r,
+      chosen_fewer (write_count es) (is_observed es mode) (is_named es mode) (upto (move_count es)) (named_or_observed es mode),
+      writes_total es r,
+      either_passes (is_write es) (is_load es) (length es) (load_or_store es),
+    )
 
--- so there is room for the terms of a thread behind those of the threads before it
-pub terms_room : (a : Puts) (name : ℕ → List ℕ) (es : List Edge) (mode : ObsMode) (number : ℕ → ℕ) (k : ℕ) (d : List Step) → IsResolved es → k < length (cycle_steps es mode number) → length (last_terms es mode ++ load_terms a name 0 (take k (cycle_steps es mode number))) + length (thread_terms a name k (get_or (cycle_steps es mode number) k d)) ≤ 3 * MAX_EDGES
+-- so there is room for the terms of a thread after those of the threads before it
+pub terms_room : (a : Puts) (name : ℕ → List ℕ) (es : List Edge) (mode : ObsMode) (number : ℕ → ℕ) (k : ℕ) (d : List Step) → IsResolved es → k < length (cycle_steps es mode number) → length (last_terms es mode ++ load_terms a name 0 (take k (cycle_steps es mode number))) + length (thread_terms a name k (get_or (cycle_steps es mode number) k d)) ≤ length es
 terms_room a name es mode number k d r h =
     let threads = cycle_steps es mode number in
     let front = load_terms a name 0 (take k threads) in

@@ -4,6 +4,7 @@ use Rattle.std.proofs.lemmas.List.{length-map, map-append}
 use Rattle.std.proofs.lemmas.Bool.Decides.{nat_tests}
 use Rattle.std.specs.List.{filter, count_by}
 use Rattle.std.proofs.lemmas.List.Elements.{filter-append}
+use Rattle.relax_edges.specs.declared.TheConstants.{MAX_EDGES}
 use Rattle.relax_edges.specs.declared.edge.Edge.{Edge}
 use Rattle.relax_edges.specs.declared.kinds.ObsMode.{ObsMode}
 use Rattle.list_laws.specs.Numbers.{upto}
@@ -73,13 +74,13 @@ unfolding events_in
 found_all es thread xs e = e
 
 -- the reads of an observer are few
-pub few_reads : {X : Type 0} (f : ℕ → X) (es : List Edge) (l k : ℕ) (xs : List X) → IsResolved es → xs ≡ map f (upto k) → k < write_count es l → length xs < 24
+pub few_reads : {X : Type 0} (f : ℕ → X) (es : List Edge) (l k : ℕ) (xs : List X) → IsResolved es → xs ≡ map f (upto k) → k < write_count es l → length xs < MAX_EDGES
 few_reads f es l k xs r e h =
     let long : length xs ≡ k = ap length e ∙ length-map-upto f k in
     omega (arith, long, write_count_most es l, r.composes.few)
 
 -- the threads are few
-pub few_threads : (es : List Edge) (mode : ObsMode) (observers : ℕ) → IsResolved es → observers ≡ length (observed_locations es mode) → external_count es + observers ≤ 24
+pub few_threads : (es : List Edge) (mode : ObsMode) (observers : ℕ) → IsResolved es → observers ≡ length (observed_locations es mode) → external_count es + observers ≤ MAX_EDGES
 few_threads es mode observers r e =
     omega (arith, e, length-filter-upto (is_observed es mode) (move_count es), threads_and_observers es mode, r.composes.few)
 

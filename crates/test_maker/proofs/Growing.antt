@@ -6,10 +6,12 @@ use Rattle.std.specs.Option.{option_map}
 use Rattle.std.proofs.lemmas.Option.{get_or_from_slice_get}
 use Rattle.std.proofs.lemmas.List.{drop_all, length-map, length-set, map-append, take_all, take_more, take_more_set}
 use Rattle.arrayvec.specs.ArrayVec.{ArrayVec, with_items}
+use Rattle.relax_edges.specs.declared.TheConstants.{MAX_EDGES}
 use Rattle.relax_edges.specs.declared.kinds.ObsMode.{ObsMode}
 use Rattle.relax_edges.specs.declared.edge.Edge.{Edge}
 use Rattle.resolution_laws.specs.Resolution.{IsResolved}
 use Rattle.final_cond.specs.declared.cond.Cond.{Cond}
+use Rattle.final_cond.specs.declared.cond.TheConstants.{MAX_TERMS}
 use Rattle.final_cond.specs.Conditions.{term_view}
 use Rattle.arch_trait.specs.declared.code.Code.{Code}
 use Rattle.arch_trait.specs.declared.step.Step.{Step}
@@ -136,20 +138,20 @@ thread_next a name es mode k threads cond0 cond1 g h =
     omega (arith, long, length-take k threads.items, length-take k (cycle_steps es mode plain))
 
 -- there is room for a thread
-pub thread_room : (es : List Edge) (mode : ObsMode) (k : ℕ) → IsResolved es → k < length (cycle_steps es mode plain) → k < 24
+pub thread_room : (es : List Edge) (mode : ObsMode) (k : ℕ) → IsResolved es → k < length (cycle_steps es mode plain) → k < MAX_EDGES
 thread_room es mode k r h = omega (arith, h, steps_few es mode plain, r.composes.few)
 
 -- there is room for its terms
 pub load_room : (a : Puts) (name : ℕ → List ℕ) (es : List Edge) (mode : ObsMode) (k : ℕ) (steps : List Step) (threads : ArrayVec Code) (cond0 cond1 : Cond) →
     IsResolved es → Grown a name es mode k threads cond0 cond1 → slice_get (cycle_steps es mode plain) k ≡ Some steps →
-    map term_view cond0.terms.items ≡ last_terms es mode → length cond1.terms.items + length (numbers_read steps) ≤ 128
+    map term_view cond0.terms.items ≡ last_terms es mode → length cond1.terms.items + length (numbers_read steps) ≤ MAX_TERMS
 load_room a name es mode k steps threads cond0 cond1 r g got last =
     let front = load_terms a name 0 (take k (cycle_steps es mode plain)) in
     let long : length cond1.terms.items ≡ length (last_terms es mode ++ front) =
     sym (length-map cond1.terms.items term_view) ∙ ap length (g.terms ∙ ap (λ terms. terms ++ front) last) in
     let room = terms_room a name es mode plain k steps r (got_within (cycle_steps es mode plain) k steps got) in
     let here = ap (λ s. length (thread_terms a name k s)) (get_or_from_slice_get (cycle_steps es mode plain) k steps steps got) in
-    omega (arith, long, room, here, thread_terms-count a name k steps, reads-count steps)
+    omega (arith, long, room, here, thread_terms-count a name k steps, reads-count steps, r.composes.few)
 
 -- the next thread needs too many registers, and is the first that does
 pub crowded_here : (a : Puts) (es : List Edge) (mode : ObsMode) (k : ℕ) (steps : List Step)

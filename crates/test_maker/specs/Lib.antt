@@ -2,3 +2,4 @@ pub mod Refusals
 pub mod Made
 pub mod Terms
 pub mod CycleText
+pub mod CycleTextLaws

@@ -10,7 +10,7 @@ use arch_trait::{after_blanks, split_word};
 use memchr::memchr;
 
 /// The text before the first such byte, and the text behind it.
-pub(crate) fn cut(sign: u8, text: &[u8]) -> Option<(&[u8], &[u8])>
+pub fn cut(sign: u8, text: &[u8]) -> Option<(&[u8], &[u8])>
     ensures cut { cut_seen result ≡ cut_at sign text.now }
     ensures parts { CutsAt sign text.now result }
 {
@@ -56,8 +56,8 @@ impl<'a> Pieces<'a> {
     }
 }
 
-/// The first word between blanks, and the text behind it.
-fn first_word(text: &[u8]) -> Option<(&[u8], &[u8])>
+/// The first word between blanks, if there is one, and the text after it.
+pub fn first_word(text: &[u8]) -> Option<(&[u8], &[u8])>
     ensures { FirstWord words result (words text.now) }
 {
     let text = after_blanks(text);

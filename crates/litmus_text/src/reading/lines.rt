@@ -38,7 +38,7 @@ fn is_passed(text: &[u8]) -> bool
 }
 
 /// A line without the carriage return at its end.
-fn without_return(text: &[u8]) -> &[u8]
+pub fn without_return(text: &[u8]) -> &[u8]
     ensures { result.now ≡ without_return text.now }
 {
     let [front @ .., last] = text else {

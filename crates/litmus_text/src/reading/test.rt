@@ -1,22 +1,16 @@
-ghost use Rattle.std.specs.Prelude.{◌≡◌, ◌<◌, ◌≤◌, [], length, map, option_map, slice_get, Some};
+ghost use Rattle.std.specs.Prelude.{◌≡◌, ◌<◌, ◌≤◌, [], length, option_map, slice_get, Some};
 ghost use Rattle.final_cond.specs.Conditions.{cond_view};
 ghost use Rattle.litmus_text.specs.TestReading.{TestRead};
-ghost use Rattle.litmus_text.specs.Views.{thread_seen};
+ghost use Rattle.litmus_text.specs.Runnable.{IsRunnable, NamesRegisters};
 ghost use Rattle.litmus_text.specs.declared.limits.TheConstants.{MAX_THREADS};
 
 use crate::limits::MAX_THREADS;
+use crate::reading::thread::Thread;
 use arch_trait::Places;
 use final_cond::Cond;
 use micro_ops::Micro;
 use relax_edges::Value;
 use std::marker::{Model, PhantomData};
-
-/// A thread of a test that was read.
-#[derive(Debug, Drop)]
-pub(crate) struct Thread {
-    pub(crate) init: Vec<(u8, Value)>,
-    pub(crate) code: Vec<Micro>,
-}
 
 /// A test that was read, as a test of an architecture.
 #[derive(Debug, Drop)]
@@ -32,7 +26,7 @@ pub struct ReadTest<A> {
 impl<A> Model for ReadTest<A> {
     ghost Value = { TestRead };
 
-    ghost view = { λ t. record { name = t.name.items; quoted = option_map (λ text. text.items) t.quoted; places = t.places; threads = map thread_seen t.threads.items; cond = cond_view t.cond } };
+    ghost view = { λ t. record { name = t.name.items; quoted = option_map (λ text. text.items) t.quoted; places = t.places; threads = t.threads.items; cond = cond_view t.cond } };
 
     ghost invariant = { λ t. length t.threads.items ≤ MAX_THREADS };
 }
@@ -69,21 +63,25 @@ impl<A> ReadTest<A> {
         self.threads.len() as u8
     }
 
-    /// The operations of a thread, in order.
+    /// The operations of a thread, in order. They can be run.
     pub fn code(&self, thread: u8) -> &[Micro]
         requires { thread < length self.now.threads }
-        ensures { option_map (λ t. t.code) (slice_get self.now.threads thread) ≡ Some result.now }
+        ensures value { option_map (λ t. t.code) (slice_get self.now.threads thread) ≡ Some result.now }
+        ensures runnable { IsRunnable result.now }
     {
-        self.threads[usize::from(thread)].code.as_slice()
+        let thread = &self.threads[usize::from(thread)];
+        thread.code.as_slice()
     }
 
     /// The registers of a thread to which the initial state gives a value, in its order. All others
     /// hold the number 0.
     pub fn init(&self, thread: u8) -> &[(u8, Value)]
         requires { thread < length self.now.threads }
-        ensures { option_map (λ t. t.init) (slice_get self.now.threads thread) ≡ Some result.now }
+        ensures value { option_map (λ t. t.init) (slice_get self.now.threads thread) ≡ Some result.now }
+        ensures registers { NamesRegisters result.now }
     {
-        self.threads[usize::from(thread)].init.as_slice()
+        let thread = &self.threads[usize::from(thread)];
+        thread.init.as_slice()
     }
 
     /// The condition. Its registers are registers of the test's threads.

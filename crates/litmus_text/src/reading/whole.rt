@@ -1,8 +1,9 @@
 ghost use Rattle.std.specs.Prelude.{◌≡◌, ◌≤◌, [], map, length, option_map, IfOk};
 ghost use Rattle.final_cond.specs.Conditions.{cond_view};
 ghost use Rattle.litmus_text.specs.Gives.{Gives, GivesInMemory};
+ghost use Rattle.litmus_text.specs.Runnable.{IsRunnable, NamesRegisters, AllNameRegisters, AllRunnable, ops_in};
 ghost use Rattle.litmus_text.specs.TestReading.{values_of, threads_of, lines_read, test_read, arch_in_text};
-ghost use Rattle.litmus_text.specs.Views.{rest_read, table_read, body_read, text_left, begun_seen, column_seen, thread_seen};
+ghost use Rattle.litmus_text.specs.Views.{rest_read, table_read, body_read, text_left, begun_seen, column_seen};
 
 use crate::errors::{ReadError, TestKind, TextError, bad};
 use crate::limits::{MAX_TEXT, MAX_THREADS};
@@ -12,8 +13,9 @@ use crate::reading::initial::{Begun, Given, read_initial};
 use crate::reading::labels::judge_all_labels;
 use crate::reading::rows::{after_locations, no_columns, read_rows};
 use crate::reading::table::{Column, Placed, read_head};
-use crate::reading::test::{ReadTest, Thread};
+use crate::reading::test::ReadTest;
 use crate::reading::text::Text;
+use crate::reading::thread::Thread;
 use arch_trait::{Arch, Places};
 use final_cond::Cond;
 use micro_ops::Micro;
@@ -61,7 +63,9 @@ fn thread_of(
     values: &[Given],
     column: &Column,
 ) -> Result<Thread, AllocError>
-    ensures { IfOk result (λ t. thread_seen t ≡ record { init = values_of thread values.now; code = map (λ placed. placed.op) column.now.ops.items }) }
+    requires registers { NamesRegisters (values_of thread values.now) }
+    requires runnable { IsRunnable (ops_in (column_seen column.now)) }
+    ensures { IfOk result (λ t. t ≡ record { init = values_of thread values.now; code = map (λ placed. placed.op) column.now.ops.items }) }
 {
     let init = values_of(alloc, thread, values)?;
     let code = ops_of(alloc, &column.ops)?;
@@ -74,8 +78,10 @@ fn threads_of(
     values: &[Given],
     columns: &[Column],
 ) -> Result<Vec<Thread>, AllocError>
-    requires { length columns.now ≤ MAX_THREADS }
-    ensures threads { IfOk result (λ threads. map thread_seen threads.items ≡ threads_of (record { names = []; values = values.now }) (map column_seen columns.now)) }
+    requires few { length columns.now ≤ MAX_THREADS }
+    requires registers { AllNameRegisters values.now }
+    requires runnable { AllRunnable (map column_seen columns.now) }
+    ensures threads { IfOk result (λ threads. threads.items ≡ threads_of (record { names = []; values = values.now }) (map column_seen columns.now)) }
     ensures count { IfOk result (λ threads. length threads.items ≡ length columns.now) }
 {
     let mut threads = Vec::new(alloc);
@@ -104,7 +110,9 @@ fn test_of<A: Arch>(
     cond: Cond,
     places: Places,
 ) -> Result<ReadTest<A>, AllocError>
-    requires { length columns.now ≤ MAX_THREADS }
+    requires few { length columns.now ≤ MAX_THREADS }
+    requires registers { AllNameRegisters values.now }
+    requires runnable { AllRunnable (map column_seen columns.now) }
     ensures { IfOk result (λ t. t ≡ record { name = name.now; quoted = option_map (λ x. x.now) quoted.entry; places = places; threads = threads_of (record { names = []; values = values.now }) (map column_seen columns.now); cond = cond_view cond }) }
 {
     let name = Vec::from_slice(alloc, name)?;
@@ -130,7 +138,9 @@ fn read_rest<A: Arch>(
     names: Places,
     text: Text<'_>,
 ) -> Result<ReadTest<A>, ReadError>
-    requires { length columns.now ≤ MAX_THREADS }
+    requires few { length columns.now ≤ MAX_THREADS }
+    requires registers { AllNameRegisters values.now }
+    requires runnable { AllRunnable (map column_seen columns.now) }
     ensures { GivesInMemory (λ test. test) result (rest_read A.writing head.entry.0.now (option_map (λ x. x.now) head.entry.1) (record { names = []; values = values.now }) (map column_seen columns.now) (length columns.now) names (text_left text.entry)) }
 {
     let (name, quoted) = head;
@@ -149,7 +159,8 @@ fn read_table<A: Arch>(
     threads: usize,
     text: Text<'_>,
 ) -> Result<ReadTest<A>, ReadError>
-    requires { threads ≤ MAX_THREADS }
+    requires few { threads ≤ MAX_THREADS }
+    requires registers { AllNameRegisters begun.values.items }
     ensures { GivesInMemory (λ test. test) result (table_read A.writing head.entry.0.now (option_map (λ x. x.now) head.entry.1) (begun_seen begun) threads (text_left text.entry)) }
 {
     let Begun { mut names, values } = begun;

@@ -5,7 +5,7 @@ use Rattle.listed_tests.proofs.listing.list_walk.Goals as goal
 
 pub put_tests-requires-clause-have_tests : goal.put_tests-requires-clause-have_tests
 put_tests-requires-clause-have_tests g c =
-    λ u cycle said. wanted_has_test g.A.Arch.puts c.args.wanted.now.mode c.args.wanted.now.threads u ((c.requires.wanted u cycle).0 said)
+    λ u cycle said. wanted_has_test g.A.Arch.puts c.args.wanted.now.mode c.args.wanted.now.threads c.args.wanted.now.accesses u ((c.requires.wanted u cycle).0 said)
 
 pub returns-in-Err : goal.returns-in-Err
 returns-in-Err g c =

@@ -17,8 +17,9 @@ loop-cycle-init g c = record {
 pub next-requires : goal.next-requires
 next-requires g c =
     let keep : c.loop-cycle.walk.keep ≡ c.args.walk.now.keep = ap (λ w. w.keep) c.loop-cycle.invariant.walk in
+    let fit : c.loop-cycle.walk.fit ≡ c.args.walk.now.fit = ap (λ w. w.fit) c.loop-cycle.invariant.walk in
     let take : c.loop-cycle.walk.take ≡ c.args.walk.now.take = ap (λ w. w.take) c.loop-cycle.invariant.walk in
-    record { knows = rw (keep, take) c.requires.knows }
+    record { knows = rw (keep, fit, take) c.requires.knows }
 
 pub returns-in_err-file-clause-failed : goal.returns-in_err-file-clause-failed
 returns-in_err-file-clause-failed g c =

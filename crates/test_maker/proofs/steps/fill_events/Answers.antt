@@ -1,5 +1,6 @@
 use Rattle.std.proofs.Common.{◌∙◌, ◌≡◌, ◌<◌, ◌==◌, ◌++◌, ◌∷◌, [], map, ap, arith, length}
 use Rattle.std.specs.List.{filter}
+use Rattle.relax_edges.specs.declared.TheConstants.{MAX_EDGES}
 use Rattle.list_laws.specs.Numbers.{upto}
 use Rattle.resolution_laws.specs.Resolution.{thread_of}
 use Rattle.arrayvec.specs.ArrayVec.{ArrayVec}
@@ -15,7 +16,7 @@ push-requires c =
     let es = c.args.valued.now.edges in
     let resolved = rw c.resolved.ensures at c.cycle.ensures.resolved in
     let below : c.loop-i.i < length es = omega (arith, ap length (c.cycle.ensures.value ∙ c.resolved.ensures)) in
-    (omega arith, few_found (event_step es plain) (λ j. thread_of es j == c.args.thread) c.loop-i.i (length es) 24 c.loop-i.steps.items c.loop-i.invariant below resolved.composes.few)
+    (omega arith, few_found (event_step es plain) (λ j. thread_of es j == c.args.thread) c.loop-i.i (length es) MAX_EDGES c.loop-i.steps.items c.loop-i.invariant below resolved.composes.few)
 
 pub loop-i-preserved : goal.loop-i-preserved
 loop-i-preserved c =

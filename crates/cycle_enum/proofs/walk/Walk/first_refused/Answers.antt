@@ -1,8 +1,8 @@
-use Rattle.std.proofs.Common.{◌≡◌, ◌++◌, ◌+◌, true, drop, refl, sym, arith}
+use Rattle.std.proofs.Common.{◌≡◌, ◌++◌, ◌+◌, drop, refl, sym, arith}
 use Rattle.std.proofs.lemmas.List.{drop_all}
 use Rattle.listing_laws.specs.Search.{LeadsNowhere}
 use Rattle.listing_laws.proofs.Raising.{kept_more, cut_refused, cut_whole, one_further}
-use Rattle.cycle_enum.specs.Walking.{Says, Lists}
+use Rattle.cycle_enum.specs.Walking.{Keeps, Lists}
 use Rattle.cycle_enum.proofs.walk.Walk.first_refused.Goals as goal
 
 pub returns-then-not-is_kept : goal.returns-then-not-is_kept
@@ -17,8 +17,8 @@ loop-edge-preserved g c = record {
   parts =
       one_further c.loop-edge.list.items c.push.new.self.items c.args.edges.now c.loop-edge.edge-index _ c.loop-edge.invariant.parts c.loop-edge-test.true c.push.ensures.items;
   kept =
-      let agreed : Says g.K.Fn.post c.args.self.now.keep c.push.new.self.items true = rw c.as_slice.ensures.value at (c.if-not-is_kept.ensures.kept refl) in
-      kept_more (Lists g.P.Fn.post c.args.self.now) (Says g.K.Fn.post c.args.self.now.keep) c.loop-edge.list.items c.push.new.self.items _ c.push.ensures.items c.loop-edge.invariant.kept agreed;
+      let agreed : Keeps g.K.Fn.post g.J.Fn.post c.args.self.now c.push.new.self.items = rw c.as_slice.ensures.value at (c.if-not-is_kept.ensures.kept refl) in
+      kept_more (Lists g.P.Fn.post c.args.self.now) (Keeps g.K.Fn.post g.J.Fn.post c.args.self.now) c.loop-edge.list.items c.push.new.self.items _ c.push.ensures.items c.loop-edge.invariant.kept agreed;
 }
 
 pub returns : goal.returns

@@ -1,10 +1,10 @@
 use Rattle.std.proofs.Common.{◌≡◌, ◌++◌, drop}
 use Rattle.listing_laws.specs.Asked.{KeptWhole}
-use Rattle.cycle_enum.specs.Walking.{Says}
+use Rattle.cycle_enum.specs.Walking.{Keeps}
 use Rattle.cycle_enum.proofs.walk.Walk.first_refused.Given as goal
 
 abbrev pub invariant-loop-edge : goal.invariant-loop-edge
 invariant-loop-edge g l = record {
   parts : l.list.items ++ drop l.edge-index l.edges ≡ l.edges;
-  kept : KeptWhole (Says g.K.Fn.post l.self.keep) l.list.items;
+  kept : KeptWhole (Keeps g.K.Fn.post g.J.Fn.post l.self) l.list.items;
 }

@@ -5,4 +5,4 @@ use Rattle.cycle_enum.proofs.walk.Walk.is_listed.Goals as goal
 pub returns-clause-other : goal.returns-clause-other
 returns-clause-other g c h l =
     let s : Says g.P.Fn.post c.args.self.now.take c.args.cycle.now c.call.result = search rules in
-    cc (c.requires.knows.one_finding c.args.cycle.now true false l.cycle l.taken (rw h at s))
+    cc (c.requires.knows.take.one_answer c.args.cycle.now true false l.cycle l.taken (rw h at s))

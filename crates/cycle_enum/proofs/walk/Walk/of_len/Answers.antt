@@ -2,11 +2,11 @@ use Rattle.std.proofs.Common.{rules}
 use Rattle.listing_laws.specs.Search.{IsCandidate, IsExtended}
 use Rattle.listing_laws.proofs.Answering.{answer_of_length}
 use Rattle.listing_laws.proofs.Candidates.{extended_listed}
-use Rattle.cycle_enum.specs.Walking.{Says, Lists}
+use Rattle.cycle_enum.specs.Walking.{Keeps, Lists}
 use Rattle.cycle_enum.proofs.walk.Walk.of_len.Goals as goal
 
 pub returns : goal.returns
 returns g c =
     let extended : IsExtended (IsCandidate c.args.self.now.relaxes) c.new-list.result.items c.extend.new.list.items = search rules in
-    answer_of_length (Lists g.P.Fn.post c.args.self.now) (Says g.K.Fn.post c.args.self.now.keep) c.args.len c.extend.new.list.items c.search.result c.requires.some
+    answer_of_length (Lists g.P.Fn.post c.args.self.now) (Keeps g.K.Fn.post g.J.Fn.post c.args.self.now) c.args.len c.extend.new.list.items c.search.result c.requires.some
     (extended_listed _ _ _ _ _ _ (rw c.new-list.ensures at extended)) c.search.ensures

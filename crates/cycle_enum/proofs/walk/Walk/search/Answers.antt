@@ -1,9 +1,9 @@
-use Rattle.std.proofs.Common.{◌<◌, ◌≤◌, ◌∙◌, true, length, refl, rules}
+use Rattle.std.proofs.Common.{◌<◌, ◌≤◌, ◌∙◌, length, refl, rules}
 use Rattle.listing_laws.specs.Search.{IsCandidate, IsExtended, IsRaised, LeadsNowhere}
 use Rattle.listing_laws.proofs.Counts.{raised_falls, extended_falls}
 use Rattle.listing_laws.proofs.Candidates.{raised_listed, extended_listed}
 use Rattle.listing_laws.proofs.Stepping.{stands_first, stands_raised, stands_extended, stands_past, stands_found}
-use Rattle.cycle_enum.specs.Walking.{Says, Lists}
+use Rattle.cycle_enum.specs.Walking.{Keeps, Lists}
 use Rattle.cycle_enum.proofs.walk.Walk.search.Goals as goal
 
 pub loop-self-init : goal.loop-self-init
@@ -31,7 +31,7 @@ pub loop-self-preserved-then-leads_on : goal.loop-self-preserved-then-leads_on
 loop-self-preserved-then-leads_on g c =
     let some : 0 < length c.loop-self.list.items = search rules in
     let less : length c.loop-self.list.items < c.args.len = search rules in
-    let agreed : Says g.K.Fn.post c.args.self.now.keep c.loop-self.list.items true = rw c.as_slice.ensures.value at (c.if-leads_on.ensures.kept refl) in
+    let agreed : Keeps g.K.Fn.post g.J.Fn.post c.args.self.now c.loop-self.list.items = rw c.as_slice.ensures.value at (c.if-leads_on.ensures.kept refl) in
     let extended : IsExtended (IsCandidate c.args.self.now.relaxes) c.loop-self.list.items c.extend.new.list.items = search rules in
     stands_extended _ _ c.args.len c.args.list.now.items c.loop-self.list.items c.extend.new.list.items c.loop-self.invariant some less agreed (extended_listed _ _ _ _ _ _ extended)
 
@@ -42,7 +42,7 @@ pub returns-in-Some : goal.returns-in-Some
 returns-in-Some g c =
     let some : 0 < length c.loop-self.list.items = search rules in
     let long : c.args.len ≤ length c.loop-self.list.items = search rules in
-    stands_found _ (Says g.K.Fn.post c.args.self.now.keep) c.args.len c.args.list.now.items c.loop-self.list.items c.in-Some.cycle c.loop-self.invariant some long
+    stands_found _ (Keeps g.K.Fn.post g.J.Fn.post c.args.self.now) c.args.len c.args.list.now.items c.loop-self.list.items c.in-Some.cycle c.loop-self.invariant some long
     (c.in-Some.ensures.some.0 ∙ c.as_slice-else-len-from.ensures.value) c.in-Some.ensures.some.1
 
 pub loop-self-smaller : goal.loop-self-smaller

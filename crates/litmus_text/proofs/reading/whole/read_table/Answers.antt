@@ -1,6 +1,8 @@
-use Rattle.std.proofs.Common.{◌≡◌, ◌∙◌, ap, length, arith}
+use Rattle.std.proofs.Common.{◌≡◌, ◌∙◌, ap, sym, subst, length, arith}
 use Rattle.litmus_text.specs.Views.{text_left, begun_seen}
 use Rattle.litmus_text.proofs.PartLoops.{table_is, written_back}
+use Rattle.litmus_text.specs.Runnable.{AllNameRegisters}
+use Rattle.litmus_text.proofs.RunnableRead.{table_runs}
 use Rattle.litmus_text.proofs.reading.whole.read_table.Goals as goal
 
 pub returns : goal.returns
@@ -12,3 +14,14 @@ returns g c =
     c.read_rows.new.columns c.deref.result.now c.deref-3.result.now c.read_rows.new.names
     c.in_ok-columns.ensures.columns c.deref_mut.ensures.value c.in_ok-text.ensures (c.deref.ensures.value ∙ b) c.in_ok-judge_all_labels.ensures (c.deref-3.ensures.value ∙ b) k c.deref-2.result.now c.deref-2.ensures.value)
     c.read_rest.ensures
+
+pub read_rest-requires-clause-registers : goal.read_rest-requires-clause-registers
+read_rest-requires-clause-registers g c = subst AllNameRegisters (sym c.deref-2.ensures.value) c.requires.registers
+
+pub read_rest-requires-clause-runnable : goal.read_rest-requires-clause-runnable
+read_rest-requires-clause-runnable g c =
+    let e : c.in_ok-columns.columns.len ≡ length c.read_rows.new.columns = omega (arith, c.deref_mut.ensures.len, c.read_rows.auto.columns) in
+    let b = written_back c.in_ok-columns.columns.len c.read_rows.new.columns c.in_ok-columns.columns.items e in
+    table_runs g.A.Arch.writing (text_left c.args.text) (text_left c.in_ok-text.text) c.args.begun.names c.args.threads c.in_ok-columns.columns.items c.deref_mut.result.now
+    c.read_rows.new.columns c.deref.result.now c.deref-3.result.now c.read_rows.new.names (λ written raw h. g.met.A.Arch.reads_own.in_range raw.op (g.met.A.Arch.reads_own.had written raw h))
+    c.in_ok-columns.ensures.columns c.deref_mut.ensures.value c.in_ok-text.ensures (c.deref.ensures.value ∙ b) c.in_ok-judge_all_labels.ensures (c.deref-3.ensures.value ∙ b)

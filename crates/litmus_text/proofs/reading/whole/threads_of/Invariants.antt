@@ -1,10 +1,10 @@
 use Rattle.std.proofs.Common.{◌≡◌, map, take, [], length}
 use Rattle.litmus_text.specs.TestReading.{threads_of}
-use Rattle.litmus_text.specs.Views.{column_seen, thread_seen}
+use Rattle.litmus_text.specs.Views.{column_seen}
 use Rattle.litmus_text.proofs.reading.whole.threads_of.Given as goal
 
 abbrev pub invariant-loop-thread : goal.invariant-loop-thread
 invariant-loop-thread l = record {
-  threads : map thread_seen l.threads.items ≡ threads_of (record { names = []; values = l.values }) (take l.thread (map column_seen l.columns));
+  threads : l.threads.items ≡ threads_of (record { names = []; values = l.values }) (take l.thread (map column_seen l.columns));
   count : length l.threads.items ≡ l.thread;
 }

@@ -1,0 +1,20 @@
+-- The law of this crate, from its two directions.
+use Rattle.coherence_laws.specs.Laws.{CoherenceIsScPerLocation, CandidatesAreScPerLocation, CycleTestsAreScPerLocation}
+use Rattle.program_meaning.specs.Programs.{accesses_in}
+use Rattle.communication.proofs.Bridge.{resolves}
+use Rattle.coherence_laws.proofs.Places.{held}
+use Rattle.coherence_laws.proofs.Steps.{no_cycle}
+use Rattle.coherence_laws.proofs.Shapes.{coherent}
+use Rattle.coherence_laws.proofs.Made.{writes_to_own}
+
+pub coherence_is_sc_per_location : CoherenceIsScPerLocation
+coherence_is_sc_per_location threads places x h within =
+    let facts = held threads places x h within in
+    (no_cycle threads x facts, coherent threads x facts)
+
+pub candidates_are_sc_per_location : CandidatesAreScPerLocation
+candidates_are_sc_per_location p x h within = coherence_is_sc_per_location (accesses_in p x) p.places x h.execution within
+
+pub cycle_tests_are_sc_per_location : CycleTestsAreScPerLocation
+cycle_tests_are_sc_per_location es mode number p x r n m h =
+    candidates_are_sc_per_location p x h (writes_to_own es mode number p x (resolves es r) n m h)

@@ -1,0 +1,6 @@
+pub mod Places
+pub mod Steps
+pub mod Shapes
+pub mod Made
+pub mod Laws
+mod Examples

@@ -1,0 +1,5 @@
+pub mod Every
+pub mod Candidates
+pub mod Coherent
+pub mod Visits
+pub mod RunLaws

@@ -1,0 +1,136 @@
+-- The runs of a test's threads, and the accesses that they make.
+use Rattle.std.proofs.Common.{◌≡◌, ℕ, zero, suc, ◌+◌, ◌<◌, ◌≤◌, Bool, true, false, ◌&&◌, List, [], ◌∷◌, ◌++◌, length, map, take, get_or, Option, Some, None, slice_get, refl, sym, ap, subst, ◌∙◌, arith, add-one}
+use Rattle.std.specs.Prelude.{option_map}
+use Rattle.std.proofs.lemmas.Bool.{and_parts, and_from}
+use Rattle.std.proofs.lemmas.List.{take_more, take_all, map_push, length-map}
+use Rattle.std.proofs.lemmas.Option.{get_or_from_slice_get, slice_get_within}
+use Rattle.relax_edges.specs.declared.kinds.Value.{Value}
+use Rattle.micro_ops.specs.declared.operation.Micro.{Micro}
+use Rattle.micro_ops.specs.declared.operation.Item.{Item}
+use Rattle.micro_ops.specs.declared.run.RunError.{RunError}
+use Rattle.micro_ops.specs.declared.run.RunError.TheVariants as errors
+use Rattle.micro_ops.specs.Running.{Point, At, Past, Wants, Stuck, exec, beginning, outcome, runs, Outcome, Ended, ReadsLeft, ReadsShort, NoRule}
+use Rattle.micro_ops.specs.Threads.{EndedRun, value_in, goes_on, StopsAt, CausedBy}
+use Rattle.micro_ops.proofs.Laws.{stops_for_good}
+use Rattle.litmus_text.specs.TestReading.{ThreadRead}
+use Rattle.litmus_text.specs.Programs.{thread_read}
+use Rattle.program_meaning.specs.declared.WriteAt.{WriteAt}
+use Rattle.program_meaning.specs.Accesses.{Access, visits_of, accesses_of}
+use Rattle.program_meaning.specs.Executions.{Execution}
+use Rattle.program_meaning.specs.Programs.{Program, Thread, run_of, runs_of, made_in, HasEnded, items_in, visits_in, accesses_in}
+use Rattle.exec_meaning.specs.Runs.{ended_run, has_ended, all_ended, IsRun, IsRunIn, AreRuns}
+use Rattle.exec_meaning.proofs.Every.{some_is}
+
+-- the run of a thread among those of all
+run_got : (threads : List ThreadRead) (reads : List (List (ℕ × Option WriteAt))) (k : ℕ) (t : ThreadRead) (rs : List (ℕ × Option WriteAt)) → slice_get threads k ≡ Some t → slice_get reads k ≡ Some rs
+    → slice_get (runs_of (map thread_read threads) reads) k ≡ Some (run_of (thread_read t) rs)
+run_got [] reads k t rs h g = cc h
+run_got (u ∷ threads) [] k t rs h g = cc g
+run_got (u ∷ threads) (r ∷ reads) zero t rs h g =
+    let a : u ≡ t = some_is u t h in let b : r ≡ rs = some_is r rs g in
+    ap Some (ap (λ v. run_of (thread_read v) r) a ∙ ap (run_of (thread_read t)) b)
+run_got (u ∷ threads) (r ∷ reads) (suc k) t rs h g = run_got threads reads k t rs h g
+
+record Known (threads : List ThreadRead) (k : ℕ) (code : List Micro) (init : List (ℕ × Value)) : Type 0 where
+  pub thread : ThreadRead
+  pub got : slice_get threads k ≡ Some thread
+  pub code_is : thread.code ≡ code
+  pub init_is : thread.init ≡ init
+
+known_if : (threads : List ThreadRead) (k : ℕ) (code : List Micro) (init : List (ℕ × Value)) (o : Option ThreadRead) → slice_get threads k ≡ o
+    → option_map (λ (t : ThreadRead). t.code) o ≡ Some code → option_map (λ (t : ThreadRead). t.init) o ≡ Some init → Known threads k code init
+known_if threads k code init None e c i = cc c
+known_if threads k code init (Some t) e c i = record { thread = t; got = e; code_is = some_is t.code code c; init_is = some_is t.init init i }
+
+pub run_is : (threads : List ThreadRead) (reads : List (List (ℕ × Option WriteAt))) (k : ℕ) (code : List Micro) (init : List (ℕ × Value)) (rs : List (ℕ × Option WriteAt)) (values : List ℕ)
+    → option_map (λ (t : ThreadRead). t.code) (slice_get threads k) ≡ Some code → option_map (λ (t : ThreadRead). t.init) (slice_get threads k) ≡ Some init
+    → slice_get reads k ≡ Some rs → values ≡ map (λ (r : ℕ × Option WriteAt). r.0) rs
+    → slice_get (runs_of (map thread_read threads) reads) k ≡ Some (runs code init values)
+run_is threads reads k code init rs values c i r v =
+    let t = known_if threads k code init (slice_get threads k) refl c i in
+    run_got threads reads k t.thread rs t.got r ∙ ap Some (ap (λ l. runs l t.thread.init (map (λ (r : ℕ × Option WriteAt). r.0) rs)) t.code_is ∙ ap (λ l. runs code l (map (λ (r : ℕ × Option WriteAt). r.0) rs)) t.init_is ∙ ap (runs code init) (sym v))
+
+-- a run that came to its end, and one that didn't
+pub is_run : (o : Option Outcome) (run : Outcome) (trace : Option EndedRun) → o ≡ Some run → IsRun trace run → IsRunIn trace o
+is_run o run trace e h = subst (IsRunIn trace) (sym e) h
+
+stopped : (p : Point) → goes_on p ≡ false → has_ended (outcome p) ≡ false
+stopped (At r) h = cc h
+stopped (Past l r) h = cc h
+stopped (Wants r) h = refl
+stopped Stuck h = refl
+
+pub stuck_run : (code : List Micro) (init : List (ℕ × Value)) (values : List ℕ) (at_op : ℕ) → CausedBy (errors.Stuck at_op) code init values → has_ended (runs code init values) ≡ false
+stuck_run code init values at_op h = stopped (exec code (At (beginning init values))) (stops_for_good code (At (beginning init values)) at_op h)
+
+pub left_run : (code : List Micro) (init : List (ℕ × Value)) (values : List ℕ) → CausedBy errors.ReadsLeft code init values → has_ended (runs code init values) ≡ false
+left_run code init values h = ap has_ended h
+
+-- the runs one after another
+in_some : (o : Option Outcome) (trace : EndedRun) → IsRunIn (Some trace) o → o ≡ Some (ended_run trace)
+in_some None trace h = absurd h
+in_some (Some run) trace h = ap Some h
+
+pub runs_more : (all : List Outcome) (k : ℕ) (traces : List EndedRun) (trace : EndedRun) → IsRunIn (Some trace) (slice_get all k) → take k all ≡ map ended_run traces → take (k + 1) all ≡ map ended_run (traces ++ trace ∷ [])
+runs_more all k traces trace h e =
+    let g = in_some (slice_get all k) trace h in
+    take_more all k NoRule (slice_get_within all k (ended_run trace) g)
+    ∙ ap (λ y. take k all ++ y ∷ []) (get_or_from_slice_get all k (ended_run trace) NoRule g)
+    ∙ ap (λ l. l ++ ended_run trace ∷ []) e ∙ sym (map_push ended_run traces trace)
+
+all_end_at : (all : List Outcome) (k : ℕ) → IsRunIn None (slice_get all k) → all_ended all ≡ false
+all_end_at [] k h = absurd h
+all_end_at (run ∷ all) zero h = rw h refl
+all_end_at (run ∷ all) (suc k) h = rw (all_end_at all k h) (either (has_ended run))
+  where
+    either : (b : Bool) → b && false ≡ false
+    either true = refl
+    either false = refl
+
+pub run_missing : (all : List Outcome) (k : ℕ) → IsRunIn None (slice_get all k) → all_ended all ≡ false
+run_missing all k h = all_end_at all k h
+
+pub runs_count : (threads : List Thread) (reads : List (List (ℕ × Option WriteAt))) → length (runs_of threads reads) ≡ length threads
+runs_count [] reads = refl
+runs_count (thread ∷ threads) [] = ap suc (runs_count threads [])
+runs_count (thread ∷ threads) (r ∷ reads) = ap suc (runs_count threads reads)
+
+pub runs_all : (threads : List ThreadRead) (reads : List (List (ℕ × Option WriteAt))) (k : ℕ) (traces : List EndedRun) → length threads ≤ k → take k (runs_of (map thread_read threads) reads) ≡ map ended_run traces → runs_of (map thread_read threads) reads ≡ map ended_run traces
+runs_all threads reads k traces h e =
+    let n = runs_count (map thread_read threads) reads in
+    let m : length (map thread_read threads) ≡ length threads = length-map threads thread_read in
+    sym (take_all k (runs_of (map thread_read threads) reads) (omega (arith, n, m, h))) ∙ e
+
+-- runs that ended
+pub ended_each : (traces : List EndedRun) (all : List Outcome) → all ≡ map ended_run traces → (k : ℕ) (run : Outcome) → slice_get all k ≡ Some run → HasEnded run
+ended_each traces all e k run h = of_map traces k (subst (λ l. slice_get l k ≡ Some run) e h)
+  where
+    of_map : (ts : List EndedRun) (k : ℕ) → slice_get (map ended_run ts) k ≡ Some run → HasEnded run
+    of_map [] k h = cc h
+    of_map (t ∷ ts) zero h = subst HasEnded (some_is (ended_run t) run h) tt
+    of_map (t ∷ ts) (suc k) h = of_map ts k h
+
+ended_by : (run : Outcome) → HasEnded run → has_ended run ≡ true
+ended_by (Ended made registers) h = refl
+ended_by ReadsLeft h = absurd h
+ended_by ReadsShort h = absurd h
+ended_by NoRule h = absurd h
+
+pub not_all : (all : List Outcome) → all_ended all ≡ false → ((k : ℕ) (run : Outcome) → slice_get all k ≡ Some run → HasEnded run) → ⊥
+not_all [] h f = cc h
+not_all (run ∷ all) h f = let e = ended_by run (f zero run refl) in not_all all (sym (rw e refl) ∙ h) (λ k r g. f (suc k) r g)
+
+-- the items and the accesses of a run that ended
+
+made_items : (traces : List EndedRun) → map made_in (map ended_run traces) ≡ map (λ (t : EndedRun). t.items) traces
+made_items [] = refl
+made_items (t ∷ traces) = ap (λ l. t.items ∷ l) (made_items traces)
+
+made_accesses : (items : List EndedRun) → map accesses_of (map visits_of (map (λ (t : EndedRun). t.items) items)) ≡ map (λ (t : EndedRun). accesses_of (visits_of t.items)) items
+made_accesses [] = refl
+made_accesses (t ∷ items) = ap (λ l. accesses_of (visits_of t.items) ∷ l) (made_accesses items)
+
+pub accesses_are : (p : Program) (x : Execution) (traces : List EndedRun) → runs_of p.threads x.reads ≡ map ended_run traces → accesses_in p x ≡ map (λ (t : EndedRun). accesses_of (visits_of t.items)) traces
+accesses_are p x traces e =
+    ap (λ l. map accesses_of (map visits_of (map made_in l))) e
+    ∙ ap (λ l. map accesses_of (map visits_of l)) (made_items traces) ∙ made_accesses traces

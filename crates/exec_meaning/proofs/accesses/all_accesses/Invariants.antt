@@ -1,0 +1,6 @@
+use Rattle.std.proofs.Common.{◌≡◌, map, take}
+use Rattle.program_meaning.specs.Accesses.{accesses_of, visits_of}
+use Rattle.exec_meaning.proofs.accesses.all_accesses.Given as goal
+
+abbrev pub invariant-loop-trace : goal.invariant-loop-trace
+invariant-loop-trace l = l.all.items ≡ map (λ trace. accesses_of (visits_of trace.items)) (take l.trace-index l.traces)

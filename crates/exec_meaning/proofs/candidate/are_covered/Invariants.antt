@@ -1,0 +1,6 @@
+use Rattle.std.proofs.Common.{◌≡◌, drop}
+use Rattle.exec_meaning.specs.Deciding.{every, thread_covered}
+use Rattle.exec_meaning.proofs.candidate.are_covered.Given as goal
+
+abbrev pub invariant-loop-thread : goal.invariant-loop-thread
+invariant-loop-thread l = every (thread_covered l.place l.order) 0 l.all ≡ every (thread_covered l.place l.order) l.thread (drop l.thread l.all)

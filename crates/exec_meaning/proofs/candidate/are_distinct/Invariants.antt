@@ -1,0 +1,6 @@
+use Rattle.std.proofs.Common.{◌≡◌, drop}
+use Rattle.exec_meaning.specs.Deciding.{are_distinct}
+use Rattle.exec_meaning.proofs.candidate.are_distinct.Given as goal
+
+abbrev pub invariant-loop-i : goal.invariant-loop-i
+invariant-loop-i l = are_distinct l.order ≡ are_distinct (drop l.i l.order)

@@ -1,0 +1,6 @@
+use Rattle.std.proofs.Common.{◌≡◌, drop}
+use Rattle.exec_meaning.specs.Deciding.{every, is_order, orders_fit}
+use Rattle.exec_meaning.proofs.candidate.do_orders_fit.Given as goal
+
+abbrev pub invariant-loop-place : goal.invariant-loop-place
+invariant-loop-place l = orders_fit l.all l.exec ≡ every (is_order l.all) l.place (drop l.place l.exec.orders)

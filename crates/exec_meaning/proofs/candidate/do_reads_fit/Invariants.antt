@@ -1,0 +1,6 @@
+use Rattle.std.proofs.Common.{◌≡◌, drop}
+use Rattle.exec_meaning.specs.Deciding.{every, are_reads, reads_of, reads_fit}
+use Rattle.exec_meaning.proofs.candidate.do_reads_fit.Given as goal
+
+abbrev pub invariant-loop-thread : goal.invariant-loop-thread
+invariant-loop-thread l = reads_fit l.all l.exec ≡ every (λ thread accesses. are_reads l.all accesses (reads_of l.exec thread)) l.thread (drop l.thread l.all)

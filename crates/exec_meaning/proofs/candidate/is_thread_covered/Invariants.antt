@@ -1,0 +1,6 @@
+use Rattle.std.proofs.Common.{◌≡◌, drop, length}
+use Rattle.exec_meaning.specs.Deciding.{every, name, is_covered}
+use Rattle.exec_meaning.proofs.candidate.is_thread_covered.Given as goal
+
+abbrev pub invariant-loop-i : goal.invariant-loop-i
+invariant-loop-i l = every (λ i access. is_covered l.place l.order (name l.thread i) access) 0 l.accesses ≡ every (λ i access. is_covered l.place l.order (name l.thread i) access) l.i (drop l.i l.accesses)

@@ -1,0 +1,6 @@
+use Rattle.std.proofs.Common.{◌≡◌, drop}
+use Rattle.exec_meaning.specs.Deciding.{every, agrees_later, thread_coheres}
+use Rattle.exec_meaning.proofs.coherent.thread_coheres.Given as goal
+
+abbrev pub invariant-loop-e : goal.invariant-loop-e
+invariant-loop-e l = thread_coheres l.all l.exec l.thread l.accesses ≡ every (agrees_later l.all l.exec l.thread l.accesses) l.e (drop l.e l.accesses)

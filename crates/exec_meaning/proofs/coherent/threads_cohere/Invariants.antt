@@ -1,0 +1,6 @@
+use Rattle.std.proofs.Common.{◌≡◌, drop}
+use Rattle.exec_meaning.specs.Deciding.{every, thread_coheres}
+use Rattle.exec_meaning.proofs.coherent.threads_cohere.Given as goal
+
+abbrev pub invariant-loop-thread : goal.invariant-loop-thread
+invariant-loop-thread l = every (thread_coheres l.all l.exec) 0 l.all ≡ every (thread_coheres l.all l.exec) l.thread (drop l.thread l.all)

@@ -1,0 +1,9 @@
+use Rattle.std.proofs.Common.{◌≡◌, map, length}
+use Rattle.exec_meaning.specs.Kept.{empty_lists}
+use Rattle.exec_meaning.proofs.execution.no_reads.Given as goal
+
+abbrev pub invariant-loop : goal.invariant-loop
+invariant-loop l = record {
+  lists : map (λ list. list.items) l.lists.items ≡ empty_lists l.counter;
+  count : length l.lists.items ≡ l.counter;
+}

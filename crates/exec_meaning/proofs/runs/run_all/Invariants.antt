@@ -1,0 +1,9 @@
+use Rattle.std.proofs.Common.{◌≡◌, map, take}
+use Rattle.litmus_text.specs.Programs.{program_read}
+use Rattle.program_meaning.specs.Programs.{runs_of}
+use Rattle.exec_meaning.specs.Runs.{ended_run}
+use Rattle.exec_meaning.proofs.runs.run_all.Given as goal
+
+-- the runs so far came to their ends
+abbrev pub invariant-loop-thread : goal.invariant-loop-thread
+invariant-loop-thread l = take l.thread (runs_of (program_read l.test).threads l.exec.reads) ≡ map ended_run l.traces.items

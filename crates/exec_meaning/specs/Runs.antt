@@ -1,0 +1,36 @@
+-- The runs of a test's threads, as far as they came to their ends.
+-- Source: own.
+use Rattle.std.specs.Prelude.{◌≡◌, ℕ, Bool, true, false, ◌&&◌, List, [], ◌∷◌, map, Option, Some, None}
+use Rattle.micro_ops.specs.Running.{Outcome, Ended, ReadsLeft, ReadsShort, NoRule}
+use Rattle.micro_ops.specs.Threads.{EndedRun, value_in}
+
+-- a run that came to its end
+abbrev pub ended_run : EndedRun → Outcome
+ended_run run = Ended run.items (value_in run)
+
+-- a run came to its end
+abbrev pub has_ended : Outcome → Bool
+has_ended (Ended _ _) = true
+has_ended ReadsLeft = false
+has_ended ReadsShort = false
+has_ended NoRule = false
+
+-- all did
+abbrev pub all_ended : List Outcome → Bool
+all_ended [] = true
+all_ended (run ∷ runs) = has_ended run && all_ended runs
+
+-- a run, if it came to its end
+abbrev pub IsRun : Option EndedRun → Outcome → Type 0
+IsRun (Some trace) run = run ≡ ended_run trace
+IsRun None run = has_ended run ≡ false
+
+-- the same of a run that is there
+abbrev pub IsRunIn : Option EndedRun → Option Outcome → Type 0
+IsRunIn trace None = ⊥
+IsRunIn trace (Some run) = IsRun trace run
+
+-- the runs, if all came to their ends
+abbrev pub AreRuns : Option (List EndedRun) → List Outcome → Type 0
+AreRuns (Some traces) runs = runs ≡ map ended_run traces
+AreRuns None runs = all_ended runs ≡ false

@@ -1,0 +1,92 @@
+ghost use Rattle.std.specs.Prelude.{◌≡◌, map, IfOk};
+ghost use Rattle.program_meaning.specs.Accesses.{at_name, accesses_of, visits_of, is_read, reads_before};
+ghost use Rattle.exec_meaning.specs.Deciding.{writes_to};
+
+use micro_ops::{Item, Trace};
+use program_meaning::{Access, WriteAt};
+use relax_edges::Dir;
+use std::alloc::{AllocError, Global};
+use std::marker::Model;
+
+/// The accesses of a thread, in program order.
+///
+/// Contracts see their list.
+#[derive(Debug, Drop)]
+pub(crate) struct Accesses {
+    list: Vec<Access>,
+}
+
+impl Model for Accesses {
+    ghost use Rattle.std.specs.Prelude.{List};
+    ghost use Rattle.program_meaning.specs.declared.Access.{Access as Given};
+
+    ghost Value = { List Given };
+
+    ghost view = { λ a. a.list.items };
+}
+
+impl Accesses {
+    pub(crate) fn as_slice(&self) -> &[Access]
+        ensures { result.now ≡ self.now }
+    {
+        self.list.as_slice()
+    }
+}
+
+/// The accesses among the items of a run.
+fn accesses_of(alloc: Global, items: &[Item]) -> Result<Accesses, AllocError>
+    ensures { IfOk result (λ accesses. accesses ≡ accesses_of (visits_of items.now)) }
+{
+    let mut list = Vec::new(alloc);
+    for item in items {
+        if let Item::Access {
+            dir, place, value, ..
+        } = *item
+        {
+            list.push(Access { dir, place, value })?;
+        }
+    }
+    Ok(Accesses { list })
+}
+
+/// The accesses of each thread.
+pub(crate) fn all_accesses(alloc: Global, traces: &[Trace]) -> Result<Vec<Accesses>, AllocError>
+    ensures { IfOk result (λ all. all.items ≡ map (λ trace. accesses_of (visits_of trace.items)) traces.now) }
+{
+    let mut all = Vec::new(alloc);
+    for trace in traces {
+        all.push(accesses_of(alloc, trace.items())?)?;
+    }
+    Ok(all)
+}
+
+/// The access with a name, if it is there.
+pub(crate) fn access_at(all: &[Accesses], name: WriteAt) -> Option<Access>
+    ensures { result ≡ at_name all.now name }
+{
+    let thread = all.get(usize::from(name.thread))?;
+    match thread.as_slice().get(usize::from(name.access)) {
+        Some(access) => Some(*access),
+        None => None,
+    }
+}
+
+/// Whether an access reads.
+pub(crate) fn is_read(access: &Access) -> bool
+    ensures { result ≡ is_read access.now }
+{
+    match access.dir {
+        Dir::R => true,
+        Dir::W => false,
+    }
+}
+
+/// Whether an access writes to a place.
+pub(crate) fn writes_to(place: u8, access: &Access) -> bool
+    ensures { result ≡ writes_to place access.now }
+{
+    match access.dir {
+        Dir::R => false,
+        Dir::W => access.place == place,
+    }
+}

@@ -1,0 +1,198 @@
+ghost use Rattle.std.specs.Prelude.{◌≡◌, ◌↔◌, ◌<◌, IsTrue, IfOk, Some, None, length};
+ghost use Rattle.program_meaning.specs.Accesses.{reads_before};
+ghost use Rattle.program_meaning.specs.Coherence.{order_place, order_at, read_at, source_at, coherence_place, IsCoherent};
+ghost use Rattle.program_meaning.specs.Programs.{IsCandidate, IsCoherentIn};
+ghost use Rattle.litmus_text.specs.Programs.{program_read};
+ghost use Rattle.exec_meaning.specs.Deciding.{every, name, may_follow, agrees, agrees_later, thread_coheres};
+
+use crate::accesses::{Accesses, all_accesses, is_read};
+use crate::execution::{Execution, Read};
+use crate::runs::candidate_runs;
+use arch_trait::Arch;
+use diy_io::NoMemory;
+use litmus_text::ReadTest;
+use program_meaning::{Access, WriteAt};
+use relax_edges::Dir;
+use std::alloc::Global;
+
+/// How many accesses of a thread before this one read.
+fn reads_before(all: &[Accesses], thread: usize, access: usize) -> usize
+    ensures { result ≡ reads_before all.now (name thread access) }
+{
+    match all.get(thread) {
+        Some(accesses) => accesses
+            .as_slice()
+            .iter()
+            .take(access)
+            .filter(|a| is_read(a))
+            .count(),
+        None => 0,
+    }
+}
+
+/// The read that an access makes, if it is one.
+fn read_at(all: &[Accesses], exec: &Execution, thread: usize, access: usize) -> Option<Read>
+    ensures { result ≡ read_at all.now exec.now (name thread access) }
+{
+    if thread >= usize::from(exec.threads()) {
+        return None;
+    }
+    match exec.reads(thread as u8).get(reads_before(all, thread, access)) {
+        Some(read) => Some(*read),
+        None => None,
+    }
+}
+
+/// The write that an access reads.
+pub(crate) fn source_at(
+    all: &[Accesses],
+    exec: &Execution,
+    thread: usize,
+    access: usize,
+) -> Option<WriteAt>
+    ensures { result ≡ source_at all.now exec.now (name thread access) }
+{
+    read_at(all, exec, thread, access)?.1
+}
+
+/// The place of a write in an order, from 1; 0 where it doesn't stand there.
+fn order_place(order: &[WriteAt], thread: usize, access: usize) -> usize
+    ensures { result ≡ order_place order.now (Some (name thread access)) }
+{
+    let place = order
+        .iter()
+        .position(|w| thread == usize::from(w.thread) && access == usize::from(w.access));
+    match place {
+        Some(k) => k + 1,
+        None => 0,
+    }
+}
+
+/// The place of a write in the order of a place.
+fn place_of_write(exec: &Execution, place: u8, thread: usize, access: usize) -> usize
+    ensures { result ≡ order_place (order_at exec.now place) (Some (name thread access)) }
+{
+    if place < exec.places() {
+        order_place(exec.writes(place), thread, access)
+    } else {
+        0
+    }
+}
+
+/// The coherence place of an access: of a write its own, of a read that of what it reads.
+pub(crate) fn coherence_place(
+    all: &[Accesses],
+    exec: &Execution,
+    thread: usize,
+    i: usize,
+    access: &Access,
+) -> usize
+    ensures { result ≡ coherence_place all.now exec.now (name thread i) access.now }
+{
+    match access.dir {
+        Dir::W => place_of_write(exec, access.place, thread, i),
+        Dir::R => match source_at(all, exec, thread, i) {
+            Some(write) => {
+                let from = usize::from(write.thread);
+                place_of_write(exec, access.place, from, usize::from(write.access))
+            }
+            None => 0,
+        },
+    }
+}
+
+/// Whether an access may follow another at its place: a read not before it in the coherence order, a
+/// write after it.
+fn may_follow(dir: Dir, before: usize, after: usize) -> bool
+    ensures { result ≡ may_follow dir before after }
+{
+    match dir {
+        Dir::R => before <= after,
+        Dir::W => before < after,
+    }
+}
+
+/// Whether two accesses of a thread, access number `e` before number `f`, are at two places, or the
+/// second may follow the first.
+fn agrees(
+    all: &[Accesses],
+    exec: &Execution,
+    thread: usize,
+    e: usize,
+    a: &Access,
+    f: usize,
+    b: &Access,
+) -> bool
+    ensures { result ≡ agrees all.now exec.now thread e a.now f b.now }
+{
+    if a.place != b.place {
+        return true;
+    }
+    let before = coherence_place(all, exec, thread, e, a);
+    may_follow(b.dir, before, coherence_place(all, exec, thread, f, b))
+}
+
+/// Whether an access of a thread agrees with those after it.
+fn agrees_later(
+    all: &[Accesses],
+    exec: &Execution,
+    thread: usize,
+    accesses: &[Access],
+    e: usize,
+    a: &Access,
+) -> bool
+    ensures { result ≡ agrees_later all.now exec.now thread accesses.now e a.now }
+{
+    for (f, b) in accesses.iter().enumerate() {
+        if e < f && !agrees(all, exec, thread, e, a, f, b) {
+            return false;
+        }
+    }
+    true
+}
+
+/// Whether program order in a thread agrees with the coherence order.
+fn thread_coheres(all: &[Accesses], exec: &Execution, thread: usize, accesses: &[Access]) -> bool
+    ensures { result ≡ thread_coheres all.now exec.now thread accesses.now }
+{
+    for (e, a) in accesses.iter().enumerate() {
+        if !agrees_later(all, exec, thread, accesses, e, a) {
+            return false;
+        }
+    }
+    true
+}
+
+/// Whether it does in each thread.
+fn threads_cohere(all: &[Accesses], exec: &Execution) -> bool
+    ensures { result ≡ every (thread_coheres all.now exec.now) 0 all.now }
+{
+    for (thread, accesses) in all.iter().enumerate() {
+        if !thread_coheres(all, exec, thread, accesses.as_slice()) {
+            return false;
+        }
+    }
+    true
+}
+
+#[tactic(auto, using(crate::proofs::Coherent::coheres_means, crate::proofs::Coherent::coheres_from))]
+fn coheres(all: &[Accesses], exec: &Execution) -> bool
+    ensures { IsTrue result ↔ IsCoherent all.now exec.now }
+{
+    threads_cohere(all, exec)
+}
+
+/// Whether a candidate execution of a test is coherent per location: two accesses of a thread at one place
+/// agree with the coherence order.
+pub fn is_coherent<A: Arch>(
+    alloc: Global,
+    test: &ReadTest<A>,
+    exec: &Execution,
+) -> Result<bool, NoMemory>
+    requires { IsCandidate (program_read test.now) exec.now }
+    ensures { IfOk result (λ answer. IsTrue answer ↔ IsCoherentIn (program_read test.now) exec.now) }
+{
+    let traces = candidate_runs(alloc, test, exec)?;
+    let all = all_accesses(alloc, &traces)?;
+    Ok(coheres(&all, exec))
+}

@@ -1,0 +1,116 @@
+ghost use Rattle.std.specs.Prelude.{◌≡◌, ◌<◌, length, slice_get, Some, OnOk, OnErr, IfOk, map};
+ghost use Rattle.exec_meaning.specs.Kept.{nothing_kept, empty_lists, with_read, with_write};
+
+use diy_io::NoMemory;
+use program_meaning::WriteAt;
+use std::alloc::{AllocError, Global};
+use std::marker::Model;
+
+/// A read: its value, and the write that it reads, or none for the initial value.
+pub type Read = (u32, Option<WriteAt>);
+
+/// An execution: for each thread its reads in program order, for each place its writes in coherence order.
+///
+/// Contracts see the two lists of lists.
+#[derive(Debug, Drop)]
+pub struct Execution {
+    reads: Vec<Vec<Read>>,
+    writes: Vec<Vec<WriteAt>>,
+}
+
+impl Model for Execution {
+    ghost use Rattle.std.specs.Prelude.{◌≤◌, length, map};
+    ghost use Rattle.program_meaning.specs.Executions.{Execution as Given};
+
+    ghost Value = { Given };
+
+    ghost view = { λ x. record { reads = map (λ list. list.items) x.reads.items; orders = map (λ list. list.items) x.writes.items } };
+
+    ghost invariant = { λ x. (length x.reads.items ≤ 255) × (length x.writes.items ≤ 255) };
+}
+
+fn no_reads(alloc: Global, threads: u8) -> Result<Vec<Vec<Read>>, AllocError>
+    ensures lists { IfOk result (λ lists. map (λ list. list.items) lists.items ≡ empty_lists threads) }
+    ensures count { IfOk result (λ lists. length lists.items ≡ threads) }
+{
+    let mut lists = Vec::new(alloc);
+    for _ in 0..threads {
+        lists.push(Vec::new(alloc))?;
+    }
+    Ok(lists)
+}
+
+fn no_writes(alloc: Global, places: u8) -> Result<Vec<Vec<WriteAt>>, AllocError>
+    ensures lists { IfOk result (λ lists. map (λ list. list.items) lists.items ≡ empty_lists places) }
+    ensures count { IfOk result (λ lists. length lists.items ≡ places) }
+{
+    let mut lists = Vec::new(alloc);
+    for _ in 0..places {
+        lists.push(Vec::new(alloc))?;
+    }
+    Ok(lists)
+}
+
+impl Execution {
+    /// An execution of so many threads over so many places, without reads and writes.
+    pub fn new(alloc: Global, threads: u8, places: u8) -> Result<Execution, NoMemory>
+        ensures { IfOk result (λ x. x ≡ nothing_kept threads places) }
+    {
+        let reads = no_reads(alloc, threads)?;
+        let writes = no_writes(alloc, places)?;
+        Ok(Execution { reads, writes })
+    }
+
+    /// Adds a read behind the others of a thread: its value, and the write that it reads, or none for the
+    /// initial value. Without memory for it the execution is unchanged.
+    pub fn add_read(&mut self, thread: u8, value: u32, from: Option<WriteAt>) -> Result<(), NoMemory>
+        requires { thread < length self.old.reads }
+        ensures ok { OnOk result (self.new ≡ with_read self.old thread (value, from)) }
+        ensures err { OnErr result (self.new ≡ self.old) }
+    {
+        let reads = &mut self.reads[usize::from(thread)];
+        reads.push((value, from))?;
+        Ok(())
+    }
+
+    /// Adds a write behind the others of a place. Without memory for it the execution is unchanged.
+    pub fn add_write(&mut self, place: u8, write: WriteAt) -> Result<(), NoMemory>
+        requires { place < length self.old.orders }
+        ensures ok { OnOk result (self.new ≡ with_write self.old place write) }
+        ensures err { OnErr result (self.new ≡ self.old) }
+    {
+        let writes = &mut self.writes[usize::from(place)];
+        writes.push(write)?;
+        Ok(())
+    }
+
+    /// How many threads it has.
+    pub fn threads(&self) -> u8
+        ensures { result ≡ length self.now.reads }
+    {
+        self.reads.len() as u8
+    }
+
+    /// How many places it has.
+    pub fn places(&self) -> u8
+        ensures { result ≡ length self.now.orders }
+    {
+        self.writes.len() as u8
+    }
+
+    /// The reads of a thread, in program order.
+    pub fn reads(&self, thread: u8) -> &[Read]
+        requires { thread < length self.now.reads }
+        ensures { slice_get self.now.reads thread ≡ Some result.now }
+    {
+        self.reads[usize::from(thread)].as_slice()
+    }
+
+    /// The writes of a place, in coherence order.
+    pub fn writes(&self, place: u8) -> &[WriteAt]
+        requires { place < length self.now.orders }
+        ensures { slice_get self.now.orders place ≡ Some result.now }
+    {
+        self.writes[usize::from(place)].as_slice()
+    }
+}

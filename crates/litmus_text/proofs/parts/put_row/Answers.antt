@@ -1,0 +1,16 @@
+use Rattle.std.proofs.Common.{arith, ap}
+use Rattle.litmus_text.specs.Tests.{test_seen}
+use Rattle.litmus_text.proofs.TextParts.{row_put, condition_put}
+use Rattle.litmus_text.proofs.parts.put_row.Goals as goal
+
+pub returns-then-row-table : goal.returns-then-row-table
+returns-then-row-table g c =
+    row_put g.A.Arch.writing (test_seen c.args.test.now) c.args.table.now.rows c.args.row _ _ c.requires.kept.rows
+    (omega (arith, c.if-row-table.true, ap (λ table. table.rows) c.table.view_is))
+    (rw c.as_slice.ensures.value at c.print_row.ensures.text) (rw c.as_slice.ensures.value at c.print_row.ensures.short)
+
+pub returns-else-row-table : goal.returns-else-row-table
+returns-else-row-table g c =
+    condition_put g.A.Arch.writing (test_seen c.args.test.now) c.args.table.now.rows c.args.row _ _ c.requires.kept.rows
+    (omega (arith, c.if-row-table.false, ap (λ table. table.rows) c.table.view_is))
+    c.print_condition.ensures.text c.print_condition.ensures.short

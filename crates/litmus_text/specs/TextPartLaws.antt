@@ -1,0 +1,14 @@
+-- Laws of the text of a test, part by part, for functions that print it.
+use Rattle.std.proofs.Common.{◌≡◌, ℕ, List, ◌++◌, refl}
+use Rattle.std.specs.Prelude.{Some}
+use Rattle.relax_edges.specs.declared.kinds.ArchName.{ArchName}
+use Rattle.arch_trait.specs.Writing.{Writing}
+use Rattle.litmus_text.specs.declared.parts.TextPart.TheVariants.{Edges}
+use Rattle.litmus_text.specs.TestText.{TestSeen, header_line, ended, test_lines, test_text}
+use Rattle.litmus_text.specs.TextParts.{rows_from, lines_from, text_from}
+
+-- the text of a test is its header, and then that from the edges on
+pub text_begins : (arch : ArchName) (w : Writing) (name : List ℕ) (test : TestSeen)
+    → test_text arch w name test ≡ ended (header_line arch name) ++ text_from w test (Some Edges)
+unfolding test_text test_lines lines_from rows_from
+text_begins arch w name test = refl

@@ -1,0 +1,41 @@
+-- The text of a test after its header, part by part.
+-- Source: own.
+use Rattle.std.specs.Prelude.{◌≡◌, ◌≤◌, ◌<◌, ◌+◌, ◌-◌, ℕ, List, [], ◌∷◌, ◌++◌, Option, Some, None, codes, length, drop}
+use Rattle.std.specs.List.{flat_map, enumerate_from}
+use Rattle.diy_io.specs.declared.page.TheConstants.{LINE_ROOM}
+use Rattle.diy_io.specs.Page.{page_after}
+use Rattle.arch_trait.specs.Writing.{Writing}
+use Rattle.final_cond.specs.CondText.{cond_text}
+use Rattle.litmus_text.specs.declared.parts.TextPart.{TextPart}
+use Rattle.litmus_text.specs.declared.parts.TextPart.TheVariants.{Edges, Items, Row}
+use Rattle.litmus_text.specs.TestText.{TestSeen, edges_line, items_lines, initial_lines, columns_of, row_count, table_lines, ended}
+
+-- the rows of the table from one on, and the condition
+unfoldable pub rows_from : Writing → TestSeen → ℕ → List (List ℕ)
+rows_from w test row = drop row (table_lines (columns_of w test.places test.threads)) ++ cond_text test.cond ∷ []
+
+-- the lines of the text of a test from a part on
+unfoldable pub lines_from : Writing → TestSeen → TextPart → List (List ℕ)
+lines_from w test Edges = edges_line test.edges ∷ (initial_lines w test.places test.threads ++ rows_from w test 0)
+lines_from w test (Items thread) = flat_map (λ t. items_lines w test.places t.0 t.1.links) (drop thread (enumerate_from 0 test.threads)) ++ codes "}" ∷ rows_from w test 0
+lines_from w test (Row row) = rows_from w test row
+
+-- the text of a test from a part on, if there is one more
+abbrev pub text_from : Writing → TestSeen → Option TextPart → List ℕ
+text_from w test None = []
+text_from w test (Some part) = flat_map ended (lines_from w test part)
+
+-- at least so many parts are left: those of the edges, of each thread, of each row and of the condition
+unfoldable pub parts_left : Writing → TestSeen → Option TextPart → ℕ
+parts_left w test None = 0
+parts_left w test (Some Edges) = 3 + row_count (columns_of w test.places test.threads) + length test.threads
+parts_left w test (Some (Items thread)) = 2 + row_count (columns_of w test.places test.threads) + (length test.threads - thread)
+parts_left w test (Some (Row row)) = 1 + (row_count (columns_of w test.places test.threads) - row)
+
+-- a part was put to a page, and the text goes on from another one, if there is one
+pub record PutsPart (w : Writing) (test : TestSeen) (part : TextPart) (old new : List ℕ) (next : Option TextPart) : Type 0 where
+  pub piece : List ℕ
+  pub text : text_from w test (Some part) ≡ piece ++ text_from w test next
+  pub page : new ≡ page_after old piece
+  pub short : length piece ≤ LINE_ROOM
+  pub fewer : parts_left w test next < parts_left w test (Some part)
