@@ -1,6 +1,6 @@
 -- How a call that classifies files ended, and what it did to its devices.
 -- Source: own.
-use Rattle.std.specs.Prelude.{◌≡◌, ◌≤◌, ◌⊎◌, ◌+◌, ⊤, ⊥, ℕ, List, [], ◌∷◌, ◌++◌, length, take, map, slice_index_or, Option, None, MatchOption, Result, Ok, Err}
+use Rattle.std.specs.Prelude.{◌≡◌, ◌≤◌, ◌⊎◌, ◌+◌, ⊤, ℕ, List, [], ◌∷◌, ◌++◌, length, take, map, slice_index_or, Option, None, MatchOption, Result, Ok, Err}
 use Rattle.diy_io.specs.Count.{Rose}
 use Rattle.diy_io.specs.Shelf.{Files, ShelfSeen}
 use Rattle.diy_io.specs.Wrote.{SinkSeen, WroteAll, WrotePart}

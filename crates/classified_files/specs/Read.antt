@@ -1,5 +1,6 @@
 -- What only private functions cite: the text of a file as it is read, and what one file gives.
 use Rattle.std.specs.Prelude.{◌≡◌, ◌≤◌, ◌⊎◌, ◌+◌, ⊤, ℕ, List, [], ◌∷◌, ◌++◌, length, take, Option, None, IfSome, MatchOption, Result, Ok, Err}
+use Rattle.std.specs.Io.KnownBytes.{Consumes}
 use Rattle.diy_io.specs.Count.{count_of, Rose}
 use Rattle.diy_io.specs.Shelf.{Files, Idle, IsReading, Mode, ShelfSeen, left_to_read}
 use Rattle.opened_files.specs.Opened.{IsFile, TookFiles}
@@ -63,11 +64,7 @@ ReadTo old new bytes (Err reads.NoMemory) = ReadUnheld old new
 
 -- bytes of a file that is open were read
 pub record ReadSoFar (old new : ShelfSeen) (bytes : List ℕ) : Type 0 where
-  pub text : List ℕ
-  pub told : IfSome (left_to_read old.mode) (λ whole. whole ≡ text)
-  pub rest : List ℕ
-  pub parts : text ≡ bytes ++ rest
-  pub left : IfSome (left_to_read new.mode) (λ whole. whole ≡ rest)
+  pub consumed : Consumes (left_to_read old.mode) (left_to_read new.mode) bytes
   pub took : TookBytes old new bytes
   pub mode : IsReading new.mode
   pub no_fault : new.faults ≡ old.faults

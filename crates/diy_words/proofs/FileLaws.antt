@@ -1,6 +1,6 @@
 -- Where words ask for something of classify7, each word that is neither an option nor its value names a file.
 use Rattle.std.proofs.Common.{◌≡◌, ◌<◌, ◌≤◌, ◌+◌, ⊎_elim, drop, get_or, ℕ, Bool, true, false, List, [], ◌∷◌, ◌++◌, length, Option, Some, None, Result, Ok, Err, append_assoc, append-nil, refl, sym, ap, ◌∙◌, subst, arith, slice_get}
-use Rattle.std.specs.Prelude.{◌||◌, if◌then◌else◌, IsOk, All, codes}
+use Rattle.std.specs.Prelude.{◌||◌, if◌then◌else◌, IsOk, OnErr, All, codes}
 use Rattle.std.specs.List.{AllByRecursion}
 use Rattle.std.specs.Str.{bytes_eq}
 use Rattle.std.proofs.lemmas.Bool.{cases_lt}
@@ -215,3 +215,18 @@ option_read words at text option files within got named before =
 
 pub files_ended : (words : List (List ℕ)) (at : ℕ) (files : List ℕ) → length words ≤ at → FilesRead words at files → files ≡ files_of (asked_of words)
 files_ended words at files last before = sym (append-nil files) ∙ ap (λ rest. files ++ rest) (sym (none_left words at last)) ∙ before.read
+
+-- where a word names a file, there is one
+pub file_there : (words : List (List ℕ)) (at : ℕ) (text : List ℕ) (files : List ℕ) → slice_get words at ≡ Some text → option_named tools.Classify text ≡ None
+    → FilesRead words at files → files_of (asked_of words) ≡ [] → ⊥
+file_there words at text files got plain before none =
+    let next = file_first words at text got plain before.faultless in
+    no_nil files at (files_from words (at + 1)) (ap (λ rest. files ++ rest) (sym next.first) ∙ before.read ∙ none)
+  where
+    no_nil : (xs : List ℕ) (x : ℕ) (ys : List ℕ) → xs ++ x ∷ ys ≡ [] → ⊥
+    no_nil [] x ys e = cc e
+    no_nil (z ∷ xs) x ys e = cc e
+
+pub where_err : {A E P : Type 0} (r : Result A E) → P → OnErr r P
+where_err (Ok x) h = tt
+where_err (Err e) h = h

@@ -1,4 +1,4 @@
-ghost use Rattle.std.specs.Prelude.{◌≡◌, ◌<◌, length, IfOk};
+ghost use Rattle.std.specs.Prelude.{◌≡◌, ◌<◌, [], length, IfOk, OnErr};
 ghost use Rattle.std.specs.List.{All};
 ghost use Rattle.diy_words.specs.Requests.{asked_of, files_of, IsClassifying};
 
@@ -7,11 +7,12 @@ use diy_io::{NoMemory, Words};
 use std::alloc::Global;
 
 /// The places of the operands of classify7, which name files, in their order. The error comes for want
-/// of memory alone.
+/// of memory alone, and only where there is an operand.
 pub fn read_files(alloc: Global, words: &Words) -> Result<Vec<usize>, NoMemory>
     // The words ask for something of classify7.
     requires { IsClassifying (asked_of words.now) }
     ensures files { IfOk result (λ files. files.items ≡ files_of (asked_of words.now)) }
+    ensures some { OnErr result (files_of (asked_of words.now) ≡ [] → ⊥) }
     ensures within { IfOk result (λ files. All (λ place. place < length words.now) files.items) }
 {
     let mut files = Vec::new(alloc);

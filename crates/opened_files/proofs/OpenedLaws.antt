@@ -1,8 +1,8 @@
 -- Files of a shelf that are opened one after another.
-use Rattle.std.proofs.Common.{◌≡◌, ◌+◌, ℕ, List, [], ◌∷◌, ◌++◌, length, refl, sym, ap, ◌∙◌, subst, arith, Some, None, length-append}
+use Rattle.std.proofs.Common.{◌≡◌, ◌≤◌, ◌<◌, ◌+◌, ℕ, suc, All, List, [], ◌∷◌, ◌++◌, length, refl, sym, ap, ◌∙◌, subst, arith, Some, None, length-append}
 use Rattle.std.specs.Prelude.{Option, IfSome, IsSome}
 use Rattle.std.specs.Option.{option_and_then}
-use Rattle.diy_io.specs.Count.{count_of, next_count}
+use Rattle.diy_io.specs.Count.{count_of, last_count, next_count}
 use Rattle.diy_io.specs.Shelf.{Files, ShelfSeen, left_to_read, CountsStay, Opened}
 use Rattle.opened_files.specs.Opened.{IsFile, TookFiles, last_taken}
 
@@ -58,3 +58,17 @@ took_no_more old mid new before p q =
     let earlier : count_of mid.opened ≡ count_of (old.opened + length before) = p.opened in
     let then_none : count_of new.opened ≡ count_of (mid.opened + 0) = q.opened in
     record { opened = omega arith; last = q.last ∙ p.last }
+
+last_within : (bound taken : ℕ) (xs : List (List ℕ)) → taken ≤ bound → All (λ bytes. length bytes ≤ bound) xs → last_taken taken xs ≤ bound
+last_within bound taken [] few short = few
+last_within bound taken (x ∷ xs) few short = last_within bound (length x) xs (short 0 [] (omega arith)) (λ k d less. short (suc k) d (omega arith))
+
+-- no more was taken of the last file than of each
+pub took_within : (bound : ℕ) (old new : ShelfSeen) (taken : List (List ℕ)) → bound < last_count → TookFiles old new taken → All (λ bytes. length bytes ≤ bound) taken
+    → count_of old.opened < count_of new.opened → new.taken ≤ bound
+took_within bound old new [] low took short more =
+    let same : count_of new.opened ≡ count_of (old.opened + 0) = took.opened in absurd (omega arith)
+took_within bound old new (x ∷ xs) low took short more =
+    let few : last_taken (length x) xs ≤ bound = last_within bound (length x) xs (short 0 [] (omega arith)) (λ k d less. short (suc k) d (omega arith)) in
+    let last : count_of new.taken ≡ count_of (last_taken (length x) xs) = took.last in
+    omega arith
