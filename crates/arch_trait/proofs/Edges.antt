@@ -1,5 +1,5 @@
 -- An architecture that has an edge has the edge's link and its marks.
-use Rattle.std.proofs.Common.{◌≡◌, Bool, true, ◌&&◌, refl, sym, ◌∙◌}
+use Rattle.std.proofs.Common.{◌≡◌, true, refl, ◌∙◌}
 use Rattle.std.proofs.lemmas.Bool.{and_parts}
 use Rattle.relax_edges.specs.declared.kinds.Kind.{Kind}
 use Rattle.relax_edges.specs.declared.kinds.Kind.TheVariants as kinds

@@ -8,6 +8,7 @@ use Rattle.std.specs.Str.{bytes_eq}
 use Rattle.text_laws.specs.Names.{is_place_name, is_register_name, begins_place, is_place_byte}
 use Rattle.text_laws.proofs.NameLaws.{all_weaker}
 use Rattle.std.specs.Char.{is_ascii_alphabetic, is_ascii_alphanumeric}
+use Rattle.arch_trait.specs.declared.step.TheConstants.{MAX_STEPS}
 use Rattle.arch_trait.specs.Names.{IsTable, number_in, location_letters, lap_mark, location_name, letters}
 use Rattle.arch_trait.proofs.Taking.{by_test}
 
@@ -59,15 +60,15 @@ one_name names name after t formed new room e =
       few = omega (arith, length-append names (name ∷ []));
     })
 
--- the locations' names have the form of names and differ, as computed for the first 48
+-- the locations' names have the form of names and differ, as computed for as many as a cycle may have
 abbrev pub new_below : ℕ → Bool
 new_below zero = true
 new_below (suc k) =
     is_place_name (location_name k) && (is_none (number_in (letters k) (location_name k)) && new_below k)
 
-new_48 : new_below 48 ≡ true
+all_new : new_below MAX_STEPS ≡ true
 unfolding location_name is_place_name
-new_48 = refl
+all_new = refl
 
 -- a location's name has the form of a name, and differs from those of the locations before it
 pub record IsNew (k : ℕ) : Type 0 where
@@ -90,8 +91,8 @@ new_at (suc n) k e h =
     none_is None e = refl
     none_is (Some i) e = cc
 
-pub location_new : (k : ℕ) → k < 48 → IsNew k
-location_new k h = new_at 48 k new_48 h
+pub location_new : (k : ℕ) → k < MAX_STEPS → IsNew k
+location_new k h = new_at MAX_STEPS k all_new h
 
 pub letters_more : (n : ℕ) → letters (n + 1) ≡ letters n ++ location_name n ∷ []
 letters_more n = map-range_with_len_more location_name 0 n n (omega arith)

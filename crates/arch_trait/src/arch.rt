@@ -17,7 +17,7 @@ use crate::link::Link;
 use crate::places::Places;
 use crate::reading::{InstrError, Operands, Raw};
 use crate::regs::Regs;
-use crate::step::Shape;
+use crate::step::{MAX_STEPS, Shape};
 use arrayvec::{ArrayString, ArrayVec};
 use final_cond::RegName;
 use micro_ops::Micro;
@@ -27,7 +27,7 @@ use relax_edges::{ArchName, Edge, Mark};
 pub const MAX_STEP_INSTRS: usize = 6;
 
 /// The most operations of a thread: those of `MAX_STEPS` accesses.
-pub const MAX_INSTRS: usize = 288;
+pub const MAX_INSTRS: usize = MAX_STEPS * MAX_STEP_INSTRS;
 
 /// The most bytes of an instruction's text.
 pub const MAX_TEXT: usize = 40;

@@ -1,8 +1,8 @@
 use crate::link::Link;
-use relax_edges::{Dir, Mark};
+use relax_edges::{Dir, MAX_EDGES, Mark};
 
-/// The most accesses of a thread that code is made for.
-pub const MAX_STEPS: usize = 48;
+/// The most accesses of a thread that code is made for: those of the edges of a cycle.
+pub const MAX_STEPS: usize = MAX_EDGES;
 
 /// One access of a thread, and how it is tied to the one before it.
 #[derive(Clone, Copy, Debug, Default, PartialEq, Eq)]

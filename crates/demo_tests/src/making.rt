@@ -13,6 +13,7 @@ use crate::summary::Summary;
 use arch_trait::Arch;
 use cycle_names::FAMILIES;
 use diy_io::{Failed, Sink};
+use litmus_text::Test;
 
 /// Makes so many tests and writes a summary of them: for each family that had one, in the order of
 /// the table of families, and then for all, a line on how many tests there are, and how many lines
@@ -24,28 +25,28 @@ use diy_io::{Failed, Sink};
 /// `Accept`, under the name of its cycle.
 ///
 /// `Failed` comes only where the count of `out` rose. Then `out` has a prefix of the summary.
+#[inline(never)]
 pub fn demo<A: Arch, O: Sink>(count: u32, out: &mut O) -> Result<(), Failed>
     requires tests { MakesAll A.puts }
     ensures { Wrote (O.seen out.old) (O.seen out.new) (demo_text A.puts A.writing count) result }
 {
-    let summary = tally_tests::<A>(count);
+    let summary = tally_tests::<A>(count, &mut Test::new(), &mut Desk::new());
     summary.write(out)
 }
 
-/// Makes so many tests, and counts them.
-fn tally_tests<A: Arch>(count: u32) -> Summary
+/// Makes so many tests, each in `test`, and counts them.
+fn tally_tests<A: Arch>(count: u32, test: &mut Test, desk: &mut Desk) -> Summary
     requires { MakesAll A.puts }
     ensures families { result.families ≡ family_tallies (numbered_text A.puts A.writing) count }
     ensures all { result.all ≡ tally_of (numbered_text A.puts A.writing) (upto count) }
 {
     let choices = Choices::new(A::NAME);
     let mut draws = Draws::new();
-    let mut desk = Desk::new();
     let mut summary = Summary::new();
     for number in 0..count {
         let place = number as usize % FAMILIES.len();
         let cycle = draw_cycle(FAMILIES[place], &choices, &mut draws);
-        let text = desk.measure::<A>(&cycle);
+        let text = desk.measure::<A>(&cycle, test);
         summary.count(place, &text);
     }
     summary

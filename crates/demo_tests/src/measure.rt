@@ -14,32 +14,32 @@ use litmus_text::{KeptTable, Test, print_test_by};
 use relax_edges::ObsMode;
 use test_maker::make_into;
 
-/// Where tests are made, one after another: a test, its name, what is kept of its table, and the page that it is printed to.
+/// Where tests are measured, one after another: the name of a test, what is kept of its table, and the page that it is printed
+/// to. What these held before doesn't count.
 #[derive(Drop)]
 pub(crate) struct Desk {
-    test: Test,
     name: ArrayString<MAX_NAME>,
     table: KeptTable,
     page: Page,
 }
 
 impl Desk {
+    #[inline(never)]
     pub(crate) fn new() -> Desk {
         Desk {
-            test: Test::new(),
             name: ArrayString::new(),
             table: KeptTable::new(),
             page: Page::new(),
         }
     }
 
-    /// The bytes and line feeds of the text of the test of a cycle that has one, under its name.
-    pub(crate) fn measure<A: Arch>(&mut self, cycle: &Cycle) -> TallySink
+    /// The bytes and line feeds of the text of the test of a cycle that has one, under its name. The test is made in `test`.
+    pub(crate) fn measure<A: Arch>(&mut self, cycle: &Cycle, test: &mut Test) -> TallySink
         requires { refusal_of A.puts cycle.now Accept ≡ None }
         ensures { result ≡ tally_of (length (cycle_text A.puts A.writing Accept (name_of cycle.now) cycle.now)) (line_feed_count (cycle_text A.puts A.writing Accept (name_of cycle.now) cycle.now)) }
     {
         let _edges = cycle.edges();
-        match make_into::<A>(cycle, ObsMode::Accept, &mut self.test) {
+        match make_into::<A>(cycle, ObsMode::Accept, test) {
             Ok(()) => {}
             Err(_) => unreachable!(),
         }
@@ -47,7 +47,7 @@ impl Desk {
         self.page.clear();
         let mut tally = TallySink::new();
         match print_test_by::<A, TallySink>(
-            &self.test,
+            test,
             self.name.as_str(),
             &mut self.table,
             &mut self.page,

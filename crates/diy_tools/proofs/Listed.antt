@@ -27,7 +27,7 @@ behind_seen seen plan given ends.ShelfFault old new out after h = (ap seen h.0, 
 -- what a listing leaves on an architecture is what it leaves on the one with its name
 pub ends_on : {Sink : Type 0} (seen : Sink → SinkSeen) (arch named : ArchName) (listing : Listing) (end : ListingEnd) (old new : ShelfSeen) (out after : Sink) → arch ≡ named
     → EndsListing seen (plan_of (machine_of named).puts (machine_of named).writing (record { threads = listing.threads; accesses = listing.accesses; mode = listing.mode; folder = listing.folder })
-        listing.relaxes listing.limits) listing.after end old new out after
+    listing.relaxes listing.limits) listing.after end old new out after
     → EndsOn (machine_of arch) listing end old new (seen out) (seen after)
 ends_on seen arch named listing end old new out after same h =
     subst (λ (a : ArchName). EndsOn (machine_of a) listing end old new (seen out) (seen after)) (sym same)

@@ -85,7 +85,7 @@ abbrev pub EndsOn : Machine → Listing → ListingEnd → ShelfSeen → ShelfSe
 EndsOn m listing end old new before after =
     EndsListing (λ (sink : SinkSeen). sink)
     (plan_of m.puts m.writing (record { threads = listing.threads; accesses = listing.accesses; mode = listing.mode; folder = listing.folder })
-      listing.relaxes listing.limits)
+    listing.relaxes listing.limits)
     listing.after end old new before after
 
 -- the files of the words at these places are classified, or there is a reason why they can't be; no file changes

@@ -1,4 +1,4 @@
-ghost use Rattle.std.specs.Prelude.{◌≡◌, ◌<◌, ◌≤◌, ◌↔◌, ◌==◌, length, Some, slice_get, IsTrue};
+ghost use Rattle.std.specs.Prelude.{◌≡◌, ◌+◌, ◌<◌, ◌≤◌, ◌↔◌, ◌==◌, ◌++◌, length, Some, slice_get, IsTrue};
 ghost use Rattle.std.proofs.Common.{rules};
 ghost use Rattle.std.specs.Cmp.Rules.{comparing};
 ghost use Rattle.std.specs.Cmp.Lexicographic.{pointwise};
@@ -43,14 +43,25 @@ pub(crate) fn copied(edges: &[Edge]) -> ArrayVec<Edge, MAX_EDGES>
     }
 }
 
+/// Appends edges, where they are.
+fn put(more: &[Edge], edges: &mut ArrayVec<Edge, MAX_EDGES>)
+    requires { length edges.old.items + length more.now ≤ MAX_EDGES }
+    ensures { edges.new.items ≡ edges.old.items ++ more.now }
+{
+    match edges.try_extend_from_slice(more) {
+        Ok(()) => {}
+        Err(_) => unreachable!(),
+    }
+}
+
 impl Cycle {
     pub(crate) fn of(edges: &[Edge]) -> Cycle
         requires { IsCycle edges.now }
         ensures { result ≡ edges.now }
     {
-        Cycle {
-            edges: copied(edges),
-        }
+        let mut list = ArrayVec::new();
+        put(edges, &mut list);
+        Cycle { edges: list }
     }
 
     /// How many edges the cycle has.
@@ -83,11 +94,10 @@ impl Cycle {
         ensures { result ≡ rotated k self.now }
     {
         let (front, back) = self.edges.as_slice().split_at(usize::from(k));
-        let mut edges = copied(back);
-        match edges.try_extend_from_slice(front) {
-            Ok(()) => Cycle { edges },
-            Err(_) => unreachable!(),
-        }
+        let mut edges = ArrayVec::new();
+        put(back, &mut edges);
+        put(front, &mut edges);
+        Cycle { edges }
     }
 
     /// A second value of the same list of edges.

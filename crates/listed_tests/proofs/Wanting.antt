@@ -47,16 +47,16 @@ wanted_few puts mode threads accesses cycle h =
 pub tested_threads : (puts : Puts) (mode : ObsMode) (cycle : List Edge) → refusal_of puts cycle mode ≡ None → 0 < external_count cycle
 tested_threads puts mode cycle h = by_less 0 (external_count cycle) (λ some. some) (λ none. absurd (refused (lt-ltb (external_count cycle) 2 (omega (arith, none)))))
   where
+    or_none : (a b : Option MakeRefusal) → or_else a b ≡ None → b ≡ None
+    or_none None b e = e
+    or_none (Some reason) b e = cc
+
     refused : nat_lt (external_count cycle) 2 ≡ true → ⊥
     refused few =
         let by : resolved_refusal puts (resolution_of cycle) mode ≡ Some TooFewThreads = rw few refl in
         let none : resolved_refusal puts (resolution_of cycle) mode ≡ None = or_none (foreign_edge puts.name cycle) (resolved_refusal puts (resolution_of cycle) mode) h in
         let apart : Some TooFewThreads ≡ None = sym by ∙ none in
         cc
-
-    or_none : (a b : Option MakeRefusal) → or_else a b ≡ None → b ≡ None
-    or_none None b e = e
-    or_none (Some reason) b e = cc
 
 -- a cycle may begin with edges with which one that is wanted does
 pub wanted_leads : (puts : Puts) (mode : ObsMode) (threads : ℕ) (accesses : Option ℕ) (u r : List Edge) → is_wanted puts mode threads accesses (u ++ r) ≡ true → may_lead puts.name threads u ≡ true

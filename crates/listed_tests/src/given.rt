@@ -9,16 +9,15 @@ ghost use Rattle.listed_tests.specs.Plans.{folder_of, named_text};
 ghost use Rattle.listed_tests.specs.Putting.{Put, PutPart};
 
 use crate::ending::ListingEnd;
-use crate::files::{MAX_FOLDER, Path, path_of};
+use crate::files::{MAX_FOLDER, path_of};
 use crate::listing::{put_test, write_count};
 use crate::making::Desk;
 use crate::names::{Lines, MAX_LINE, file_of, push_line};
 use crate::wanted::Wanted;
 use arch_trait::Arch;
-use arrayvec::ArrayString;
-use cycle_names::MAX_NAME;
 use diy_io::{Failed, Shelf, Sink};
 use edge_algebra::Cycle;
+use litmus_text::Test;
 use relax_edges::{MAX_EDGES, ObsMode};
 
 /// Writes a file for each of some cycles, in their order, then the file `@all` that names them, and
@@ -72,15 +71,17 @@ fn put_given<A: Arch, H: Shelf>(
     ensures ok { OnOk result (Put (H.seen shelf.old) (H.seen shelf.new) (given_files (folder_of wanted.now) (named_text A.puts A.writing wanted.now.mode) cycles.now)) }
     ensures failed { OnErr result (PutUpTo (H.seen shelf.old) (H.seen shelf.new) (given_files (folder_of wanted.now) (named_text A.puts A.writing wanted.now.mode) cycles.now)) }
 {
-    put_tests_of::<A, H>(wanted, cycles, shelf)?;
+    put_tests_of::<A, H>(wanted, cycles, &mut Test::new(), &mut Desk::new(), shelf)?;
     let path = path_of(wanted.folder, "@all");
     put_names_of(path.as_str(), cycles, shelf)
 }
 
-/// Puts the files of the tests of cycles on the shelf.
+/// Puts the files of the tests of cycles on the shelf. Each test is made in `test`, and goes to its file by way of `desk`.
 fn put_tests_of<A: Arch, H: Shelf>(
     wanted: &Wanted,
     cycles: &[Cycle],
+    test: &mut Test,
+    desk: &mut Desk,
     shelf: &mut H,
 ) -> Result<(), Failed>
     requires tests { All (λ cycle. refusal_of A.puts cycle wanted.now.mode ≡ None) cycles.now }
@@ -89,14 +90,9 @@ fn put_tests_of<A: Arch, H: Shelf>(
     ensures ok { OnOk result (Put (H.seen shelf.old) (H.seen shelf.new) (test_files (folder_of wanted.now) (named_text A.puts A.writing wanted.now.mode) cycles.now)) }
     ensures failed { OnErr result (PutUpTo (H.seen shelf.old) (H.seen shelf.new) (test_files (folder_of wanted.now) (named_text A.puts A.writing wanted.now.mode) cycles.now)) }
 {
-    let mut desk = Desk::new();
-    let mut name: ArrayString<MAX_NAME> = ArrayString::new();
-    let mut path = Path::new();
     let mut number: u128 = 0;
     for cycle in cycles {
-        put_test::<A, H>(
-            wanted, cycle, number, &mut desk, &mut name, &mut path, shelf,
-        )?;
+        put_test::<A, H>(wanted, cycle, number, test, desk, shelf)?;
         number = number.saturating_add(1);
     }
     Ok(())

@@ -14,18 +14,19 @@ ghost use Rattle.listed_tests.specs.Plans.{folder_of, is_wanted, named_text, pla
 ghost use Rattle.listed_tests.specs.Putting.{Put, PutPart};
 
 use crate::ending::ListingEnd;
-use crate::files::{FileName, MAX_FOLDER, Path, file_named, set_path};
-use crate::making::Desk;
+use crate::files::{FileName, MAX_FOLDER, file_named, set_path};
+use crate::making::{Desk, make_test};
 use crate::names::{Names, put_names};
 use crate::putting::put_text;
 use crate::wanted::Wanted;
 use arch_trait::Arch;
 use arrayvec::ArrayString;
 use cycle_enum::{Limits, Walk};
-use cycle_names::{MAX_NAME, name_of};
+use cycle_names::name_of;
 use diy_io::{Failed, Shelf, Sink};
 use edge_algebra::Cycle;
 use itoa::Buffer;
+use litmus_text::Test;
 use relax_edges::{Edge, ObsMode, Relaxes};
 
 /// Room for the line on how many tests there are, whose number has at most 39 digits.
@@ -67,6 +68,7 @@ pub struct Listing<'a> {
 /// whole, that one is as it was or has a front of its text, no other file changed, and nothing is
 /// written to `out`. `OutFault` comes only where the count of `out` rose. Then all files are whole,
 /// and `out` has a front of the line. In each case the shelf is at nothing again.
+#[inline(never)]
 #[tactic(auto, using(crate::proofs::Wanting::refused_leads_none, crate::proofs::Wanting::long_run_leads_none))]
 pub fn list_tests<A: Arch, H: Shelf, O: Sink>(
     listing: Listing,
@@ -134,7 +136,14 @@ fn list_walk<
     ensures { EndsBehind O.seen (plan_of A.puts A.writing wanted.now walk.old.relaxes walk.old.limits) walk.old.last result (H.seen shelf.old) (H.seen shelf.new) out.old out.new }
 {
     let mut names = Names::new();
-    let count = match put_tests::<A, H, K, J, P>(wanted, walk, &mut names, shelf) {
+    let count = match put_tests::<A, H, K, J, P>(
+        wanted,
+        walk,
+        &mut Test::new(),
+        &mut Desk::new(),
+        &mut names,
+        shelf,
+    ) {
         Ok(count) => count,
         Err(Failed) => return ListingEnd::ShelfFault,
     };
@@ -149,7 +158,7 @@ fn list_walk<
 }
 
 /// Puts the files of a walk's cycles on the shelf, from where it stands, keeps the lines that name
-/// them, and gives their number.
+/// them, and gives their number. Each test is made in `test`, and goes to its file by way of `desk`.
 fn put_tests<
     A: Arch,
     H: Shelf,
@@ -159,6 +168,8 @@ fn put_tests<
 >(
     wanted: &Wanted,
     walk: &mut Walk<K, J, P>,
+    test: &mut Test,
+    desk: &mut Desk,
     names: &mut Names,
     shelf: &mut H,
 ) -> Result<u128, Failed>
@@ -172,29 +183,23 @@ fn put_tests<
     ensures failed { OnErr result (StopsAtTest (Lists P.Fn.post walk.old) (folder_of wanted.now) (named_text A.puts A.writing wanted.now.mode) walk.old.last (H.seen shelf.old) (H.seen shelf.new)) }
     ensures walk { walk.new ≡ record walk.old { last = walk.new.last } }
 {
-    let mut desk = Desk::new();
-    let mut name: ArrayString<MAX_NAME> = ArrayString::new();
-    let mut path = Path::new();
     let mut count: u128 = 0;
     while let Some(cycle) = walk.next() {
-        let file = put_test::<A, H>(
-            wanted, &cycle, count, &mut desk, &mut name, &mut path, shelf,
-        )?;
+        let file = put_test::<A, H>(wanted, &cycle, count, test, desk, shelf)?;
         count = count.saturating_add(1);
         names.keep(&cycle, &file, count);
     }
     Ok(count)
 }
 
-/// Puts the file of a cycle's test on the shelf, and gives its name. The names of the test and of
-/// the path are made in `name` and `path`, and what these held doesn't count.
+/// Puts the file of a cycle's test on the shelf, and gives its name. The test is made in `test`, and what that was before
+/// doesn't count.
 pub(crate) fn put_test<A: Arch, H: Shelf>(
     wanted: &Wanted,
     cycle: &Cycle,
     number: u128,
+    test: &mut Test,
     desk: &mut Desk,
-    name: &mut ArrayString<MAX_NAME>,
-    path: &mut Path,
     shelf: &mut H,
 ) -> Result<FileName, Failed>
     requires has_test { refusal_of A.puts cycle.now wanted.now.mode ≡ None }
@@ -204,14 +209,14 @@ pub(crate) fn put_test<A: Arch, H: Shelf>(
     ensures ok { OnOk result (Put (H.seen shelf.old) (H.seen shelf.new) ((path_of (folder_of wanted.now) (file_of number cycle.now), named_text A.puts A.writing wanted.now.mode cycle.now) ∷ [])) }
     ensures failed { OnErr result (PutPart (H.seen shelf.old) (H.seen shelf.new) [] (path_of (folder_of wanted.now) (file_of number cycle.now)) (named_text A.puts A.writing wanted.now.mode cycle.now)) }
 {
-    name_of(cycle, name);
-    desk.make::<A>(cycle, wanted.mode);
-    let file = file_named(number, name.as_str());
-    set_path(wanted.folder, file.as_str(), path);
+    name_of(cycle, &mut desk.name);
+    make_test::<A>(cycle, wanted.mode, test, &mut desk.table);
+    let file = file_named(number, desk.name.as_str());
+    set_path(wanted.folder, file.as_str(), &mut desk.path);
     put_text::<A, H>(
-        path.as_str(),
-        name.as_str(),
-        &desk.test,
+        desk.path.as_str(),
+        desk.name.as_str(),
+        test,
         &desk.table,
         &mut desk.page,
         shelf,

@@ -64,12 +64,7 @@ fn put_items<A: Arch>(thread: usize, test: &Test, page: &mut Page) -> TextPart
 }
 
 /// Puts a row of the table, or the condition after it.
-fn put_row<A: Arch>(
-    row: usize,
-    test: &Test,
-    table: &KeptTable,
-    page: &mut Page,
-) -> Option<TextPart>
+fn put_row<A: Arch>(row: usize, test: &Test, table: &KeptTable, page: &mut Page) -> Option<TextPart>
     requires printable { All (λ code. IsPrintable A.puts.has A.REGISTERS (length test.now.places) code) test.now.threads.items }
     requires kept { HoldsTable A.writing (test_seen test.now) table.now }
     ensures { PutsPart A.writing (test_seen test.now) (parts.Row row) page.old page.new result }

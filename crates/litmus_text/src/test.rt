@@ -19,7 +19,9 @@ pub struct Test {
 }
 
 impl Test {
-    /// A test without edges, places, threads and terms, whose condition begins with `exists`.
+    /// A test without edges, places, threads and terms, whose condition begins with `exists`. It is a
+    /// function of its own in the program too (`inline(never)`), since it needs thrice the stack of a test.
+    #[inline(never)]
     pub fn new() -> Test
         ensures edges { result.edges.items ≡ [] }
         ensures places { result.places ≡ [] }

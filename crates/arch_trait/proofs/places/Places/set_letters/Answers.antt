@@ -1,11 +1,12 @@
 use Rattle.std.proofs.Common.{◌<◌, arith}
+use Rattle.arch_trait.specs.declared.step.TheConstants.{MAX_STEPS}
 use Rattle.arch_trait.proofs.Tables.{location_new, length-letters}
 use Rattle.arch_trait.proofs.places.Places.set_letters.Goals as goal
 
 pub push-requires-clause-new : goal.push-requires-clause-new
 push-requires-clause-new c =
     let e = c.location_name.ensures in let i = c.loop-i.invariant in
-    let l : c.loop-i.i < 48 = omega arith in
+    let l : c.loop-i.i < MAX_STEPS = omega arith in
     let n = (location_new c.loop-i.i l).new in
     rw (e, i) n
 

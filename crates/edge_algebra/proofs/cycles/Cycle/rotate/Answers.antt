@@ -5,5 +5,5 @@ use Rattle.edge_algebra.proofs.cycles.Cycle.rotate.Goals as goal
 
 pub invariant_of-result : goal.invariant_of-result
 invariant_of-result c =
-    let e : c.try_extend_from_slice.new.self.items ≡ rotated c.args.k c.self.inside.edges.items = search rules in
+    let e : c.put-2.new.edges.items ≡ rotated c.args.k c.self.inside.edges.items = search rules in
     rw e (rotated_cycle c.args.k c.self.inside.edges.items c.self.invariant)

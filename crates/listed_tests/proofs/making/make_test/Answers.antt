@@ -1,5 +1,5 @@
 use Rattle.test_maker.specs.CycleTextLaws.{made_text}
-use Rattle.listed_tests.proofs.making.Desk.make.Goals as goal
+use Rattle.listed_tests.proofs.making.make_test.Goals as goal
 
 pub returns-clause-text : goal.returns-clause-text
 returns-clause-text g c =
