@@ -80,23 +80,28 @@ one_more asked old mid new words places place name cycle before after s files wo
 }
 
 -- the place of a file, after the first places
-split_at : (places : List ℕ) (i place : ℕ) → i < length places → place ≡ get_or places i place → places ≡ take i places ++ place ∷ drop (i + 1) places
+split_at : (places : List ℕ) (i place : ℕ) → i < length places → place ≡ get_or places i 0 → places ≡ take i places ++ place ∷ drop (i + 1) places
 split_at [] i place within is = absurd (omega arith)
 split_at (p ∷ places) zero place within is = ap (λ x. x ∷ places) (sym is)
-split_at (p ∷ places) (suc i) place within is = ap (λ rest. p ∷ rest) (split_at places i place (omega arith) is)
+split_at (p ∷ places) (suc i) place within is =
+    let e : suc i + 1 ≡ suc (i + 1) = omega arith in
+    ap (λ rest. p ∷ rest) (split_at places i place (omega arith) is)
+    ∙ ap (λ (k : ℕ). (p ∷ take i places) ++ place ∷ drop k (p ∷ places)) (sym e)
 
-take_more : (places : List ℕ) (i place : ℕ) → i < length places → place ≡ get_or places i place → take (i + 1) places ≡ take i places ++ place ∷ []
+take_more : (places : List ℕ) (i place : ℕ) → i < length places → place ≡ get_or places i 0 → take (i + 1) places ≡ take i places ++ place ∷ []
 take_more [] i place within is = absurd (omega arith)
 take_more (p ∷ places) zero place within is = ap (λ x. x ∷ []) (sym is)
-take_more (p ∷ places) (suc i) place within is = ap (λ rest. p ∷ rest) (take_more places i place (omega arith) is)
+take_more (p ∷ places) (suc i) place within is =
+    let e : suc i + 1 ≡ suc (i + 1) = omega arith in
+    ap (λ (k : ℕ). take k (p ∷ places)) e ∙ ap (λ rest. p ∷ rest) (take_more places i place (omega arith) is)
 
 pub next_so_far : (asked : Asked) (old new : ShelfSeen) (words : List (List ℕ)) (places : List ℕ) (i place : ℕ) (families : List Entry) → i < length places
-    → place ≡ get_or places i place → FilesSoFar asked old new words (take i places ++ place ∷ []) families → FilesSoFar asked old new words (take (i + 1) places) families
+    → place ≡ get_or places i 0 → FilesSoFar asked old new words (take i places ++ place ∷ []) families → FilesSoFar asked old new words (take (i + 1) places) families
 next_so_far asked old new words places i place families within is s =
     subst (λ (ps : List ℕ). FilesSoFar asked old new words ps families) (sym (take_more places i place within is)) s
 
 at_place : (asked : Asked) (old mid : ShelfSeen) (words : List (List ℕ)) (places : List ℕ) (i place : ℕ) (families : List Entry) → i < length places
-    → place ≡ get_or places i place → (s : FilesSoFar asked old mid words (take i places) families) → IsAtPlace asked old.files words places place s.texts
+    → place ≡ get_or places i 0 → (s : FilesSoFar asked old mid words (take i places) families) → IsAtPlace asked old.files words places place s.texts
 at_place asked old mid words places i place families within is s = record {
   before = take i places;
   after = drop (i + 1) places;
@@ -115,7 +120,7 @@ absent_same old mid m n k name other files same called h =
 
 -- a file gives no cycle
 pub files_refused : (asked : Asked) (old mid new : ShelfSeen) (a : SinkSeen) (words : List (List ℕ)) (places : List ℕ) (i place : ℕ) (name : List ℕ) (families : List Entry) (fault : FileFault)
-    → i < length places → place ≡ get_or places i place → (s : FilesSoFar asked old mid words (take i places) families) → mid.files ≡ old.files
+    → i < length places → place ≡ get_or places i 0 → (s : FilesSoFar asked old mid words (take i places) families) → mid.files ≡ old.files
     → slice_get words place ≡ Some name → FileTo asked mid new name (Err fault) → FilesClassified asked old new words places a a (file_end place fault)
 files_refused asked old mid new a words places i place name families Missing within is s files word f = (
   record {

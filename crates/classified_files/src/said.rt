@@ -1,5 +1,6 @@
-ghost use Rattle.std.specs.Prelude.{◌≡◌, Err, option_map};
+ghost use Rattle.std.specs.Prelude.{◌≡◌, Ok, option_map};
 ghost use Rattle.litmus_text.specs.TestReading.{test_read, arch_in_text};
+ghost use Rattle.classified_files.specs.declared.errors.FileKind.TheVariants as kinds;
 ghost use Rattle.classified_files.specs.declared.errors.TextFault.TheVariants as faults;
 ghost use Rattle.classified_files.specs.Said.{is_arch, quoted_cycle, cycle_or_fault, test_said, headed_said, text_said};
 ghost use Rattle.classified_files.specs.Read.{SaysInMemory};
@@ -68,7 +69,7 @@ fn quoted_cycle(arch: ArchName, quoted: Option<&[u8]>) -> Option<Cycle>
 }
 
 fn cycle_or_fault(cycle: Option<Cycle>) -> Result<Cycle, TextFault>
-    ensures { SaysInMemory result (cycle_or_fault cycle.entry) }
+    ensures { SaysInMemory result (cycle_or_fault cycle) }
 {
     match cycle {
         Some(cycle) => Ok(cycle),
@@ -85,7 +86,7 @@ fn wrong(kind: FileKind, line: u64) -> TextFault
 
 /// The fault of a text that is no test.
 fn no_test(error: TextError) -> TextFault
-    ensures { result ≡ faults.Wrong (record { line = error.line; kind = Test error.kind }) }
+    ensures { result ≡ faults.Wrong (record { line = error.line; kind = kinds.Test error.kind }) }
 {
     wrong(FileKind::Test(error.kind), error.line)
 }

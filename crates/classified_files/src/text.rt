@@ -25,8 +25,9 @@ pub(crate) fn read_text<H: Shelf>(
             Ok(count) => count,
             Err(Failed) => return Err(ReadFault::Device),
         };
-        if text.extend_from_slice(&piece[..count]).is_err() {
-            return Err(ReadFault::NoMemory);
+        match text.extend_from_slice(&piece[..count]) {
+            Ok(()) => {}
+            Err(_) => return Err(ReadFault::NoMemory),
         }
         if text.len() > MAX_TEXT {
             return Ok(());
