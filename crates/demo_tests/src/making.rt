@@ -30,18 +30,20 @@ pub fn demo<A: Arch, O: Sink>(count: u32, out: &mut O) -> Result<(), Failed>
     requires tests { MakesAll A.puts }
     ensures { Wrote (O.seen out.old) (O.seen out.new) (demo_text A.puts A.writing count) result }
 {
-    let summary = tally_tests::<A>(count, &mut Test::new(), &mut Desk::new());
+    let summary = tally_tests::<A>(count, &mut Test::new());
     summary.write(out)
 }
 
 /// Makes so many tests, each in `test`, and counts them.
-fn tally_tests<A: Arch>(count: u32, test: &mut Test, desk: &mut Desk) -> Summary
+#[inline(never)]
+fn tally_tests<A: Arch>(count: u32, test: &mut Test) -> Summary
     requires { MakesAll A.puts }
     ensures families { result.families ≡ family_tallies (numbered_text A.puts A.writing) count }
     ensures all { result.all ≡ tally_of (numbered_text A.puts A.writing) (upto count) }
 {
     let choices = Choices::new(A::NAME);
     let mut draws = Draws::new();
+    let mut desk = Desk::new();
     let mut summary = Summary::new();
     for number in 0..count {
         let place = number as usize % FAMILIES.len();

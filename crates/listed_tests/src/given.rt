@@ -71,17 +71,17 @@ fn put_given<A: Arch, H: Shelf>(
     ensures ok { OnOk result (Put (H.seen shelf.old) (H.seen shelf.new) (given_files (folder_of wanted.now) (named_text A.puts A.writing wanted.now.mode) cycles.now)) }
     ensures failed { OnErr result (PutUpTo (H.seen shelf.old) (H.seen shelf.new) (given_files (folder_of wanted.now) (named_text A.puts A.writing wanted.now.mode) cycles.now)) }
 {
-    put_tests_of::<A, H>(wanted, cycles, &mut Test::new(), &mut Desk::new(), shelf)?;
+    put_tests_of::<A, H>(wanted, cycles, &mut Test::new(), shelf)?;
     let path = path_of(wanted.folder, "@all");
     put_names_of(path.as_str(), cycles, shelf)
 }
 
-/// Puts the files of the tests of cycles on the shelf. Each test is made in `test`, and goes to its file by way of `desk`.
+/// Puts the files of the tests of cycles on the shelf. Each test is made in `test`.
+#[inline(never)]
 fn put_tests_of<A: Arch, H: Shelf>(
     wanted: &Wanted,
     cycles: &[Cycle],
     test: &mut Test,
-    desk: &mut Desk,
     shelf: &mut H,
 ) -> Result<(), Failed>
     requires tests { All (λ cycle. refusal_of A.puts cycle wanted.now.mode ≡ None) cycles.now }
@@ -90,9 +90,10 @@ fn put_tests_of<A: Arch, H: Shelf>(
     ensures ok { OnOk result (Put (H.seen shelf.old) (H.seen shelf.new) (test_files (folder_of wanted.now) (named_text A.puts A.writing wanted.now.mode) cycles.now)) }
     ensures failed { OnErr result (PutUpTo (H.seen shelf.old) (H.seen shelf.new) (test_files (folder_of wanted.now) (named_text A.puts A.writing wanted.now.mode) cycles.now)) }
 {
+    let mut desk = Desk::new();
     let mut number: u128 = 0;
     for cycle in cycles {
-        put_test::<A, H>(wanted, cycle, number, test, desk, shelf)?;
+        put_test::<A, H>(wanted, cycle, number, test, &mut desk, shelf)?;
         number = number.saturating_add(1);
     }
     Ok(())

@@ -102,7 +102,8 @@ pub fn list_tests<A: Arch, H: Shelf, O: Sink>(
     { wanted.takes::<A>(cycle) };
     let mut walk = Walk::new(relaxes, limits, keep, fit, take);
     begin_behind(&mut walk, &after);
-    list_walk::<A, H, O, _, _, _>(&wanted, &mut walk, shelf, out)
+    let mut test = Test::new();
+    list_walk::<A, H, O, _, _, _>(&wanted, &mut walk, &mut test, shelf, out)
 }
 
 /// Lets a walk go on behind a cycle, where there is one.
@@ -120,7 +121,8 @@ fn begin_behind<K: Fn(&[Edge]) -> bool, J: Fn(&[Edge]) -> bool, P: Fn(&Cycle) ->
     }
 }
 
-/// Writes the files of a walk's cycles from where it stands, and the line on their number.
+/// Writes the files of a walk's cycles from where it stands, and the line on their number. Each test is made in `test`.
+#[inline(never)]
 fn list_walk<
     A: Arch,
     H: Shelf,
@@ -128,7 +130,13 @@ fn list_walk<
     K: Fn(&[Edge]) -> bool,
     J: Fn(&[Edge]) -> bool,
     P: Fn(&Cycle) -> bool,
->(wanted: &Wanted, walk: &mut Walk<K, J, P>, shelf: &mut H, out: &mut O) -> ListingEnd
+>(
+    wanted: &Wanted,
+    walk: &mut Walk<K, J, P>,
+    test: &mut Test,
+    shelf: &mut H,
+    out: &mut O,
+) -> ListingEnd
     requires knows { KnowsOf K.pre K.Fn.post J.pre J.Fn.post P.pre P.Fn.post walk.old.keep walk.old.fit walk.old.take }
     requires wanted { (cycle : List EdgeValue) → IsCycle cycle → Says P.Fn.post walk.old.take cycle true ↔ (is_wanted A.puts wanted.now.mode wanted.now.threads wanted.now.accesses cycle ≡ true) }
     requires folder { ForSome wanted.now.folder (λ folder. length folder.now ≤ MAX_FOLDER) }
@@ -136,14 +144,7 @@ fn list_walk<
     ensures { EndsBehind O.seen (plan_of A.puts A.writing wanted.now walk.old.relaxes walk.old.limits) walk.old.last result (H.seen shelf.old) (H.seen shelf.new) out.old out.new }
 {
     let mut names = Names::new();
-    let count = match put_tests::<A, H, K, J, P>(
-        wanted,
-        walk,
-        &mut Test::new(),
-        &mut Desk::new(),
-        &mut names,
-        shelf,
-    ) {
+    let count = match put_tests::<A, H, K, J, P>(wanted, walk, test, &mut names, shelf) {
         Ok(count) => count,
         Err(Failed) => return ListingEnd::ShelfFault,
     };
@@ -158,7 +159,7 @@ fn list_walk<
 }
 
 /// Puts the files of a walk's cycles on the shelf, from where it stands, keeps the lines that name
-/// them, and gives their number. Each test is made in `test`, and goes to its file by way of `desk`.
+/// them, and gives their number. Each test is made in `test`.
 fn put_tests<
     A: Arch,
     H: Shelf,
@@ -169,7 +170,6 @@ fn put_tests<
     wanted: &Wanted,
     walk: &mut Walk<K, J, P>,
     test: &mut Test,
-    desk: &mut Desk,
     names: &mut Names,
     shelf: &mut H,
 ) -> Result<u128, Failed>
@@ -183,9 +183,10 @@ fn put_tests<
     ensures failed { OnErr result (StopsAtTest (Lists P.Fn.post walk.old) (folder_of wanted.now) (named_text A.puts A.writing wanted.now.mode) walk.old.last (H.seen shelf.old) (H.seen shelf.new)) }
     ensures walk { walk.new ≡ record walk.old { last = walk.new.last } }
 {
+    let mut desk = Desk::new();
     let mut count: u128 = 0;
     while let Some(cycle) = walk.next() {
-        let file = put_test::<A, H>(wanted, &cycle, count, test, desk, shelf)?;
+        let file = put_test::<A, H>(wanted, &cycle, count, test, &mut desk, shelf)?;
         count = count.saturating_add(1);
         names.keep(&cycle, &file, count);
     }

@@ -4,7 +4,6 @@ use Rattle.diy_io.specs.declared.page.TheConstants.{SPILL}
 use Rattle.litmus_text.specs.TextPartLaws.{text_begins}
 use Rattle.litmus_text.specs.TestText.{test_text}
 use Rattle.litmus_text.specs.Tests.{test_seen}
-use Rattle.listed_tests.specs.Putting.{Filling}
 use Rattle.listed_tests.proofs.Shelves.{filling_begun, closed_ok, closed_err}
 use Rattle.listed_tests.proofs.Texts.{FilledTo, filled_first, filled_appended, filled_part, filled_more, filled_whole}
 use Rattle.listed_tests.proofs.putting.put_text.Goals as goal

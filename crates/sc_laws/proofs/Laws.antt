@@ -9,8 +9,8 @@ use Rattle.test_laws.specs.Headline.{HasTest, IsRenumbered}
 use Rattle.test_laws.specs.TestOf.{TestSeen, test_of}
 use Rattle.test_laws.proofs.Making.{makes}
 use Rattle.test_laws.proofs.TestCodes.{cycle_codes, cycle_program, are_codes}
-use Rattle.sc_tests.proofs.Numbered.{numbered, same_program}
-use Rattle.sc_tests.specs.Laws.{ScDecides, TestsAreScPerLocation}
+use Rattle.sc_laws.proofs.Numbered.{numbered, same_program}
+use Rattle.sc_laws.specs.Laws.{ScDecides, TestsAreScPerLocation}
 
 -- the program of a cycle's test, under any numbers of places
 cycle_sc : (a : Puts) (register_name : ℕ → List ℕ) (es : List Edge) (mode : ObsMode) (test : TestSeen) (number : ℕ → ℕ) → IsArch a → HasTest a es mode → IsRenumbered (test_of a register_name es mode) test number → ScDecides (cycle_program a es mode number)

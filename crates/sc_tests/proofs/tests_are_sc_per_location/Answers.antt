@@ -1,5 +1,0 @@
-use Rattle.sc_tests.proofs.Laws.{tests_are_sc_per_location}
-use Rattle.sc_tests.proofs.tests_are_sc_per_location.Goals as goal
-
-pub returns : goal.returns
-returns c = tests_are_sc_per_location
