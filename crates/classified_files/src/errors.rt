@@ -35,7 +35,9 @@ pub enum FilesEnd {
         kind: FileKind,
     },
     /// The word names no file.
-    NoFile { word: usize },
+    NoFile {
+        word: usize,
+    },
     /// The shelf failed.
     ShelfFault,
     /// The output failed.

@@ -35,11 +35,7 @@ pub(crate) fn cycle_of_text<A: Arch>(alloc: Global, text: &[u8]) -> Result<Cycle
 }
 
 /// The same of a text whose header names an architecture.
-fn cycle_of_headed<A: Arch>(
-    alloc: Global,
-    named: ArchName,
-    text: &[u8],
-) -> Result<Cycle, TextFault>
+fn cycle_of_headed<A: Arch>(alloc: Global, named: ArchName, text: &[u8]) -> Result<Cycle, TextFault>
     ensures { SaysInMemory result (headed_said A.NAME A.writing text.now (Ok named)) }
 {
     if !is_arch(named, A::NAME) {

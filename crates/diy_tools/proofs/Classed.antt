@@ -1,6 +1,6 @@
 -- What is answered of families, by where their cycles are.
-use Rattle.std.proofs.Common.{◌≡◌, ℕ, List, [], ◌∷◌, length, Ok, Err, refl, sym, ap, ◌∙◌, subst}
-use Rattle.std.specs.Prelude.{Result, IsTrue, ◌↔◌, true, false}
+use Rattle.std.proofs.Common.{◌≡◌, ℕ, List, [], ◌∷◌, length, Ok, Err, refl, sym, ap, ◌∙◌, subst, arith}
+use Rattle.std.specs.Prelude.{Result, IsTrue, ◌↔◌, ◌==◌, true, false}
 use Rattle.relax_edges.specs.declared.kinds.ArchName.{ArchName}
 use Rattle.classified_files.specs.declared.errors.FilesEnd.TheVariants as ends
 use Rattle.diy_io.specs.Shelf.{ShelfSeen}
@@ -53,10 +53,12 @@ of_unread words arch (file ∷ files) d some =
 
 is_none : (files : List ℕ) → IsTrue true ↔ (length files ≡ 0) → files ≡ []
 is_none [] h = refl
-is_none (file ∷ files) h = absurd (let none : length (file ∷ files) ≡ 0 = h.0 refl in omega none)
+is_none (file ∷ files) h = absurd (let none : length (file ∷ files) ≡ 0 = h.0 refl in omega (arith, none))
 
-is_some : (files : List ℕ) → IsTrue false ↔ (length files ≡ 0) → files ≡ [] → ⊥
-is_some files h none = let t : IsTrue false = h.1 (ap length none) in cc t
+is_some : (files : List ℕ) (n : ℕ) → length files ≡ n → false ≡ (n == 0) → files ≡ [] → ⊥
+is_some files n count some none =
+    let zero : n ≡ 0 = sym count ∙ ap length none in
+    let both : false ≡ true = some ∙ ap (λ (k : ℕ). k == 0) zero in cc both
 
 -- what is answered of the input's lines
 pub lines_asked : (words : List (List ℕ)) (arch : ArchName) (files : List ℕ) (status : Status) (shelf : ShelfSeen) (old new : SourceSeen) (before after : SinkSeen)
@@ -67,12 +69,12 @@ lines_asked words arch files status shelf old new before after given same none h
     (of_none words arch files status shelf old new before after (is_none files none) h)
 
 -- what is answered of files
-pub files_asked : (words : List (List ℕ)) (arch : ArchName) (files : List ℕ) (status : Status) (input : SourceSeen) (old new : ShelfSeen) (before after : SinkSeen)
-    → Gives (Ok (requests.Families arch)) (asked_of words) → files ≡ files_of (asked_of words) → IsTrue false ↔ (length files ≡ 0)
+pub files_asked : (words : List (List ℕ)) (arch : ArchName) (files : List ℕ) (count : ℕ) (status : Status) (input : SourceSeen) (old new : ShelfSeen) (before after : SinkSeen)
+    → Gives (Ok (requests.Families arch)) (asked_of words) → files ≡ files_of (asked_of words) → length files ≡ count → false ≡ (count == 0)
     → ClassifiesFiles words arch files status old new before after → Answers words status (input, before, old) (input, after, new)
-files_asked words arch files status input old new before after given same some h =
+files_asked words arch files count status input old new before after given same all some h =
     classify_asked words arch files status (input, before, old) (input, after, new) given same
-    (of_some words arch files status input old new before after (is_some files some) h)
+    (of_some words arch files status input old new before after (is_some files count all some) h)
 
 -- what is answered where there is no memory for the files' places
 pub memory_asked : (words : List (List ℕ)) (arch : ArchName) (d : Seen) → Gives (Ok (requests.Families arch)) (asked_of words)

@@ -19,14 +19,14 @@ use arch_riscv::Riscv;
 use arch_x86::X86;
 use classified_files::{FileKind, FilesEnd, classify_files};
 use cycle_lines::{ClassifyError, classify_lines};
-use diy_io::{Shelf, Sink, Source, Words};
+use diy_io::{NoMemory, Shelf, Sink, Source, Words};
 use diy_words::read_files;
 use relax_edges::ArchName;
 use std::alloc::Global;
 
 /// Prints the names of cycles by their families: of those that the files quote which operands name, or of
 /// those of the input's lines where there is no operand.
-#[tactic(auto, using(crate::proofs::Classed::asks_families, crate::proofs::Classed::lines_asked, crate::proofs::Classed::files_asked, crate::proofs::Classed::memory_asked))]
+#[tactic(auto, using(crate::proofs::Classed::asks_families, crate::proofs::Classed::lines_asked))]
 pub(crate) fn families<I: Source, O: Sink, H: Shelf>(
     alloc: Global,
     words: &Words,
@@ -41,8 +41,9 @@ pub(crate) fn families<I: Source, O: Sink, H: Shelf>(
     ensures idle { (H.seen shelf.new).mode ≡ Idle }
     ensures location { NamesLocation result }
 {
-    let Ok(files) = read_files(alloc, words) else {
-        return Status::NoMemory;
+    let files = match read_files(alloc, words) {
+        Ok(files) => files,
+        Err(NoMemory) => return Status::NoMemory,
     };
     if files.is_empty() {
         of_lines(alloc, arch, input, out)
@@ -53,12 +54,7 @@ pub(crate) fn families<I: Source, O: Sink, H: Shelf>(
 
 /// Prints the names of the cycles of the input's lines by their families.
 #[inline(never)]
-fn of_lines<I: Source, O: Sink>(
-    alloc: Global,
-    arch: ArchName,
-    input: &mut I,
-    out: &mut O,
-) -> Status
+fn of_lines<I: Source, O: Sink>(alloc: Global, arch: ArchName, input: &mut I, out: &mut O) -> Status
     ensures answers { AnswersFamilies arch result (I.seen input.old) (I.seen input.new) (O.seen out.old) (O.seen out.new) }
     ensures location { NamesLocation result }
 {
