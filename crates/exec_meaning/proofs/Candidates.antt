@@ -1,16 +1,17 @@
 -- The tests of reads and orders decide their definitions.
-use Rattle.std.proofs.Common.{◌≡◌, ℕ, zero, suc, ◌+◌, ◌<◌, Bool, true, false, cond, ◌==◌, ◌&&◌, ◌||◌, not, List, [], ◌∷◌, length, get_or, Option, Some, None, slice_get, refl, sym, ap, subst, ◌∙◌, arith}
+use Rattle.std.proofs.Common.{◌≡◌, ℕ, zero, suc, ◌+◌, ◌≤◌, Bool, true, false, cond, ◌==◌, ◌&&◌, ◌||◌, not, List, [], ◌∷◌, length, get_or, take, drop, ◌-◌, Option, Some, None, slice_get, refl, sym, ap, subst, ◌∙◌, arith}
 use Rattle.std.specs.Prelude.{unwrap_or}
+use Rattle.std.proofs.lemmas.List.{drop_all, take_all, length-drop}
 use Rattle.std.proofs.lemmas.Option.{slice_get_within, slice_get-get_or}
 use Rattle.std.specs.List.{filter, list_all, list_any}
 use Rattle.std.proofs.lemmas.Bool.{and_parts, and_from, or_left, or_right, eqb-true, eq-eqb}
 use Rattle.relax_edges.specs.declared.kinds.Dir.{Dir}
 use Rattle.relax_edges.specs.declared.kinds.Dir.TheVariants as dirs
 use Rattle.program_meaning.specs.declared.WriteAt.{WriteAt}
-use Rattle.program_meaning.specs.Accesses.{Access, write, reads_by, is_read, at_name}
+use Rattle.program_meaning.specs.Accesses.{Access, write, is_read, at_name}
 use Rattle.program_meaning.specs.Executions.{Execution, CanRead, AreReadsOf, IsOrderOf, IsExecutionOf, same_write}
-use Rattle.exec_meaning.specs.Deciding.{every, name, writes_by, writes_to, writes_there, writes_value, can_read, first_read, are_reads, are_distinct, is_covered, thread_covered, is_order, reads_of, reads_fit, orders_fit}
-use Rattle.exec_meaning.proofs.Every.{some_is, by_test, every_means, every_from, every_name, every_name_from}
+use Rattle.exec_meaning.specs.Deciding.{every, writes_by, writes_to, writes_there, writes_value, can_read, first_read, are_reads, are_distinct, is_covered, thread_covered, is_order, reads_of, reads_fit, orders_fit}
+use Rattle.exec_meaning.proofs.Every.{some_is, by_test, dropped, every_means, every_from, every_name, every_name_from}
 
 pub implied : (a b : Bool) → (not a || b) ≡ true → a ≡ true → b ≡ true
 implied true b h e = h
@@ -136,8 +137,8 @@ unfolding are_distinct
 distinct_from [] h = refl
 distinct_from (v ∷ order) h = and_from (not (list_any (same_write v) order)) (are_distinct order)
     (by_test (list_any (same_write v) order)
-      (λ e. let m = any_means v order e in let z : zero ≡ suc m.0 = h zero (suc m.0) v refl m.1 in absurd (omega (arith, z)))
-      (λ e. ap not e))
+    (λ e. let m = any_means v order e in let z : zero ≡ suc m.0 = h zero (suc m.0) v refl m.1 in absurd (omega (arith, z)))
+    (λ e. ap not e))
     (distinct_from order (λ j k w d e. let s : suc j ≡ suc k = h (suc j) (suc k) w d e in omega (arith, s)))
 
 all_at : {X : Type 0} (p : X → Bool) (xs : List X) → list_all p xs ≡ true → (k : ℕ) (x : X) → slice_get xs k ≡ Some x → p x ≡ true
@@ -166,10 +167,10 @@ is_order_from threads place order h =
     and_from (list_all (λ w. writes_there place (at_name threads w)) order) (are_distinct order && every (thread_covered place order) 0 threads)
     (all_from (λ w. writes_there place (at_name threads w)) order (λ k w e. let d = h.writes k w e in rw d.1 (writes_to_from place d.0)))
     (and_from (are_distinct order) (every (thread_covered place order) 0 threads)
-      (distinct_from order h.once)
-      (every_name_from (is_covered place order) threads
-        (λ w a e. implies (writes_to place a) (list_any (same_write w) order)
-          (λ t. let d = h.each w a.value (e ∙ ap Some (writes_to_means place a t)) in any_from w order d.0 d.1))))
+    (distinct_from order h.once)
+    (every_name_from (is_covered place order) threads
+    (λ w a e. implies (writes_to place a) (list_any (same_write w) order)
+    (λ t. let d = h.each w a.value (e ∙ ap Some (writes_to_means place a t)) in any_from w order d.0 d.1))))
 
 -- an execution of threads that make these accesses
 pub execution_means : (threads : List (List Access)) (x : Execution) → length x.reads ≡ length threads → reads_fit threads x && orders_fit threads x ≡ true → IsExecutionOf threads (length x.orders) x
@@ -187,10 +188,27 @@ execution_means threads x n h =
 pub execution_from : (threads : List (List Access)) (x : Execution) → length x.reads ≡ length threads → IsExecutionOf threads (length x.orders) x → reads_fit threads x && orders_fit threads x ≡ true
 execution_from threads x n h = and_from (reads_fit threads x) (orders_fit threads x)
     (every_from (λ thread accesses. are_reads threads accesses (reads_of x thread)) 0 threads (λ k thread accesses q e.
-      let s : k ≡ thread = omega (arith, q) in
-      let d = slice_get-get_or x.reads k [] (let w = slice_get_within threads k accesses e in omega (arith, n, w)) in
-      let r : are_reads threads accesses (reads_of x k) ≡ true = rw d (are_reads_from threads accesses (get_or x.reads k []) (h.reads k accesses (get_or x.reads k []) e d)) in
-      subst (λ m. are_reads threads accesses (reads_of x m) ≡ true) s r))
+    let s : k ≡ thread = omega (arith, q) in
+    let d = slice_get-get_or x.reads k [] (let w = slice_get_within threads k accesses e in omega (arith, n, w)) in
+    let r : are_reads threads accesses (reads_of x k) ≡ true = rw d (are_reads_from threads accesses (get_or x.reads k []) (h.reads k accesses (get_or x.reads k []) e d)) in
+    subst (λ m. are_reads threads accesses (reads_of x m) ≡ true) s r))
     (every_from (is_order threads) 0 x.orders (λ k place order q e.
-      let s : k ≡ place = omega (arith, q) in
-      is_order_from threads place order (h.orders place order (subst (λ m. slice_get x.orders m ≡ Some order) s e))))
+    let s : k ≡ place = omega (arith, q) in
+    is_order_from threads place order (h.orders place order (subst (λ m. slice_get x.orders m ≡ Some order) s e))))
+
+-- a loop over an order: each write against those after it
+pub distinct_step : (order : List WriteAt) (i : ℕ) (w : WriteAt) → slice_get order i ≡ Some w → list_any (same_write w) (drop (i + 1) order) ≡ false → are_distinct (drop i order) ≡ are_distinct (drop (i + 1) order)
+unfolding are_distinct
+distinct_step order i w is h = rw (dropped order i w is) (rw h refl)
+
+pub distinct_stops : (order : List WriteAt) (i : ℕ) (w : WriteAt) → slice_get order i ≡ Some w → list_any (same_write w) (drop (i + 1) order) ≡ true → are_distinct (drop i order) ≡ false
+unfolding are_distinct
+distinct_stops order i w is h = rw (dropped order i w is) (rw h refl)
+
+pub distinct_ends : (order : List WriteAt) (i : ℕ) → length order ≤ i → are_distinct (drop i order) ≡ true
+unfolding are_distinct
+distinct_ends order i h = rw (drop_all i order h) refl
+
+-- what stands behind a place of an order
+pub behind_is : (order : List WriteAt) (k : ℕ) → take (length order - k) (drop k order) ≡ drop k order
+behind_is order k = take_all (length order - k) (drop k order) (omega (arith, length-drop k order))

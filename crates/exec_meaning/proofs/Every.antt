@@ -1,11 +1,11 @@
 -- What a test of each element means, and how a loop makes it.
-use Rattle.std.proofs.Common.{◌≡◌, ℕ, zero, suc, ◌+◌, ◌<◌, ◌≤◌, Bool, true, false, ◌&&◌, List, [], ◌∷◌, length, get_or, drop, Option, Some, None, slice_get, refl, sym, ap, subst, ◌∙◌, arith, add-one}
+use Rattle.std.proofs.Common.{◌≡◌, ℕ, zero, suc, ◌+◌, ◌<◌, ◌≤◌, Bool, true, false, List, [], ◌∷◌, length, get_or, drop, Option, Some, None, slice_get, refl, sym, ap, subst, ◌∙◌, arith, add-one}
 use Rattle.std.proofs.lemmas.Bool.{and_parts, and_from}
 use Rattle.std.proofs.lemmas.List.{drop_all}
 use Rattle.std.proofs.lemmas.Option.{get_or_from_slice_get, slice_get_within, slice_get-get_or}
 use Rattle.std.proofs.Math.Seq.{drop-cons}
 use Rattle.program_meaning.specs.declared.WriteAt.{WriteAt}
-use Rattle.program_meaning.specs.Accesses.{Access, got_from, at_name}
+use Rattle.program_meaning.specs.Accesses.{got_from, at_name}
 use Rattle.exec_meaning.specs.Deciding.{every, name}
 
 pub some_is : {X : Type 0} (x y : X) → Some x ≡ Some y → x ≡ y
@@ -31,7 +31,7 @@ every_from p n (y ∷ ys) h =
     (every_from p (n + 1) ys (λ k j x q e. h (suc k) j x (omega (arith, q)) e))
 
 -- a loop over the elements
-dropped : {X : Type 0} (xs : List X) (i : ℕ) (x : X) → slice_get xs i ≡ Some x → drop i xs ≡ x ∷ drop (i + 1) xs
+pub dropped : {X : Type 0} (xs : List X) (i : ℕ) (x : X) → slice_get xs i ≡ Some x → drop i xs ≡ x ∷ drop (i + 1) xs
 dropped xs i x h =
     let g : get_or xs i x ≡ x = get_or_from_slice_get xs i x x h in
     rw add-one (drop-cons xs i x (slice_get_within xs i x h) ∙ ap (λ y. y ∷ drop (suc i) xs) g)
@@ -76,5 +76,5 @@ pub every_name_from : {X : Type 0} (p : WriteAt → X → Bool) (threads : List 
 every_name_from p threads h =
     every_from (λ thread xs. every (λ i x. p (name thread i) x) 0 xs) 0 threads
     (λ k thread xs q e. every_from (λ i x. p (name thread i) x) 0 xs
-      (λ l i x r f. h (name thread i) x (at_name_of threads thread i xs x
-        (let s : k ≡ thread = omega (arith, q) in subst (λ m. slice_get threads m ≡ Some xs) s e) (let s : l ≡ i = omega (arith, r) in subst (λ m. slice_get xs m ≡ Some x) s f))))
+    (λ l i x r f. h (name thread i) x (at_name_of threads thread i xs x
+    (let s : k ≡ thread = omega (arith, q) in subst (λ m. slice_get threads m ≡ Some xs) s e) (let s : l ≡ i = omega (arith, r) in subst (λ m. slice_get xs m ≡ Some x) s f))))

@@ -1,5 +1,9 @@
 pub mod Every
+pub mod KeptLists
 pub mod Candidates
-pub mod Coherent
-pub mod Visits
+pub mod CoherenceLaws
+pub mod VisitLaws
+pub mod EdgeLaws
 pub mod RunLaws
+pub mod EdgesHeld
+pub mod FinalLaws

@@ -1,24 +1,21 @@
 -- The runs of a test's threads, and the accesses that they make.
-use Rattle.std.proofs.Common.{◌≡◌, ℕ, zero, suc, ◌+◌, ◌<◌, ◌≤◌, Bool, true, false, ◌&&◌, List, [], ◌∷◌, ◌++◌, length, map, take, get_or, Option, Some, None, slice_get, refl, sym, ap, subst, ◌∙◌, arith, add-one}
+use Rattle.std.proofs.Common.{◌≡◌, ℕ, zero, suc, ◌+◌, ◌≤◌, Bool, true, false, ◌&&◌, List, [], ◌∷◌, ◌++◌, length, map, take, Option, Some, None, slice_get, refl, sym, ap, subst, ◌∙◌, arith}
 use Rattle.std.specs.Prelude.{option_map}
-use Rattle.std.proofs.lemmas.Bool.{and_parts, and_from}
 use Rattle.std.proofs.lemmas.List.{take_more, take_all, map_push, length-map}
 use Rattle.std.proofs.lemmas.Option.{get_or_from_slice_get, slice_get_within}
 use Rattle.relax_edges.specs.declared.kinds.Value.{Value}
 use Rattle.micro_ops.specs.declared.operation.Micro.{Micro}
-use Rattle.micro_ops.specs.declared.operation.Item.{Item}
-use Rattle.micro_ops.specs.declared.run.RunError.{RunError}
 use Rattle.micro_ops.specs.declared.run.RunError.TheVariants as errors
 use Rattle.micro_ops.specs.Running.{Point, At, Past, Wants, Stuck, exec, beginning, outcome, runs, Outcome, Ended, ReadsLeft, ReadsShort, NoRule}
-use Rattle.micro_ops.specs.Threads.{EndedRun, value_in, goes_on, StopsAt, CausedBy}
+use Rattle.micro_ops.specs.Threads.{EndedRun, goes_on, CausedBy}
 use Rattle.micro_ops.proofs.Laws.{stops_for_good}
-use Rattle.litmus_text.specs.TestReading.{ThreadRead}
-use Rattle.litmus_text.specs.Programs.{thread_read}
+use Rattle.litmus_text.specs.TestReading.{ThreadRead, TestRead}
+use Rattle.litmus_text.specs.Programs.{thread_read, program_read}
 use Rattle.program_meaning.specs.declared.WriteAt.{WriteAt}
 use Rattle.program_meaning.specs.Accesses.{Access, visits_of, accesses_of}
-use Rattle.program_meaning.specs.Executions.{Execution}
-use Rattle.program_meaning.specs.Programs.{Program, Thread, run_of, runs_of, made_in, HasEnded, items_in, visits_in, accesses_in}
-use Rattle.exec_meaning.specs.Runs.{ended_run, has_ended, all_ended, IsRun, IsRunIn, AreRuns}
+use Rattle.program_meaning.specs.Executions.{Execution, IsExecutionOf}
+use Rattle.program_meaning.specs.Programs.{Program, Thread, run_of, runs_of, made_in, HasEnded, IsCandidate, items_in, visits_in, accesses_in}
+use Rattle.exec_meaning.specs.Runs.{ended_run, has_ended, all_ended, IsRun, IsRunIn}
 use Rattle.exec_meaning.proofs.Every.{some_is}
 
 -- the run of a thread among those of all
@@ -134,3 +131,57 @@ pub accesses_are : (p : Program) (x : Execution) (traces : List EndedRun) → ru
 accesses_are p x traces e =
     ap (λ l. map accesses_of (map visits_of (map made_in l))) e
     ∙ ap (λ l. map accesses_of (map visits_of l)) (made_items traces) ∙ made_accesses traces
+
+-- a candidate execution, by its runs
+pub candidate_count : (test : TestRead) (x : Execution) → IsCandidate (program_read test) x → length x.reads ≡ length test.threads
+candidate_count test x h =
+    let n = h.execution.read_lists in
+    let a : length (accesses_in (program_read test) x) ≡ length (visits_in (program_read test) x) = length-map (visits_in (program_read test) x) accesses_of in
+    let b : length (visits_in (program_read test) x) ≡ length (items_in (program_read test) x) = length-map (items_in (program_read test) x) visits_of in
+    let d : length (items_in (program_read test) x) ≡ length (runs_of (map thread_read test.threads) x.reads) = length-map (runs_of (map thread_read test.threads) x.reads) made_in in
+    let e = runs_count (map thread_read test.threads) x.reads in
+    let f : length (map thread_read test.threads) ≡ length test.threads = length-map test.threads thread_read in
+    omega (arith, n, a, b, d, e, f)
+
+pub no_candidate : (p : Program) (x : Execution) → all_ended (runs_of p.threads x.reads) ≡ false → IsCandidate p x → ⊥
+no_candidate p x h c = not_all (runs_of p.threads x.reads) h c.ended
+
+pub candidate_means : (p : Program) (x : Execution) (traces : List EndedRun) (all : List (List Access)) → runs_of p.threads x.reads ≡ map ended_run traces → all ≡ map (λ (t : EndedRun). accesses_of (visits_of t.items)) traces
+    → length x.orders ≡ p.places → IsExecutionOf all (length x.orders) x → IsCandidate p x
+candidate_means p x traces all e a n h =
+    let same : all ≡ accesses_in p x = a ∙ sym (accesses_are p x traces e) in
+    record {
+      ended = ended_each traces (runs_of p.threads x.reads) e;
+      execution = subst (λ m. IsExecutionOf (accesses_in p x) m x) n (subst (λ l. IsExecutionOf l (length x.orders) x) same h);
+    }
+
+pub candidate_from : (p : Program) (x : Execution) (traces : List EndedRun) (all : List (List Access)) → runs_of p.threads x.reads ≡ map ended_run traces → all ≡ map (λ (t : EndedRun). accesses_of (visits_of t.items)) traces
+    → length x.orders ≡ p.places → IsCandidate p x → IsExecutionOf all (length x.orders) x
+candidate_from p x traces all e a n h =
+    let same : accesses_in p x ≡ all = accesses_are p x traces e ∙ sym a in
+    subst (λ m. IsExecutionOf all m x) (sym n) (subst (λ l. IsExecutionOf l p.places x) same h.execution)
+
+pub as_many : (test : TestRead) (x : Execution) (traces : List EndedRun) (all : List (List Access)) → runs_of (program_read test).threads x.reads ≡ map ended_run traces → all ≡ map (λ (t : EndedRun). accesses_of (visits_of t.items)) traces
+    → length x.reads ≡ length test.threads → length x.reads ≡ length all
+as_many test x traces all e a n =
+    let p = runs_count (map thread_read test.threads) x.reads in
+    let q : length (map thread_read test.threads) ≡ length test.threads = length-map test.threads thread_read in
+    let r : length (runs_of (map thread_read test.threads) x.reads) ≡ length traces = ap length e ∙ length-map traces ended_run in
+    let s : length all ≡ length traces = ap length a ∙ length-map traces (λ (t : EndedRun). accesses_of (visits_of t.items)) in
+    omega (arith, n, p, q, r, s)
+
+-- the accesses with what stands before them
+made_visits : (traces : List EndedRun) → map visits_of (map (λ (t : EndedRun). t.items) traces) ≡ map (λ (t : EndedRun). visits_of t.items) traces
+made_visits [] = refl
+made_visits (t ∷ traces) = ap (λ l. visits_of t.items ∷ l) (made_visits traces)
+
+pub visits_are : (p : Program) (x : Execution) (traces : List EndedRun) → runs_of p.threads x.reads ≡ map ended_run traces → visits_in p x ≡ map (λ (t : EndedRun). visits_of t.items) traces
+visits_are p x traces e = ap (λ l. map visits_of (map made_in l)) e ∙ ap (map visits_of) (made_items traces) ∙ made_visits traces
+
+-- as many runs as threads
+pub trace_count : (test : TestRead) (x : Execution) (traces : List EndedRun) → runs_of (program_read test).threads x.reads ≡ map ended_run traces → length traces ≡ length test.threads
+trace_count test x traces e =
+    let p = runs_count (map thread_read test.threads) x.reads in
+    let q : length (map thread_read test.threads) ≡ length test.threads = length-map test.threads thread_read in
+    let r : length (runs_of (map thread_read test.threads) x.reads) ≡ length traces = ap length e ∙ length-map traces ended_run in
+    omega (arith, p, q, r)

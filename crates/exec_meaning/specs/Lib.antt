@@ -1,3 +1,5 @@
 pub mod Kept
 pub mod Deciding
 pub mod Runs
+pub mod Edges
+pub mod Finals

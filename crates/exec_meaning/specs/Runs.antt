@@ -1,6 +1,9 @@
 -- The runs of a test's threads, as far as they came to their ends.
 -- Source: own.
-use Rattle.std.specs.Prelude.{◌≡◌, ℕ, Bool, true, false, ◌&&◌, List, [], ◌∷◌, map, Option, Some, None}
+use Rattle.std.specs.Prelude.{◌≡◌, Bool, true, false, ◌&&◌, List, [], ◌∷◌, map, Option, Some, None}
+use Rattle.micro_ops.specs.declared.operation.Item.{Item}
+use Rattle.micro_ops.specs.declared.operation.Item.TheVariants as items
+use Rattle.program_meaning.specs.Accesses.{Access}
 use Rattle.micro_ops.specs.Running.{Outcome, Ended, ReadsLeft, ReadsShort, NoRule}
 use Rattle.micro_ops.specs.Threads.{EndedRun, value_in}
 
@@ -34,3 +37,8 @@ IsRunIn trace (Some run) = IsRun trace run
 abbrev pub AreRuns : Option (List EndedRun) → List Outcome → Type 0
 AreRuns (Some traces) runs = runs ≡ map ended_run traces
 AreRuns None runs = all_ended runs ≡ false
+
+-- the access that an item is, if it is one
+abbrev pub access_in : Item → List Access
+access_in (items.Access dir _ place value _ _ _) = (record { dir = dir; place = place; value = value }) ∷ []
+access_in (items.Barrier _ _) = []

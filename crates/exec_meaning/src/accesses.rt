@@ -1,6 +1,7 @@
-ghost use Rattle.std.specs.Prelude.{◌≡◌, map, IfOk};
+ghost use Rattle.std.specs.Prelude.{◌≡◌, ◌++◌, map, IfOk, OnOk};
 ghost use Rattle.program_meaning.specs.Accesses.{at_name, accesses_of, visits_of, is_read, reads_before};
 ghost use Rattle.exec_meaning.specs.Deciding.{writes_to};
+ghost use Rattle.exec_meaning.specs.Runs.{access_in};
 
 use micro_ops::{Item, Trace};
 use program_meaning::{Access, WriteAt};
@@ -33,18 +34,30 @@ impl Accesses {
     }
 }
 
+/// Adds the access that an item is, if it is one.
+fn push_access(list: &mut Vec<Access>, item: &Item) -> Result<(), AllocError>
+    ensures { OnOk result (list.new.items ≡ list.old.items ++ access_in item.now) }
+{
+    match *item {
+        Item::Access {
+            dir,
+            place,
+            value,
+            ..
+        } => list.push(Access { dir, place, value })?,
+        Item::Barrier { .. } => {}
+    }
+    Ok(())
+}
+
 /// The accesses among the items of a run.
+#[tactic(auto, using(crate::proofs::VisitLaws::after_item, crate::proofs::VisitLaws::after_items))]
 fn accesses_of(alloc: Global, items: &[Item]) -> Result<Accesses, AllocError>
     ensures { IfOk result (λ accesses. accesses ≡ accesses_of (visits_of items.now)) }
 {
     let mut list = Vec::new(alloc);
     for item in items {
-        if let Item::Access {
-            dir, place, value, ..
-        } = *item
-        {
-            list.push(Access { dir, place, value })?;
-        }
+        push_access(&mut list, item)?;
     }
     Ok(Accesses { list })
 }

@@ -1,4 +1,4 @@
-ghost use Rattle.std.specs.Prelude.{◌≡◌, ◌↔◌, ◌+◌, ◌<◌, ◌^◌, IsTrue, IfOk, length};
+ghost use Rattle.std.specs.Prelude.{◌≡◌, ◌↔◌, ◌&&◌, IsTrue, IfOk, length};
 ghost use Rattle.std.specs.List.{list_all, list_any};
 ghost use Rattle.program_meaning.specs.Accesses.{at_name};
 ghost use Rattle.program_meaning.specs.Executions.{same_write, IsExecutionOf};
@@ -87,9 +87,8 @@ fn are_distinct(order: &[WriteAt]) -> bool
 fn is_named(order: &[WriteAt], thread: usize, access: usize) -> bool
     ensures { result ≡ list_any (same_write (name thread access)) order.now }
 {
-    order
-        .iter()
-        .any(|write| thread == usize::from(write.thread) && access == usize::from(write.access))
+    order.iter().any(|write| thread == usize::from(write.thread)
+        && access == usize::from(write.access))
 }
 
 /// Whether each write of a thread to the place stands in the place's order.
@@ -138,6 +137,7 @@ fn do_reads_fit(all: &[Accesses], exec: &Execution) -> bool
 }
 
 /// Whether the order of each place is that of the place.
+#[tactic(auto, using(crate::proofs::Every::every_step, crate::proofs::Every::every_stops))]
 fn do_orders_fit(all: &[Accesses], exec: &Execution) -> bool
     ensures { result ≡ orders_fit all.now exec.now }
 {
@@ -150,12 +150,19 @@ fn do_orders_fit(all: &[Accesses], exec: &Execution) -> bool
 }
 
 /// Whether the reads and the orders are those of threads that make these accesses.
+fn do_lists_fit(all: &[Accesses], exec: &Execution) -> bool
+    requires { length exec.now.reads ≡ length all.now }
+    ensures { result ≡ (reads_fit all.now exec.now && orders_fit all.now exec.now) }
+{
+    do_reads_fit(all, exec) && do_orders_fit(all, exec)
+}
+
 #[tactic(auto, using(crate::proofs::Candidates::execution_means, crate::proofs::Candidates::execution_from))]
 fn is_execution(all: &[Accesses], exec: &Execution) -> bool
     requires { length exec.now.reads ≡ length all.now }
     ensures { IsTrue result ↔ IsExecutionOf all.now (length exec.now.orders) exec.now }
 {
-    do_reads_fit(all, exec) && do_orders_fit(all, exec)
+    do_lists_fit(all, exec)
 }
 
 /// Whether an execution is a candidate execution of a test: the run of each thread on the values of its
@@ -170,9 +177,11 @@ pub fn is_candidate<A: Arch>(
     requires places { length exec.now.orders ≡ length test.now.places }
     ensures { IfOk result (λ answer. IsTrue answer ↔ IsCandidate (program_read test.now) exec.now) }
 {
-    let Some(traces) = run_all(alloc, test, exec)? else {
-        return Ok(false);
-    };
-    let all = all_accesses(alloc, &traces)?;
-    Ok(is_execution(&all, exec))
+    match run_all(alloc, test, exec)? {
+        Some(traces) => {
+            let all = all_accesses(alloc, &traces)?;
+            Ok(is_execution(&all, exec))
+        }
+        None => Ok(false),
+    }
 }

@@ -1,5 +1,6 @@
-ghost use Rattle.std.specs.Prelude.{◌≡◌, ◌↔◌, ◌<◌, IsTrue, IfOk, Some, None, length};
-ghost use Rattle.program_meaning.specs.Accesses.{reads_before};
+ghost use Rattle.std.specs.Prelude.{◌≡◌, ◌↔◌, ◌<◌, ◌||◌, not, nat_lt, IsTrue, IfOk, Some, None, length, count_by, take, position};
+ghost use Rattle.program_meaning.specs.Accesses.{is_read, reads_before};
+ghost use Rattle.program_meaning.specs.Executions.{same_write};
 ghost use Rattle.program_meaning.specs.Coherence.{order_place, order_at, read_at, source_at, coherence_place, IsCoherent};
 ghost use Rattle.program_meaning.specs.Programs.{IsCandidate, IsCoherentIn};
 ghost use Rattle.litmus_text.specs.Programs.{program_read};
@@ -15,17 +16,30 @@ use program_meaning::{Access, WriteAt};
 use relax_edges::Dir;
 use std::alloc::Global;
 
+fn count_reads(accesses: &[Access]) -> usize
+    ensures { result ≡ count_by is_read accesses.now }
+{
+    accesses.iter().filter(|access| is_read(access)).count()
+}
+
+/// How many of the first accesses of a thread read.
+#[tactic(auto, using(std::proofs::lemmas::List::take_all))]
+fn reads_among(accesses: &[Access], first: usize) -> usize
+    ensures { result ≡ count_by is_read (take first accesses.now) }
+{
+    if first < accesses.len() {
+        count_reads(&accesses[..first])
+    } else {
+        count_reads(accesses)
+    }
+}
+
 /// How many accesses of a thread before this one read.
 fn reads_before(all: &[Accesses], thread: usize, access: usize) -> usize
     ensures { result ≡ reads_before all.now (name thread access) }
 {
     match all.get(thread) {
-        Some(accesses) => accesses
-            .as_slice()
-            .iter()
-            .take(access)
-            .filter(|a| is_read(a))
-            .count(),
+        Some(accesses) => reads_among(accesses.as_slice(), access),
         None => 0,
     }
 }
@@ -37,32 +51,33 @@ fn read_at(all: &[Accesses], exec: &Execution, thread: usize, access: usize) -> 
     if thread >= usize::from(exec.threads()) {
         return None;
     }
-    match exec.reads(thread as u8).get(reads_before(all, thread, access)) {
+    match exec
+        .reads(thread as u8)
+        .get(reads_before(all, thread, access))
+    {
         Some(read) => Some(*read),
         None => None,
     }
 }
 
 /// The write that an access reads.
-pub(crate) fn source_at(
-    all: &[Accesses],
-    exec: &Execution,
-    thread: usize,
-    access: usize,
-) -> Option<WriteAt>
+fn source_at(all: &[Accesses], exec: &Execution, thread: usize, access: usize) -> Option<WriteAt>
     ensures { result ≡ source_at all.now exec.now (name thread access) }
 {
     read_at(all, exec, thread, access)?.1
+}
+
+fn position_of(order: &[WriteAt], thread: usize, access: usize) -> Option<usize>
+    ensures { result ≡ position (same_write (name thread access)) order.now }
+{
+    order.iter().position(|w| thread == usize::from(w.thread) && access == usize::from(w.access))
 }
 
 /// The place of a write in an order, from 1; 0 where it doesn't stand there.
 fn order_place(order: &[WriteAt], thread: usize, access: usize) -> usize
     ensures { result ≡ order_place order.now (Some (name thread access)) }
 {
-    let place = order
-        .iter()
-        .position(|w| thread == usize::from(w.thread) && access == usize::from(w.access));
-    match place {
+    match position_of(order, thread, access) {
         Some(k) => k + 1,
         None => 0,
     }
@@ -80,7 +95,7 @@ fn place_of_write(exec: &Execution, place: u8, thread: usize, access: usize) -> 
 }
 
 /// The coherence place of an access: of a write its own, of a read that of what it reads.
-pub(crate) fn coherence_place(
+fn coherence_place(
     all: &[Accesses],
     exec: &Execution,
     thread: usize,
@@ -99,6 +114,38 @@ pub(crate) fn coherence_place(
             None => 0,
         },
     }
+}
+
+/// The coherence place of an access with this name.
+pub(crate) fn place_of_name(
+    all: &[Accesses],
+    exec: &Execution,
+    name: WriteAt,
+    access: &Access,
+) -> usize
+    ensures { result ≡ coherence_place all.now exec.now name access.now }
+{
+    let thread = usize::from(name.thread);
+    coherence_place(all, exec, thread, usize::from(name.access), access)
+}
+
+/// The write that an access with this name reads.
+pub(crate) fn source_of_name(all: &[Accesses], exec: &Execution, name: WriteAt) -> Option<WriteAt>
+    ensures { result ≡ source_at all.now exec.now name }
+{
+    source_at(
+        all,
+        exec,
+        usize::from(name.thread),
+        usize::from(name.access),
+    )
+}
+
+/// How many accesses of a thread before the one with this name read.
+pub(crate) fn reads_before_name(all: &[Accesses], name: WriteAt) -> usize
+    ensures { result ≡ reads_before all.now name }
+{
+    reads_before(all, usize::from(name.thread), usize::from(name.access))
 }
 
 /// Whether an access may follow another at its place: a read not before it in the coherence order, a
@@ -132,6 +179,25 @@ fn agrees(
     may_follow(b.dir, before, coherence_place(all, exec, thread, f, b))
 }
 
+/// Whether the second of two accesses of a thread isn't after the first, or they agree.
+fn agrees_if_later(
+    all: &[Accesses],
+    exec: &Execution,
+    thread: usize,
+    e: usize,
+    a: &Access,
+    f: usize,
+    b: &Access,
+) -> bool
+    ensures { result ≡ (not (nat_lt e f) || agrees all.now exec.now thread e a.now f b.now) }
+{
+    if e < f {
+        agrees(all, exec, thread, e, a, f, b)
+    } else {
+        true
+    }
+}
+
 /// Whether an access of a thread agrees with those after it.
 fn agrees_later(
     all: &[Accesses],
@@ -144,7 +210,7 @@ fn agrees_later(
     ensures { result ≡ agrees_later all.now exec.now thread accesses.now e a.now }
 {
     for (f, b) in accesses.iter().enumerate() {
-        if e < f && !agrees(all, exec, thread, e, a, f, b) {
+        if !agrees_if_later(all, exec, thread, e, a, f, b) {
             return false;
         }
     }
@@ -175,7 +241,7 @@ fn threads_cohere(all: &[Accesses], exec: &Execution) -> bool
     true
 }
 
-#[tactic(auto, using(crate::proofs::Coherent::coheres_means, crate::proofs::Coherent::coheres_from))]
+#[tactic(auto, using(crate::proofs::CoherenceLaws::coheres_means, crate::proofs::CoherenceLaws::coheres_from))]
 fn coheres(all: &[Accesses], exec: &Execution) -> bool
     ensures { IsTrue result ↔ IsCoherent all.now exec.now }
 {

@@ -63,7 +63,12 @@ impl Execution {
 
     /// Adds a read behind the others of a thread: its value, and the write that it reads, or none for the
     /// initial value. Without memory for it the execution is unchanged.
-    pub fn add_read(&mut self, thread: u8, value: u32, from: Option<WriteAt>) -> Result<(), NoMemory>
+    pub fn add_read(
+        &mut self,
+        thread: u8,
+        value: u32,
+        from: Option<WriteAt>,
+    ) -> Result<(), NoMemory>
         requires { thread < length self.old.reads }
         ensures ok { OnOk result (self.new ≡ with_read self.old thread (value, from)) }
         ensures err { OnErr result (self.new ≡ self.old) }

@@ -1,7 +1,18 @@
 //! Which executions a test has, which of them are coherent, how they end, and which edges of a cycle stand in them.
 #![tactic(auto)]
 
+mod accesses;
+mod candidate;
+mod coherent;
+mod edges;
 mod execution;
+mod final_state;
+mod runs;
+mod visits;
 
+pub use candidate::is_candidate;
+pub use coherent::is_coherent;
+pub use edges::edge_stands;
 pub use execution::{Execution, Read};
+pub use final_state::final_of;
 pub use program_meaning::WriteAt;

@@ -1,4 +1,4 @@
-use Rattle.std.proofs.Common.{◌≡◌, drop, length}
+use Rattle.std.proofs.Common.{◌≡◌, drop}
 use Rattle.exec_meaning.specs.Deciding.{every, name, is_covered}
 use Rattle.exec_meaning.proofs.candidate.is_thread_covered.Given as goal
 

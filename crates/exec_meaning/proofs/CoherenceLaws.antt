@@ -1,15 +1,14 @@
 -- The test of coherence decides it.
-use Rattle.std.proofs.Common.{◌≡◌, ℕ, ◌+◌, ◌<◌, Bool, true, false, ◌==◌, ◌&&◌, ◌||◌, not, List, Option, Some, slice_get, refl, sym, ap, subst, ◌∙◌, arith}
+use Rattle.std.proofs.Common.{◌≡◌, ℕ, true, ◌==◌, ◌||◌, not, List, Some, slice_get, sym, subst, ◌∙◌, arith}
 use Rattle.std.specs.Prelude.{nat_lt}
-use Rattle.std.proofs.lemmas.Bool.{and_parts, and_from, eqb-true, eq-eqb, lt-ltb, ltb-true, leb-true, le-leb}
+use Rattle.std.proofs.lemmas.Bool.{eqb-true, eq-eqb, lt-ltb, ltb-true, leb-true, le-leb}
 use Rattle.relax_edges.specs.declared.kinds.Dir.{Dir}
 use Rattle.relax_edges.specs.declared.kinds.Dir.TheVariants as dirs
-use Rattle.program_meaning.specs.declared.WriteAt.{WriteAt}
-use Rattle.program_meaning.specs.Accesses.{Access, at_name}
+use Rattle.program_meaning.specs.Accesses.{Access}
 use Rattle.program_meaning.specs.Executions.{Execution}
 use Rattle.program_meaning.specs.Coherence.{MayFollow, IsCoherent, coherence_place}
 use Rattle.exec_meaning.specs.Deciding.{every, name, may_follow, agrees, agrees_later, thread_coheres}
-use Rattle.exec_meaning.proofs.Every.{InThread, in_thread, every_means, every_from, at_name_of}
+use Rattle.exec_meaning.proofs.Every.{in_thread, every_means, every_from, at_name_of}
 use Rattle.exec_meaning.proofs.Candidates.{implied, implies}
 
 follow_means : (d : Dir) (m n : ℕ) → may_follow d m n ≡ true → MayFollow d m n
@@ -37,15 +36,15 @@ coheres_means threads x h thread e f a b below d g same =
 pub coheres_from : (threads : List (List Access)) (x : Execution) → IsCoherent threads x → every (thread_coheres threads x) 0 threads ≡ true
 coheres_from threads x h =
     every_from (thread_coheres threads x) 0 threads (λ k thread accesses r t.
-      let s : k ≡ thread = omega (arith, r) in
-      let u : slice_get threads thread ≡ Some accesses = subst (λ m. slice_get threads m ≡ Some accesses) s t in
-      every_from (agrees_later threads x thread accesses) 0 accesses (λ i e a q g.
-        let v : i ≡ e = omega (arith, q) in
-        let ga : slice_get accesses e ≡ Some a = subst (λ m. slice_get accesses m ≡ Some a) v g in
-        every_from (λ f b. not (nat_lt e f) || agrees threads x thread e a f b) 0 accesses (λ j f b o w.
-          let z : j ≡ f = omega (arith, o) in
-          let gb : slice_get accesses f ≡ Some b = subst (λ m. slice_get accesses m ≡ Some b) z w in
-          implies (nat_lt e f) (agrees threads x thread e a f b) (λ l.
-            implies (a.place == b.place) (may_follow b.dir (coherence_place threads x (name thread e) a) (coherence_place threads x (name thread f) b)) (λ m.
-              follow_from b.dir (coherence_place threads x (name thread e) a) (coherence_place threads x (name thread f) b)
-              (h thread e f a b (ltb-true e f l) (at_name_of threads thread e accesses a u ga) (at_name_of threads thread f accesses b u gb) (eqb-true a.place b.place m)))))))
+    let s : k ≡ thread = omega (arith, r) in
+    let u : slice_get threads thread ≡ Some accesses = subst (λ m. slice_get threads m ≡ Some accesses) s t in
+    every_from (agrees_later threads x thread accesses) 0 accesses (λ i e a q g.
+    let v : i ≡ e = omega (arith, q) in
+    let ga : slice_get accesses e ≡ Some a = subst (λ m. slice_get accesses m ≡ Some a) v g in
+    every_from (λ f b. not (nat_lt e f) || agrees threads x thread e a f b) 0 accesses (λ j f b o w.
+    let z : j ≡ f = omega (arith, o) in
+    let gb : slice_get accesses f ≡ Some b = subst (λ m. slice_get accesses m ≡ Some b) z w in
+    implies (nat_lt e f) (agrees threads x thread e a f b) (λ l.
+    implies (a.place == b.place) (may_follow b.dir (coherence_place threads x (name thread e) a) (coherence_place threads x (name thread f) b)) (λ m.
+    follow_from b.dir (coherence_place threads x (name thread e) a) (coherence_place threads x (name thread f) b)
+    (h thread e f a b (ltb-true e f l) (at_name_of threads thread e accesses a u ga) (at_name_of threads thread f accesses b u gb) (eqb-true a.place b.place m)))))))

@@ -1,0 +1,75 @@
+-- Which edges stand in an execution, by the accesses that were found.
+use Rattle.std.proofs.Common.{◌≡◌, ℕ, ◌+◌, ◌==◌, ◌<◌, ◌≤◌, arith, slice_get, Bool, true, false, List, length, Option, Some, None, sym, ap, subst, ◌∙◌}
+use Rattle.std.specs.Prelude.{◌↔◌, IsTrue}
+use Rattle.std.proofs.lemmas.Bool.Decides.{nat_tests}
+use Rattle.std.proofs.lemmas.Option.{get_or_from_slice_get}
+use Rattle.relax_edges.specs.declared.kinds.Reach.TheVariants.{Internal}
+use Rattle.relax_edges.specs.declared.kinds.Com.TheVariants.{Rf}
+use Rattle.relax_edges.specs.declared.edge.Edge.{Edge}
+use Rattle.relax_edges.specs.declared.edge.Edge.TheVariants as edges
+use Rattle.resolution_laws.specs.Resolution.{IsResolved, edge_at, event_after}
+use Rattle.resolution_laws.proofs.Around.{source_after}
+use Rattle.program_meaning.specs.declared.WriteAt.{WriteAt}
+use Rattle.program_meaning.specs.Accesses.{Access, Visit, at_name}
+use Rattle.program_meaning.specs.Executions.{Execution}
+use Rattle.program_meaning.specs.Programs.{Program, accesses_in, visits_in}
+use Rattle.program_meaning.specs.Standing.{Named, IsEvent, Stands, event_name}
+use Rattle.exec_meaning.specs.Edges.{EdgeStands, stands, stands_if}
+use Rattle.exec_meaning.proofs.Every.{some_is, by_test}
+use Rattle.exec_meaning.proofs.EdgeLaws.{stands_means, stands_from}
+
+-- an event is the access that was found under its name
+found_is : (es : List Edge) (vs : List (List Visit)) (j : ℕ) (n : WriteAt) (v : Visit) (e : Named) → n ≡ event_name es j → at_name vs n ≡ Some v → IsEvent es vs j e → e ≡ record { name = n; visit = v }
+found_is es vs j n v e is got h =
+    let a : e.name ≡ n = h.name_is ∙ sym is in
+    let b : e.visit ≡ v = some_is e.visit v (sym h.visit_is ∙ ap (at_name vs) a ∙ got) in
+    λ i. record { name = a i; visit = b i }
+
+pub edge_decides : (es : List Edge) (p : Program) (x : Execution) (i : ℕ) (vs : List (List Visit)) (all : List (List Access)) (n m : WriteAt) (v w : Visit) (b : Bool)
+    → visits_in p x ≡ vs → accesses_in p x ≡ all → IsResolved es → i < length es → n ≡ event_name es i → m ≡ event_name es (event_after es i) → at_name vs n ≡ Some v → at_name vs m ≡ Some w
+    → b ≡ stands all x (edge_at es i) (record { name = n; visit = v }) (record { name = m; visit = w }) → IsTrue b ↔ EdgeStands es p x i
+edge_decides es p x i vs all n m v w b s t r l j k g h q = (
+  λ yes. let d : Stands (accesses_in p x) x (edge_at es i) (record { name = n; visit = v }) (record { name = m; visit = w }) =
+      subst (λ a. Stands a x (edge_at es i) (record { name = n; visit = v }) (record { name = m; visit = w })) (sym t) (stands_means all x (edge_at es i) (record { name = n; visit = v }) (record { name = m; visit = w }) (sym q ∙ yes)) in
+      record {
+        source = record { name = n; visit = v };
+        target = record { name = m; visit = w };
+        leaves = record { name_is = j; visit_is = ap (λ u. at_name u n) s ∙ g; direction = d.joins.leaves };
+        enters = record { name_is = k; visit_is = ap (λ u. at_name u m) s ∙ h; direction = d.joins.enters ∙ sym (source_after es i r.composes l) };
+        stands = d;
+      },
+  λ held. let e : held.source ≡ record { name = n; visit = v } = found_is es vs i n v held.source j g (subst (λ u. IsEvent es u i held.source) s held.leaves) in
+      let f : held.target ≡ record { name = m; visit = w } = found_is es vs (event_after es i) m w held.target k h (subst (λ u. IsEvent es u (event_after es i) held.target) s held.enters) in
+      let d = subst (λ y. Stands (accesses_in p x) x (edge_at es i) (record { name = n; visit = v }) y) f (subst (λ y. Stands (accesses_in p x) x (edge_at es i) y held.target) e held.stands) in
+      q ∙ stands_from all x (edge_at es i) (record { name = n; visit = v }) (record { name = m; visit = w }) (subst (λ a. Stands a x (edge_at es i) (record { name = n; visit = v }) (record { name = m; visit = w })) t d),
+)
+
+none_there : (es : List Edge) (vs : List (List Visit)) (j : ℕ) (n : WriteAt) (e : Named) → n ≡ event_name es j → at_name vs n ≡ None → IsEvent es vs j e → ⊥
+none_there es vs j n e is none h = let c : Some e.visit ≡ None = sym h.visit_is ∙ ap (at_name vs) (h.name_is ∙ sym is) ∙ none in cc c
+
+pub no_source : (es : List Edge) (p : Program) (x : Execution) (i : ℕ) (vs : List (List Visit)) (n : WriteAt) → visits_in p x ≡ vs → n ≡ event_name es i → at_name vs n ≡ None → EdgeStands es p x i → ⊥
+no_source es p x i vs n s j g held = none_there es vs i n held.source j g (subst (λ u. IsEvent es u i held.source) s held.leaves)
+
+pub no_target : (es : List Edge) (p : Program) (x : Execution) (i : ℕ) (vs : List (List Visit)) (m : WriteAt) → visits_in p x ≡ vs → m ≡ event_name es (event_after es i) → at_name vs m ≡ None → EdgeStands es p x i → ⊥
+no_target es p x i vs m s k g held = none_there es vs (event_after es i) m held.target k g (subst (λ u. IsEvent es u (event_after es i) held.target) s held.enters)
+
+pub edge_decided : (es : List Edge) (p : Program) (x : Execution) (i : ℕ) (vs : List (List Visit)) (all : List (List Access)) (n m : WriteAt) (source target : Option Visit) (b : Bool)
+    → visits_in p x ≡ vs → accesses_in p x ≡ all → IsResolved es → i < length es → n ≡ event_name es i → m ≡ event_name es (event_after es i) → source ≡ at_name vs n → target ≡ at_name vs m
+    → b ≡ stands_if all x (edge_at es i) n source m target → IsTrue b ↔ EdgeStands es p x i
+edge_decided es p x i vs all n m None target b s t r l j k g h q = (λ yes. let e : false ≡ true = sym q ∙ yes in cc e, λ held. absurd (no_source es p x i vs n s j (sym g) held))
+edge_decided es p x i vs all n m (Some v) None b s t r l j k g h q = (λ yes. let e : false ≡ true = sym q ∙ yes in cc e, λ held. absurd (no_target es p x i vs m s k (sym h) held))
+edge_decided es p x i vs all n m (Some v) (Some w) b s t r l j k g h q = edge_decides es p x i vs all n m v w b s t r l j k (sym g) (sym h) q
+
+-- the event that an edge enters is one of the cycle
+pub after_within : (es : List Edge) (i : ℕ) → i < length es → event_after es i < length es
+unfolding event_after
+after_within es i h = by_test (i + 1 == length es) (λ e. rw e (omega (arith, h))) (λ e. rw e (below (i + 1) (length es) (omega (arith, h)) e))
+  where
+    below : (m n : ℕ) → m ≤ n → m == n ≡ false → m < n
+    below m n h e = grind (arith, nat_tests)
+
+-- the edge that was found
+pub edge_is : (es found : List Edge) (i : ℕ) (e : Edge) → found ≡ es → slice_get found i ≡ Some e → e ≡ edge_at es i
+edge_is es found i e same h =
+    let g : slice_get es i ≡ Some e = subst (λ l. slice_get l i ≡ Some e) same h in
+    sym (get_or_from_slice_get es i e (edges.Com Rf Internal) g)

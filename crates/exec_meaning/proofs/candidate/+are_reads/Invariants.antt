@@ -1,0 +1,5 @@
+use Rattle.std.proofs.Common.{length}
+use Rattle.exec_meaning.proofs.candidate.+are_reads.Given as goal
+
+abbrev pub decreases-are_reads : goal.decreases-are_reads
+decreases-are_reads l = length l.accesses.now

@@ -1,0 +1,13 @@
+use Rattle.std.proofs.lemmas.Result.{err_from_is_err_and}
+use Rattle.exec_meaning.proofs.KeptLists.{read_added, read_kept}
+use Rattle.exec_meaning.proofs.execution.Execution.add_read.Goals as goal
+
+pub returns-in_err-push-clause-err : goal.returns-in_err-push-clause-err
+returns-in_err-push-clause-err c =
+    let kept = read_kept (λ list. list.items) _ c.from.result _ c.index_mut-reads.result.now c.push.new.self _ _ c.self.view_is c.index_mut-reads.ensures.value c.in_err-push.ensures.items in
+    let p = err_from_is_err_and c.from_residual.result c.from_residual.ensures.1 in
+    rw p.1 kept
+
+pub returns-clause-ok : goal.returns-clause-ok
+returns-clause-ok c =
+    read_added (λ list. list.items) _ c.from.result c.args.thread _ c.index_mut-reads.result.now c.push.new.self (c.args.value, c.args.from) _ _ c.self.view_is c.requires c.from.ensures c.index_mut-reads.ensures.value c.in_ok-push.ensures.items

@@ -1,0 +1,7 @@
+use Rattle.std.proofs.Common.{◌≡◌, ◌++◌, take}
+use Rattle.program_meaning.specs.Coherence.{final_value}
+use Rattle.exec_meaning.specs.Finals.{places_at}
+use Rattle.exec_meaning.proofs.final_state.add_places.Given as goal
+
+abbrev pub invariant-loop-place : goal.invariant-loop-place
+invariant-loop-place l = l.state ≡ l.initial.state ++ places_at (final_value l.all l.exec) 0 (take l.place l.places)

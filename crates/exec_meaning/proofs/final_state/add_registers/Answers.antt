@@ -1,0 +1,15 @@
+use Rattle.std.proofs.Common.{◌<◌, length, [], ◌∷◌, ◌++◌, get_or, ap, ◌∙◌, arith}
+use Rattle.micro_ops.specs.Threads.{value_in}
+use Rattle.final_cond.specs.Conditions.{InRegister}
+use Rattle.exec_meaning.proofs.FinalLaws.{registers_more}
+use Rattle.exec_meaning.proofs.final_state.add_registers.Goals as goal
+
+pub loop-register-preserved : goal.loop-register-preserved
+loop-register-preserved g c =
+    let names = g.A.Arch.writing.registers in
+    let r = c.loop-register.register in
+    let inside : r < length names = omega (arith, c.loop-register-test.true, c.REGISTERS-register-end.ensures, g.met.A.Arch.same_registers, g.met.A.Arch.reads_back.count) in
+    c.in_ok-add.ensures.ok
+    ∙ ap (λ b. c.loop-register.state ++ (InRegister c.args.thread b, c.register.result) ∷ []) c.register_name.ensures
+    ∙ ap (λ v. c.loop-register.state ++ (InRegister c.args.thread (get_or names r []), v) ∷ []) c.register.ensures
+    ∙ registers_more c.args.thread r (value_in c.args.trace.now) names c.loop-register.state c.args.state.now inside c.loop-register.invariant

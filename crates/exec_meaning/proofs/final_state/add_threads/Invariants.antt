@@ -1,0 +1,7 @@
+use Rattle.std.proofs.Common.{◌≡◌, ◌++◌, map, take}
+use Rattle.micro_ops.specs.Threads.{value_in}
+use Rattle.exec_meaning.specs.Finals.{all_registers}
+use Rattle.exec_meaning.proofs.final_state.add_threads.Given as goal
+
+abbrev pub invariant-loop-thread : goal.invariant-loop-thread
+invariant-loop-thread g l = l.state ≡ l.initial.state ++ all_registers g.A.Arch.writing.registers 0 (map value_in (take l.thread l.traces))

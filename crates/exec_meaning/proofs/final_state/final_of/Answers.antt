@@ -1,0 +1,28 @@
+use Rattle.std.proofs.Common.{◌≡◌, length, map, ◌++◌, ap, sym, ◌∙◌, arith}
+use Rattle.litmus_text.specs.Programs.{program_read}
+use Rattle.micro_ops.specs.Threads.{value_in}
+use Rattle.program_meaning.specs.Coherence.{final_value}
+use Rattle.exec_meaning.specs.Finals.{all_registers, places_at}
+use Rattle.exec_meaning.proofs.RunLaws.{accesses_are, trace_count}
+use Rattle.exec_meaning.proofs.FinalLaws.{final_is}
+use Rattle.exec_meaning.proofs.final_state.final_of.Goals as goal
+
+pub add_threads-requires : goal.add_threads-requires
+add_threads-requires g c =
+    let n = trace_count c.args.test.now c.args.exec.now c.in_ok-traces.traces.items c.in_ok-traces.ensures in
+    let m : length c.deref-2.result.now ≡ length c.in_ok-traces.traces.items = ap length c.deref-2.ensures.value in
+    omega (arith, n, m, c.threads-threads.ensures, c.threads-threads.type_inv)
+
+pub returns : goal.returns
+returns g c =
+    let p = program_read c.args.test.now in
+    let x = c.args.exec.now in
+    let registers = g.A.Arch.writing.registers in
+    let traces = c.in_ok-traces.traces.items in
+    let all = c.deref-3.ensures.value ∙ c.in_ok-all.ensures ∙ ap (map _) c.deref.ensures.value in
+    let behind = places_at (final_value c.deref-3.result.now x) 0 in
+    let state = c.in_ok-add_places.ensures
+    ∙ ap (λ l. l ++ behind c.places.result.now) (c.in_ok-add_threads.ensures ∙ ap (λ l. l ++ all_registers registers 0 (map value_in c.deref-2.result.now)) c.new-state.ensures)
+    ∙ ap (λ l. all_registers registers 0 (map value_in l) ++ behind c.places.result.now) c.deref-2.ensures.value
+    ∙ ap (λ l. all_registers registers 0 (map value_in traces) ++ behind l) c.places.ensures in
+    final_is p c.args.test.now.places registers x traces c.deref-3.result.now c.add_places.new.state c.in_ok-traces.ensures (accesses_are p x traces c.in_ok-traces.ensures ∙ sym all) state

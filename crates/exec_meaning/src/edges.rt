@@ -1,0 +1,370 @@
+ghost use Rattle.std.specs.Prelude.{◌≡◌, ◌↔◌, ◌==◌, ◌^◌, ◌<◌, IsTrue, IfOk, length, map};
+ghost use Rattle.std.specs.Int.{bit_at};
+ghost use Rattle.relax_edges.specs.EdgeTable.{same_dir};
+ghost use Rattle.resolution_laws.specs.Resolution.{event_after};
+ghost use Rattle.program_meaning.specs.Accesses.{at_name, visits_of};
+ghost use Rattle.program_meaning.specs.Standing.{is_in_mask, event_name};
+ghost use Rattle.program_meaning.specs.Programs.{IsCandidate};
+ghost use Rattle.litmus_text.specs.Programs.{program_read};
+ghost use Rattle.exec_meaning.specs.Edges.{EdgeStands, same_mark, same_pick, same_fence, same_barrier, is_alone, are_at, is_source, reaches, comes_before, communicates_by, joins, depends_as, barriers_wait, waits, depends_by, ties_by, stands, stands_if};
+
+use crate::accesses::{Accesses, all_accesses, is_read};
+use crate::coherent::{place_of_name, reads_before_name, source_of_name};
+use crate::execution::Execution;
+use crate::runs::candidate_runs;
+use crate::visits::{Visit, visit_at};
+use arch_trait::Arch;
+use cycle_resolve::Resolved;
+use diy_io::NoMemory;
+use litmus_text::ReadTest;
+use micro_ops::{Barrier, Trace};
+use program_meaning::{Access, Barred, WriteAt};
+use relax_edges::{Com, DepKind, Dir, Edge, FenceKind, Kind, Mark, Pick, Reach, Sd};
+use std::alloc::{AllocError, Global};
+
+fn same_dir(a: Dir, b: Dir) -> bool
+    ensures { result ≡ same_dir a b }
+{
+    match (a, b) {
+        (Dir::R, Dir::R) | (Dir::W, Dir::W) => true,
+        _ => false,
+    }
+}
+
+fn same_mark(a: Mark, b: Mark) -> bool
+    ensures { result ≡ same_mark a b }
+{
+    match (a, b) {
+        (Mark::Plain, Mark::Plain)
+        | (Mark::Acquire, Mark::Acquire)
+        | (Mark::Release, Mark::Release) => true,
+        _ => false,
+    }
+}
+
+fn same_pick(a: Pick, b: Pick) -> bool
+    ensures { result ≡ same_pick a b }
+{
+    match (a, b) {
+        (Pick::R, Pick::R) | (Pick::W, Pick::W) | (Pick::RW, Pick::RW) => true,
+        _ => false,
+    }
+}
+
+fn same_fence(a: FenceKind, b: FenceKind) -> bool
+    ensures { result ≡ same_fence a b }
+{
+    match (a, b) {
+        (FenceKind::MFence, FenceKind::MFence)
+        | (FenceKind::Sync, FenceKind::Sync)
+        | (FenceKind::LwSync, FenceKind::LwSync)
+        | (FenceKind::Eieio, FenceKind::Eieio)
+        | (FenceKind::ISync, FenceKind::ISync)
+        | (FenceKind::DmbSy, FenceKind::DmbSy)
+        | (FenceKind::DmbLd, FenceKind::DmbLd)
+        | (FenceKind::DmbSt, FenceKind::DmbSt) => true,
+        (
+            FenceKind::Fence { pred, succ },
+            FenceKind::Fence {
+                pred: other_pred,
+                succ: other_succ,
+            },
+        ) => same_pick(pred, other_pred) && same_pick(succ, other_succ),
+        _ => false,
+    }
+}
+
+fn same_barrier(a: Barrier, b: Barrier) -> bool
+    ensures { result ≡ same_barrier a b }
+{
+    match (a, b) {
+        (Barrier::Fence(kind), Barrier::Fence(other)) => same_fence(kind, other),
+        (Barrier::Isb, Barrier::Isb) => true,
+        _ => false,
+    }
+}
+
+/// Whether the only barrier is this one.
+fn is_alone(kind: Barrier, barriers: &[Barred]) -> bool
+    ensures { result ≡ is_alone kind barriers.now }
+{
+    match barriers {
+        [only] => same_barrier(only.kind, kind),
+        _ => false,
+    }
+}
+
+/// Whether the place of an edge's target is that of its source, or another, as the edge says.
+fn are_at(sd: Sd, from: u8, to: u8) -> bool
+    ensures { result ≡ are_at sd from to }
+{
+    match sd {
+        Sd::Same => from == to,
+        Sd::Diff => from != to,
+    }
+}
+
+/// Whether what is read is this write.
+fn is_source(source: Option<WriteAt>, write: WriteAt) -> bool
+    ensures { result ≡ is_source source write }
+{
+    match source {
+        Some(read) => read.thread == write.thread && read.access == write.access,
+        None => false,
+    }
+}
+
+/// Whether an edge leads from one name to the other: to the next access of its thread, or to another
+/// thread.
+fn reaches(reach: Reach, from: WriteAt, to: WriteAt) -> bool
+    ensures { result ≡ reaches reach from to }
+{
+    match reach {
+        Reach::Internal => {
+            to.thread == from.thread && usize::from(to.access) == usize::from(from.access) + 1
+        }
+        Reach::External => from.thread != to.thread,
+    }
+}
+
+/// Whether the coherence place of an access is less than that of another.
+fn comes_before(
+    all: &[Accesses],
+    exec: &Execution,
+    from: WriteAt,
+    e: &Access,
+    to: WriteAt,
+    f: &Access,
+) -> bool
+    ensures { result ≡ comes_before all.now exec.now (record { name = from; access = e.now }) (record { name = to; access = f.now }) }
+{
+    place_of_name(all, exec, from, e) < place_of_name(all, exec, to, f)
+}
+
+/// Whether two accesses communicate as an edge says, if it is a communication.
+fn communicates_by(
+    kind: Kind,
+    all: &[Accesses],
+    exec: &Execution,
+    from: WriteAt,
+    e: &Access,
+    to: WriteAt,
+    f: &Access,
+) -> bool
+    ensures { result ≡ communicates_by kind all.now exec.now (record { name = from; access = e.now }) (record { name = to; access = f.now }) }
+{
+    let Kind::Com { com, .. } = kind else {
+        return true;
+    };
+    match com {
+        Com::Rf => is_source(source_of_name(all, exec, to), from),
+        Com::Fr | Com::Ws => comes_before(all, exec, from, e, to, f),
+    }
+}
+
+/// Whether an edge joins two accesses.
+fn joins(
+    all: &[Accesses],
+    exec: &Execution,
+    edge: Edge,
+    from: WriteAt,
+    e: &Access,
+    to: WriteAt,
+    f: &Access,
+) -> bool
+    ensures { result ≡ joins all.now exec.now edge (record { name = from; access = e.now }) (record { name = to; access = f.now }) }
+{
+    same_dir(e.dir, edge.source())
+        && same_dir(f.dir, edge.target())
+        && are_at(edge.place(), e.place, f.place)
+        && communicates_by(edge.kind(), all, exec, from, e, to, f)
+        && reaches(edge.reach(), from, to)
+}
+
+/// Whether a mask names load number `load` alone.
+#[tactic(auto, using(crate::proofs::EdgeLaws::no_mask))]
+fn is_mask_of(mask: u64, load: usize) -> bool
+    ensures { result ≡ (mask == 2 ^ load) }
+{
+    load < 64 && mask == 1 << load
+}
+
+/// Whether load number `load` stands in a mask.
+#[tactic(auto, using(crate::proofs::EdgeLaws::no_load))]
+fn has_load(mask: u64, load: usize) -> bool
+    ensures { result ≡ (bit_at mask load == 1) }
+{
+    load < 64 && mask >> load & 1 == 1
+}
+
+/// Whether an access reads, and stands in a mask.
+fn is_in_mask(all: &[Accesses], name: WriteAt, visit: &Visit, mask: u64) -> bool
+    ensures { result ≡ is_in_mask all.now (record { name = name; visit = visit.now }) mask }
+{
+    is_read(visit.access()) && has_load(mask, reads_before_name(all, name))
+}
+
+/// How the second of two accesses depends on the first.
+#[derive(Clone, Copy)]
+enum Tie {
+    Nothing,
+    Address,
+    Data,
+    Control,
+}
+
+/// Whether the second of two accesses depends on the first so, and in no other way.
+fn depends(tie: Tie, all: &[Accesses], from: WriteAt, e: &Visit, f: &Visit) -> bool
+    ensures { result ≡ depends_as tie all.now (record { name = from; visit = e.now }) f.now }
+{
+    let load = reads_before_name(all, from);
+    let controlled = is_in_mask(all, from, e, f.control_mask());
+    match tie {
+        Tie::Nothing => f.address_mask() == 0 && f.data_mask() == 0 && !controlled,
+        Tie::Address => is_mask_of(f.address_mask(), load) && f.data_mask() == 0 && !controlled,
+        Tie::Data => f.address_mask() == 0 && is_mask_of(f.data_mask(), load) && !controlled,
+        Tie::Control => f.address_mask() == 0 && f.data_mask() == 0 && controlled,
+    }
+}
+
+/// Whether the access stands in the control mask of each barrier.
+fn barriers_wait(all: &[Accesses], from: WriteAt, e: &Visit, barriers: &[Barred]) -> bool
+    ensures { result ≡ barriers_wait all.now (record { name = from; visit = e.now }) barriers.now }
+{
+    barriers
+        .iter()
+        .all(|barrier| is_in_mask(all, from, e, barrier.control))
+}
+
+/// Whether a barrier alone stands before the access, which waits for the one before it, as the access does.
+fn waits(kind: Barrier, all: &[Accesses], from: WriteAt, e: &Visit, f: &Visit) -> bool
+    ensures { result ≡ waits kind all.now (record { name = from; visit = e.now }) f.now }
+{
+    is_alone(kind, f.barriers())
+        && depends(Tie::Control, all, from, e, f)
+        && barriers_wait(all, from, e, f.barriers())
+}
+
+/// Whether a dependency ties an access to the one before it.
+fn depends_by(kind: DepKind, all: &[Accesses], from: WriteAt, e: &Visit, f: &Visit) -> bool
+    ensures { result ≡ depends_by kind all.now (record { name = from; visit = e.now }) f.now }
+{
+    match kind {
+        DepKind::Addr => f.barriers().is_empty() && depends(Tie::Address, all, from, e, f),
+        DepKind::Ctrl => f.barriers().is_empty() && depends(Tie::Control, all, from, e, f),
+        DepKind::CtrlIsync => waits(Barrier::Fence(FenceKind::ISync), all, from, e, f),
+        DepKind::CtrlIsb => waits(Barrier::Isb, all, from, e, f),
+    }
+}
+
+/// Whether what stands between two accesses is what an edge says, if it is internal.
+fn ties_by(kind: Kind, all: &[Accesses], from: WriteAt, e: &Visit, f: &Visit) -> bool
+    ensures { result ≡ ties_by kind all.now (record { name = from; visit = e.now }) f.now }
+{
+    match kind {
+        Kind::Com { reach, .. } => match reach {
+            Reach::Internal => f.barriers().is_empty() && depends(Tie::Nothing, all, from, e, f),
+            Reach::External => true,
+        },
+        Kind::Po { .. } => f.barriers().is_empty() && depends(Tie::Nothing, all, from, e, f),
+        Kind::Fenced { fence, .. } => {
+            is_alone(Barrier::Fence(fence), f.barriers()) && depends(Tie::Nothing, all, from, e, f)
+        }
+        Kind::Dep { dep, .. } => depends_by(dep, all, from, e, f),
+        Kind::Data { .. } => f.barriers().is_empty() && depends(Tie::Data, all, from, e, f),
+    }
+}
+
+/// Whether an edge stands between two accesses.
+fn stands(
+    all: &[Accesses],
+    exec: &Execution,
+    edge: Edge,
+    from: WriteAt,
+    e: &Visit,
+    to: WriteAt,
+    f: &Visit,
+) -> bool
+    ensures { result ≡ stands all.now exec.now edge (record { name = from; visit = e.now }) (record { name = to; visit = f.now }) }
+{
+    joins(all, exec, edge, from, e.access(), to, f.access())
+        && same_mark(e.mark(), edge.source_mark())
+        && same_mark(f.mark(), edge.target_mark())
+        && ties_by(edge.kind(), all, from, e, f)
+}
+
+/// Whether two accesses are there and an edge stands between them.
+fn stands_if(
+    all: &[Accesses],
+    exec: &Execution,
+    edge: Edge,
+    from: WriteAt,
+    source: &Option<Visit>,
+    to: WriteAt,
+    target: &Option<Visit>,
+) -> bool
+    ensures { result ≡ stands_if all.now exec.now edge from source.now to target.now }
+{
+    match source {
+        Some(e) => match target {
+            Some(f) => stands(all, exec, edge, from, e, to, f),
+            None => false,
+        },
+        None => false,
+    }
+}
+
+/// The access of an event, if it is there.
+fn visit_of(alloc: Global, traces: &[Trace], name: WriteAt) -> Result<Option<Visit>, AllocError>
+    ensures { IfOk result (λ visit. visit ≡ at_name (map (λ trace. visits_of trace.items) traces.now) name) }
+{
+    match traces.get(usize::from(name.thread)) {
+        Some(trace) => visit_at(alloc, trace.items(), name.access),
+        None => Ok(None),
+    }
+}
+
+/// The name of event `i` of a cycle.
+fn event_name(resolved: &Resolved, i: u8) -> WriteAt
+    requires { i < length resolved.now }
+    ensures { result ≡ event_name resolved.now i }
+{
+    let event = resolved.event(i);
+    WriteAt {
+        thread: event.thread,
+        access: event.slot,
+    }
+}
+
+/// The event that edge `i` enters.
+#[tactic(auto, using(crate::proofs::EdgeLaws::next_event, crate::proofs::EdgeLaws::first_event))]
+fn event_after(resolved: &Resolved, i: u8) -> u8
+    requires { i < length resolved.now }
+    ensures { result ≡ event_after resolved.now i }
+{
+    let count = resolved.cycle().len();
+    if i < count - 1 { i + 1 } else { 0 }
+}
+
+/// Whether edge `i` of a cycle stands in a candidate execution of a test: event `i` and the one after it
+/// are there, and the edge stands from the first to the second.
+pub fn edge_stands<A: Arch>(
+    alloc: Global,
+    test: &ReadTest<A>,
+    exec: &Execution,
+    resolved: &Resolved,
+    i: u8,
+) -> Result<bool, NoMemory>
+    requires candidate { IsCandidate (program_read test.now) exec.now }
+    requires within { i < length resolved.now }
+    ensures { IfOk result (λ answer. IsTrue answer ↔ EdgeStands resolved.now (program_read test.now) exec.now i) }
+{
+    let traces = candidate_runs(alloc, test, exec)?;
+    let all = all_accesses(alloc, &traces)?;
+    let from = event_name(resolved, i);
+    let to = event_name(resolved, event_after(resolved, i));
+    let source = visit_of(alloc, &traces, from)?;
+    let target = visit_of(alloc, &traces, to)?;
+    let edge = resolved.cycle().edge(i);
+    Ok(stands_if(&all, exec, edge, from, &source, to, &target))
+}

@@ -1,0 +1,97 @@
+ghost use Rattle.std.specs.Prelude.{◌≡◌, ◌<◌, ◌≤◌, ◌++◌, IfOk, OnOk, length, map};
+ghost use Rattle.arch_trait.specs.Names.{number_in};
+ghost use Rattle.final_cond.specs.Conditions.{LeftSeen};
+ghost use Rattle.final_cond.specs.States.{value_in};
+ghost use Rattle.micro_ops.specs.Threads.{value_in as held_by};
+ghost use Rattle.program_meaning.specs.Coherence.{final_value};
+ghost use Rattle.program_meaning.specs.Programs.{IsCandidate};
+ghost use Rattle.test_laws.specs.FinalStates.{final_state};
+ghost use Rattle.litmus_text.specs.Programs.{program_read};
+ghost use Rattle.exec_meaning.specs.Finals.{registers_at, all_registers, places_at};
+
+use crate::accesses::{Accesses, access_at, all_accesses};
+use crate::execution::Execution;
+use crate::runs::candidate_runs;
+use arch_trait::{Arch, Places};
+use diy_io::NoMemory;
+use final_cond::{Final, Left, PlaceName, RegName};
+use litmus_text::ReadTest;
+use micro_ops::Trace;
+use relax_edges::Value;
+use std::alloc::Global;
+
+/// Adds the registers of a thread that tests use, with what they hold at its end.
+fn add_registers<A: Arch>(state: &mut Final, thread: u8, trace: &Trace) -> Result<(), NoMemory>
+    ensures { OnOk result (state.new ≡ state.old ++ registers_at thread (held_by trace.now) 0 A.writing.registers) }
+{
+    for register in 0..A::REGISTERS {
+        let mut name = RegName::new();
+        A::register_name(register, &mut name);
+        state.add(Left::Register { thread, name }, trace.register(register))?;
+    }
+    Ok(())
+}
+
+/// Adds those of each thread.
+fn add_threads<A: Arch>(state: &mut Final, traces: &[Trace]) -> Result<(), NoMemory>
+    requires { length traces.now ≤ 255 }
+    ensures { OnOk result (state.new ≡ state.old ++ all_registers A.writing.registers 0 (map held_by traces.now)) }
+{
+    for (thread, trace) in traces.iter().enumerate() {
+        add_registers::<A>(state, thread as u8, trace)?;
+    }
+    Ok(())
+}
+
+/// The value of a place at the end: that of the last write of its order, or 0.
+fn final_value(all: &[Accesses], exec: &Execution, place: u8) -> u32
+    ensures { result ≡ final_value all.now exec.now place }
+{
+    if place >= exec.places() {
+        return 0;
+    }
+    let [.., last] = exec.writes(place) else {
+        return 0;
+    };
+    match access_at(all, *last) {
+        Some(written) => written.value,
+        None => 0,
+    }
+}
+
+/// Adds the places with their values at the end.
+fn add_places(
+    state: &mut Final,
+    places: &Places,
+    all: &[Accesses],
+    exec: &Execution,
+) -> Result<(), NoMemory>
+    ensures { OnOk result (state.new ≡ state.old ++ places_at (final_value all.now exec.now) 0 places.now) }
+{
+    for place in 0..places.len() {
+        let mut name = PlaceName::new();
+        name.push_str(places.get(place).as_str());
+        let value = Value::Num(final_value(all, exec, place));
+        state.add(Left::Place { name }, value)?;
+    }
+    Ok(())
+}
+
+/// The final state of a candidate execution of a test: what each register that tests use of each thread
+/// holds at the end of the thread's run, and for each place the value of the last write of its order.
+pub fn final_of<A: Arch>(
+    alloc: Global,
+    test: &ReadTest<A>,
+    exec: &Execution,
+) -> Result<Final, NoMemory>
+    requires { IsCandidate (program_read test.now) exec.now }
+    ensures { IfOk result (λ state. (left : LeftSeen) → value_in state left ≡ final_state (program_read test.now) test.now.places (number_in A.writing.registers) exec.now left) }
+{
+    let _threads = test.threads();
+    let traces = candidate_runs(alloc, test, exec)?;
+    let all = all_accesses(alloc, &traces)?;
+    let mut state = Final::new(alloc);
+    add_threads::<A>(&mut state, &traces)?;
+    add_places(&mut state, test.places(), &all, exec)?;
+    Ok(state)
+}
