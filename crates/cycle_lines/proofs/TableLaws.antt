@@ -83,7 +83,7 @@ table_more cycles c =
 
 -- a cycle more is kept
 pub adds_cycle : (old new : List FamilyNames) (c : List Edge) (place : ℕ) (name : List ℕ) → place ≡ place_of (family_of c) → name ≡ name_of c →
-    ◌≡◌ {A = List Entry} (map entry_view new) (name_put place name (map entry_view old)) → Adds old new c
+    ◌≡◌ {A = List Entry} (map entry_view new) (name_put place name (map entry_view old)) → Adds (map entry_view old) (map entry_view new) c
 adds_cycle old new c place name e f h = λ cycles holds.
     h ∙ ap (λ table. name_put place name table) holds ∙ ap (λ p. name_put p name (table_of cycles)) e ∙ ap (λ n. name_put (place_of (family_of c)) n (table_of cycles)) f ∙ table_more cycles c
 
@@ -219,22 +219,22 @@ some_set set h = by_length (length (texts_of set)) refl
     by_length (suc n) e = omega arith
 
 -- all that is written
-all_text : (table : List FamilyNames) (cycles : List (List Edge)) → Holds table cycles → flat_map (λ entry. entry_text (entry_view entry)) table ≡ families_text cycles
+all_text : (table : List FamilyNames) (cycles : List (List Edge)) → Holds (map entry_view table) cycles → flat_map (λ entry. entry_text (entry_view entry)) table ≡ families_text cycles
 unfolding families_text
 all_text table cycles h =
     sym (flat_map-map entry_text entry_view table) ∙ ap (flat_map entry_text) h ∙ flat_map-map entry_text (λ f. (f, family_names f cycles)) families_in_order
 
-table_text : (table items : List FamilyNames) (cycles : List (List Edge)) → table ≡ items → Holds items cycles → flat_map (λ entry. entry_text (entry_view entry)) table ≡ families_text cycles
+pub table_text : (table items : List FamilyNames) (cycles : List (List Edge)) → table ≡ items → Holds (map entry_view items) cycles → flat_map (λ entry. entry_text (entry_view entry)) table ≡ families_text cycles
 table_text table items cycles e h = ap (flat_map (λ entry. entry_text (entry_view entry))) e ∙ all_text items cycles h
 
-pub classified : (arch : ArchName) (s t : SourceSeen) (a b : SinkSeen) (table items : List FamilyNames) → table ≡ items → Gathered arch s t items → WroteAll a b (flat_map (λ entry. entry_text (entry_view entry)) table) → ClassifiedAll arch s t a b
-classified arch s t a b table items e h w = record { cycles = h.cycles; read = h.read; wrote = subst (WroteAll a b) (table_text table items h.cycles e h.holds) w }
+pub classified : (arch : ArchName) (s t : SourceSeen) (a b : SinkSeen) (table : List Entry) (h : Gathered arch s t table) → WroteAll a b (families_text h.cycles) → ClassifiedAll arch s t a b
+classified arch s t a b table h w = record { cycles = h.cycles; read = h.read; wrote = w }
 
-pub classified_part : (arch : ArchName) (s t : SourceSeen) (a b : SinkSeen) (table items : List FamilyNames) → table ≡ items → Gathered arch s t items → WrotePart a b (flat_map (λ entry. entry_text (entry_view entry)) table) → ClassifiedPart arch s t a b
-classified_part arch s t a b table items e h w = record { cycles = h.cycles; read = h.read; wrote = subst (WrotePart a b) (table_text table items h.cycles e h.holds) w }
+pub classified_part : (arch : ArchName) (s t : SourceSeen) (a b : SinkSeen) (table : List Entry) (h : Gathered arch s t table) → WrotePart a b (families_text h.cycles) → ClassifiedPart arch s t a b
+classified_part arch s t a b table h w = record { cycles = h.cycles; read = h.read; wrote = w }
 
 -- nothing is kept yet
-pub none_held : (table : List FamilyNames) → ◌≡◌ {A = List Entry} (map entry_view table) (map (λ f. (f, [])) families_in_order) → Holds table []
+pub none_held : (table : List FamilyNames) → ◌≡◌ {A = List Entry} (map entry_view table) (map (λ f. (f, [])) families_in_order) → Holds (map entry_view table) []
 unfolding family_names
 none_held table e = e
 
@@ -249,20 +249,19 @@ pub unread : (s : SourceSeen) → ReadsPart s s
 unread s = record { text = []; took = inr (record { none = refl; kept = kept_same s.left; taken_is = refl }); few = omega arith; no_fault = refl }
 
 -- the names of the cycles that were given are kept
-pub record Gathering (arch : ArchName) (first now : SourceSeen) (reader : ReaderSeen) (table : List FamilyNames) : Type 0 where
+pub record Gathering (arch : ArchName) (first now : SourceSeen) (reader : ReaderSeen) (table : List Entry) : Type 0 where
   pub cycles : List (List Edge)
   pub read : HasRead arch first now reader cycles
   pub holds : Holds table cycles
-  pub whole : length table ≡ 15
 
-pub nothing_gathered : (arch : ArchName) (s : SourceSeen) (r : ReaderSeen) (table : List FamilyNames) → r ≡ record { pending = []; line = 1; taken = 0 } → Holds table [] → length table ≡ 15 → Gathering arch s s r table
-nothing_gathered arch s r table e h w = subst (λ r. Gathering arch s s r table) (sym e) (record { cycles = []; read = nothing_read arch s; holds = h; whole = w })
+pub nothing_gathered : (arch : ArchName) (s : SourceSeen) (r : ReaderSeen) (table : List Entry) → r ≡ record { pending = []; line = 1; taken = 0 } → Holds table [] → Gathering arch s s r table
+nothing_gathered arch s r table e h = subst (λ r. Gathering arch s s r table) (sym e) (record { cycles = []; read = nothing_read arch s; holds = h })
 
 -- the last one
-pub gathered_last : (arch : ArchName) (s t : SourceSeen) (cycles : List (List Edge)) (cycle : Option (List Edge)) (table : List FamilyNames) (result : Result (Vec FamilyNames Global) ClassifyError) →
+pub gathered_last : (arch : ArchName) (s t : SourceSeen) (cycles : List (List Edge)) (cycle : Option (List Edge)) (table : List Entry) (result : Result (List Entry) ClassifyError) →
     ReadAll arch s t (cycles ++ last_cycle cycle) → Holds table cycles → PutsLast table cycle result → Gathers arch s t result
 gathered_last arch s t cycles (Some cycle) table (Ok new) h held puts = record { cycles = cycles ++ cycle ∷ []; read = h; holds = puts cycles held }
-gathered_last arch s t cycles None table (Ok new) h held puts = record { cycles = cycles; read = subst (ReadAll arch s t) (append-nil cycles) h; holds = ap (map entry_view) puts ∙ held }
+gathered_last arch s t cycles None table (Ok new) h held puts = record { cycles = cycles; read = subst (ReadAll arch s t) (append-nil cycles) h; holds = puts ∙ held }
 gathered_last arch s t cycles cycle table (Err NoMemory) h held puts = whole_read arch s t (cycles ++ last_cycle cycle) h
 gathered_last arch s t cycles (Some cycle) table (Err (Lines error)) h held puts = absurd puts
 gathered_last arch s t cycles None table (Err (Lines error)) h held puts = absurd puts

@@ -52,6 +52,15 @@ abbrev pub spelled_made : ArchName → Option (List Edge) → Result (Option (Li
 spelled_made arch None = Err UnknownEdge
 spelled_made arch (Some edges) = cycle_made arch edges
 
+-- the cycle that edges make, where they have no fault
+abbrev pub cycle_if_made : Result (Option (List Edge)) LineKind → Option (List Edge)
+cycle_if_made (Ok cycle) = cycle
+cycle_if_made (Err _) = None
+
+-- the cycle of an architecture that a text spells, if it spells one
+abbrev pub cycle_spelled : ArchName → List ℕ → Option (List Edge)
+cycle_spelled arch text = cycle_if_made (spelled_made arch (text_edges text))
+
 -- what a line of cycles says: its cycle, nothing where it has no byte but blanks, or the first fault that it has
 unfoldable pub line_said : ArchName → List ℕ → Result (Option (List Edge)) LineKind
 line_said arch line =

@@ -50,9 +50,9 @@ entry_text entry = family_text entry.0 entry.1
 abbrev pub table_of : List (List Edge) → List Entry
 table_of cycles = map (λ f. (f, family_names f cycles)) families_in_order
 
--- these are kept
-abbrev pub Holds : List FamilyNames → List (List Edge) → Type 0
-Holds table cycles = ◌≡◌ {A = List Entry} (map entry_view table) (table_of cycles)
+-- the names of these cycles are kept
+abbrev pub Holds : List Entry → List (List Edge) → Type 0
+Holds table cycles = ◌≡◌ {A = List Entry} table (table_of cycles)
 
 -- one name more at a place
 abbrev pub entry_with : List ℕ → Entry → Entry
@@ -62,26 +62,26 @@ abbrev pub name_put : ℕ → List ℕ → List Entry → List Entry
 name_put place name table = slice_set table place (entry_with name (slice_index_or table place (families.SB, [])))
 
 -- a cycle more is kept
-abbrev pub Adds : List FamilyNames → List FamilyNames → List Edge → Type 0
+abbrev pub Adds : List Entry → List Entry → List Edge → Type 0
 Adds old new cycle = (cycles : List (List Edge)) → Holds old cycles → Holds new (cycles ++ cycle ∷ [])
 
 -- the name of a last cycle is kept, if there is one, unless there is no memory
-abbrev pub PutsLast : List FamilyNames → Option (List Edge) → Result (Vec FamilyNames Global) ClassifyError → Type 0
-PutsLast old (Some cycle) (Ok new) = Adds old new.items cycle
-PutsLast old None (Ok new) = new.items ≡ old
+abbrev pub PutsLast : List Entry → Option (List Edge) → Result (List Entry) ClassifyError → Type 0
+PutsLast old (Some cycle) (Ok new) = Adds old new cycle
+PutsLast old None (Ok new) = ◌≡◌ {A = List Entry} new old
 PutsLast old cycle (Err NoMemory) = Unit {0}
 PutsLast old cycle (Err (Lines error)) = ⊥
 PutsLast old cycle (Err OutFault) = ⊥
 
 -- a source was read to its end, and the names of its cycles are kept
-pub record Gathered (arch : ArchName) (old new : SourceSeen) (table : List FamilyNames) : Type 0 where
+pub record Gathered (arch : ArchName) (old new : SourceSeen) (table : List Entry) : Type 0 where
   pub cycles : List (List Edge)
   pub read : ReadAll arch old new cycles
   pub holds : Holds table cycles
 
 -- the names of the cycles of a source are kept, or there is a reason why they can't be
-abbrev pub Gathers : ArchName → SourceSeen → SourceSeen → Result (Vec FamilyNames Global) ClassifyError → Type 0
-Gathers arch old new (Ok table) = Gathered arch old new table.items
+abbrev pub Gathers : ArchName → SourceSeen → SourceSeen → Result (List Entry) ClassifyError → Type 0
+Gathers arch old new (Ok table) = Gathered arch old new table
 Gathers arch old new (Err (Lines error)) = ReadsUpTo arch old new error
 Gathers arch old new (Err NoMemory) = ReadsPart old new
 Gathers arch old new (Err OutFault) = ⊥

@@ -1,12 +1,9 @@
-ghost use Rattle.std.specs.Prelude.{◌≡◌, length};
 ghost use Rattle.cycle_lines.specs.Classified.{Classifies};
 ghost use Rattle.cycle_lines.specs.Tables.{Gathers, PutsLast};
 
 use crate::errors::ClassifyError;
+use crate::families::Families;
 use crate::reader::{Found, LineReader};
-use crate::table::{FamilyNames, no_names, put_cycle, write_families};
-use arrayvec::ArrayString;
-use cycle_names::MAX_NAME;
 use diy_io::{Failed, NoMemory, Sink, Source};
 use edge_algebra::Cycle;
 use relax_edges::ArchName;
@@ -27,7 +24,7 @@ pub fn classify_lines<I: Source, O: Sink>(
     ensures { Classifies arch (I.seen input.old) (I.seen input.new) (O.seen out.old) (O.seen out.new) result }
 {
     match gather(alloc, arch, input) {
-        Ok(table) => match write_families(table.as_slice(), out) {
+        Ok(families) => match families.write(out) {
             Ok(()) => Ok(()),
             Err(Failed) => Err(ClassifyError::OutFault),
         },
@@ -40,43 +37,36 @@ fn gather<I: Source>(
     alloc: Global,
     arch: ArchName,
     input: &mut I,
-) -> Result<Vec<FamilyNames>, ClassifyError>
+) -> Result<Families, ClassifyError>
     ensures { Gathers arch (I.seen input.old) (I.seen input.new) result }
 {
-    let mut table = match no_names(alloc) {
-        Ok(table) => table,
+    let mut families = match Families::new(alloc) {
+        Ok(families) => families,
         Err(NoMemory) => return Err(ClassifyError::NoMemory),
     };
     let mut reader = LineReader::new();
-    let mut text: ArrayString<MAX_NAME> = ArrayString::new();
     loop {
         match reader.next_cycle(arch, input) {
-            Ok(Found::Next(cycle)) => match put_cycle(alloc, &mut table, &cycle, &mut text) {
+            Ok(Found::Next(cycle)) => match families.put(&cycle) {
                 Ok(()) => {}
                 Err(NoMemory) => return Err(ClassifyError::NoMemory),
             },
-            Ok(Found::Last(cycle)) => return put_last(alloc, table, &cycle),
+            Ok(Found::Last(cycle)) => return put_last(families, &cycle),
             Err(error) => return Err(ClassifyError::Lines(error)),
         }
     }
 }
 
-/// Keeps the name of a last cycle, if there is one.
-fn put_last(
-    alloc: Global,
-    table: Vec<FamilyNames>,
-    cycle: &Option<Cycle>,
-) -> Result<Vec<FamilyNames>, ClassifyError>
-    requires { length table.items ≡ 15 }
-    ensures { PutsLast table.items cycle.now result }
+/// Puts the name of a last cycle, if there is one.
+fn put_last(families: Families, cycle: &Option<Cycle>) -> Result<Families, ClassifyError>
+    ensures { PutsLast families cycle.now result }
 {
-    let mut table = table;
-    let mut text: ArrayString<MAX_NAME> = ArrayString::new();
+    let mut families = families;
     match cycle {
-        Some(cycle) => match put_cycle(alloc, &mut table, cycle, &mut text) {
-            Ok(()) => Ok(table),
+        Some(cycle) => match families.put(cycle) {
+            Ok(()) => Ok(families),
             Err(NoMemory) => Err(ClassifyError::NoMemory),
         },
-        None => Ok(table),
+        None => Ok(families),
     }
 }

@@ -1,7 +1,7 @@
 ghost use Rattle.std.specs.Prelude.{◌≡◌};
 ghost use Rattle.edge_algebra.specs.Compose.{composed};
 ghost use Rattle.cycle_names.specs.Laws.{are_of_arch};
-ghost use Rattle.cycle_lines.specs.Cycles.{is_blank, text_edges, spelled_made, cycle_made, composed_or};
+ghost use Rattle.cycle_lines.specs.Cycles.{is_blank, text_edges, spelled_made, cycle_made, composed_or, cycle_spelled};
 ghost use Rattle.cycle_lines.specs.Kept.{made_kept};
 
 use crate::errors::LineKind;
@@ -19,6 +19,17 @@ pub(crate) fn read_cycle(arch: ArchName, text: &[u8]) -> Result<Option<Cycle>, L
     match read_edges(text, Separators::Blanks, &mut edges) {
         Ok(()) => made_of(arch, &edges),
         Err(UnknownEdge) => Err(LineKind::UnknownEdge),
+    }
+}
+
+/// The cycle of an architecture that a text spells, whose edges blanks separate. `None` comes where a
+/// word in it spells no edge, and where the edges make no cycle of the architecture.
+pub fn cycle_spelled(arch: ArchName, text: &[u8]) -> Option<Cycle>
+    ensures { result ≡ cycle_spelled arch text.now }
+{
+    match read_cycle(arch, text) {
+        Ok(cycle) => cycle,
+        Err(_) => None,
     }
 }
 

@@ -4,13 +4,16 @@
 mod classify;
 mod edges;
 mod errors;
+mod families;
 mod line;
 mod norm;
 mod reader;
 mod table;
 
 pub use classify::classify_lines;
+pub use edges::cycle_spelled;
 pub use errors::{ClassifyError, LineKind, LinesError, NormError};
+pub use families::Families;
 pub use norm::{norm_lines, write_name_line};
 
 /// The most bytes of a line, neither its line feed nor a carriage return right before that counted: 4,096.

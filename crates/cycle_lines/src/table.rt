@@ -65,7 +65,7 @@ fn place_of(family: Family) -> usize
 
 /// No names of any family.
 pub(crate) fn no_names(alloc: Global) -> Result<Vec<FamilyNames>, NoMemory>
-    ensures holds { IfOk result (λ table. Holds table.items []) }
+    ensures holds { IfOk result (λ table. Holds (map entry_view table.items) []) }
     ensures whole { IfOk result (λ table. length table.items ≡ 15) }
 {
     let mut table = Vec::new(alloc);
@@ -80,24 +80,23 @@ pub(crate) fn no_names(alloc: Global) -> Result<Vec<FamilyNames>, NoMemory>
 
 /// Keeps the name of a cycle, which is made in `text`. What that held doesn't count.
 pub(crate) fn put_cycle(
-    alloc: Global,
     table: &mut Vec<FamilyNames>,
     cycle: &Cycle,
     text: &mut ArrayString<MAX_NAME>,
 ) -> Result<(), NoMemory>
     requires { length table.old.items ≡ 15 }
-    ensures adds { OnOk result (Adds table.old.items table.new.items cycle.now) }
-    ensures whole { OnOk result (length table.new.items ≡ 15) }
+    ensures adds { OnOk result (Adds (map entry_view table.old.items) (map entry_view table.new.items) cycle.now) }
+    ensures whole { length table.new.items ≡ 15 }
 {
     name_of(cycle, text);
-    let name = Vec::from_slice(alloc, text.as_str().as_bytes())?;
+    let name = Vec::from_slice(*table.allocator(), text.as_str().as_bytes())?;
     put_name(table, place_of(family_of(cycle)), name)
 }
 
 fn put_name(table: &mut Vec<FamilyNames>, place: usize, name: Vec<u8>) -> Result<(), NoMemory>
     requires { place < length table.old.items }
     ensures put { OnOk result (map entry_view table.new.items ≡ name_put place name.items (map entry_view table.old.items)) }
-    ensures whole { OnOk result (length table.new.items ≡ length table.old.items) }
+    ensures whole { length table.new.items ≡ length table.old.items }
 {
     table[place].names.insert(name)?;
     Ok(())

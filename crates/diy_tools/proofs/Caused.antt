@@ -9,6 +9,9 @@ use Rattle.cycle_lines.specs.declared.errors.NormError.TheVariants as norms
 use Rattle.cycle_lines.specs.declared.errors.ClassifyError.{ClassifyError}
 use Rattle.cycle_lines.specs.declared.errors.ClassifyError.TheVariants as classifies
 use Rattle.cycle_lines.specs.Classified.{Classifies}
+use Rattle.classified_files.specs.declared.errors.FilesEnd.{FilesEnd}
+use Rattle.classified_files.specs.declared.errors.FilesEnd.TheVariants as classing
+use Rattle.classified_files.specs.declared.errors.FileKind.TheVariants as kinds
 use Rattle.cycle_lines.specs.Normed.{Norms, name_line}
 use Rattle.diy_io.specs.Count.{Rose, count_of}
 use Rattle.diy_io.specs.Shelf.{ShelfSeen}
@@ -36,6 +39,7 @@ use Rattle.diy_tools.specs.Statuses.{norm_status, classify_status, listing_statu
 use Rattle.diy_tools.specs.Printing.{AnswersEdges, Prints}
 use Rattle.diy_tools.specs.TestAnswers.{asked_text, test_refused}
 use Rattle.diy_tools.specs.NameAnswers.{AnswersName, AnswersSought}
+use Rattle.diy_tools.specs.FamilyAnswers.{AnswersClassify, EndsFamilies, files_status}
 use Rattle.diy_tools.specs.ListAnswers.{EndsAsked, plan_asked}
 use Rattle.diy_tools.specs.CrossAnswers.{AnswersCross, EndsCrossed}
 use Rattle.diy_tools.specs.DemoAnswers.{demo_asked}
@@ -80,6 +84,10 @@ crossing_failed asked old new out after h = h.1.part.faulted.fault
 -- what norm7 is asked for
 abbrev named : ArchName → Sought → Result Asked Usage
 named arch cycle = Ok (AsksName (record { arch = arch; cycle = cycle }))
+
+-- what classify7 is asked for
+abbrev of_files : ArchName → List ℕ → Result Asked Usage
+of_files arch files = Ok (AsksFamilies (record { arch = arch; files = files }))
 
 module _ (old new : Devices) where
   -- what is said of a status is said of one that is equal to it
@@ -170,19 +178,44 @@ module _ (old new : Devices) where
 
   families_caused : (words : List (List ℕ)) (arch : ArchName) (result : Result (Unit {0}) ClassifyError) (status : Status) → new.shelf ≡ old.shelf
       → status ≡ classify_status result → Classifies arch old.input new.input old.out new.out result
-      → CausesAsked words (Ok (AsksFamilies arch)) status old new
-  families_caused words arch (Ok x) status shelf e h = of_status words (Ok (AsksFamilies arch)) status statuses.Done e (record { shelf = shelf; both = h })
+      → CausesAsked words (of_files arch []) status old new
+  families_caused words arch (Ok x) status shelf e h = of_status words (of_files arch []) status statuses.Done e (record { shelf = shelf; both = h })
   families_caused words arch (Err classifies.OutFault) status shelf e h =
-      of_status words (Ok (AsksFamilies arch)) status (statuses.WriteFault Out) e (h.wrote.fault, record { shelf = shelf; both = h })
+      of_status words (of_files arch []) status (statuses.WriteFault Out) e (h.wrote.fault, record { shelf = shelf; both = h })
   families_caused words arch (Err (classifies.Lines (lines.Wrong line kind))) status shelf e h =
-      of_status words (Ok (AsksFamilies arch)) status (statuses.BadText None line (texts.Line kind)) e (refl, record { shelf = shelf; both = h })
+      of_status words (of_files arch []) status (statuses.BadText None line (texts.Line kind)) e (refl, (refl, record { shelf = shelf; both = h }))
   families_caused words arch (Err (classifies.Lines (lines.TooMuch line))) status shelf e h =
-      of_status words (Ok (AsksFamilies arch)) status (statuses.BadText None line texts.TooMuch) e
-      (rose_far old.input.taken new.input.taken (length h.0.read.text) h.0.read.took.counted h.0.read.many, inl (record { shelf = shelf; both = h }))
+      of_status words (of_files arch []) status (statuses.BadText None line texts.TooMuch) e
+      (rose_far old.input.taken new.input.taken (length h.0.read.text) h.0.read.took.counted h.0.read.many, inl (refl, record { shelf = shelf; both = h }))
   families_caused words arch (Err (classifies.Lines lines.InputFault)) status shelf e h =
-      of_status words (Ok (AsksFamilies arch)) status (statuses.ReadFault Input) e (h.0.read.fault, inl (record { shelf = shelf; both = h }))
+      of_status words (of_files arch []) status (statuses.ReadFault Input) e (h.0.read.fault, inl (refl, record { shelf = shelf; both = h }))
   families_caused words arch (Err classifies.NoMemory) status shelf e h =
-      of_status words (Ok (AsksFamilies arch)) status statuses.NoMemory e (tt, record { out = h.1; files = ap (λ (s : ShelfSeen). s.files) shelf })
+      of_status words (of_files arch []) status statuses.NoMemory e (tt, record { out = h.1; files = ap (λ (s : ShelfSeen). s.files) shelf })
+
+  -- classify7 over files
+  named_caused : (words : List (List ℕ)) (arch : ArchName) (file : ℕ) (files : List ℕ) (end : FilesEnd) (status : Status) → status ≡ files_status end
+      → EndsFamilies words arch (file ∷ files) end old new → CausesAsked words (of_files arch (file ∷ files)) status old new
+  named_caused words arch file files classing.Done status e h = of_status words (of_files arch (file ∷ files)) status statuses.Done e h
+  named_caused words arch file files classing.OutFault status e h =
+      of_status words (of_files arch (file ∷ files)) status (statuses.WriteFault Out) e (h.both.classified.wrote.fault, h)
+  named_caused words arch file files (classing.Wrong at line (kinds.Test kind)) status e h =
+      of_status words (of_files arch (file ∷ files)) status (statuses.BadText (Some at) line (texts.Test kind)) e (h, record { out = h.both.classified.1; files = h.both.stay })
+  named_caused words arch file files (classing.Wrong at line kinds.WrongArch) status e h =
+      of_status words (of_files arch (file ∷ files)) status (statuses.BadText (Some at) line texts.WrongArch) e (h, record { out = h.both.classified.1; files = h.both.stay })
+  named_caused words arch file files (classing.Wrong at line kinds.NoCycle) status e h =
+      of_status words (of_files arch (file ∷ files)) status (statuses.BadText (Some at) line texts.NoCycle) e (h, record { out = h.both.classified.1; files = h.both.stay })
+  named_caused words arch file files (classing.NoFile word) status e h =
+      of_status words (of_files arch (file ∷ files)) status (statuses.NoFile word) e (inr (h, record { out = h.both.classified.1; files = h.both.stay }))
+  named_caused words arch file files classing.ShelfFault status e h =
+      of_status words (of_files arch (file ∷ files)) status (statuses.ReadFault Shelf) e
+      (h.both.classified.0.fault, inr (h, record { out = h.both.classified.1; files = h.both.stay }))
+  named_caused words arch file files classing.NoMemory status e h =
+      of_status words (of_files arch (file ∷ files)) status statuses.NoMemory e (tt, record { out = h.both.classified; files = h.both.stay })
+
+  classify_caused : (words : List (List ℕ)) (arch : ArchName) (files : List ℕ) (status : Status) → AnswersClassify words arch files status old new
+      → CausesAsked words (of_files arch files) status old new
+  classify_caused words arch [] status h = families_caused words arch h.both.result status h.shelf h.both.status_is h.both.classifies
+  classify_caused words arch (file ∷ files) status h = named_caused words arch file files h.end status h.status_is h.ends
 
   files_caused : (tool log : List ℕ) (logs : List (List ℕ)) (end : SumEnd) (status : Status) → status ≡ sum_status end
       → EndsSum (tool ∷ log ∷ logs) end old new → CausesAsked (tool ∷ log ∷ logs) (Ok AsksSum) status old new
@@ -199,11 +232,11 @@ module _ (old new : Devices) where
       (file_opened old.shelf new.shelf (tool ∷ log ∷ logs) 1 file line h.both.summed.0, file_far old.shelf new.shelf (tool ∷ log ∷ logs) 1 file line h.both.summed.0, (h, record { out = h.both.summed.1; files = h.both.files }))
   files_caused tool log logs (sums.NoFile word) status e h =
       of_status (tool ∷ log ∷ logs) (Ok AsksSum) status (statuses.NoFile word) e
-      (h.both.summed.0, (h, record { out = h.both.summed.1; files = h.both.files }))
+      (inl (h.both.summed.0, (h, record { out = h.both.summed.1; files = h.both.files })))
   files_caused tool log logs sums.InputFault status e h = absurd h.both.summed
   files_caused tool log logs sums.ShelfFault status e h =
       of_status (tool ∷ log ∷ logs) (Ok AsksSum) status (statuses.ReadFault Shelf) e
-      (h.both.summed.0.fault, (h, record { out = h.both.summed.1; files = h.both.files }))
+      (h.both.summed.0.fault, inl (h, record { out = h.both.summed.1; files = h.both.files }))
   files_caused tool log logs sums.NoMemory status e h =
       of_status (tool ∷ log ∷ logs) (Ok AsksSum) status statuses.NoMemory e (tt, record { out = h.both.summed; files = h.both.files })
 
@@ -243,7 +276,7 @@ module _ (old new : Devices) where
   asked_caused words (Ok (AsksList asked)) status h = list_caused words asked h.both.end status h.input h.both.status_is h.both.ends
   asked_caused words (Ok (AsksCross asked)) status h = cross_caused words asked status h.input h.both
   asked_caused words (Ok (AsksDemo asked)) status h = demo_caused words asked status h.input h.shelf h.out
-  asked_caused words (Ok (AsksFamilies arch)) status h = families_caused words arch h.both.result status h.shelf h.both.status_is h.both.classifies
+  asked_caused words (Ok (AsksFamilies asked)) status h = classify_caused words asked.arch asked.files status h
   asked_caused words (Ok AsksSum) status h = sum_caused words h.end status h.status_is h.ends
 
 -- what is answered has its cause

@@ -1,7 +1,7 @@
 -- That what can be done is done, from what is answered.
 use Rattle.std.proofs.Common.{◌≡◌, ◌≤◌, ◌<◌, ◌+◌, ◌^◌, ◌++◌, ℕ, suc, Bool, true, List, [], ◌∷◌, length, get_or, Option}
 use Rattle.std.proofs.Common.{Some, None, Ok, Err, refl, sym, ap, subst, arith, inl, inr, ◌∙◌, length-append}
-use Rattle.std.specs.Prelude.{Result, MatchOption, slice_get, slice_index_or, unwrap_or, is_ok}
+use Rattle.std.specs.Prelude.{Result, MatchOption, map, slice_get, slice_index_or, unwrap_or, is_ok}
 use Rattle.std.specs.List.{list_all}
 use Rattle.std.specs.Result.{result_err}
 use Rattle.std.specs.Io.KnownBytes.{Consumes}
@@ -20,6 +20,11 @@ use Rattle.cycle_lines.specs.Classified.{Classifies}
 use Rattle.cycle_lines.specs.Cycles.{is_sound, line_said}
 use Rattle.cycle_lines.specs.Normed.{Norms, name_line}
 use Rattle.cycle_lines.specs.Reading.{ReadUpTo, ReadToFault, ReadToLimit, whole_of}
+use Rattle.classified_files.specs.declared.errors.FileError.{FileError}
+use Rattle.classified_files.specs.declared.errors.FilesEnd.{FilesEnd}
+use Rattle.classified_files.specs.declared.errors.FilesEnd.TheVariants as classing
+use Rattle.classified_files.specs.FilesEnds.{AreNamed, FileWrong, FilesClassified, IsAtPlace, SayCycles, name_at, said_on}
+use Rattle.classified_files.specs.FilesEnds as classed
 use Rattle.diy_io.specs.declared.source.TheConstants.{MAX_INPUT}
 use Rattle.diy_io.specs.Count.{Rose}
 use Rattle.diy_io.specs.Shelf.{Files, ShelfSeen}
@@ -35,7 +40,9 @@ use Rattle.log_sum.specs.Standing.{logs_text}
 use Rattle.summed_logs.specs.declared.sum_end.SumEnd.{SumEnd}
 use Rattle.summed_logs.specs.declared.sum_end.SumEnd.TheVariants as sums
 use Rattle.summed_logs.specs.Logs.{IsText, IsShort, IsTooMuch, AreRight}
-use Rattle.summed_logs.specs.SumEnds.{IsLog, AreLogs, IsAtWord, FilesSummed, InputWrong, FileWrong, FileTooMuch, FileMissing}
+use Rattle.opened_files.specs.Opened.{IsFile}
+use Rattle.summed_logs.specs.SumEnds.{AreLogs, IsAtWord, FilesSummed, InputWrong, FileTooMuch, FileMissing}
+use Rattle.summed_logs.specs.SumEnds as summed
 use Rattle.diy_tools.specs.declared.status.Status.{Status}
 use Rattle.diy_tools.specs.declared.status.Refusal.{Refusal}
 use Rattle.diy_tools.proofs.Opened.{long_taken}
@@ -44,13 +51,14 @@ use Rattle.diy_tools.specs.Refused.{refused_list}
 use Rattle.diy_tools.specs.Statuses.{norm_status, classify_status, listing_status}
 use Rattle.diy_tools.specs.Printing.{AnswersEdges, Prints}
 use Rattle.diy_tools.specs.TestAnswers.{asked_text, test_refused}
+use Rattle.diy_tools.specs.FamilyAnswers.{AnswersClassify, files_status, read_on}
 use Rattle.diy_tools.specs.NameAnswers.{AnswersName, AnswersSought}
 use Rattle.diy_tools.specs.ListAnswers.{EndsAsked}
 use Rattle.diy_tools.specs.CrossAnswers.{AnswersCross, EndsCrossed}
 use Rattle.diy_tools.specs.DemoAnswers.{demo_asked}
 use Rattle.diy_tools.specs.SumAnswers.{EndsInput, EndsSum, sum_status}
 use Rattle.diy_tools.specs.Answers.{Answers, AnswersAsked}
-use Rattle.diy_tools.specs.Complete.{Complete, CanBeDone, CanName, CanSum, IsSoundText, IsRightLog, AreRightLogs, OfItsText, OfItsFiles, NoFaults, IsDone}
+use Rattle.diy_tools.specs.Complete.{Complete, CanBeDone, CanName, CanSum, CanClassify, AreRightTests, IsSoundText, IsRightLog, AreRightLogs, OfItsText, OfItsFiles, NoFaults, IsDone}
 use Rattle.diy_tools.proofs.Caused.{by_print, listing_failed, crossing_failed}
 
 -- what was taken of a source and what is left of it are a text that it can have
@@ -142,14 +150,91 @@ demo_done : (asked : DemoAsked) (status : Status) (before after : SinkSeen) → 
 demo_done asked status before after none h =
     by_print (λ s. IsDone (Ok (AsksDemo asked)) s) (demo_asked asked) status before after h (λ wrote. inl refl) (λ wrote. absurd (none wrote.fault))
 
+-- what classify7 is asked for
+abbrev of_files : ArchName → List ℕ → Result Asked Usage
+of_files arch files = Ok (AsksFamilies (record { arch = arch; files = files }))
+
 families_done : (arch : ArchName) (result : Result (Unit {0}) ClassifyError) (status : Status) (old new : Devices) → NoFaults old new
     → OfItsText old.input.left (IsSoundText arch) → status ≡ classify_status result
-    → Classifies arch old.input new.input old.out new.out result → IsDone (Ok (AsksFamilies arch)) status
+    → Classifies arch old.input new.input old.out new.out result → IsDone (of_files arch []) status
 families_done arch (Ok x) status old new none sound e h = inl e
 families_done arch (Err classifies.OutFault) status old new none sound e h = absurd (none.out h.wrote.fault)
 families_done arch (Err (classifies.Lines error)) status old new none sound e h =
     absurd (sound_stop arch old.input new.input h.0.cycles error sound none.input h.0.read)
 families_done arch (Err classifies.NoMemory) status old new none sound e h = inr (e, tt)
+
+-- a text that a file has
+told_file : (told : Option Files) (files : Files) (name text : List ℕ) → told ≡ Some files → IsFile told name text → files name ≡ Some text
+told_file told files name text e h = let here : IsFile (Some files) name text = subst (λ (t : Option Files). IsFile t name text) e h in here
+
+-- the file of a place among places whose files say cycles is there, and says one
+record SaysAt (files : Files) (arch : ArchName) (name : List ℕ) : Type 0 where
+  text : List ℕ
+  there : files name ≡ Some text
+  cycle : List Edge
+  says : said_on (read_on arch) text ≡ Ok cycle
+
+says_at : (files : Files) (words : List (List ℕ)) (arch : ArchName) (place : ℕ) (before after : List ℕ) (texts : List (List ℕ)) (cycles : List (List Edge))
+    → AreNamed (Some files) words (before ++ place ∷ after) texts → SayCycles (read_on arch) texts cycles → SaysAt files arch (name_at words place)
+says_at files words arch place [] after (text ∷ texts) (cycle ∷ cycles) named say =
+    let first : said_on (read_on arch) text ≡ Ok cycle = cc say in
+    record { text = text; there = named.0; cycle = cycle; says = first }
+says_at files words arch place [] after (text ∷ texts) [] named say = cc say
+says_at files words arch place [] after [] cycles named say = absurd named
+says_at files words arch place (p ∷ before) after (text ∷ texts) (cycle ∷ cycles) named say =
+    let rest : map (said_on (read_on arch)) texts ≡ map Ok cycles = cc say in
+    says_at files words arch place before after texts cycles named.1 rest
+says_at files words arch place (p ∷ before) after (text ∷ texts) [] named say = cc say
+says_at files words arch place (p ∷ before) after [] cycles named say = absurd named
+
+module _ (words : List (List ℕ)) (files : Files) (arch : ArchName) (places : List ℕ) (right : AreRightTests files words arch places) where
+  right_at : (told : Option Files) (place : ℕ) (texts : List (List ℕ)) → IsAtPlace (read_on arch) told words places place texts → SaysAt files arch (name_at words place)
+  right_at told place texts h =
+      says_at files words arch place h.before h.after right.texts right.cycles
+      (subst (λ (ps : List ℕ). AreNamed (Some files) words ps right.texts) h.parts right.read.named) right.read.say
+
+  tests_wrong : (old new : ShelfSeen) (place : ℕ) (error : FileError) → old.files ≡ Some files → FileWrong (read_on arch) old new words places place error → ⊥
+  tests_wrong old new place error e h =
+      let here = right_at old.files place h.texts h.place_is in
+      let same : Some here.text ≡ Some h.text = sym here.there ∙ told_file old.files files (name_at words place) h.text e h.named in
+      let text : here.text ≡ h.text = cc same in
+      let both : Ok here.cycle ≡ Err error = sym here.says ∙ ap (said_on (read_on arch)) text ∙ h.fault in cc both
+
+  test_there : (old new : ShelfSeen) (place : ℕ) → old.files ≡ Some files → classed.FileMissing (read_on arch) old new words places place → ⊥
+  test_there old new place e h =
+      let here = right_at old.files place h.texts h.place_is in
+      let gone : files (name_at words place) ≡ None = absent old.files e h.absent in
+      let both : None ≡ Some here.text = sym gone ∙ here.there in cc both
+    where
+      absent : (told : Option Files) → told ≡ Some files → MatchOption told (Rose old.faults new.faults) (λ there. there (name_at words place) ≡ None)
+          → files (name_at words place) ≡ None
+      absent told e a =
+          let here : MatchOption (Some files) (Rose old.faults new.faults) (λ there. there (name_at words place) ≡ None) =
+          subst (λ (t : Option Files). MatchOption t (Rose old.faults new.faults) (λ there. there (name_at words place) ≡ None)) e a in here
+
+  tests_done : (status : Status) (old new : ShelfSeen) (before after : SinkSeen) (end : FilesEnd) → old.files ≡ Some files
+      → (Rose old.faults new.faults → ⊥) → (Rose before.faults after.faults → ⊥)
+      → status ≡ files_status end → FilesClassified (read_on arch) old new words places before after end → IsDone (of_files arch places) status
+  tests_done status old new before after classing.Done told none none_out e h = inl e
+  tests_done status old new before after classing.OutFault told none none_out e h = absurd (none_out h.wrote.fault)
+  tests_done status old new before after (classing.Wrong file line kind) told none none_out e h = absurd (tests_wrong old new file _ told h.0)
+  tests_done status old new before after (classing.NoFile word) told none none_out e h = absurd (test_there old new word told h.0)
+  tests_done status old new before after classing.ShelfFault told none none_out e h = absurd (none h.0.fault)
+  tests_done status old new before after classing.NoMemory told none none_out e h = inr (e, tt)
+
+named_done : (words : List (List ℕ)) (arch : ArchName) (places : List ℕ) (status : Status) (old new : ShelfSeen) (before after : SinkSeen) (end : FilesEnd)
+    (told : Option Files) → old.files ≡ told
+    → OfItsFiles told (λ files. AreRightTests files words arch places) → (Rose old.faults new.faults → ⊥) → (Rose before.faults after.faults → ⊥)
+    → status ≡ files_status end → FilesClassified (read_on arch) old new words places before after end → IsDone (of_files arch places) status
+named_done words arch places status old new before after end None told right none none_out e h = absurd right
+named_done words arch places status old new before after end (Some files) told right none none_out e h =
+    tests_done words files arch places right status old new before after end told none none_out e h
+
+classify_done : (words : List (List ℕ)) (arch : ArchName) (files : List ℕ) (status : Status) (old new : Devices) → NoFaults old new
+    → CanClassify words arch files old → AnswersClassify words arch files status old new → IsDone (of_files arch files) status
+classify_done words arch [] status old new none can h = families_done arch h.both.result status old new none can h.both.status_is h.both.classifies
+classify_done words arch (file ∷ files) status old new none can h =
+    named_done words arch (file ∷ files) status old.shelf new.shelf old.out new.out h.end old.shelf.files refl can none.shelf none.out h.status_is h.ends.both.classified
 
 -- logs that have a sum have no fault
 right_wrong : (logs others : List (List ℕ)) (error : LogError) → AreRight logs → logs ≡ others → logs_text others ≡ Err error → ⊥
@@ -199,8 +284,8 @@ splits (b ∷ before) (y ∷ all) x same here =
     (rest.0, ap (λ z. z ∷ all) first ∙ ap (λ zs. b ∷ zs) rest.1)
 
 -- the log of a word is the one that the file of its name has
-told_log : (told : Option Files) (files : Files) (name log : List ℕ) → told ≡ Some files → IsLog told name log → files name ≡ Some log
-told_log told files name log e h = let here : IsLog (Some files) name log = subst (λ (t : Option Files). IsLog t name log) e h in here
+told_log : (told : Option Files) (files : Files) (name log : List ℕ) → told ≡ Some files → IsFile told name log → files name ≡ Some log
+told_log told files name log e h = let here : IsFile (Some files) name log = subst (λ (t : Option Files). IsFile t name log) e h in here
 
 module _ (words : List (List ℕ)) (files : Files) (right : AreRightLogs files words) where
   -- at each place behind the first word there is a log
@@ -233,7 +318,7 @@ module _ (words : List (List ℕ)) (files : Files) (right : AreRightLogs files w
             (at_word (length before) inside ∙ sym (slice_get-get_or right.logs (length before) [] inside)),
       )
 
-  files_wrong : (old new : ShelfSeen) (place : ℕ) (error : LogError) → old.files ≡ Some files → FileWrong old new words 1 place error → ⊥
+  files_wrong : (old new : ShelfSeen) (place : ℕ) (error : LogError) → old.files ≡ Some files → summed.FileWrong old new words 1 place error → ⊥
   files_wrong old new place error e h =
       let spot = word_log old.files place h.before h.name h.place_is in
       let parts = splits h.before right.logs h.log
@@ -292,8 +377,7 @@ asked_done words (Ok (AsksName asked)) status old new h can none =
 asked_done words (Ok (AsksList asked)) status old new h can none = list_done asked h.both.end status old new none h.both.status_is h.both.ends
 asked_done words (Ok (AsksCross asked)) status old new h can none = cross_done asked status old new none h.both
 asked_done words (Ok (AsksDemo asked)) status old new h can none = demo_done asked status old.out new.out none.out h.out
-asked_done words (Ok (AsksFamilies arch)) status old new h can none =
-    families_done arch h.both.result status old new none can h.both.status_is h.both.classifies
+asked_done words (Ok (AsksFamilies asked)) status old new h can none = classify_done words asked.arch asked.files status old new none can h
 asked_done words (Ok AsksSum) status old new h can none = of_words words can h.ends
   where
     of_words : (words : List (List ℕ)) → CanSum words old → EndsSum words h.end old new → IsDone (Ok AsksSum) status

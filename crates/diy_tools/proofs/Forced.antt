@@ -199,7 +199,7 @@ asked_force words status old new h = of_asked (asked_of words) refl h
     of_asked (Ok (AsksList asked)) e h = of_list asked h.both
     of_asked (Ok (AsksCross asked)) e h = of_cross asked h.both
     of_asked (Ok (AsksDemo asked)) e h = tt
-    of_asked (Ok (AsksFamilies arch)) e h = tt
+    of_asked (Ok (AsksFamilies asked)) e h = tt
     of_asked (Ok AsksSum) e h = tt
     of_asked (Ok (AsksTest asked)) e h = of_test asked e h.out
 

@@ -4,6 +4,7 @@ pub mod Forced
 pub mod Listed
 pub mod Crossed
 pub mod Summed
+pub mod Classed
 pub mod Caused
 pub mod Completed
 pub mod Limits

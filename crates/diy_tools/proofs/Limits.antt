@@ -1,5 +1,5 @@
 -- What is answered after more than 2^40 bytes, from what is answered.
-use Rattle.std.proofs.Common.{◌≡◌, ◌≤◌, ◌<◌, ◌+◌, ◌^◌, ℕ, List, [], ◌∷◌, length, Option, None, Ok, Err, sym, ap, subst, arith, inl, inr}
+use Rattle.std.proofs.Common.{◌≡◌, ◌≤◌, ◌<◌, ◌+◌, ◌^◌, ℕ, List, [], ◌∷◌, length, Option, None, Some, Ok, Err, sym, ap, subst, arith, inl, inr}
 use Rattle.std.specs.Prelude.{Result, ◌⊎◌}
 use Rattle.relax_edges.specs.declared.edge.Edge.{Edge}
 use Rattle.relax_edges.specs.declared.kinds.ArchName.{ArchName}
@@ -9,6 +9,9 @@ use Rattle.cycle_lines.specs.declared.errors.NormError.TheVariants as norms
 use Rattle.cycle_lines.specs.declared.errors.ClassifyError.{ClassifyError}
 use Rattle.cycle_lines.specs.declared.errors.ClassifyError.TheVariants as classifies
 use Rattle.cycle_lines.specs.Classified.{Classifies}
+use Rattle.classified_files.specs.declared.errors.FilesEnd.{FilesEnd}
+use Rattle.classified_files.specs.declared.errors.FilesEnd.TheVariants as classing
+use Rattle.classified_files.proofs.FewLaws.{classified_few}
 use Rattle.cycle_lines.specs.Normed.{Norms}
 use Rattle.cycle_lines.specs.Reading.{TookUpTo}
 use Rattle.diy_io.specs.declared.source.TheConstants.{MAX_INPUT}
@@ -32,6 +35,7 @@ use Rattle.diy_tools.specs.declared.status.TextKind.{TextKind}
 use Rattle.diy_tools.specs.declared.status.TextKind.TheVariants as texts
 use Rattle.diy_tools.specs.Devices.{Devices, Seen, devices}
 use Rattle.diy_tools.specs.Statuses.{norm_status, classify_status}
+use Rattle.diy_tools.specs.FamilyAnswers.{AnswersClassify, EndsFamilies, file_kind, files_status, read_on}
 use Rattle.diy_tools.specs.NameAnswers.{AnswersSought}
 use Rattle.diy_tools.specs.ListAnswers.{EndsAsked, plan_asked}
 use Rattle.diy_tools.specs.CrossAnswers.{AnswersCross, EndsCrossed}
@@ -39,6 +43,10 @@ use Rattle.diy_tools.specs.SumAnswers.{EndsInput, EndsSum, sum_status}
 use Rattle.diy_tools.specs.Answers.{Answers, AnswersAsked}
 use Rattle.diy_tools.proofs.Opened.{IsWithin, files_within, failed_within}
 use Rattle.diy_tools.specs.Limit.{Limited, StopsReading, TookTooMuch}
+
+-- what classify7 is asked for
+abbrev of_files : ArchName → List ℕ → Result Asked Usage
+of_files arch files = Ok (AsksFamilies (record { arch = arch; files = files }))
 
 -- at most 2^40 bytes were taken of the input, as far as they are counted
 abbrev InputWithin : SourceSeen → SourceSeen → Type 0
@@ -113,15 +121,30 @@ module _ (old new : Devices) (much : TookTooMuch old new) where
 
   families_limit : (arch : ArchName) (result : Result (Unit {0}) ClassifyError) (status : Status)
       → IsWithin old.shelf new.shelf → status ≡ classify_status result
-      → Classifies arch old.input new.input old.out new.out result → StopsReading (Ok (AsksFamilies arch)) status
+      → Classifies arch old.input new.input old.out new.out result → StopsReading (of_files arch []) status
   families_limit arch (Ok x) status shelf e h = absurd (neither (upto_within old.input new.input h.read.text (inl h.read.took) h.read.few) shelf)
   families_limit arch (Err classifies.OutFault) status shelf e h =
       absurd (neither (upto_within old.input new.input h.read.text (inl h.read.took) h.read.few) shelf)
-  families_limit arch (Err (classifies.Lines (lines.Wrong line kind))) status shelf e h = wrong (Ok (AsksFamilies arch)) status None line (texts.Line kind) e
-  families_limit arch (Err (classifies.Lines (lines.TooMuch line))) status shelf e h = wrong (Ok (AsksFamilies arch)) status None line texts.TooMuch e
+  families_limit arch (Err (classifies.Lines (lines.Wrong line kind))) status shelf e h = wrong (of_files arch []) status None line (texts.Line kind) e
+  families_limit arch (Err (classifies.Lines (lines.TooMuch line))) status shelf e h = wrong (of_files arch []) status None line texts.TooMuch e
   families_limit arch (Err (classifies.Lines lines.InputFault)) status shelf e h =
       absurd (neither (upto_within old.input new.input h.0.read.text h.0.read.took h.0.read.few) shelf)
-  families_limit arch (Err classifies.NoMemory) status shelf e h = subst (λ (s : Status). StopsReading (Ok (AsksFamilies arch)) s) (sym e) tt
+  families_limit arch (Err classifies.NoMemory) status shelf e h = subst (λ (s : Status). StopsReading (of_files arch []) s) (sym e) tt
+
+  -- classify7 over files
+  named_limit : (words : List (List ℕ)) (arch : ArchName) (file : ℕ) (files : List ℕ) (end : FilesEnd) (status : Status) → status ≡ files_status end
+      → EndsFamilies words arch (file ∷ files) end old new → StopsReading (of_files arch (file ∷ files)) status
+  named_limit words arch file files (classing.Wrong at line kind) status e h = wrong (of_files arch (file ∷ files)) status (Some at) line (file_kind kind) e
+  named_limit words arch file files classing.NoMemory status e h = subst (λ (s : Status). StopsReading (of_files arch (file ∷ files)) s) (sym e) tt
+  named_limit words arch file files end status e h =
+      absurd (neither (same_input old.input new.input h.input)
+      (λ more. omega (arith, classified_few (read_on arch) old.shelf new.shelf words (file ∷ files) old.out new.out end h.both.classified (λ none. cc none) more)))
+
+  classify_limit : (words : List (List ℕ)) (arch : ArchName) (files : List ℕ) (status : Status) → AnswersClassify words arch files status old new
+      → StopsReading (of_files arch files) status
+  classify_limit words arch [] status h =
+      families_limit arch h.both.result status (same_shelf old.shelf new.shelf (ap (λ (s : ShelfSeen). s.opened) h.shelf)) h.both.status_is h.both.classifies
+  classify_limit words arch (file ∷ files) status h = named_limit words arch file files h.end status h.status_is h.ends
 
   files_limit : (tool log : List ℕ) (logs : List (List ℕ)) (end : SumEnd) (status : Status) → status ≡ sum_status end
       → EndsSum (tool ∷ log ∷ logs) end old new → StopsReading (Ok AsksSum) status
@@ -172,8 +195,7 @@ module _ (old new : Devices) (much : TookTooMuch old new) where
       (same_shelf old.shelf new.shelf (cross_opens asked status old.shelf new.shelf old.out new.out h.both)))
   asked_limit words (Ok (AsksDemo asked)) status h =
       absurd (neither (same_input old.input new.input h.input) (same_shelf old.shelf new.shelf (ap (λ (s : ShelfSeen). s.opened) h.shelf)))
-  asked_limit words (Ok (AsksFamilies arch)) status h =
-      families_limit arch h.both.result status (same_shelf old.shelf new.shelf (ap (λ (s : ShelfSeen). s.opened) h.shelf)) h.both.status_is h.both.classifies
+  asked_limit words (Ok (AsksFamilies asked)) status h = classify_limit words asked.arch asked.files status h
   asked_limit words (Ok AsksSum) status h = sum_limit words h.end status h.status_is h.ends
 
 -- what is answered keeps to the limit of what is read

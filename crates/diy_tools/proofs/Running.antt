@@ -26,7 +26,7 @@ use Rattle.diy_tools.specs.SumAnswers.{AnswersSum}
 use Rattle.test_maker.specs.CycleText.{cycle_text}
 use Rattle.diy_words.specs.declared.request.Sought.{Sought}
 use Rattle.diy_words.specs.declared.request.Sought.TheVariants as sought
-use Rattle.diy_words.specs.Requests.{Asked, ListAsked, AsksTest, AsksName, AsksList, AsksFamilies, AsksSum, AsksCross, AsksDemo, OfEdges, OfName, OfLines, asked_of}
+use Rattle.diy_words.specs.Requests.{Asked, ListAsked, AsksTest, AsksName, AsksList, AsksSum, AsksCross, AsksDemo, OfEdges, OfName, OfLines, asked_of}
 use Rattle.diy_words.specs.Requests as words
 use Rattle.diy_words.specs.Given.{IsSought, Gives, list_kept}
 use Rattle.diy_words.specs.declared.usage.Usage.{Usage}
@@ -50,7 +50,6 @@ use Rattle.diy_tools.specs.Report.{RefusesLocation}
 use Rattle.diy_tools.specs.Printing.{AnswersEdges, Prints}
 use Rattle.diy_tools.specs.TestAnswers.{test_name}
 use Rattle.diy_tools.specs.NameAnswers.{AnswersName, AnswersSought}
-use Rattle.diy_tools.specs.FamilyAnswers.{AnswersFamilies}
 use Rattle.diy_tools.specs.ListAnswers.{AnswersList}
 use Rattle.diy_tools.specs.Answers.{Answers, AnswersAsked}
 use Rattle.diy_tools.specs.Kept.{AnswersKept, refused_kept, refused_edges, edges_kept, name_kept, MakesCycle}
@@ -213,16 +212,6 @@ list_answered words request status input old new before after given h = of_asked
   where
     of_asked : (asked : Result Asked Usage) → Gives (Ok (requests.List request)) asked → AnswersAsked words asked status (devices (input, before, old)) (devices (input, after, new))
     of_asked (Ok (AsksList asked)) g = record { input = refl; both = subst (λ (l : ListAsked). AnswersList l status old new before after) g h }
-    of_asked asked g = absurd g
-
--- what is answered of a request for families
-pub families_answered : (words : List (List ℕ)) (arch : ArchName) (status : Status) (shelf : ShelfSeen) (old new : SourceSeen) (before after : SinkSeen)
-    → Gives (Ok (requests.Families arch)) (asked_of words)
-    → AnswersFamilies arch status old new before after → Answers words status (old, before, shelf) (new, after, shelf)
-families_answered words arch status shelf old new before after given h = of_asked (asked_of words) given
-  where
-    of_asked : (asked : Result Asked Usage) → Gives (Ok (requests.Families arch)) asked → AnswersAsked words asked status (devices (old, before, shelf)) (devices (new, after, shelf))
-    of_asked (Ok (AsksFamilies asked)) g = record { shelf = refl; both = subst (λ (a : ArchName). AnswersFamilies a status old new before after) g h }
     of_asked asked g = absurd g
 
 -- what is answered of a request for a sum

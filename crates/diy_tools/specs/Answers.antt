@@ -8,7 +8,7 @@ use Rattle.diy_tools.specs.declared.status.Status.TheVariants as statuses
 use Rattle.diy_tools.specs.Devices.{Devices, OutAlone, InputAndOut, ShelfAndOut, Seen, devices}
 use Rattle.diy_tools.specs.TestAnswers.{AnswersTest}
 use Rattle.diy_tools.specs.NameAnswers.{AnswersSought}
-use Rattle.diy_tools.specs.FamilyAnswers.{AnswersFamilies}
+use Rattle.diy_tools.specs.FamilyAnswers.{AnswersClassify}
 use Rattle.diy_tools.specs.ListAnswers.{AnswersList}
 use Rattle.diy_tools.specs.CrossAnswers.{AnswersCross}
 use Rattle.diy_tools.specs.DemoAnswers.{demo_asked}
@@ -23,7 +23,7 @@ AnswersAsked words (Ok (AsksTest asked)) status old new = OutAlone (AnswersTest 
 AnswersAsked words (Ok (AsksName asked)) status old new = InputAndOut (AnswersSought asked.arch asked.cycle status) old new
 AnswersAsked words (Ok (AsksList asked)) status old new = ShelfAndOut (AnswersList asked status) old new
 AnswersAsked words (Ok (AsksCross asked)) status old new = ShelfAndOut (AnswersCross asked status) old new
-AnswersAsked words (Ok (AsksFamilies arch)) status old new = InputAndOut (AnswersFamilies arch status) old new
+AnswersAsked words (Ok (AsksFamilies asked)) status old new = AnswersClassify words asked.arch asked.files status old new
 AnswersAsked words (Ok AsksSum) status old new = AnswersSum words status old new
 AnswersAsked words (Ok (AsksDemo asked)) status old new = OutAlone (Prints (demo_asked asked) status) old new
 

@@ -1,12 +1,16 @@
 -- Why a call ends with its status, and what then stands on the devices: one cause for each status.
 -- Source: own.
-use Rattle.std.specs.Prelude.{◌≡◌, ◌≤◌, ◌<◌, ◌+◌, ◌^◌, ◌⊎◌, ℕ, List, Option, Some, None, Result, Ok, Err}
+use Rattle.std.specs.Prelude.{◌≡◌, ◌≤◌, ◌<◌, ◌+◌, ◌^◌, ◌⊎◌, ℕ, List, [], ◌∷◌, Option, Some, None, Result, Ok, Err}
 use Rattle.relax_edges.specs.declared.kinds.ArchName.{ArchName}
 use Rattle.cycle_names.specs.Laws.{NamesNone}
 use Rattle.cycle_lines.specs.declared.errors.LinesError.{LinesError}
 use Rattle.cycle_lines.specs.declared.errors.LinesError.TheVariants as lines
 use Rattle.cycle_lines.specs.Classified.{ClassifiedAll, ClassifiedPart, ReadsUpTo}
 use Rattle.cycle_lines.specs.Normed.{NormedAll, NormedPart, NormedUpTo, name_line}
+use Rattle.classified_files.specs.declared.errors.FilesEnd.{FilesEnd}
+use Rattle.classified_files.specs.declared.errors.FilesEnd.TheVariants as classing
+use Rattle.classified_files.specs.declared.errors.FileKind.{FileKind}
+use Rattle.classified_files.specs.declared.errors.FileKind.TheVariants as kinds
 use Rattle.diy_io.specs.Count.{Rose, count_of}
 use Rattle.diy_io.specs.Taken.{SourceSeen}
 use Rattle.diy_io.specs.Wrote.{SinkSeen, WroteAll, WrotePart}
@@ -26,6 +30,7 @@ use Rattle.diy_tools.specs.declared.status.Device.TheVariants.{Input, Out, Shelf
 use Rattle.diy_tools.specs.Devices.{Devices, OutAlone, InputAndOut, ShelfAndOut, Seen, devices}
 use Rattle.diy_tools.specs.CrossAnswers.{EndsCrossed}
 use Rattle.diy_tools.specs.DemoAnswers.{demo_asked}
+use Rattle.diy_tools.specs.FamilyAnswers.{EndsFamilies}
 use Rattle.diy_tools.specs.ListAnswers.{EndsAsked}
 use Rattle.diy_tools.specs.Memory.{MayWantMemory}
 use Rattle.diy_tools.specs.NameAnswers.{PrintsNamed}
@@ -68,9 +73,19 @@ asked_refused _ = None
 abbrev pub LinesStop : Result Asked Usage → LinesError → Devices → Devices → Type 0
 LinesStop (Ok (AsksName asked)) error old new =
     (asked.cycle ≡ OfLines) × InputAndOut (λ input input' out out'. NormedUpTo asked.arch input input' out out' error) old new
-LinesStop (Ok (AsksFamilies arch)) error old new =
-    InputAndOut (λ input input' out out'. ReadsUpTo arch input input' error × (out' ≡ out)) old new
+LinesStop (Ok (AsksFamilies asked)) error old new =
+    (asked.files ≡ []) × InputAndOut (λ input input' out out'. ReadsUpTo asked.arch input input' error × (out' ≡ out)) old new
 LinesStop _ error old new = ⊥
+
+-- classify7 reads files, up to where they can't be read on, and nothing is written
+abbrev pub FilesStop : List (List ℕ) → Result Asked Usage → FilesEnd → Devices → Devices → Type 0
+FilesStop words (Ok (AsksFamilies asked)) end old new = EndsFamilies words asked.arch asked.files end old new × NothingWritten old new
+FilesStop words _ end old new = ⊥
+
+-- the file of the word at a place has this fault
+abbrev pub FileStops : List (List ℕ) → Result Asked Usage → Option ℕ → ℕ → FileKind → Devices → Devices → Type 0
+FileStops words asked (Some file) line kind old new = FilesStop words asked (classing.Wrong file line kind) old new
+FileStops words asked None line kind old new = ⊥
 
 -- msum7 reads logs, up to where they can't be read on, and nothing is written
 abbrev pub SumStops : List (List ℕ) → Result Asked Usage → SumEnd → Devices → Devices → Type 0
@@ -100,6 +115,16 @@ NamesAll arch (OfEdges edges) old new before after =
 NamesAll arch (OfName at name) old new before after = (new ≡ old) × PrintsNamed arch name statuses.Done before after
 NamesAll arch OfLines old new before after = NormedAll arch old new before after
 
+-- classify7 has written all families
+abbrev pub FamiliesAll : List (List ℕ) → ArchName → List ℕ → Devices → Devices → Type 0
+FamiliesAll words arch [] old new = InputAndOut (ClassifiedAll arch) old new
+FamiliesAll words arch (file ∷ files) old new = EndsFamilies words arch (file ∷ files) classing.Done old new
+
+-- classify7 has written a prefix of them
+abbrev pub FamiliesPart : List (List ℕ) → ArchName → List ℕ → Devices → Devices → Type 0
+FamiliesPart words arch [] old new = InputAndOut (ClassifiedPart arch) old new
+FamiliesPart words arch (file ∷ files) old new = EndsFamilies words arch (file ∷ files) classing.OutFault old new
+
 -- what was asked for is written, and what the tool reads was read to its end
 abbrev pub Finishes : List (List ℕ) → Result Asked Usage → Devices → Devices → Type 0
 Finishes words (Err usage) old new = ⊥
@@ -109,7 +134,7 @@ Finishes words (Ok (AsksName asked)) old new = InputAndOut (NamesAll asked.arch 
 Finishes words (Ok (AsksList asked)) old new = ShelfAndOut (EndsAsked asked listings.Done) old new
 Finishes words (Ok (AsksCross asked)) old new = ShelfAndOut (EndsCrossed asked listings.Done) old new
 Finishes words (Ok (AsksDemo asked)) old new = OutAlone (λ out out'. WroteAll out out' (demo_asked asked)) old new
-Finishes words (Ok (AsksFamilies arch)) old new = InputAndOut (ClassifiedAll arch) old new
+Finishes words (Ok (AsksFamilies asked)) old new = FamiliesAll words asked.arch asked.files old new
 Finishes words (Ok AsksSum) old new = EndsSum words sums.Done old new
 
 -- norm7 has written a prefix of the lines, over lines of cycles of those before the first fault of what was read
@@ -128,7 +153,7 @@ OutStops words (Ok (AsksName asked)) old new = InputAndOut (NamesPart asked.arch
 OutStops words (Ok (AsksList asked)) old new = ShelfAndOut (EndsAsked asked listings.OutFault) old new
 OutStops words (Ok (AsksCross asked)) old new = ShelfAndOut (EndsCrossed asked listings.OutFault) old new
 OutStops words (Ok (AsksDemo asked)) old new = OutAlone (λ out out'. WrotePart out out' (demo_asked asked)) old new
-OutStops words (Ok (AsksFamilies arch)) old new = InputAndOut (ClassifiedPart arch) old new
+OutStops words (Ok (AsksFamilies asked)) old new = FamiliesPart words asked.arch asked.files old new
 OutStops words (Ok AsksSum) old new = EndsSum words sums.OutFault old new
 
 -- the cause of a status, and what stands
@@ -143,18 +168,24 @@ CausesAsked words asked (statuses.Usage word kind) old new = IsUsage asked word 
 CausesAsked words asked (statuses.BadText file line (texts.Line kind)) old new = (file ≡ None) × LinesStop asked (lines.Wrong line kind) old new
 -- a log of msum7 has this fault, the first such
 CausesAsked words asked (statuses.BadText file line (texts.Log kind)) old new = SumStops words asked (sums.Wrong file line kind) old new
+-- a file of classify7 has this fault, the first such: it is no test, or one of another architecture, or quotes no cycle
+CausesAsked words asked (statuses.BadText file line (texts.Test kind)) old new = FileStops words asked file line (kinds.Test kind) old new
+CausesAsked words asked (statuses.BadText file line texts.WrongArch) old new = FileStops words asked file line kinds.WrongArch old new
+CausesAsked words asked (statuses.BadText file line texts.NoCycle) old new = FileStops words asked file line kinds.NoCycle old new
 -- a text of norm7, classify7 or msum7 has more than 2^40 bytes
 CausesAsked words asked (statuses.BadText file line texts.TooMuch) old new = PassesLimit words asked file line old new
--- msum7 is to sum a file that isn't there; where the shelf tells no files, its count of faults rose
+-- msum7 is to sum, or classify7 to read, a file that isn't there; where the shelf tells no files, its count of faults rose
 CausesAsked words asked (statuses.NoFile word) old new =
-    FileMissing old.shelf new.shelf words 1 word × SumStops words asked (sums.NoFile word) old new
+    (FileMissing old.shelf new.shelf words 1 word × SumStops words asked (sums.NoFile word) old new)
+    ⊎ FilesStop words asked (classing.NoFile word) old new
 -- the input of norm7, classify7 or msum7 failed
 CausesAsked words asked (statuses.ReadFault Input) old new =
     Rose old.input.faults new.input.faults
     × (LinesStop asked lines.InputFault old new ⊎ SumStops words asked sums.InputFault old new)
--- the shelf failed while msum7 read a log
+-- the shelf failed while msum7 read a log, or classify7 a file
 CausesAsked words asked (statuses.ReadFault Shelf) old new =
-    Rose old.shelf.faults new.shelf.faults × SumStops words asked sums.ShelfFault old new
+    Rose old.shelf.faults new.shelf.faults
+    × (SumStops words asked sums.ShelfFault old new ⊎ FilesStop words asked classing.ShelfFault old new)
 CausesAsked words asked (statuses.ReadFault Out) old new = ⊥
 -- standard output failed
 CausesAsked words asked (statuses.WriteFault Out) old new = Rose old.out.faults new.out.faults × OutStops words asked old new

@@ -1,7 +1,9 @@
 -- Where words ask for what can be done and no device fails, it is done.
 -- Source: own.
 use Rattle.std.specs.Prelude.{◌≡◌, ◌≤◌, ◌+◌, ◌⊎◌, ⊤, ℕ, true, List, ◌∷◌, [], length, Option, Some, None, Result, Ok, Err}
+use Rattle.relax_edges.specs.declared.edge.Edge.{Edge}
 use Rattle.relax_edges.specs.declared.kinds.ArchName.{ArchName}
+use Rattle.classified_files.specs.FilesEnds.{ReadFiles}
 use Rattle.cycle_names.specs.Laws.{NamesNone}
 use Rattle.cycle_lines.specs.Cycles.{are_sound}
 use Rattle.cycle_lines.specs.Lines.{lines_of}
@@ -15,6 +17,7 @@ use Rattle.summed_logs.specs.SumEnds.{AreLogs}
 use Rattle.diy_tools.specs.declared.status.Status.{Status}
 use Rattle.diy_tools.specs.declared.status.Status.TheVariants.{Done, NoMemory}
 use Rattle.diy_tools.specs.Devices.{Devices, Seen, devices}
+use Rattle.diy_tools.specs.FamilyAnswers.{read_on}
 use Rattle.diy_tools.specs.Memory.{MayWantMemory}
 use Rattle.diy_tools.specs.Refused.{refused_list}
 use Rattle.diy_tools.specs.TestAnswers.{test_refused}
@@ -56,6 +59,17 @@ abbrev pub CanSum : List (List ℕ) → Devices → Type 0
 CanSum (tool ∷ log ∷ logs) old = OfItsFiles old.shelf.files (λ files. AreRightLogs files (tool ∷ log ∷ logs))
 CanSum _ old = OfItsText old.input.left IsRightLog
 
+-- the words at these places name files that each say a cycle
+pub record AreRightTests (files : Files) (words : List (List ℕ)) (arch : ArchName) (places : List ℕ) : Type 0 where
+  pub texts : List (List ℕ)
+  pub cycles : List (List Edge)
+  pub read : ReadFiles (read_on arch) (Some files) words places texts cycles
+
+-- classify7 can read the files that the words at these places name, or the input's lines where there is none
+abbrev pub CanClassify : List (List ℕ) → ArchName → List ℕ → Devices → Type 0
+CanClassify words arch [] old = OfItsText old.input.left (IsSoundText arch)
+CanClassify words arch (file ∷ rest) old = OfItsFiles old.shelf.files (λ files. AreRightTests files words arch (file ∷ rest))
+
 -- words make a request that can be done
 abbrev pub CanBeDone : List (List ℕ) → Result Asked Usage → Devices → Type 0
 CanBeDone words (Err usage) old = ⊥
@@ -64,7 +78,7 @@ CanBeDone words (Ok (AsksName asked)) old = CanName asked.arch asked.cycle old
 CanBeDone words (Ok (AsksList asked)) old = ⊤
 CanBeDone words (Ok (AsksCross asked)) old = ⊤
 CanBeDone words (Ok (AsksDemo asked)) old = ⊤
-CanBeDone words (Ok (AsksFamilies arch)) old = OfItsText old.input.left (IsSoundText arch)
+CanBeDone words (Ok (AsksFamilies asked)) old = CanClassify words asked.arch asked.files old
 CanBeDone words (Ok AsksSum) old = CanSum words old
 
 -- no count of faults rises

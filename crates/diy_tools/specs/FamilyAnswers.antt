@@ -1,12 +1,24 @@
 -- What classify7 answers.
 -- Source: own.
-use Rattle.std.specs.Prelude.{◌≡◌, Result}
+use Rattle.std.specs.Prelude.{◌≡◌, ℕ, List, [], ◌∷◌, Some, Result}
 use Rattle.relax_edges.specs.declared.kinds.ArchName.{ArchName}
+use Rattle.classified_files.specs.declared.errors.FilesEnd.{FilesEnd}
+use Rattle.classified_files.specs.declared.errors.FilesEnd.TheVariants as ends
+use Rattle.classified_files.specs.declared.errors.FileKind.{FileKind}
+use Rattle.classified_files.specs.declared.errors.FileKind.TheVariants as kinds
+use Rattle.classified_files.specs.FilesEnds.{Asked, FilesClassified}
 use Rattle.cycle_lines.specs.Classified.{Classifies}
 use Rattle.cycle_lines.specs.declared.errors.ClassifyError.{ClassifyError}
+use Rattle.diy_io.specs.Shelf.{ShelfSeen}
 use Rattle.diy_io.specs.Taken.{SourceSeen}
 use Rattle.diy_io.specs.Wrote.{SinkSeen}
 use Rattle.diy_tools.specs.declared.status.Status.{Status}
+use Rattle.diy_tools.specs.declared.status.Status.TheVariants.{Done, BadText, NoFile, ReadFault, WriteFault, NoMemory}
+use Rattle.diy_tools.specs.declared.status.TextKind.{TextKind}
+use Rattle.diy_tools.specs.declared.status.TextKind.TheVariants as texts
+use Rattle.diy_tools.specs.declared.status.Device.TheVariants.{Out, Shelf}
+use Rattle.diy_tools.specs.Devices.{Devices, InputAndOut, ShelfAndOut}
+use Rattle.diy_tools.specs.Machines.{machine_of}
 use Rattle.diy_tools.specs.Statuses.{classify_status}
 
 -- the names of the cycles of the input's lines are written by their families, or there is a reason why they can't be
@@ -14,3 +26,43 @@ pub record AnswersFamilies (arch : ArchName) (status : Status) (old new : Source
   pub result : Result (Unit {0}) ClassifyError
   pub classifies : Classifies arch old new before after result
   pub status_is : status ≡ classify_status result
+
+-- what is wrong with a file of a test
+abbrev pub file_kind : FileKind → TextKind
+file_kind (kinds.Test kind) = texts.Test kind
+file_kind kinds.WrongArch = texts.WrongArch
+file_kind kinds.NoCycle = texts.NoCycle
+
+-- the status of the end of classifying files
+abbrev pub files_status : FilesEnd → Status
+files_status ends.Done = Done
+files_status (ends.Wrong file line kind) = BadText (Some file) line (file_kind kind)
+files_status (ends.NoFile word) = NoFile word
+files_status ends.ShelfFault = ReadFault Shelf
+files_status ends.OutFault = WriteFault Out
+files_status ends.NoMemory = NoMemory
+
+-- an architecture, as files are read on it
+abbrev pub read_on : ArchName → Asked
+read_on arch = record { arch = arch; writing = (machine_of arch).writing }
+
+-- the classifying of the files that the words at these places name ends so, and no file changes
+pub record EndsNamed (words : List (List ℕ)) (arch : ArchName) (files : List ℕ) (end : FilesEnd) (old new : ShelfSeen) (before after : SinkSeen) : Type 0 where
+  pub classified : FilesClassified (read_on arch) old new words files before after end
+  pub stay : new.files ≡ old.files
+
+-- there is such a file, and the classifying ends so
+abbrev pub EndsFamilies : List (List ℕ) → ArchName → List ℕ → FilesEnd → Devices → Devices → Type 0
+EndsFamilies words arch [] end old new = ⊥
+EndsFamilies words arch (file ∷ files) end old new = ShelfAndOut (EndsNamed words arch (file ∷ files) end) old new
+
+-- the names of the cycles that these files quote are written by their families, or there is a reason why they can't be
+pub record AnswersFiles (words : List (List ℕ)) (arch : ArchName) (files : List ℕ) (status : Status) (old new : Devices) : Type 0 where
+  pub end : FilesEnd
+  pub ends : EndsFamilies words arch files end old new
+  pub status_is : status ≡ files_status end
+
+-- classify7 does so with the files of the words at these places, or with the input's lines where there is none
+abbrev pub AnswersClassify : List (List ℕ) → ArchName → List ℕ → Status → Devices → Devices → Type 0
+AnswersClassify words arch [] status old new = InputAndOut (AnswersFamilies arch status) old new
+AnswersClassify words arch (file ∷ files) status old new = AnswersFiles words arch (file ∷ files) status old new

@@ -29,7 +29,9 @@ use Rattle.diy_tools.specs.declared.status.Refusal.{Refusal}
 use Rattle.diy_tools.specs.declared.status.Refusal.TheVariants as refusals
 use Rattle.diy_words.specs.Requests.{Asked, AsksCross}
 use Rattle.diy_words.specs.declared.usage.Usage.{Usage}
+use Rattle.classified_files.specs.declared.errors.FilesEnd.{FilesEnd}
 use Rattle.diy_tools.specs.CrossAnswers.{AnswersCross}
+use Rattle.diy_tools.specs.FamilyAnswers.{EndsNamed, files_status}
 use Rattle.diy_tools.specs.Machines.{Machine}
 use Rattle.diy_tools.specs.NameAnswers.{AnswersLines, AnswersName}
 use Rattle.diy_tools.specs.Printing.{AnswersEdges}
@@ -85,6 +87,12 @@ EndsOn m listing end old new before after =
     (plan_of m.puts m.writing (record { threads = listing.threads; accesses = listing.accesses; mode = listing.mode; folder = listing.folder })
     listing.relaxes listing.limits)
     listing.after end old new before after
+
+-- the files of the words at these places are classified, or there is a reason why they can't be; no file changes
+pub record ClassifiesFiles (words : List (List ℕ)) (arch : ArchName) (files : List ℕ) (status : Status) (old new : ShelfSeen) (before after : SinkSeen) : Type 0 where
+  pub end : FilesEnd
+  pub ends : EndsNamed words arch files end old new before after
+  pub status_is : status ≡ files_status end
 
 -- the input is summed as one log, or there is a reason why it can't be
 pub record SumsInput (status : Status) (old new : SourceSeen) (before after : SinkSeen) : Type 0 where

@@ -8,7 +8,7 @@ use Rattle.diy_tools.specs.declared.status.Status.TheVariants.{NoMemory}
 
 -- classify7, msum7 and diycross7 may, no other tool, and no words that make no request
 abbrev pub MayWantMemory : Result Asked Usage → Type 0
-MayWantMemory (Ok (AsksFamilies arch)) = ⊤
+MayWantMemory (Ok (AsksFamilies asked)) = ⊤
 MayWantMemory (Ok AsksSum) = ⊤
 MayWantMemory (Ok (AsksCross asked)) = ⊤
 MayWantMemory _ = ⊥

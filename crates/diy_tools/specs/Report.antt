@@ -7,6 +7,8 @@ use Rattle.arch_trait.specs.Names.{location_name}
 use Rattle.diy_io.specs.Wrote.{SinkSeen, WroteAll, WrotePart}
 use Rattle.cycle_lines.specs.declared.errors.LineKind.{LineKind}
 use Rattle.cycle_lines.specs.declared.errors.LineKind.TheVariants as lines
+use Rattle.litmus_text.specs.declared.errors.TestKind.{TestKind}
+use Rattle.litmus_text.specs.declared.errors.TestKind.TheVariants as tests
 use Rattle.log_sum.specs.declared.errors.LogKind.{LogKind}
 use Rattle.log_sum.specs.declared.errors.LogKind.TheVariants as logs
 use Rattle.diy_words.specs.declared.usage.UsageKind.{UsageKind}
@@ -65,7 +67,6 @@ usage_text usages.MissingArch = codes "MissingArch"
 usage_text usages.MissingEdges = codes "MissingEdges"
 usage_text usages.MissingNumber = codes "MissingNumber"
 usage_text usages.TooManyChoices = codes "TooManyChoices"
-usage_text usages.NotBuilt = codes "NotBuilt"
 
 -- the name of what is wrong with a line of cycles, and with a line of a log
 abbrev pub line_text : LineKind → List ℕ
@@ -88,10 +89,25 @@ log_text logs.NoCounts = codes "NoCounts"
 log_text logs.KindDiffers = codes "KindDiffers"
 log_text logs.LineTooLong = codes "LineTooLong"
 
+-- the name of what is wrong with a line of a test
+abbrev pub test_text : TestKind → List ℕ
+test_text tests.BadHeader = codes "BadHeader"
+test_text tests.BadQuote = codes "BadQuote"
+test_text tests.BadInit = codes "BadInit"
+test_text tests.BadTable = codes "BadTable"
+test_text tests.BadInstruction = codes "BadInstruction"
+test_text tests.BadLabel = codes "BadLabel"
+test_text tests.BadCondition = codes "BadCondition"
+test_text tests.TooLarge = codes "TooLarge"
+test_text tests.EndMissing = codes "EndMissing"
+
 -- the name of what is wrong with a line
 abbrev pub kind_text : TextKind → List ℕ
 kind_text (texts.Line kind) = line_text kind
 kind_text (texts.Log kind) = log_text kind
+kind_text (texts.Test kind) = test_text kind
+kind_text texts.WrongArch = codes "WrongArch"
+kind_text texts.NoCycle = codes "NoCycle"
 kind_text texts.TooMuch = codes "TooMuch"
 
 -- a word that shows a fault, where there is one

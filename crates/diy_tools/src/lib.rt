@@ -4,6 +4,7 @@
 mod crossing;
 mod demo;
 mod edges;
+mod families;
 mod listing;
 mod naming;
 mod report;

@@ -2,23 +2,19 @@ ghost use Rattle.std.specs.Prelude.{◌≡◌};
 ghost use Rattle.cycle_lines.specs.Normed.{Norms, name_line};
 ghost use Rattle.diy_tools.specs.Printing.{AnswersEdges, Prints};
 ghost use Rattle.diy_tools.specs.NameAnswers.{AnswersLines, AnswersName};
-ghost use Rattle.diy_tools.specs.FamilyAnswers.{AnswersFamilies};
 ghost use Rattle.diy_tools.specs.Kept.{AnswersKept, edges_kept, refused_edges};
 ghost use Rattle.diy_tools.specs.Report.{NamesLocation};
-ghost use Rattle.diy_tools.specs.Statuses.{classify_status, lines_status, norm_status};
+ghost use Rattle.diy_tools.specs.Statuses.{lines_status, norm_status};
 
 use crate::edges::cycle_of_edges;
 use crate::status::{Device, Status, TextKind};
-use cycle_lines::{
-    ClassifyError, LinesError, NormError, classify_lines, norm_lines, write_name_line,
-};
+use cycle_lines::{LinesError, NormError, norm_lines, write_name_line};
 use cycle_names::{NotAName, cycle_of};
 use diy_io::{Failed, Sink, Source};
 use diy_words::{Norm, Sought, Source as Named, UsageKind};
 use edge_algebra::Cycle;
 use edge_lists::EdgeList;
 use relax_edges::ArchName;
-use std::alloc::Global;
 
 /// Prints the names of the cycles that are sought, and their edges.
 #[inline(never)]
@@ -86,34 +82,8 @@ fn norm_status(end: Result<(), NormError>) -> Status
     }
 }
 
-/// Prints the names of the cycles of the input's lines by their families.
-#[inline(never)]
-pub(crate) fn families<I: Source, O: Sink>(
-    alloc: Global,
-    arch: ArchName,
-    input: &mut I,
-    out: &mut O,
-) -> Status
-    ensures answers { AnswersFamilies arch result (I.seen input.old) (I.seen input.new) (O.seen out.old) (O.seen out.new) }
-    ensures location { NamesLocation result }
-{
-    classify_status(classify_lines(alloc, arch, input, out))
-}
-
-fn classify_status(end: Result<(), ClassifyError>) -> Status
-    ensures status { result ≡ classify_status end }
-    ensures location { NamesLocation result }
-{
-    match end {
-        Ok(()) => Status::Done,
-        Err(ClassifyError::Lines(error)) => lines_status(error),
-        Err(ClassifyError::OutFault) => Status::WriteFault { of: Device::Out },
-        Err(ClassifyError::NoMemory) => Status::NoMemory,
-    }
-}
-
 /// The status where the lines of the input weren't read to its end.
-fn lines_status(error: LinesError) -> Status
+pub(crate) fn lines_status(error: LinesError) -> Status
     ensures status { result ≡ lines_status error }
     ensures location { NamesLocation result }
 {

@@ -4,7 +4,7 @@ ghost use Rattle.relax_edges.specs.declared.TheConstants.{MAX_EDGES};
 ghost use Rattle.arch_trait.specs.Names.{location_name};
 ghost use Rattle.diy_io.specs.Page.{Sends};
 ghost use Rattle.diy_io.specs.Wrote.{Wrote};
-ghost use Rattle.diy_tools.specs.Report.{status_line, refusal_line, refusal_text, usage_line, usage_text, line_text, log_text, kind_text, word_at, file_text, shown_word, device_text, NamesLocation, RefusesLocation};
+ghost use Rattle.diy_tools.specs.Report.{status_line, refusal_line, refusal_text, usage_line, usage_text, line_text, log_text, test_text, kind_text, word_at, file_text, shown_word, device_text, NamesLocation, RefusesLocation};
 
 use crate::status::{Device, Refusal, Status, TextKind};
 use arch_trait::Places;
@@ -12,6 +12,7 @@ use cycle_lines::LineKind;
 use diy_io::{Failed, Page, Sink, Words};
 use diy_words::UsageKind;
 use itoa::Buffer;
+use litmus_text::TestKind;
 use log_sum::LogKind;
 
 /// Writes the line of a status, where it has one.
@@ -117,7 +118,6 @@ fn usage_name(kind: UsageKind) -> &'static [u8]
         UsageKind::MissingEdges => b"MissingEdges",
         UsageKind::MissingNumber => b"MissingNumber",
         UsageKind::TooManyChoices => b"TooManyChoices",
-        UsageKind::NotBuilt => b"NotBuilt",
     }
 }
 
@@ -151,12 +151,31 @@ fn log_name(kind: LogKind) -> &'static [u8]
     }
 }
 
+fn test_name(kind: TestKind) -> &'static [u8]
+    ensures { result.now ≡ test_text kind }
+{
+    match kind {
+        TestKind::BadHeader => b"BadHeader",
+        TestKind::BadQuote => b"BadQuote",
+        TestKind::BadInit => b"BadInit",
+        TestKind::BadTable => b"BadTable",
+        TestKind::BadInstruction => b"BadInstruction",
+        TestKind::BadLabel => b"BadLabel",
+        TestKind::BadCondition => b"BadCondition",
+        TestKind::TooLarge => b"TooLarge",
+        TestKind::EndMissing => b"EndMissing",
+    }
+}
+
 fn kind_name(kind: TextKind) -> &'static [u8]
     ensures { result.now ≡ kind_text kind }
 {
     match kind {
         TextKind::Line(kind) => line_name(kind),
         TextKind::Log(kind) => log_name(kind),
+        TextKind::Test(kind) => test_name(kind),
+        TextKind::WrongArch => b"WrongArch",
+        TextKind::NoCycle => b"NoCycle",
         TextKind::TooMuch => b"TooMuch",
     }
 }

@@ -5,6 +5,7 @@ ghost use Rattle.diy_tools.specs.Refused.{composing_refusal, making_refusal};
 use cycle_lines::LineKind;
 use diy_words::UsageKind;
 use edge_algebra::CycleError;
+use litmus_text::TestKind;
 use log_sum::LogKind;
 use test_maker::MakeRefusal;
 
@@ -61,6 +62,12 @@ pub enum TextKind {
     Line(LineKind),
     /// It is a line of a log.
     Log(LogKind),
+    /// It is a line of a test.
+    Test(TestKind),
+    /// The header names another architecture than the one asked for; the line is 1.
+    WrongArch,
+    /// The test quotes no cycle of the architecture; the line is 2.
+    NoCycle,
     /// The text has more than `MAX_INPUT` bytes; the line is the one behind the last line feed among
     /// the first so many.
     TooMuch,

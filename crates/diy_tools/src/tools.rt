@@ -10,8 +10,9 @@ ghost use Rattle.diy_tools.specs.Report.{TakesLine, status_line, NamesLocation};
 
 use crate::crossing::cross;
 use crate::demo::demo;
+use crate::families::families;
 use crate::listing::list;
-use crate::naming::{families, norm};
+use crate::naming::norm;
 use crate::report::report;
 use crate::status::Status;
 use crate::sums::sum;
@@ -78,7 +79,7 @@ fn answer<I: Source, O: Sink, H: Shelf>(
         Ok(Request::Test(request)) => diyone(&request, out),
         Ok(Request::Name(request)) => norm(&request, input, out),
         Ok(Request::List(request)) => list(request, shelf, out),
-        Ok(Request::Families(arch)) => families(alloc, arch, input, out),
+        Ok(Request::Families(arch)) => families(alloc, words, arch, input, shelf, out),
         Ok(Request::Cross(request)) => cross(alloc, words, request, shelf, out),
         Ok(Request::Demo(request)) => demo(&request, out),
         Ok(Request::Sum) => sum(alloc, words, input, shelf, out),

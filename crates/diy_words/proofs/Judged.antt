@@ -21,8 +21,8 @@ use Rattle.diy_words.specs.declared.options.OptionName.{OptionName}
 use Rattle.diy_words.specs.Parts.{Alone, Valued, Unvalued, Waits, parts_from, parts_of, option_named, tool_named}
 use Rattle.diy_words.specs.declared.options.Tool.{Tool}
 use Rattle.diy_words.specs.declared.options.Tool.TheVariants as tools
-use Rattle.diy_words.specs.Requests.{Said, SaysArch, SaysName, SaysMode, SaysFrom, SaysEdges, SaysRelaxes, SaysSize, SaysExact, SaysThreads, SaysAccesses, SaysAfter, SaysFolder, SaysLog, SaysPlace, SaysCount, NameAsked, ListAsked, DemoAsked, Asked, AsksTest, AsksName, AsksList, AsksFamilies, AsksSum, AsksCross, AsksDemo, OfEdges, OfName, OfLines, said_by, saying, is_count, said_first, said_all, or_later, last_given, first_given, arch_in, name_in, mode_in, from_in, operand_in, edges_in, relaxes_in, size_in, is_exact, threads_in, accesses_in, after_in, folder_in, places_in, count_in, given_or, mode_or_accept, list_with, families_with, cross_with, places_given, choice_count, edges_given, asks, asked_with, named_with, asked_of, asked_for, tool_asked}
-use Rattle.diy_words.specs.Given.{Held, absorbed, all_absorbed, saying_from, finished, named, Kept, keeps, KeepsTest, KeepsName, KeepsList, KeepsFamilies, KeepsSum, KeepsCross, KeepsDemo, CrossHeld, crossed, held_at_end, tool_held, shown, shown_request, nothing_held, AskedHeld, NameHeld, SoughtHeld, HeldEdges, HeldName, HeldLines, sought_held, Gives, IsKept, IsSought}
+use Rattle.diy_words.specs.Requests.{Said, SaysArch, SaysName, SaysMode, SaysFrom, SaysEdges, SaysRelaxes, SaysSize, SaysExact, SaysThreads, SaysAfter, SaysFolder, SaysLog, SaysPlace, SaysCount, NameAsked, ListAsked, DemoAsked, Asked, AsksTest, AsksName, AsksList, AsksFamilies, AsksSum, AsksCross, AsksDemo, OfEdges, OfName, OfLines, said_by, saying, is_count, said_first, said_all, or_later, last_given, first_given, arch_in, name_in, mode_in, from_in, operand_in, edges_in, relaxes_in, size_in, is_exact, threads_in, after_in, folder_in, places_in, count_in, given_or, mode_or_accept, list_with, families_with, cross_with, places_given, choice_count, edges_given, asks, asked_with, named_with, asked_of, asked_for, tool_asked, files_given, SaysAccesses, accesses_in}
+use Rattle.diy_words.specs.Given.{Held, absorbed, all_absorbed, saying_from, finished, named, Kept, keeps, KeepsTest, KeepsName, KeepsList, KeepsFamilies, KeepsSum, KeepsCross, KeepsDemo, CrossHeld, crossed, classified, held_at_end, tool_held, shown, shown_request, nothing_held, AskedHeld, NameHeld, SoughtHeld, HeldEdges, HeldName, HeldLines, sought_held, Gives, IsKept, IsSought}
 use Rattle.diy_words.specs.Requests as req
 
 drop_get : {X : Type 0} (xs : List X) (i : ℕ) (x : X) → slice_get xs i ≡ Some x → drop i xs ≡ x ∷ drop (i + 1) xs
@@ -267,9 +267,16 @@ kept_list : (request : Request) (asked : ListAsked) → shown_request request �
 kept_list (requests.List request) asked h = cc h
 kept_list request asked h = cc h
 
-kept_families : (request : Request) (asked : ArchName) → shown_request request ≡ KeepsFamilies asked → IsKept request (AsksFamilies asked)
-kept_families (requests.Families arch) asked h = cc h
-kept_families request asked h = cc h
+kept_families : (request : Request) (arch : ArchName) (files : List ℕ) → shown_request request ≡ KeepsFamilies arch → IsKept request (AsksFamilies (record { arch = arch; files = files }))
+kept_families (requests.Families own) arch files h = cc h
+kept_families request arch files h = cc h
+
+gives_families : (count : ℕ) (request : Result Request Usage) (arch : Option ArchName) (files : List ℕ) →
+    shown request ≡ keeps KeepsFamilies (classified count arch) → Gives request (asks AsksFamilies (families_with count arch files))
+gives_families count (Ok request) None files h = cc h
+gives_families count (Err usage) None files h = cc h
+gives_families count (Ok request) (Some arch) files h = kept_families request arch files (ok_is _ _ h)
+gives_families count (Err usage) (Some arch) files h = cc h
 
 kept_sum : (request : Request) → shown_request request ≡ KeepsSum → IsKept request AsksSum
 kept_sum requests.Sum h = tt
@@ -338,7 +345,7 @@ gives_held tools.Norm count request (Ok said) h =
     gives_name count request _ _ _ (edges_given said)
     (rw (sym (later_none (last_given arch_in said)), sym (later_none (last_given from_in said))) h)
 gives_held tools.Classify count request (Ok said) h =
-    gives_kept KeepsFamilies AsksFamilies kept_families request _ (rw (sym (later_none (last_given arch_in said))) h)
+    gives_families count request _ (files_given said) (rw (sym (later_none (last_given arch_in said))) h)
 gives_held tools.Msum count request (Ok said) h = gives_sum request h
 gives_held tools.Cross count request (Ok said) h =
     gives_cross count request _ _ _ (places_given said)

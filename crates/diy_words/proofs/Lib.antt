@@ -3,4 +3,5 @@ pub mod RequestForm
 pub mod NumberLaws
 pub mod AfterLaws
 pub mod ChoiceLaws
+pub mod FileLaws
 pub mod PlaceLaws

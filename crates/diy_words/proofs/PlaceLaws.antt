@@ -26,7 +26,7 @@ use Rattle.diy_words.specs.Given.{saying_from}
 use Rattle.diy_words.specs.Names.{is_name}
 use Rattle.diy_words.specs.Numbers.{number_to}
 use Rattle.diy_words.specs.Parts.{Part, Alone, Valued, Unvalued, parts_of, tool_named, option_named, arch_named, mode_named}
-use Rattle.diy_words.specs.Requests.{Said, SaysName, SaysFolder, Asked, AsksTest, AsksName, AsksList, AsksFamilies, AsksCross, AsksDemo, fault, place_said, arch_said, mode_said, relaxes_said, size_said, threads_said, accesses_said, cycle_said, after_said, begins_option, is_count, said_by, saying, said_first, said_all, places_in, places_given, choice_count, asks, cross_with, families_with, demo_with, diyone_asked, diy_asked, norm_asked, mode_or_accept, last_given, arch_in, mode_in, folder_in, count_in, tool_asked, asked_for, asked_of, IsCrossing, places_of}
+use Rattle.diy_words.specs.Requests.{Said, SaysName, SaysFolder, Asked, AsksTest, AsksName, AsksList, AsksFamilies, AsksCross, AsksDemo, fault, place_said, arch_said, mode_said, relaxes_said, size_said, threads_said, cycle_said, after_said, begins_option, is_count, said_by, saying, said_first, said_all, places_in, places_given, files_given, choice_count, asks, cross_with, families_with, demo_with, diyone_asked, diy_asked, norm_asked, mode_or_accept, last_given, arch_in, mode_in, folder_in, count_in, tool_asked, asked_for, asked_of, IsCrossing, places_of, accesses_said}
 use Rattle.diy_words.proofs.Judged.{alone_first, value_first, unvalued_last}
 
 -- the relaxations of the places among what words say
@@ -194,7 +194,7 @@ no_cross tools.DiyOne count (Ok said) other h = other_tool AsksTest (diyone_aske
 no_cross tools.Diy count (Ok said) other h = other_tool AsksList (diy_asked count said) (λ x k. k) h
 no_cross tools.Cross count (Ok said) other h = other refl
 no_cross tools.Norm count (Ok said) other h = other_tool AsksName (norm_asked count said) (λ x k. k) h
-no_cross tools.Classify count (Ok said) other h = other_tool AsksFamilies (families_with count (last_given arch_in said)) (λ x k. k) h
+no_cross tools.Classify count (Ok said) other h = other_tool AsksFamilies (families_with count (last_given arch_in said) (files_given said)) (λ x k. k) h
 no_cross tools.Msum count (Ok said) other h = h
 no_cross tools.Demo count (Ok said) other h = other_tool AsksDemo (demo_with count (last_given arch_in said) (last_given count_in said)) (λ x k. k) h
 

@@ -30,7 +30,7 @@ use Rattle.diy_words.specs.declared.options.OptionName.TheVariants as opts
 use Rattle.diy_words.specs.Names.{is_name}
 use Rattle.diy_words.specs.Edges.{operand_edges}
 use Rattle.diy_words.specs.Parts.{Part, Alone, Valued, Unvalued, parts_of, tool_named, arch_named, mode_named}
-use Rattle.diy_words.specs.Requests.{Said, SaysName, SaysSize, SaysExact, SaysFolder, SaysCount, Asked, AsksTest, AsksName, AsksList, AsksFamilies, AsksCross, AsksDemo, NameAsked, ListAsked, fault, dashed_said, operand_said, relaxes_said, size_said, threads_said, accesses_said, after_said, cycle_said, size_in, given_or, list_with, families_with, cross_with, demo_with, choice_count, places_given, place_said, count_said, count_in, saying, is_count, said_by, said_first, said_all, arch_said, mode_said, edges_said, begins_option, or_later, last_given, arch_in, name_in, mode_in, relaxes_in, is_exact, threads_in, accesses_in, after_in, folder_in, mode_or_accept, edges_given, asks, asked_with, asked_for, norm_asked, tool_asked, asked_of}
+use Rattle.diy_words.specs.Requests.{Said, SaysName, SaysSize, SaysExact, SaysFolder, SaysCount, Asked, AsksTest, AsksName, AsksList, AsksFamilies, AsksCross, AsksDemo, NameAsked, ListAsked, FamiliesAsked, fault, dashed_said, operand_said, relaxes_said, size_said, threads_said, after_said, cycle_said, size_in, given_or, list_with, families_with, cross_with, demo_with, choice_count, places_given, files_given, place_said, count_said, count_in, saying, is_count, said_by, said_first, said_all, arch_said, mode_said, edges_said, begins_option, or_later, last_given, arch_in, name_in, mode_in, relaxes_in, is_exact, threads_in, after_in, folder_in, mode_or_accept, edges_given, asks, asked_with, asked_for, norm_asked, tool_asked, asked_of, accesses_said, accesses_in}
 use Rattle.arrayvec.specs.ArrayString.{ArrayString}
 use Rattle.diy_words.specs.Given.{Gives, HasForm, list_kept}
 use Rattle.diy_words.specs.Numbers.{is_number, number_to}
@@ -230,7 +230,7 @@ list_form count None relaxes size exact threads accesses mode after folder h k =
 list_form count (Some arch) None size exact threads accesses mode after folder h k = tt
 list_form count (Some arch) (Some relaxes) size exact threads accesses mode after folder h k = (h, k)
 
-families_form : (asked : Result ArchName Usage) → AskedSo (asks AsksFamilies asked)
+families_form : (asked : Result FamiliesAsked Usage) → AskedSo (asks AsksFamilies asked)
 families_form (Ok asked) = tt
 families_form (Err usage) = tt
 
@@ -257,7 +257,7 @@ tool_form tools.Diy count (Ok said) h =
     list_form count (last_given arch_in said) (last_given relaxes_in said) _ (list_any is_exact said) (given_or 4 (last_given threads_in said)) (last_given accesses_in said) (mode_or_accept (last_given mode_in said)) (last_given after_in said) (last_given folder_in said)
     (size_few (last_given size_in said) (given_fit (λ size. size ≤ MAX_EDGES) size_in size_fit said h)) (given_folder said h)
 tool_form tools.Norm count (Ok said) h = norm_form (norm_asked count said)
-tool_form tools.Classify count (Ok said) h = families_form (families_with count (last_given arch_in said))
+tool_form tools.Classify count (Ok said) h = families_form (families_with count (last_given arch_in said) (files_given said))
 tool_form tools.Msum count (Ok said) h = tt
 tool_form tools.Cross count (Ok said) h =
     cross_form count (last_given arch_in said) (mode_or_accept (last_given mode_in said)) (last_given folder_in said) (places_given said) (given_folder said h)

@@ -25,7 +25,7 @@ use Rattle.diy_words.specs.declared.said.Said.{Said}
 use Rattle.diy_words.specs.declared.usage.Usage.{Usage}
 use Rattle.diy_words.specs.declared.usage.UsageKind.TheVariants.{MissingArch, StrayWord, TooManyChoices}
 use Rattle.diy_words.specs.Parts.{parts_of, option_named}
-use Rattle.diy_words.specs.Requests.{Asked, AsksTest, AsksName, AsksList, AsksFamilies, AsksSum, AsksCross, AsksDemo, ListAsked, DemoAsked, OfEdges, OfName, OfLines, SaysArch, SaysName, SaysMode, SaysFrom, SaysEdges, SaysRelaxes, SaysSize, SaysExact, SaysThreads, SaysAccesses, SaysAfter, SaysFolder, SaysLog, SaysPlace, SaysCount, said_by, saying, list_with, families_with, demo_with}
+use Rattle.diy_words.specs.Requests.{Asked, AsksTest, AsksName, AsksList, AsksFamilies, AsksSum, AsksCross, AsksDemo, ListAsked, DemoAsked, OfEdges, OfName, OfLines, SaysArch, SaysName, SaysMode, SaysFrom, SaysEdges, SaysRelaxes, SaysSize, SaysExact, SaysThreads, SaysAfter, SaysFolder, SaysLog, SaysFile, SaysPlace, SaysCount, said_by, saying, list_with, demo_with, SaysAccesses}
 use Rattle.diy_words.specs.Requests as req
 
 -- what is held: the last of each thing that was given, where the last value of `-from` and the first operand of edges
@@ -106,6 +106,7 @@ absorbed h (Ok (SaysAccesses accesses)) = Ok (record h { accesses = Some accesse
 absorbed h (Ok (SaysAfter cycle)) = Ok (record h { after = Some cycle })
 absorbed h (Ok (SaysFolder folder)) = Ok (record h { folder = Some folder })
 absorbed h (Ok SaysLog) = Ok h
+absorbed h (Ok (SaysFile at)) = Ok h
 absorbed h (Ok (SaysPlace relaxes)) = Ok (record h { choices = more_choices h.choices (length relaxes) })
 absorbed h (Ok (SaysCount count)) = Ok (record h { count = Some count })
 absorbed h (Err usage) = Err usage
@@ -156,7 +157,7 @@ IsKept (requests.Test request) (AsksTest asked) =
     (request.arch ≡ asked.arch) × (option_map (λ name. name.bytes) request.name ≡ asked.name) × (request.mode ≡ asked.mode) × (request.edges ≡ kept asked.edges)
 IsKept (requests.Name request) (AsksName asked) = (request.arch ≡ asked.arch) × IsSought request.cycle asked.cycle
 IsKept (requests.List request) (AsksList asked) = list_kept request ≡ asked
-IsKept (requests.Families arch) (AsksFamilies asked) = arch ≡ asked
+IsKept (requests.Families arch) (AsksFamilies asked) = arch ≡ asked.arch
 IsKept requests.Sum AsksSum = Unit {0}
 IsKept (requests.Cross request) (AsksCross asked) =
     (request.arch ≡ asked.arch) × (request.mode ≡ asked.mode) × (option_map (λ folder. folder.now) request.folder ≡ asked.folder)
@@ -231,6 +232,11 @@ crossed count (Some arch) mode folder choices =
     if nat_lt MAX_CHOICES choices then Err (record { word = count; kind = TooManyChoices })
     else Ok (record { arch = arch; mode = mode; folder = folder })
 
+-- the request of classify7 as it is kept, from what is held at the end
+abbrev pub classified : ℕ → Option ArchName → Result ArchName Usage
+classified count None = Err (record { word = count; kind = MissingArch })
+classified count (Some arch) = Ok arch
+
 -- a request as it is kept
 pub data Kept : Type 0 where
   KeepsTest : AskedHeld → Kept
@@ -267,7 +273,7 @@ tool_held tool count (Err usage) = Err usage
 tool_held tools.DiyOne count (Ok h) = keeps KeepsTest (test_held count h)
 tool_held tools.Diy count (Ok h) = keeps KeepsList (list_held count h)
 tool_held tools.Norm count (Ok h) = keeps KeepsName (name_held count h)
-tool_held tools.Classify count (Ok h) = keeps KeepsFamilies (families_with count h.arch)
+tool_held tools.Classify count (Ok h) = keeps KeepsFamilies (classified count h.arch)
 tool_held tools.Msum count (Ok h) = Ok KeepsSum
 tool_held tools.Cross count (Ok h) = keeps KeepsCross (cross_held count h)
 tool_held tools.Demo count (Ok h) = keeps KeepsDemo (demo_held count h)

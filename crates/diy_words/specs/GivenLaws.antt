@@ -1,12 +1,17 @@
--- What a request of diycross7 tells of the words that make it.
+-- What a request of diycross7 or classify7 tells of the words that make it.
 use Rattle.std.specs.Prelude.{Result, Ok}
 use Rattle.diy_words.specs.declared.request.Cross.{Cross}
 use Rattle.diy_words.specs.declared.request.Request.TheVariants as requests
 use Rattle.diy_words.specs.declared.usage.Usage.{Usage}
 use Rattle.diy_words.specs.Given.{Gives}
-use Rattle.diy_words.specs.Requests.{Asked, AsksCross, IsCrossing}
+use Rattle.relax_edges.specs.declared.kinds.ArchName.{ArchName}
+use Rattle.diy_words.specs.Requests.{Asked, AsksCross, AsksFamilies, IsCrossing, IsClassifying}
 
--- words that give it ask for something of diycross7
+-- words that give such a request ask for something of the tool
 pub gives_crossing : (request : Cross) (asked : Result Asked Usage) → Gives (Ok (requests.Cross request)) asked → IsCrossing asked
 gives_crossing request (Ok (AsksCross asked)) h = tt
 gives_crossing request asked h = absurd h
+
+pub gives_classifying : (arch : ArchName) (asked : Result Asked Usage) → Gives (Ok (requests.Families arch)) asked → IsClassifying asked
+gives_classifying arch (Ok (AsksFamilies asked)) h = tt
+gives_classifying arch asked h = absurd h

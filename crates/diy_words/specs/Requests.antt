@@ -19,7 +19,7 @@ use Rattle.relax_edges.specs.declared.kinds.ObsMode.TheVariants.{Accept}
 use Rattle.relax_edges.specs.declared.edge.Edge.{Edge}
 use Rattle.diy_words.specs.declared.usage.Usage.{Usage}
 use Rattle.diy_words.specs.declared.usage.UsageKind.{UsageKind}
-use Rattle.diy_words.specs.declared.usage.UsageKind.TheVariants.{UnknownTool, UnknownOption, MissingValue, BadNumber, UnknownArch, BadMode, BadName, BadFolder, UnknownEdge, BadBracket, RelaxTooLong, DoesNotJoin, TooManyRelaxes, BadAfter, StrayWord, MissingArch, MissingEdges, MissingNumber, TooManyChoices, NotBuilt}
+use Rattle.diy_words.specs.declared.usage.UsageKind.TheVariants.{UnknownTool, UnknownOption, MissingValue, BadNumber, UnknownArch, BadMode, BadName, BadFolder, UnknownEdge, BadBracket, RelaxTooLong, DoesNotJoin, TooManyRelaxes, BadAfter, StrayWord, MissingArch, MissingEdges, MissingNumber, TooManyChoices}
 use Rattle.diy_words.specs.declared.request.TheConstants.{MAX_FOLDER, MAX_CHOICES, MAX_TESTS}
 use Rattle.diy_words.specs.declared.options.Tool.{Tool}
 use Rattle.diy_words.specs.declared.options.Tool.TheVariants as tools
@@ -30,7 +30,8 @@ use Rattle.diy_words.specs.Edges.{operand_edges}
 use Rattle.diy_words.specs.Parts.{Part, Alone, Valued, Unvalued, parts_of, tool_named, arch_named, mode_named}
 
 -- what a word says, an option with its value; the value of `-from` and an operand of edges with their places; an operand of
--- diycross7, the relaxations of a place of its cycles; the operand of demo, a number
+-- diycross7, the relaxations of a place of its cycles; the operand of demo, a number; an operand of classify7, which names a
+-- file, by its place
 pub data Said : Type 0 where
   SaysArch : ArchName → Said
   SaysName : List ℕ → Said
@@ -45,6 +46,7 @@ pub data Said : Type 0 where
   SaysAfter : List Edge → Said
   SaysFolder : List ℕ → Said
   SaysLog : Said
+  SaysFile : ℕ → Said
   SaysPlace : List (List Edge) → Said
   SaysCount : ℕ → Said
 
@@ -88,19 +90,24 @@ pub record CrossAsked : Type 0 where
   pub folder : Option (List ℕ)
   pub places : List (List (List Edge))
 
+-- what classify7 is asked for: the names of cycles by their families, of the tests in the files that the words at these places
+-- name, or of the input's lines where there is none
+pub record FamiliesAsked : Type 0 where
+  pub arch : ArchName
+  pub files : List ℕ
+
 -- what demo is asked for: how many tests
 pub record DemoAsked : Type 0 where
   pub arch : ArchName
   pub count : ℕ
 
--- what words ask for: a test; the names of cycles; the tests of a listing; the names of the cycles of the input's lines by
--- their families; the sum of the logs that the words behind the first name, or of the input where there is none; the tests of
+-- what words ask for: a test; the names of cycles; the tests of a listing; the names of cycles by their families; the sum of the logs that the words behind the first name, or of the input where there is none; the tests of
 -- the choices of relaxations; some number of tests
 pub data Asked : Type 0 where
   AsksTest : TestAsked → Asked
   AsksName : NameAsked → Asked
   AsksList : ListAsked → Asked
-  AsksFamilies : ArchName → Asked
+  AsksFamilies : FamiliesAsked → Asked
   AsksSum : Asked
   AsksCross : CrossAsked → Asked
   AsksDemo : DemoAsked → Asked
@@ -194,7 +201,7 @@ operand_said tools.DiyOne _ at text = edges_said at (operand_edges text)
 operand_said tools.Diy _ at text = fault at StrayWord
 operand_said tools.Cross _ at text = place_said at (relaxes_of text)
 operand_said tools.Norm _ at text = edges_said at (operand_edges text)
-operand_said tools.Classify _ at text = fault at NotBuilt
+operand_said tools.Classify _ at text = Ok (SaysFile at)
 operand_said tools.Msum _ at text = Ok SaysLog
 operand_said tools.Demo false at text = count_said at (number_to MAX_TESTS text)
 operand_said tools.Demo true at text = fault at StrayWord
@@ -299,6 +306,11 @@ abbrev pub places_in : Said → List (List (List Edge))
 places_in (SaysPlace relaxes) = relaxes ∷ []
 places_in _ = []
 
+-- the place of a file
+abbrev pub files_in : Said → List ℕ
+files_in (SaysFile at) = at ∷ []
+files_in _ = []
+
 -- the later of two, where it is there
 abbrev pub or_later : {X : Type 0} → Option X → Option X → Option X
 or_later earlier (Some later) = Some later
@@ -323,6 +335,11 @@ edges_given (said ∷ rest) = edges_in said ++ edges_given rest
 abbrev pub places_given : List Said → List (List (List Edge))
 places_given [] = []
 places_given (said ∷ rest) = places_in said ++ places_given rest
+
+-- the places of all files
+abbrev pub files_given : List Said → List ℕ
+files_given [] = []
+files_given (said ∷ rest) = files_in said ++ files_given rest
 
 -- in how many ways a relaxation can be chosen for each place: one way for no place
 abbrev pub choice_count : List (List (List Edge)) → ℕ
@@ -359,9 +376,9 @@ list_with count (Some arch) (Some relaxes) size exact threads accesses mode afte
     Ok (record { arch = arch; relaxes = relaxes; size = size; exact = exact; threads = threads; accesses = accesses; mode = mode; after = after; folder = folder })
 
 -- the request of classify7 from what was given
-abbrev pub families_with : ℕ → Option ArchName → Result ArchName Usage
-families_with count None = Err (record { word = count; kind = MissingArch })
-families_with count (Some arch) = Ok arch
+abbrev pub families_with : ℕ → Option ArchName → List ℕ → Result FamiliesAsked Usage
+families_with count None files = Err (record { word = count; kind = MissingArch })
+families_with count (Some arch) files = Ok (record { arch = arch; files = files })
 
 -- the request of diycross7 from what was given
 abbrev pub cross_with : ℕ → Option ArchName → ObsMode → Option (List ℕ) → List (List (List Edge)) → Result CrossAsked Usage
@@ -410,7 +427,7 @@ tool_asked tool count (Err usage) = Err usage
 tool_asked tools.DiyOne count (Ok said) = asks AsksTest (diyone_asked count said)
 tool_asked tools.Diy count (Ok said) = asks AsksList (diy_asked count said)
 tool_asked tools.Norm count (Ok said) = asks AsksName (norm_asked count said)
-tool_asked tools.Classify count (Ok said) = asks AsksFamilies (families_with count (last_given arch_in said))
+tool_asked tools.Classify count (Ok said) = asks AsksFamilies (families_with count (last_given arch_in said) (files_given said))
 tool_asked tools.Msum count (Ok said) = Ok AsksSum
 tool_asked tools.Cross count (Ok said) = asks AsksCross (cross_asked count said)
 tool_asked tools.Demo count (Ok said) = asks AsksDemo (demo_with count (last_given arch_in said) (last_given count_in said))
@@ -434,3 +451,13 @@ IsCrossing _ = ⊥
 abbrev pub places_of : Result Asked Usage → List (List (List Edge))
 places_of (Ok (AsksCross asked)) = asked.places
 places_of _ = []
+
+-- words ask for something of classify7
+abbrev pub IsClassifying : Result Asked Usage → Type 0
+IsClassifying (Ok (AsksFamilies _)) = Unit {0}
+IsClassifying _ = ⊥
+
+-- the places of the files, where words ask for something of classify7
+abbrev pub files_of : Result Asked Usage → List ℕ
+files_of (Ok (AsksFamilies asked)) = asked.files
+files_of _ = []

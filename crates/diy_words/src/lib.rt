@@ -1,6 +1,7 @@
 //! From the words of a call to the request that they make, or the first fault among them.
 #![tactic(auto)]
 
+mod files;
 mod name;
 mod number;
 mod options;
@@ -10,6 +11,7 @@ mod request;
 mod said;
 mod usage;
 
+pub use files::read_files;
 pub use places::read_places;
 pub use read::read_request;
 pub use request::{

@@ -1,7 +1,7 @@
 ghost use Rattle.std.specs.Prelude.{◌≡◌, ◌<◌, ◌+◌, ◌^◌, length, IfOk, Ok};
 ghost use Rattle.diy_words.specs.declared.usage.UsageKind.TheVariants.{MissingArch};
-ghost use Rattle.diy_words.specs.Requests.{asked_of, families_with};
-ghost use Rattle.diy_words.specs.Given.{Gives, HasForm, Steps, IsPlain, IsOption, held, saying_from, shown, keeps, KeepsTest, KeepsName, KeepsList, KeepsFamilies, KeepsCross, KeepsDemo, tool_held, test_held, name_held, list_held, cross_held, demo_held, held_at_end, nothing_held};
+ghost use Rattle.diy_words.specs.Requests.{asked_of};
+ghost use Rattle.diy_words.specs.Given.{Gives, HasForm, Steps, IsPlain, IsOption, held, saying_from, shown, keeps, KeepsTest, KeepsName, KeepsList, KeepsFamilies, KeepsCross, KeepsDemo, tool_held, test_held, name_held, list_held, cross_held, demo_held, classified, held_at_end, nothing_held};
 
 use crate::options::{OptionName, Tool, option_named, tool_named};
 use crate::request::{Cross, Demo, Diy, DiyOne, MAX_CHOICES, Norm, Request, Sought};
@@ -165,7 +165,7 @@ fn finish_list(count: usize, said: Said<'_>) -> Result<Request<'_>, Usage>
 }
 
 fn finish_families(count: usize, said: Said<'_>) -> Result<Request<'_>, Usage>
-    ensures { shown result ≡ keeps KeepsFamilies (families_with count (held said.entry).arch) }
+    ensures { shown result ≡ keeps KeepsFamilies (classified count (held said.entry).arch) }
 {
     match said.arch {
         Some(arch) => Ok(Request::Families(arch)),

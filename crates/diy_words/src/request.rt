@@ -28,7 +28,9 @@ pub enum Request<'a> {
     Name(Norm<'a>),
     /// The tests of a listing, of diy7.
     List(Diy<'a>),
-    /// The names of the cycles of the input's lines by their families, of classify7.
+    /// The names of cycles of the architecture by their families, of classify7: those of the tests in
+    /// the files that its operands name, which `read_files` finds, or those of the input's lines where
+    /// there is no operand.
     Families(ArchName),
     /// The sum of the logs that the words behind the first name, or of the input where there is no
     /// such word, of msum7.

@@ -281,13 +281,9 @@ impl<'a> Said<'a> {
                 word: at,
                 kind: UsageKind::StrayWord,
             }),
-            Tool::Msum => Ok(()),
+            Tool::Msum | Tool::Classify => Ok(()),
             Tool::Cross => self.take_place(at, text),
             Tool::Demo => self.take_count(at, text),
-            Tool::Classify => Err(Usage {
-                word: at,
-                kind: UsageKind::NotBuilt,
-            }),
         }
     }
 

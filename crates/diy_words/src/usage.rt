@@ -49,6 +49,4 @@ pub enum UsageKind {
     MissingNumber,
     /// There are more than 65,536 ways to choose a relaxation for each place.
     TooManyChoices,
-    /// The operand isn't built yet.
-    NotBuilt,
 }

@@ -15,59 +15,11 @@ use Rattle.summed_logs.specs.declared.files.FileFault.{FileFault}
 use Rattle.summed_logs.specs.declared.files.FileFault.TheVariants.{Missing, Read}
 use Rattle.summed_logs.specs.Logs.{IsText, IsShort, TookCount}
 use Rattle.summed_logs.specs.Feeding.{Reads, LogSummed, ClosedTo, SumWrote}
-use Rattle.summed_logs.specs.SumEnds.{IsLog, AreLogs, TookFiles, last_taken, IsBegun, IsAtWord, FilesWritten, FilesUnwritten, FilesSummed}
+use Rattle.opened_files.specs.Opened.{IsFile}
+use Rattle.opened_files.proofs.OpenedLaws.{opened_text, opened_took, took_nothing, took_one_more, took_no_more}
+use Rattle.summed_logs.specs.SumEnds.{AreLogs, IsBegun, IsAtWord, FilesWritten, FilesUnwritten, FilesSummed}
 use Rattle.summed_logs.specs.Files.{log_seen, FileSummed, FileTo, FilesSoFar, file_end}
 use Rattle.summed_logs.proofs.LogLaws.{are_right}
-
-one_text : (told : Option (List ℕ)) (log : List ℕ) → IsSome told → IsText told log → told ≡ Some log
-one_text None log there text = cc
-one_text (Some whole) log there text = ap Some text
-
-told_text : (files : Option Files) (name log : List ℕ) → IfSome files (λ f. IsSome (f name)) → IsText (option_and_then (λ f. f name) files) log → IsLog files name log
-told_text None name log there text = tt
-told_text (Some f) name log there text = one_text (f name) log there text
-
--- the text of a file that was opened
-opened_text : (old mid : ShelfSeen) (name log : List ℕ) → Opened old mid name → IsText (left_to_read mid.mode) log → IsLog old.files name log
-opened_text old mid name log opened text =
-    told_text old.files name log opened.there (subst (λ o. IsText o log) (ap left_to_read opened.mode) text)
-
--- bytes were taken of a file that was opened
-opened_took : (old mid new : ShelfSeen) (name bytes : List ℕ) → Opened old mid name → TookCount (log_seen mid) (log_seen new) (length bytes)
-    → new.opened ≡ mid.opened → TookFiles old new (bytes ∷ [])
-opened_took old mid new name bytes opened taken same =
-    let once : mid.opened ≡ next_count old.opened = opened.opened in
-    let zero_taken : mid.taken ≡ 0 = opened.taken in
-    let count : count_of new.taken ≡ count_of (mid.taken + length bytes) = taken in
-    record { opened = omega arith; last = omega arith }
-
--- nothing was opened or taken
-pub took_nothing : (old new : ShelfSeen) → CountsStay old new → TookFiles old new []
-took_nothing old new stay =
-    let taken : new.taken ≡ old.taken = stay.taken in
-    let opened : new.opened ≡ old.opened = stay.opened in
-    record { opened = omega arith; last = omega arith }
-
-last_of : (taken : ℕ) (logs : List (List ℕ)) (bytes : List ℕ) → last_taken taken (logs ++ bytes ∷ []) ≡ length bytes
-last_of taken [] bytes = refl
-last_of taken (log ∷ logs) bytes = last_of (length log) logs bytes
-
--- one file after others
-took_one_more : (old mid new : ShelfSeen) (logs : List (List ℕ)) (bytes : List ℕ) → TookFiles old mid logs → TookFiles mid new (bytes ∷ [])
-    → TookFiles old new (logs ++ bytes ∷ [])
-took_one_more old mid new logs bytes p q =
-    let before : count_of mid.opened ≡ count_of (old.opened + length logs) = p.opened in
-    let then_one : count_of new.opened ≡ count_of (mid.opened + length (bytes ∷ [])) = q.opened in
-    record {
-      opened = omega (arith, length-append logs (bytes ∷ []));
-      last = q.last ∙ ap count_of (sym (last_of old.taken logs bytes));
-    }
-
-took_no_more : (old mid new : ShelfSeen) (logs : List (List ℕ)) → TookFiles old mid logs → TookFiles mid new [] → TookFiles old new logs
-took_no_more old mid new logs p q =
-    let before : count_of mid.opened ≡ count_of (old.opened + length logs) = p.opened in
-    let then_none : count_of new.opened ≡ count_of (mid.opened + 0) = q.opened in
-    record { opened = omega arith; last = q.last ∙ p.last }
 
 -- a file that was opened is summed
 pub opened_summed : (old mid new : ShelfSeen) (feeding : Feeding) (before : List (List ℕ)) (name : List ℕ) → Opened old mid name
@@ -147,12 +99,12 @@ one_short log short k d h = let z : k ≡ 0 = omega arith in subst (λ i. IsShor
 
 -- one log more is named
 more_logs : (files : Option Files) (words : List (List ℕ)) (first place : ℕ) (logs : List (List ℕ)) (name log : List ℕ) → AreLogs files words first logs
-    → place ≡ first + length logs → slice_get words place ≡ Some name → IsLog files name log → IsShort log → AreLogs files words first (logs ++ log ∷ [])
+    → place ≡ first + length logs → slice_get words place ≡ Some name → IsFile files name log → IsShort log → AreLogs files words first (logs ++ log ∷ [])
 more_logs files words first place logs name log are count word text short = record {
   named = λ k n l w g.
-      let P : ℕ → List ℕ → Type 0 = λ i x. slice_get words (first + i) ≡ Some n → IsLog files n x in
+      let P : ℕ → List ℕ → Type 0 = λ i x. slice_get words (first + i) ≡ Some n → IsFile files n x in
       last_log logs log l k g P (λ x h v. are.named k n x v h)
-      (λ v. let same : name ≡ n = same_name words place (first + length logs) name n count word v in subst (λ m. IsLog files m log) same text) w;
+      (λ v. let same : name ≡ n = same_name words place (first + length logs) name n count word v in subst (λ m. IsFile files m log) same text) w;
   short = All-append IsShort logs (log ∷ []) are.short (one_short log short);
 }
 
@@ -164,7 +116,7 @@ one_more old mid new feeding after words first place name s files word f =
     record {
       logs = s.logs ++ f.log ∷ [];
       count = omega (arith, length-append s.logs (f.log ∷ []));
-      are = more_logs old.files words first place s.logs name f.log s.are s.count word (subst (λ o. IsLog o name f.log) files f.text) f.short;
+      are = more_logs old.files words first place s.logs name f.log s.are s.count word (subst (λ o. IsFile o name f.log) files f.text) f.short;
       reads = f.reads;
       no_fault = f.no_fault ∙ s.no_fault;
       took = took_one_more old mid new s.logs f.log s.took f.took;
@@ -220,7 +172,7 @@ files_refused old mid new a feeding after words first place name (Read (Log (Wro
     name = name;
     place_is = at_word old mid feeding words first place name s word;
     log = f.log;
-    text = subst (λ o. IsLog o name f.log) files f.text;
+    text = subst (λ o. IsFile o name f.log) files f.text;
     bytes = f.bytes;
     is = f.is;
     took = took_one_more old mid new s.logs f.bytes s.took f.took;
@@ -233,7 +185,7 @@ files_refused old mid new a feeding after words first place name (Read (Log (Too
     name = name;
     place_is = at_word old mid feeding words first place name s word;
     log = f.log;
-    text = subst (λ o. IsLog o name f.log) files f.text;
+    text = subst (λ o. IsFile o name f.log) files f.text;
     bytes = f.bytes;
     is = f.is;
     took = took_one_more old mid new s.logs f.bytes s.took f.took;

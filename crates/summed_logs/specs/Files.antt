@@ -13,7 +13,8 @@ use Rattle.summed_logs.specs.declared.sum_end.SumEnd.TheVariants as ends
 use Rattle.summed_logs.specs.Faults.{end_at}
 use Rattle.summed_logs.specs.Logs.{IsShort}
 use Rattle.summed_logs.specs.Feeding.{Reads, IsFaulty}
-use Rattle.summed_logs.specs.SumEnds.{IsLog, AreLogs, TookFiles, IsBegun}
+use Rattle.opened_files.specs.Opened.{IsFile, TookFiles}
+use Rattle.summed_logs.specs.SumEnds.{AreLogs, IsBegun}
 use Rattle.summed_logs.specs.declared.feeding.ReadFault.{ReadFault}
 use Rattle.summed_logs.specs.declared.feeding.ReadFault.TheVariants.{Log, Device}
 
@@ -30,7 +31,7 @@ ModeAfter mode (Err Device) = mode ≡ Idle
 -- a file is summed
 pub record FileSummed (old new : ShelfSeen) (feeding : Feeding) (before : List (List ℕ)) (name : List ℕ) : Type 0 where
   pub log : List ℕ
-  pub text : IsLog old.files name log
+  pub text : IsFile old.files name log
   pub short : IsShort log
   pub reads : Reads feeding (before ++ log ∷ []) []
   pub no_fault : new.faults ≡ old.faults
@@ -39,7 +40,7 @@ pub record FileSummed (old new : ShelfSeen) (feeding : Feeding) (before : List (
 -- a file has a fault
 pub record FileFaulty (old new : ShelfSeen) (before : List (List ℕ)) (name : List ℕ) (fault : LogFault) : Type 0 where
   pub log : List ℕ
-  pub text : IsLog old.files name log
+  pub text : IsFile old.files name log
   pub bytes : List ℕ
   pub is : IsFaulty before log bytes fault
   pub took : TookFiles old new (bytes ∷ [])

@@ -1,11 +1,12 @@
 -- How a call that sums logs ended, and what it did to its devices.
 -- Source: own.
-use Rattle.std.specs.Prelude.{◌≡◌, ◌⊎◌, ◌+◌, ℕ, List, [], ◌∷◌, ◌++◌, length, slice_get, Option, None, Some, IfSome, MatchOption, All, Ok}
+use Rattle.std.specs.Prelude.{◌≡◌, ◌⊎◌, ◌+◌, ℕ, List, [], ◌∷◌, ◌++◌, length, slice_get, Option, None, Some, MatchOption, All, Ok}
 use Rattle.std.specs.Io.KnownBytes.{IsAtEnd}
-use Rattle.diy_io.specs.Count.{count_of, Rose}
+use Rattle.diy_io.specs.Count.{Rose}
 use Rattle.diy_io.specs.Shelf.{Files, ShelfSeen}
 use Rattle.diy_io.specs.Taken.{SourceSeen}
 use Rattle.diy_io.specs.Wrote.{SinkSeen, WroteAll, WrotePart}
+use Rattle.opened_files.specs.Opened.{IsFile, TookFiles}
 use Rattle.log_sum.specs.declared.errors.LogError.{LogError}
 use Rattle.log_sum.specs.declared.errors.LogKind.{LogKind}
 use Rattle.log_sum.specs.Standing.{logs_text}
@@ -69,24 +70,10 @@ InputSummed old new out_old out_new (ends.TooMuch (Some file) line) = ⊥
 InputSummed old new out_old out_new (ends.NoFile word) = ⊥
 InputSummed old new out_old out_new ends.ShelfFault = ⊥
 
--- a file of a name is there and has these bytes, where the files are told
-abbrev pub IsLog : Option Files → List ℕ → List ℕ → Type 0
-IsLog files name log = IfSome files (λ there. there name ≡ Some log)
-
 -- these are the logs that the words from a place on name, each of at most 2^40 bytes
 pub record AreLogs (files : Option Files) (words : List (List ℕ)) (first : ℕ) (logs : List (List ℕ)) : Type 0 where
-  pub named : (k : ℕ) (name log : List ℕ) → slice_get words (first + k) ≡ Some name → slice_get logs k ≡ Some log → IsLog files name log
+  pub named : (k : ℕ) (name log : List ℕ) → slice_get words (first + k) ≡ Some name → slice_get logs k ≡ Some log → IsFile files name log
   pub short : All IsShort logs
-
--- how many bytes were taken of the file that was opened last, after these were taken of one file each, one after another
-abbrev pub last_taken : ℕ → List (List ℕ) → ℕ
-last_taken taken [] = taken
-last_taken taken (bytes ∷ more) = last_taken (length bytes) more
-
--- these bytes were taken of one file each, one after another, and no other file was opened, as far as that is counted
-pub record TookFiles (old new : ShelfSeen) (taken : List (List ℕ)) : Type 0 where
-  pub opened : count_of new.opened ≡ count_of (old.opened + length taken)
-  pub last : count_of new.taken ≡ count_of (last_taken old.taken taken)
 
 -- the words name files that are whole logs, each read to its end once, and this is their sum
 pub record FilesRead (old new : ShelfSeen) (words : List (List ℕ)) (first : ℕ) (sum : List ℕ) : Type 0 where
@@ -121,7 +108,7 @@ pub record FileWrong (old new : ShelfSeen) (words : List (List ℕ)) (first plac
   pub name : List ℕ
   pub place_is : IsAtWord old.files words first place before name
   pub log : List ℕ
-  pub text : IsLog old.files name log
+  pub text : IsFile old.files name log
   pub bytes : List ℕ
   pub is : IsWrong before log bytes error
   pub took : TookFiles old new (before ++ bytes ∷ [])
@@ -132,7 +119,7 @@ pub record FileTooMuch (old new : ShelfSeen) (words : List (List ℕ)) (first pl
   pub name : List ℕ
   pub place_is : IsAtWord old.files words first place before name
   pub log : List ℕ
-  pub text : IsLog old.files name log
+  pub text : IsFile old.files name log
   pub bytes : List ℕ
   pub is : IsTooMuch before log bytes line
   pub took : TookFiles old new (before ++ bytes ∷ [])
@@ -149,7 +136,7 @@ pub record FileMissing (old new : ShelfSeen) (words : List (List ℕ)) (first pl
 -- these are the first bytes of the log of a name, at most 2^40, and show no fault after other logs
 pub record IsBegun (files : Option Files) (before : List (List ℕ)) (name bytes : List ℕ) : Type 0 where
   pub log : List ℕ
-  pub text : IsLog files name log
+  pub text : IsFile files name log
   pub rest : List ℕ
   pub parts : log ≡ bytes ++ rest
   pub short : IsShort bytes

@@ -1,8 +1,8 @@
-use Rattle.diy_tools.proofs.naming.families.Goals as goal
+use Rattle.diy_tools.proofs.families.of_lines.Goals as goal
 
 pub returns-clause-answers : goal.returns-clause-answers
 returns-clause-answers g c = record {
   result = c.classify_lines.result;
   classifies = c.classify_lines.ensures;
-  status_is = c.classify_status.ensures.status;
+  status_is = c.lines_end.ensures.status;
 }

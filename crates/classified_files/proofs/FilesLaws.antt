@@ -1,0 +1,198 @@
+-- Files that are read, one after another.
+use Rattle.std.proofs.Common.{◌≡◌, ◌≤◌, ◌<◌, ◌+◌, ℕ, zero, suc, List, [], ◌∷◌, ◌++◌, length, take, drop, get_or, Some, None, refl, sym, ap, ◌∙◌, subst, arith, inl, inr, append_assoc}
+use Rattle.std.specs.Prelude.{Option, MatchOption, map, slice_get, Result, Ok, Err}
+use Rattle.std.proofs.lemmas.List.{take-append-drop, take_all}
+use Rattle.std.proofs.lemmas.Option.{get_or_from_slice_get}
+use Rattle.diy_io.specs.Count.{Rose}
+use Rattle.diy_io.specs.Shelf.{Files, ShelfSeen}
+use Rattle.diy_io.specs.Wrote.{SinkSeen, Wrote, WroteAll, WrotePart}
+use Rattle.diy_io.specs.declared.errors.Failed.{Failed}
+use Rattle.opened_files.specs.Opened.{IsFile, TookFiles}
+use Rattle.opened_files.proofs.OpenedLaws.{took_no_more, took_one_more}
+use Rattle.relax_edges.specs.declared.edge.Edge.{Edge}
+use Rattle.litmus_text.specs.declared.limits.TheConstants.{MAX_TEXT}
+use Rattle.cycle_lines.specs.Classified.{families_text}
+use Rattle.cycle_lines.specs.Tables.{Entry, Holds}
+use Rattle.classified_files.specs.declared.errors.FileFault.{FileFault}
+use Rattle.classified_files.specs.declared.errors.FileFault.TheVariants.{Missing, Device, Text}
+use Rattle.classified_files.specs.declared.errors.TextFault.TheVariants.{Wrong, NoMemory}
+use Rattle.classified_files.specs.FilesEnds.{Asked, said_on, name_at, AreNamed, SayCycles, ReadFiles, FilesWritten, FilesUnwritten, IsAtPlace, FilesClassified}
+use Rattle.classified_files.specs.Read.{FileSaid, FileTo, file_end}
+
+-- the files of the first places were read, and the names of their cycles are kept
+pub record FilesSoFar (asked : Asked) (old new : ShelfSeen) (words : List (List ℕ)) (places : List ℕ) (families : List Entry) : Type 0 where
+  pub texts : List (List ℕ)
+  pub cycles : List (List Edge)
+  pub read : ReadFiles asked old.files words places texts cycles
+  pub took : TookFiles old new texts
+  pub no_fault : new.faults ≡ old.faults
+  pub holds : Holds families cycles
+
+-- before the first file
+pub none_so_far : (asked : Asked) (old : ShelfSeen) (words : List (List ℕ)) (families : List Entry) → Holds families [] → FilesSoFar asked old old words [] families
+none_so_far asked old words families holds = record {
+  texts = [];
+  cycles = [];
+  read = record { named = tt; say = refl };
+  took = record { opened = omega arith; last = refl };
+  no_fault = refl;
+  holds = holds;
+}
+
+more_named : (files : Option Files) (words : List (List ℕ)) (places : List ℕ) (texts : List (List ℕ)) (place : ℕ) (text : List ℕ) → AreNamed files words places texts
+    → IsFile files (name_at words place) text → AreNamed files words (places ++ place ∷ []) (texts ++ text ∷ [])
+more_named files words [] [] place text named more = (more, tt)
+more_named files words (p ∷ places) (t ∷ texts) place text named more = (named.0, more_named files words places texts place text named.1 more)
+more_named files words [] (t ∷ texts) place text named more = absurd named
+more_named files words (p ∷ places) [] place text named more = absurd named
+
+map_more : {A B : Type 0} (f : A → B) (xs : List A) (x : A) → map f (xs ++ x ∷ []) ≡ map f xs ++ f x ∷ []
+map_more f [] x = refl
+map_more f (y ∷ xs) x = ap (λ t. f y ∷ t) (map_more f xs x)
+
+more_said : (asked : Asked) (texts : List (List ℕ)) (cycles : List (List Edge)) (text : List ℕ) (cycle : List Edge) → SayCycles asked texts cycles
+    → said_on asked text ≡ Ok cycle → SayCycles asked (texts ++ text ∷ []) (cycles ++ cycle ∷ [])
+more_said asked texts cycles text cycle say says =
+    map_more (said_on asked) texts text ∙ rw (say, says) (sym (map_more Ok cycles cycle))
+
+named_word : (words : List (List ℕ)) (place : ℕ) (name : List ℕ) → slice_get words place ≡ Some name → name ≡ name_at words place
+named_word words place name word = sym (get_or_from_slice_get words place name [] word)
+
+file_of : (files : Option Files) (words : List (List ℕ)) (place : ℕ) (name text : List ℕ) → slice_get words place ≡ Some name → IsFile files name text
+    → IsFile files (name_at words place) text
+file_of files words place name text word is = subst (λ (n : List ℕ). IsFile files n text) (named_word words place name word) is
+
+-- one file more
+pub one_more : (asked : Asked) (old mid new : ShelfSeen) (words : List (List ℕ)) (places : List ℕ) (place : ℕ) (name : List ℕ) (cycle : List Edge) (before after : List Entry)
+    (s : FilesSoFar asked old mid words places before) → mid.files ≡ old.files → slice_get words place ≡ Some name → FileSaid asked mid new name cycle
+    → ((cycles : List (List Edge)) → Holds before cycles → Holds after (cycles ++ cycle ∷ [])) → FilesSoFar asked old new words (places ++ place ∷ []) after
+one_more asked old mid new words places place name cycle before after s files word f put = record {
+  texts = s.texts ++ f.text ∷ [];
+  cycles = s.cycles ++ cycle ∷ [];
+  read = record {
+    named = more_named old.files words places s.texts place f.text s.read.named
+        (file_of old.files words place name f.text word (subst (λ (o : Option Files). IsFile o name f.text) files f.named));
+    say = more_said asked s.texts s.cycles f.text cycle s.read.say f.says;
+  };
+  took = took_one_more old mid new s.texts f.text s.took f.took;
+  no_fault = f.no_fault ∙ s.no_fault;
+  holds = put s.cycles s.holds;
+}
+
+-- the place of a file, after the first places
+split_at : (places : List ℕ) (i place : ℕ) → i < length places → place ≡ get_or places i 0 → places ≡ take i places ++ place ∷ drop (i + 1) places
+split_at [] i place within is = absurd (omega arith)
+split_at (p ∷ places) zero place within is = ap (λ x. x ∷ places) (sym is)
+split_at (p ∷ places) (suc i) place within is =
+    let e : suc i + 1 ≡ suc (i + 1) = omega arith in
+    ap (λ rest. p ∷ rest) (split_at places i place (omega arith) is)
+    ∙ ap (λ (k : ℕ). (p ∷ take i places) ++ place ∷ drop k (p ∷ places)) (sym e)
+
+take_more : (places : List ℕ) (i place : ℕ) → i < length places → place ≡ get_or places i 0 → take (i + 1) places ≡ take i places ++ place ∷ []
+take_more [] i place within is = absurd (omega arith)
+take_more (p ∷ places) zero place within is = ap (λ x. x ∷ []) (sym is)
+take_more (p ∷ places) (suc i) place within is =
+    let e : suc i + 1 ≡ suc (i + 1) = omega arith in
+    ap (λ (k : ℕ). take k (p ∷ places)) e ∙ ap (λ rest. p ∷ rest) (take_more places i place (omega arith) is)
+
+pub next_so_far : (asked : Asked) (old new : ShelfSeen) (words : List (List ℕ)) (places : List ℕ) (i place : ℕ) (families : List Entry) → i < length places
+    → place ≡ get_or places i 0 → FilesSoFar asked old new words (take i places ++ place ∷ []) families → FilesSoFar asked old new words (take (i + 1) places) families
+next_so_far asked old new words places i place families within is s =
+    subst (λ (ps : List ℕ). FilesSoFar asked old new words ps families) (sym (take_more places i place within is)) s
+
+at_place : (asked : Asked) (old mid : ShelfSeen) (words : List (List ℕ)) (places : List ℕ) (i place : ℕ) (families : List Entry) → i < length places
+    → place ≡ get_or places i 0 → (s : FilesSoFar asked old mid words (take i places) families) → IsAtPlace asked old.files words places place s.texts
+at_place asked old mid words places i place families within is s = record {
+  before = take i places;
+  after = drop (i + 1) places;
+  parts = split_at places i place within is;
+  cycles = s.cycles;
+  read = s.read;
+}
+
+absent_same : (old mid : Option Files) (m n k : ℕ) (name other : List ℕ) → mid ≡ old → m ≡ n → name ≡ other → MatchOption mid (Rose m k) (λ there. there name ≡ None)
+    → MatchOption old (Rose n k) (λ there. there other ≡ None)
+absent_same old mid m n k name other files same called h =
+    let P : Option Files → Type 0 = λ o. MatchOption o (Rose n k) (λ there. there other ≡ None) in
+    let Q : ℕ → Type 0 = λ i. MatchOption mid (Rose i k) (λ there. there other ≡ None) in
+    let R : List ℕ → Type 0 = λ x. MatchOption mid (Rose m k) (λ there. there x ≡ None) in
+    subst P files (subst Q same (subst R called h))
+
+-- a file gives no cycle
+pub files_refused : (asked : Asked) (old mid new : ShelfSeen) (a : SinkSeen) (words : List (List ℕ)) (places : List ℕ) (i place : ℕ) (name : List ℕ) (families : List Entry) (fault : FileFault)
+    → i < length places → place ≡ get_or places i 0 → (s : FilesSoFar asked old mid words (take i places) families) → mid.files ≡ old.files
+    → slice_get words place ≡ Some name → FileTo asked mid new name (Err fault) → FilesClassified asked old new words places a a (file_end place fault)
+files_refused asked old mid new a words places i place name families Missing within is s files word f = (
+  record {
+    texts = s.texts;
+    place_is = at_place asked old mid words places i place families within is s;
+    absent = absent_same old.files mid.files mid.faults old.faults new.faults name (name_at words place) files s.no_fault (named_word words place name word) f.absent;
+    took = took_no_more old mid new s.texts s.took f.took;
+  },
+  refl,
+)
+files_refused asked old mid new a words places i place name families Device within is s files word f = (
+  record {
+    fault = subst (λ m. Rose m new.faults) s.no_fault f.fault;
+    place = place;
+    texts = s.texts;
+    place_is = at_place asked old mid words places i place families within is s;
+    took = elim f.took [
+      | inl none ↦ inl (took_no_more old mid new s.texts s.took none)
+      | inr some ↦ inr (
+        some.0,
+        record {
+          text = some.1.text;
+          named = file_of old.files words place name some.1.text word (subst (λ (o : Option Files). IsFile o name some.1.text) files some.1.named);
+          rest = some.1.rest;
+          parts = some.1.parts;
+          short = some.1.short;
+        },
+        took_one_more old mid new s.texts some.0 s.took some.2,
+      )
+    ];
+  },
+  refl,
+)
+files_refused asked old mid new a words places i place name families (Text (Wrong error)) within is s files word f = (
+  record {
+    texts = s.texts;
+    place_is = at_place asked old mid words places i place families within is s;
+    text = f.text;
+    named = file_of old.files words place name f.text word (subst (λ (o : Option Files). IsFile o name f.text) files f.named);
+    fault = f.fault;
+    took = took_one_more old mid new s.texts (take (MAX_TEXT + 1) f.text) s.took f.took;
+  },
+  refl,
+)
+files_refused asked old mid new a words places i place name families (Text NoMemory) within is s files word f = refl
+
+-- all files were read, and the families of their cycles are written
+pub files_written : (asked : Asked) (old new : ShelfSeen) (words : List (List ℕ)) (places : List ℕ) (i : ℕ) (families : List Entry) (a b : SinkSeen) (u : Unit {0})
+    → length places ≤ i → FilesSoFar asked old new words (take i places) families
+    → ((cycles : List (List Edge)) → Holds families cycles → Wrote a b (families_text cycles) (Ok u)) → FilesWritten asked old new words places a b
+files_written asked old new words places i families a b u all s wrote = record {
+  cycles = s.cycles;
+  read = record {
+    texts = s.texts;
+    read = subst (λ (ps : List ℕ). ReadFiles asked old.files words ps s.texts s.cycles) (take_all i places all) s.read;
+    took = s.took;
+    no_fault = s.no_fault;
+  };
+  wrote = (wrote s.cycles s.holds).ok;
+}
+
+-- or a prefix of them
+pub files_unwritten : (asked : Asked) (old new : ShelfSeen) (words : List (List ℕ)) (places : List ℕ) (i : ℕ) (families : List Entry) (a b : SinkSeen) (e : Failed)
+    → length places ≤ i → FilesSoFar asked old new words (take i places) families
+    → ((cycles : List (List Edge)) → Holds families cycles → Wrote a b (families_text cycles) (Err e)) → FilesUnwritten asked old new words places a b
+files_unwritten asked old new words places i families a b e all s wrote = record {
+  cycles = s.cycles;
+  read = record {
+    texts = s.texts;
+    read = subst (λ (ps : List ℕ). ReadFiles asked old.files words ps s.texts s.cycles) (take_all i places all) s.read;
+    took = s.took;
+    no_fault = s.no_fault;
+  };
+  wrote = (wrote s.cycles s.holds).failed;
+}

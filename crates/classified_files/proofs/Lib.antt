@@ -1,0 +1,5 @@
+pub mod SaidLaws
+pub mod TextLaws
+pub mod FileLaws
+pub mod FilesLaws
+pub mod FewLaws

@@ -1,0 +1,46 @@
+use Rattle.std.proofs.Common.{◌∙◌, get_or, sym, subst, arith, refl}
+use Rattle.diy_io.specs.Wrote.{SinkSeen}
+use Rattle.classified_files.specs.declared.errors.FilesEnd.{FilesEnd}
+use Rattle.classified_files.specs.FilesEnds.{Asked, FilesClassified}
+use Rattle.classified_files.proofs.FilesLaws.{none_so_far, one_more, next_so_far, files_refused, files_written, files_unwritten}
+use Rattle.classified_files.proofs.files.classify_files.Goals as goal
+
+pub loop-place-init : goal.loop-place-init
+loop-place-init g c = record {
+  so_far = none_so_far (record { arch = g.A.Arch.NAME; writing = g.A.Arch.writing }) _ c.args.words.now _ c.in-Ok.ensures;
+  mode = c.requires.idle;
+  files = refl;
+}
+
+pub returns-in-Err-clause-classified : goal.returns-in-Err-clause-classified
+returns-in-Err-clause-classified g c =
+    let asked : Asked = record { arch = g.A.Arch.NAME; writing = g.A.Arch.writing } in
+    let out : SinkSeen = g.O.Sink.seen c.args.out.now in
+    let P : FilesEnd → Type 0 = λ end.
+    FilesClassified asked (g.H.Shelf.seen c.args.shelf.now) (g.H.Shelf.seen c.cycle_of_file.new.shelf) c.args.words.now c.args.places.now out out end in
+    subst P (sym c.end_at.ensures)
+    (files_refused asked (g.H.Shelf.seen c.args.shelf.now) (g.H.Shelf.seen c.loop-place.shelf) (g.H.Shelf.seen c.cycle_of_file.new.shelf) out
+    c.args.words.now c.args.places.now c.loop-place.place-index (get_or c.args.places.now c.loop-place.place-index 0) c.get-name.result.now _ c.in-Err.fault
+    c.loop-place-test.true refl c.loop-place.invariant.so_far c.loop-place.invariant.files c.get-name.ensures c.in-Err.ensures.file)
+
+pub loop-place-preserved : goal.loop-place-preserved
+loop-place-preserved g c =
+    let asked : Asked = record { arch = g.A.Arch.NAME; writing = g.A.Arch.writing } in
+    record {
+      so_far =
+          next_so_far asked _ _ c.args.words.now c.args.places.now c.loop-place.place-index (get_or c.args.places.now c.loop-place.place-index 0) _ c.loop-place-test.true refl
+          (one_more asked _ (g.H.Shelf.seen c.loop-place.shelf) _ c.args.words.now _ (get_or c.args.places.now c.loop-place.place-index 0) c.get-name.result.now c.in-Ok-cycle_of_file.cycle _ _
+          c.loop-place.invariant.so_far c.loop-place.invariant.files c.get-name.ensures c.in-Ok-cycle_of_file.ensures.file c.in-Ok-put.ensures);
+      mode = c.cycle_of_file.ensures.mode;
+      files = c.cycle_of_file.ensures.files ∙ c.loop-place.invariant.files;
+    }
+
+pub returns-in-Ok-write-clause-classified : goal.returns-in-Ok-write-clause-classified
+returns-in-Ok-write-clause-classified g c =
+    files_written (record { arch = g.A.Arch.NAME; writing = g.A.Arch.writing }) _ _ c.args.words.now c.args.places.now c.loop-place.place-index _ _ _ c.in-Ok-write.field-0
+    (omega arith) c.loop-place.invariant.so_far c.in-Ok-write.ensures
+
+pub returns-clause-classified : goal.returns-clause-classified
+returns-clause-classified g c =
+    files_unwritten (record { arch = g.A.Arch.NAME; writing = g.A.Arch.writing }) _ _ c.args.words.now c.args.places.now c.loop-place.place-index _ _ _ c.in-Err-write.field-0
+    (omega arith) c.loop-place.invariant.so_far c.in-Err-write.ensures

@@ -1,0 +1,92 @@
+ghost use Rattle.std.specs.Prelude.{◌≡◌};
+ghost use Rattle.classified_files.specs.Read.{file_end};
+
+use litmus_text::TestKind;
+
+/// What is wrong with a file of a test.
+#[derive(Clone, Copy, Debug, PartialEq, Eq)]
+pub enum FileKind {
+    /// It has no header, or isn't a test of the architecture that the header names.
+    Test(TestKind),
+    /// It is a test of another architecture than the one asked for.
+    WrongArch,
+    /// It quotes no text, or one that spells no cycle of the architecture.
+    NoCycle,
+}
+
+/// Where a file is wrong, and what is wrong there.
+#[derive(Clone, Copy, Debug, PartialEq, Eq)]
+pub struct FileError {
+    /// The number of the line, from 1. It is 1 for `WrongArch`, and 2 for `NoCycle`.
+    pub line: u64,
+    pub kind: FileKind,
+}
+
+/// How a call that classifies files ended. A `file` and a `word` are the place of the word that names
+/// the file.
+#[derive(Clone, Copy, Debug, PartialEq, Eq)]
+pub enum FilesEnd {
+    /// The families are written.
+    Done,
+    /// A file is wrong, the first such.
+    Wrong {
+        file: usize,
+        line: u64,
+        kind: FileKind,
+    },
+    /// The word names no file.
+    NoFile {
+        word: usize,
+    },
+    /// The shelf failed.
+    ShelfFault,
+    /// The output failed.
+    OutFault,
+    /// There is no memory.
+    NoMemory,
+}
+
+/// Why a text gives no cycle.
+#[derive(Clone, Copy)]
+pub(crate) enum TextFault {
+    Wrong(FileError),
+    /// There is no memory.
+    NoMemory,
+}
+
+/// Why a file isn't read.
+#[derive(Clone, Copy)]
+pub(crate) enum ReadFault {
+    /// The shelf failed.
+    Device,
+    /// There is no memory.
+    NoMemory,
+}
+
+/// Why a file gives no cycle.
+#[derive(Clone, Copy)]
+pub(crate) enum FileFault {
+    /// It isn't there.
+    Missing,
+    /// The shelf failed.
+    Device,
+    Text(TextFault),
+}
+
+impl FileFault {
+    /// The end where the file that a word names gives no cycle.
+    pub(crate) fn end_at(self, word: usize) -> FilesEnd
+        ensures { result ≡ file_end word self }
+    {
+        match self {
+            FileFault::Missing => FilesEnd::NoFile { word },
+            FileFault::Device => FilesEnd::ShelfFault,
+            FileFault::Text(TextFault::Wrong(FileError { line, kind })) => FilesEnd::Wrong {
+                file: word,
+                line,
+                kind,
+            },
+            FileFault::Text(TextFault::NoMemory) => FilesEnd::NoMemory,
+        }
+    }
+}

@@ -1,0 +1,143 @@
+ghost use Rattle.std.specs.Prelude.{◌≡◌, ◌<◌, Ok, length};
+ghost use Rattle.std.specs.List.{All};
+ghost use Rattle.diy_io.specs.Shelf.{Idle};
+ghost use Rattle.classified_files.specs.FilesEnds.{FilesClassified};
+ghost use Rattle.diy_words.specs.Given.{Gives};
+ghost use Rattle.diy_words.specs.Requests.{asked_of};
+ghost use Rattle.diy_words.specs.declared.request.Request.TheVariants as requests;
+ghost use Rattle.diy_tools.specs.Answers.{Answers};
+ghost use Rattle.diy_tools.specs.FamilyAnswers.{AnswersFamilies, file_kind, files_status, read_on};
+ghost use Rattle.diy_tools.specs.Kept.{ClassifiesFiles};
+ghost use Rattle.diy_tools.specs.Report.{NamesLocation};
+ghost use Rattle.diy_tools.specs.Statuses.{classify_status};
+
+use crate::naming::lines_status;
+use crate::status::{Device, Status, TextKind};
+use arch_aarch64::A64;
+use arch_power::Power;
+use arch_riscv::Riscv;
+use arch_x86::X86;
+use classified_files::{FileKind, FilesEnd, classify_files};
+use cycle_lines::{ClassifyError, classify_lines};
+use diy_io::{NoMemory, Shelf, Sink, Source, Words};
+use diy_words::read_files;
+use relax_edges::ArchName;
+use std::alloc::Global;
+
+/// Prints the names of cycles by their families: of those that the files quote which operands name, or of
+/// those of the input's lines where there is no operand.
+#[tactic(auto, using(crate::proofs::Classed::asks_families, crate::proofs::Classed::lines_asked))]
+pub(crate) fn families<I: Source, O: Sink, H: Shelf>(
+    alloc: Global,
+    words: &Words,
+    arch: ArchName,
+    input: &mut I,
+    shelf: &mut H,
+    out: &mut O,
+) -> Status
+    requires idle { (H.seen shelf.old).mode ≡ Idle }
+    requires given { Gives (Ok (requests.Families arch)) (asked_of words.now) }
+    ensures answers { Answers words.now result (I.seen input.old, O.seen out.old, H.seen shelf.old) (I.seen input.new, O.seen out.new, H.seen shelf.new) }
+    ensures idle { (H.seen shelf.new).mode ≡ Idle }
+    ensures location { NamesLocation result }
+{
+    let files = match read_files(alloc, words) {
+        Ok(files) => files,
+        Err(NoMemory) => return Status::NoMemory,
+    };
+    if files.is_empty() {
+        of_lines(alloc, arch, input, out)
+    } else {
+        of_files(alloc, words, arch, files.as_slice(), shelf, out)
+    }
+}
+
+/// Prints the names of the cycles of the input's lines by their families.
+#[inline(never)]
+fn of_lines<I: Source, O: Sink>(alloc: Global, arch: ArchName, input: &mut I, out: &mut O) -> Status
+    ensures answers { AnswersFamilies arch result (I.seen input.old) (I.seen input.new) (O.seen out.old) (O.seen out.new) }
+    ensures location { NamesLocation result }
+{
+    lines_end(classify_lines(alloc, arch, input, out))
+}
+
+fn lines_end(end: Result<(), ClassifyError>) -> Status
+    ensures status { result ≡ classify_status end }
+    ensures location { NamesLocation result }
+{
+    match end {
+        Ok(()) => Status::Done,
+        Err(ClassifyError::Lines(error)) => lines_status(error),
+        Err(ClassifyError::OutFault) => Status::WriteFault { of: Device::Out },
+        Err(ClassifyError::NoMemory) => Status::NoMemory,
+    }
+}
+
+/// Prints the names of the cycles that the files quote which the words at these places name.
+fn of_files<H: Shelf, O: Sink>(
+    alloc: Global,
+    words: &Words,
+    arch: ArchName,
+    files: &[usize],
+    shelf: &mut H,
+    out: &mut O,
+) -> Status
+    requires idle { (H.seen shelf.old).mode ≡ Idle }
+    requires within { All (λ place. place < length words.now) files.now }
+    ensures answers { ClassifiesFiles words.now arch files.now result (H.seen shelf.old) (H.seen shelf.new) (O.seen out.old) (O.seen out.new) }
+    ensures idle { (H.seen shelf.new).mode ≡ Idle }
+    ensures location { NamesLocation result }
+{
+    files_end(classify_on(alloc, words, arch, files, shelf, out))
+}
+
+#[inline(never)]
+fn classify_on<H: Shelf, O: Sink>(
+    alloc: Global,
+    words: &Words,
+    arch: ArchName,
+    files: &[usize],
+    shelf: &mut H,
+    out: &mut O,
+) -> FilesEnd
+    requires idle { (H.seen shelf.old).mode ≡ Idle }
+    requires within { All (λ place. place < length words.now) files.now }
+    ensures classified { FilesClassified (read_on arch) (H.seen shelf.old) (H.seen shelf.new) words.now files.now (O.seen out.old) (O.seen out.new) result }
+    ensures idle { (H.seen shelf.new).mode ≡ Idle }
+    ensures stay { (H.seen shelf.new).files ≡ (H.seen shelf.old).files }
+{
+    match arch {
+        ArchName::X86 => classify_files::<X86, H, O>(alloc, words, files, shelf, out),
+        ArchName::PPC => classify_files::<Power, H, O>(alloc, words, files, shelf, out),
+        ArchName::AArch64 => classify_files::<A64, H, O>(alloc, words, files, shelf, out),
+        ArchName::RISCV => classify_files::<Riscv, H, O>(alloc, words, files, shelf, out),
+    }
+}
+
+fn files_end(end: FilesEnd) -> Status
+    ensures status { result ≡ files_status end }
+    ensures location { NamesLocation result }
+{
+    match end {
+        FilesEnd::Done => Status::Done,
+        FilesEnd::Wrong { file, line, kind } => Status::BadText {
+            file: Some(file),
+            line,
+            kind: text_kind(kind),
+        },
+        FilesEnd::NoFile { word } => Status::NoFile { word },
+        FilesEnd::ShelfFault => Status::ReadFault { of: Device::Shelf },
+        FilesEnd::OutFault => Status::WriteFault { of: Device::Out },
+        FilesEnd::NoMemory => Status::NoMemory,
+    }
+}
+
+fn text_kind(kind: FileKind) -> TextKind
+    ensures { result ≡ file_kind kind }
+{
+    match kind {
+        FileKind::Test(kind) => TextKind::Test(kind),
+        FileKind::WrongArch => TextKind::WrongArch,
+        FileKind::NoCycle => TextKind::NoCycle,
+    }
+}

@@ -1,0 +1,19 @@
+-- Files of a shelf that are opened one after another, as far as it tells and counts that.
+-- Source: own.
+use Rattle.std.specs.Prelude.{◌≡◌, ◌+◌, ℕ, List, [], ◌∷◌, length, Option, Some, IfSome}
+use Rattle.diy_io.specs.Count.{count_of}
+use Rattle.diy_io.specs.Shelf.{Files, ShelfSeen}
+
+-- a file of a name is there and has these bytes, where the files are told
+abbrev pub IsFile : Option Files → List ℕ → List ℕ → Type 0
+IsFile files name bytes = IfSome files (λ there. there name ≡ Some bytes)
+
+-- how many bytes were taken of the file that was opened last, after these were taken of one file each, one after another
+abbrev pub last_taken : ℕ → List (List ℕ) → ℕ
+last_taken taken [] = taken
+last_taken taken (bytes ∷ more) = last_taken (length bytes) more
+
+-- these bytes were taken of one file each, one after another, and no other file was opened, as far as that is counted
+pub record TookFiles (old new : ShelfSeen) (taken : List (List ℕ)) : Type 0 where
+  pub opened : count_of new.opened ≡ count_of (old.opened + length taken)
+  pub last : count_of new.taken ≡ count_of (last_taken old.taken taken)
