@@ -6,8 +6,8 @@ use Rattle.std.proofs.lemmas.List.Elements.{All-append}
 use Rattle.diy_io.specs.Count.{count_of}
 use Rattle.diy_io.specs.Shelf.{ShelfSeen}
 use Rattle.diy_io.specs.Wrote.{SinkSeen}
-use Rattle.opened_files.specs.Opened.{TookFiles}
-use Rattle.opened_files.proofs.OpenedLaws.{took_within}
+use Rattle.file_laws.specs.Opened.{TookFiles}
+use Rattle.file_laws.proofs.OpenedLaws.{took_within}
 use Rattle.relax_edges.specs.declared.edge.Edge.{Edge}
 use Rattle.litmus_text.specs.declared.limits.TheConstants.{MAX_TEXT}
 use Rattle.classified_files.specs.declared.errors.FilesEnd.{FilesEnd}

@@ -5,8 +5,8 @@ use Rattle.std.proofs.lemmas.List.{take_all}
 use Rattle.diy_io.specs.Count.{count_of, Rose}
 use Rattle.diy_io.specs.Shelf.{ShelfSeen, Idle, CountsStay, Finished, NotThere, Opened, Stopped, left_to_read}
 use Rattle.diy_io.specs.declared.errors.Failed.{Failed}
-use Rattle.opened_files.specs.Opened.{IsFile, TookFiles}
-use Rattle.opened_files.proofs.OpenedLaws.{opened_text, opened_took, took_nothing}
+use Rattle.file_laws.specs.Opened.{IsFile, TookFiles}
+use Rattle.file_laws.proofs.OpenedLaws.{opened_text, opened_took, took_nothing}
 use Rattle.relax_edges.specs.declared.edge.Edge.{Edge}
 use Rattle.litmus_text.specs.declared.limits.TheConstants.{MAX_TEXT}
 use Rattle.classified_files.specs.declared.errors.FileFault.{FileFault}

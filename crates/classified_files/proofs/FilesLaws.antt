@@ -7,8 +7,8 @@ use Rattle.diy_io.specs.Count.{Rose}
 use Rattle.diy_io.specs.Shelf.{Files, ShelfSeen}
 use Rattle.diy_io.specs.Wrote.{SinkSeen, Wrote, WroteAll, WrotePart}
 use Rattle.diy_io.specs.declared.errors.Failed.{Failed}
-use Rattle.opened_files.specs.Opened.{IsFile, TookFiles}
-use Rattle.opened_files.proofs.OpenedLaws.{took_no_more, took_one_more}
+use Rattle.file_laws.specs.Opened.{IsFile, TookFiles}
+use Rattle.file_laws.proofs.OpenedLaws.{took_no_more, took_one_more}
 use Rattle.relax_edges.specs.declared.edge.Edge.{Edge}
 use Rattle.litmus_text.specs.declared.limits.TheConstants.{MAX_TEXT}
 use Rattle.cycle_lines.specs.Classified.{families_text}

@@ -3,7 +3,7 @@ use Rattle.std.specs.Prelude.{◌≡◌, ◌≤◌, ◌⊎◌, ◌+◌, ⊤, ℕ
 use Rattle.std.specs.Io.KnownBytes.{Consumes}
 use Rattle.diy_io.specs.Count.{count_of, Rose}
 use Rattle.diy_io.specs.Shelf.{Files, Idle, IsReading, Mode, ShelfSeen, left_to_read}
-use Rattle.opened_files.specs.Opened.{IsFile, TookFiles}
+use Rattle.file_laws.specs.Opened.{IsFile, TookFiles}
 use Rattle.relax_edges.specs.declared.edge.Edge.{Edge}
 use Rattle.litmus_text.specs.declared.errors.TextError.{TextError}
 use Rattle.litmus_text.specs.declared.limits.TheConstants.{MAX_TEXT}

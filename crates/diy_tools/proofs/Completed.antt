@@ -40,7 +40,7 @@ use Rattle.log_sum.specs.Standing.{logs_text}
 use Rattle.summed_logs.specs.declared.sum_end.SumEnd.{SumEnd}
 use Rattle.summed_logs.specs.declared.sum_end.SumEnd.TheVariants as sums
 use Rattle.summed_logs.specs.Logs.{IsText, IsShort, IsTooMuch, AreRight}
-use Rattle.opened_files.specs.Opened.{IsFile}
+use Rattle.file_laws.specs.Opened.{IsFile}
 use Rattle.summed_logs.specs.SumEnds.{AreLogs, IsAtWord, FilesSummed, InputWrong, FileTooMuch, FileMissing}
 use Rattle.summed_logs.specs.SumEnds as summed
 use Rattle.diy_tools.specs.declared.status.Status.{Status}

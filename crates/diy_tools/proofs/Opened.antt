@@ -5,7 +5,7 @@ use Rattle.diy_io.specs.Count.{count_of, Rose}
 use Rattle.diy_io.specs.Shelf.{ShelfSeen}
 use Rattle.diy_io.specs.Taken.{SourceSeen}
 use Rattle.summed_logs.specs.Logs.{IsShort, IsTooMuch, TookCount}
-use Rattle.opened_files.specs.Opened.{TookFiles, last_taken}
+use Rattle.file_laws.specs.Opened.{TookFiles, last_taken}
 use Rattle.summed_logs.specs.SumEnds.{FileTooMuch, IsBegun, ShelfFailed}
 use Rattle.diy_tools.specs.Causes.{RoseFar}
 

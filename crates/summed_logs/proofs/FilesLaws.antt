@@ -15,8 +15,8 @@ use Rattle.summed_logs.specs.declared.files.FileFault.{FileFault}
 use Rattle.summed_logs.specs.declared.files.FileFault.TheVariants.{Missing, Read}
 use Rattle.summed_logs.specs.Logs.{IsText, IsShort, TookCount}
 use Rattle.summed_logs.specs.Feeding.{Reads, LogSummed, ClosedTo, SumWrote}
-use Rattle.opened_files.specs.Opened.{IsFile}
-use Rattle.opened_files.proofs.OpenedLaws.{opened_text, opened_took, took_nothing, took_one_more, took_no_more}
+use Rattle.file_laws.specs.Opened.{IsFile}
+use Rattle.file_laws.proofs.OpenedLaws.{opened_text, opened_took, took_nothing, took_one_more, took_no_more}
 use Rattle.summed_logs.specs.SumEnds.{AreLogs, IsBegun, IsAtWord, FilesWritten, FilesUnwritten, FilesSummed}
 use Rattle.summed_logs.specs.Files.{log_seen, FileSummed, FileTo, FilesSoFar, file_end}
 use Rattle.summed_logs.proofs.LogLaws.{are_right}

@@ -13,7 +13,7 @@ use Rattle.summed_logs.specs.declared.sum_end.SumEnd.TheVariants as ends
 use Rattle.summed_logs.specs.Faults.{end_at}
 use Rattle.summed_logs.specs.Logs.{IsShort}
 use Rattle.summed_logs.specs.Feeding.{Reads, IsFaulty}
-use Rattle.opened_files.specs.Opened.{IsFile, TookFiles}
+use Rattle.file_laws.specs.Opened.{IsFile, TookFiles}
 use Rattle.summed_logs.specs.SumEnds.{AreLogs, IsBegun}
 use Rattle.summed_logs.specs.declared.feeding.ReadFault.{ReadFault}
 use Rattle.summed_logs.specs.declared.feeding.ReadFault.TheVariants.{Log, Device}

@@ -4,7 +4,7 @@ use Rattle.std.specs.Prelude.{Option, IfSome, IsSome}
 use Rattle.std.specs.Option.{option_and_then}
 use Rattle.diy_io.specs.Count.{count_of, last_count, next_count}
 use Rattle.diy_io.specs.Shelf.{Files, ShelfSeen, left_to_read, CountsStay, Opened}
-use Rattle.opened_files.specs.Opened.{IsFile, TookFiles, last_taken}
+use Rattle.file_laws.specs.Opened.{IsFile, TookFiles, last_taken}
 
 one_text : (told : Option (List ℕ)) (bytes : List ℕ) → IsSome told → IfSome told (λ whole. whole ≡ bytes) → told ≡ Some bytes
 one_text None bytes there text = cc
