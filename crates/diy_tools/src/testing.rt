@@ -16,13 +16,15 @@ use crate::status::{Device, Refusal, Status};
 use arch_aarch64::A64;
 use arch_power::Power;
 use arch_riscv::Riscv;
-use arch_trait::Arch;
+use arch_trait::{Arch, Places};
 use arch_x86::X86;
+use arrayvec::ArrayVec;
 use cycle_names::name_of;
 use diy_io::{Failed, Sink};
 use diy_words::{DiyOne, TestName};
 use edge_algebra::Cycle;
 use edge_lists::EdgeList;
+use final_cond::Cond;
 use litmus_text::{Test, print_test};
 use relax_edges::{ArchName, ObsMode};
 use test_maker::make_into;
@@ -72,7 +74,14 @@ fn answer_cycle<A: Arch, O: Sink>(
     ensures answers { AnswersEdges (refused_making (refusal_of A.puts cycle.now mode)) (cycle_text A.puts A.writing mode (test_name (name_kept name.now) cycle.now) cycle.now) result (O.seen out.old) (O.seen out.new) }
     ensures location { NamesLocation result }
 {
-    let mut test = Test::new();
+    // It is written out here, and not made by a call of `Test::new`: so the program clears it once where it
+    // stands, and copies nothing of its 125 KB.
+    let mut test = Test {
+        edges: ArrayVec::new(),
+        places: Places::new(),
+        threads: ArrayVec::new(),
+        cond: Cond::default(),
+    };
     match make_test::<A>(cycle, mode, &mut test) {
         Err(refusal) => Status::Refused(refusal),
         Ok(()) => print_named::<A, O>(&test, cycle, name, out),
