@@ -1,4 +1,4 @@
-use Rattle.std.proofs.Common.{◌≡◌, [], length, refl}
+use Rattle.std.proofs.Common.{◌≡◌, [], length, refl, rules}
 use Rattle.std.proofs.lemmas.List.{append-nil}
 use Rattle.listing_laws.proofs.Stepping.{kept_all}
 use Rattle.cycle_enum.specs.Walking.{Keeps, Lists}
@@ -35,4 +35,4 @@ returns-else-not-is_listed-clause-listed g c _ =
     rw e at (c.if-not-is_listed.ensures.listed refl)
 
 pub returns-in-Err-clause-other : goal.returns-in-Err-clause-other
-returns-in-Err-clause-other g c _ l = composed_none c.args.list.now _ c.in-Err.ensures.made l.cycle
+returns-in-Err-clause-other g c _ l = composed_none c.args.list.now c.in-Err.field-0 (search rules) l.cycle
