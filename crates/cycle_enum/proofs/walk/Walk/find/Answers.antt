@@ -8,9 +8,9 @@ use Rattle.cycle_enum.proofs.walk.Walk.find.Goals as goal
 
 pub returns-then-is_none : goal.returns-then-is_none
 returns-then-is_none g c =
-    let last : c.args.self.now.last ≡ Some c.in-Some.last.now = search rules in
+    let last : c.args.self.now.last ≡ Some c.in-Some.last = search rules in
     let none : c.as_long.new.found ≡ None = search rules in
-    rw last (answer_none_behind (Lists g.P.Fn.post c.args.self.now) (Keeps g.K.Fn.post g.J.Fn.post c.args.self.now) c.in-Some.last.now c.longer-then-is_none.new.found
+    rw last (answer_none_behind (Lists g.P.Fn.post c.args.self.now) (Keeps g.K.Fn.post g.J.Fn.post c.args.self.now) c.in-Some.last c.longer-then-is_none.new.found
     (rw none at c.as_long.ensures) (rw c.len.ensures at c.longer-then-is_none.ensures))
 
 -- an answer as long as the last
@@ -21,6 +21,6 @@ some_behind listed keeps last (Some m) some a = answer_behind listed keeps last 
 
 pub returns-else-is_none : goal.returns-else-is_none
 returns-else-is_none g c =
-    let last : c.args.self.now.last ≡ Some c.in-Some.last.now = search rules in
+    let last : c.args.self.now.last ≡ Some c.in-Some.last = search rules in
     let some : c.as_long.new.found ≡ None → ⊥ = search rules in
-    rw last (some_behind (Lists g.P.Fn.post c.args.self.now) (Keeps g.K.Fn.post g.J.Fn.post c.args.self.now) c.in-Some.last.now c.as_long.new.found some c.as_long.ensures)
+    rw last (some_behind (Lists g.P.Fn.post c.args.self.now) (Keeps g.K.Fn.post g.J.Fn.post c.args.self.now) c.in-Some.last c.as_long.new.found some c.as_long.ensures)

@@ -6,5 +6,5 @@ use Rattle.cycle_enum.proofs.walk.Walk.next.Goals as goal
 
 pub returns-in-Some-clause-falls : goal.returns-in-Some-clause-falls
 returns-in-Some-clause-falls g c =
-    let next : IsNext (Lists g.P.Fn.post c.args.self.now) c.args.self.now.last c.in-Some.cycle.now = search rules in
-    later_falls c.args.self.now.limits.size c.args.self.now.last c.in-Some.cycle.now next.after next.is.limits.few
+    let next : IsNext (Lists g.P.Fn.post c.args.self.now) c.args.self.now.last c.in-Some.cycle = search rules in
+    later_falls c.args.self.now.limits.size c.args.self.now.last c.in-Some.cycle next.after next.is.limits.few
