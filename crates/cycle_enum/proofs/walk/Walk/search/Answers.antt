@@ -67,6 +67,6 @@ loop-self-preserved g c =
     let raised : IsRaised (IsCandidate c.args.self.now.relaxes) c.loop-self.list.items c.raise-else-len-from.new.list.items = search rules in
     record {
       stands = stands_past _ _ c.args.len c.args.list.now.items c.loop-self.list.items c.raise-else-len-from.new.list.items c.loop-self.invariant.stands some long
-      (rw c.as_slice-else-len-from.ensures.value at (c.if-has_found.ensures.other refl)) (raised_listed _ _ _ _ _ _ raised);
+          (rw c.as_slice-else-len-from.ensures.value at (c.if-has_found.ensures.other refl)) (raised_listed _ _ _ _ _ _ raised);
       none = search rules;
     }
