@@ -1,4 +1,4 @@
-ghost use Rattle.std.specs.Prelude.{◌≡◌, ◌<◌, ◌≤◌, Some, None, IfSome, IfNone, MatchOption, IsTrue, IsFalse, length};
+ghost use Rattle.std.specs.Prelude.{◌≡◌, ◌<◌, ◌≤◌, [], Some, None, IfSome, IfNone, MatchOption, IsTrue, IsFalse, length};
 ghost use Rattle.listing_laws.specs.Asked.{KeptBelow, KeptWhole};
 ghost use Rattle.listing_laws.specs.Counting.{later};
 ghost use Rattle.listing_laws.specs.Listing.{IsAnswer, KeepsLimits};
@@ -91,100 +91,104 @@ impl<K: Fn(&[Edge]) -> bool, J: Fn(&[Edge]) -> bool, P: Fn(&Cycle) -> bool> Walk
         ensures none { IfNone result (self.new ≡ self.old) }
         ensures falls { IfSome result (λ cycle. later self.old.limits.size (Some cycle) < later self.old.limits.size self.old.last) }
     {
-        match self.find() {
-            Some(cycle) => {
-                self.last = Some(cycle.copied());
-                Some(cycle)
-            }
-            None => None,
+        let mut found = None;
+        self.find(&mut found);
+        if let Some(cycle) = &found {
+            self.last = Some(cycle.copied());
         }
+        found
     }
 
-    /// The least listed cycle that comes after the last one.
-    fn find(&self) -> Option<Cycle>
+    /// Finds the least listed cycle that comes after the last one.
+    fn find(&self, found: &mut Option<Cycle>)
         requires knows { KnowsOf K.pre K.Fn.post J.pre J.Fn.post P.pre P.Fn.post self.now.keep self.now.fit self.now.take }
-        ensures { IsAnswer (Lists P.Fn.post self.now) self.now.last result }
+        requires none { found.old ≡ None }
+        ensures { IsAnswer (Lists P.Fn.post self.now) self.now.last found.new }
     {
         match &self.last {
-            None => self.longer(0),
-            Some(last) => match self.as_long(last) {
-                Some(cycle) => Some(cycle),
-                None => {
+            None => self.longer(0, found),
+            Some(last) => {
+                self.as_long(last, found);
+                if found.is_none() {
                     let _edges = last.edges();
-                    self.longer(last.len())
+                    self.longer(last.len(), found);
                 }
-            },
+            }
         }
     }
 
-    /// The first listed cycle of more than `len` edges.
-    fn longer(&self, len: u8) -> Option<Cycle>
+    /// Finds the first listed cycle of more than `len` edges.
+    fn longer(&self, len: u8, found: &mut Option<Cycle>)
         requires knows { KnowsOf K.pre K.Fn.post J.pre J.Fn.post P.pre P.Fn.post self.now.keep self.now.fit self.now.take }
         requires few { len ≤ MAX_EDGES }
-        ensures { IsAnswer (LongerThan len (Lists P.Fn.post self.now)) None result }
+        requires none { found.old ≡ None }
+        ensures { IsAnswer (LongerThan len (Lists P.Fn.post self.now)) None found.new }
     {
         if len >= self.limits.size {
-            return None;
+            return;
         }
-        match self.of_len(len + 1) {
-            Some(cycle) => Some(cycle),
-            None => self.longer(len + 1),
+        self.of_len(len + 1, found);
+        if found.is_none() {
+            self.longer(len + 1, found);
         }
     }
 
-    /// The first listed cycle of `len` edges.
-    fn of_len(&self, len: u8) -> Option<Cycle>
+    /// Finds the first listed cycle of `len` edges.
+    fn of_len(&self, len: u8, found: &mut Option<Cycle>)
         requires knows { KnowsOf K.pre K.Fn.post J.pre J.Fn.post P.pre P.Fn.post self.now.keep self.now.fit self.now.take }
         requires some { 0 < len }
         requires few { len ≤ MAX_EDGES }
-        ensures { IsAnswer (OfLength len (Lists P.Fn.post self.now)) None result }
+        requires none { found.old ≡ None }
+        ensures { IsAnswer (OfLength len (Lists P.Fn.post self.now)) None found.new }
     {
         if !self.limits.keeps(len) {
-            return None;
+            return;
         }
         let mut list = ArrayVec::new();
         self.relaxes.extend(&mut list);
-        self.search(&mut list, len)
+        self.search(&mut list, len, found);
     }
 
-    /// The first listed cycle of as many edges as the last one that follows it.
-    fn as_long(&self, last: &Cycle) -> Option<Cycle>
+    /// Finds the first listed cycle of as many edges as the last one that follows it.
+    fn as_long(&self, last: &Cycle, found: &mut Option<Cycle>)
         requires knows { KnowsOf K.pre K.Fn.post J.pre J.Fn.post P.pre P.Fn.post self.now.keep self.now.fit self.now.take }
-        ensures { IsAnswer (OfLength (length last.now) (Lists P.Fn.post self.now)) (Some last.now) result }
+        requires none { found.old ≡ None }
+        ensures { IsAnswer (OfLength (length last.now) (Lists P.Fn.post self.now)) (Some last.now) found.new }
     {
         if !self.limits.keeps(last.len()) {
-            return None;
+            return;
         }
-        let mut list = self.first_refused(last.edges());
+        let mut list = ArrayVec::new();
+        self.put_first_refused(last.edges(), &mut list);
         self.relaxes.raise(&mut list);
-        self.search(&mut list, last.len())
+        self.search(&mut list, last.len(), found);
     }
 
-    /// The shortest prefix of a list on which a pruner says no, so that no listed cycle begins with it,
-    /// else the list.
-    fn first_refused(&self, edges: &[Edge]) -> Edges
+    /// Puts the shortest prefix of a list on which a pruner says no, so that no listed cycle begins
+    /// with it, else the list.
+    fn put_first_refused(&self, edges: &[Edge], list: &mut Edges)
         requires knows { KnowsOf K.pre K.Fn.post J.pre J.Fn.post P.pre P.Fn.post self.now.keep self.now.fit self.now.take }
         requires few { length edges.now ≤ MAX_EDGES }
-        ensures { IsCut (Lists P.Fn.post self.now) (Keeps K.Fn.post J.Fn.post self.now) edges.now result.items }
+        requires empty { list.old.items ≡ [] }
+        ensures { IsCut (Lists P.Fn.post self.now) (Keeps K.Fn.post J.Fn.post self.now) edges.now list.new.items }
     {
-        let mut list = ArrayVec::new();
         for edge in edges {
             list.push(*edge);
             if !self.is_kept(list.as_slice()) {
-                return list;
+                return;
             }
         }
-        list
     }
 
-    /// The first listed cycle of `len` edges from the list on.
-    fn search(&self, list: &mut Edges, len: u8) -> Option<Cycle>
+    /// Finds the first listed cycle of `len` edges from the list on.
+    fn search(&self, list: &mut Edges, len: u8, found: &mut Option<Cycle>)
         requires knows { KnowsOf K.pre K.Fn.post J.pre J.Fn.post P.pre P.Fn.post self.now.keep self.now.fit self.now.take }
         requires few { len ≤ MAX_EDGES }
         requires limits { KeepsLimits self.now.limits.size self.now.limits.exact len }
         requires within { length list.old.items ≤ len }
         requires kept { KeptBelow (Keeps K.Fn.post J.Fn.post self.now) (length list.old.items) list.old.items }
-        ensures { IsFirst (OfLength len (Lists P.Fn.post self.now)) list.old.items result }
+        requires none { found.old ≡ None }
+        ensures { IsFirst (OfLength len (Lists P.Fn.post self.now)) list.old.items found.new }
     {
         while !list.is_empty() {
             if list.len() < usize::from(len) {
@@ -194,13 +198,12 @@ impl<K: Fn(&[Edge]) -> bool, J: Fn(&[Edge]) -> bool, P: Fn(&Cycle) -> bool> Walk
                     self.relaxes.raise(list);
                 }
             } else {
-                match self.listed(list.as_slice()) {
-                    Some(cycle) => return Some(cycle),
-                    None => self.relaxes.raise(list),
+                if self.has_found(list.as_slice(), found) {
+                    return;
                 }
+                self.relaxes.raise(list);
             }
         }
-        None
     }
 
     /// Whether a listed cycle may begin with the list.
@@ -231,31 +234,33 @@ impl<K: Fn(&[Edge]) -> bool, J: Fn(&[Edge]) -> bool, P: Fn(&Cycle) -> bool> Walk
         (self.keep)(list) && (self.fit)(list)
     }
 
-    /// The cycle of these edges, where it is listed.
-    fn listed(&self, list: &[Edge]) -> Option<Cycle>
+    /// Whether the cycle of these edges is listed: it is found then.
+    fn has_found(&self, list: &[Edge], found: &mut Option<Cycle>) -> bool
         requires knows { KnowsOf K.pre K.Fn.post J.pre J.Fn.post P.pre P.Fn.post self.now.keep self.now.fit self.now.take }
         requires limits { KeepsLimits self.now.limits.size self.now.limits.exact (length list.now) }
         requires some { 0 < length list.now }
         requires few { length list.now ≤ MAX_EDGES }
         requires kept { KeptBelow (Keeps K.Fn.post J.Fn.post self.now) (length list.now) list.now }
-        ensures some { IfSome result (λ cycle. (cycle ≡ list.now) × Lists P.Fn.post self.now cycle) }
-        ensures none { IfNone result (Lists P.Fn.post self.now list.now → ⊥) }
+        ensures found { IsTrue result → found.new ≡ Some list.now }
+        ensures listed { IsTrue result → Lists P.Fn.post self.now list.now }
+        ensures same { IsFalse result → found.new ≡ found.old }
+        ensures other { IsFalse result → Lists P.Fn.post self.now list.now → ⊥ }
     {
         if !closes(list) {
-            return None;
+            return false;
         }
         if !self.leads_on(list) {
-            return None;
+            return false;
         }
-        match cycle(list) {
+        match &cycle(list) {
             Ok(cycle) => {
-                if self.is_listed(&cycle) {
-                    Some(cycle)
-                } else {
-                    None
+                if !self.is_listed(cycle) {
+                    return false;
                 }
+                *found = Some(cycle.copied());
+                true
             }
-            Err(_) => None,
+            Err(_) => false,
         }
     }
 

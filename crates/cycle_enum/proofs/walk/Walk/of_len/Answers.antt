@@ -8,5 +8,5 @@ use Rattle.cycle_enum.proofs.walk.Walk.of_len.Goals as goal
 pub returns : goal.returns
 returns g c =
     let extended : IsExtended (IsCandidate c.args.self.now.relaxes) c.new-list.result.items c.extend.new.list.items = search rules in
-    answer_of_length (Lists g.P.Fn.post c.args.self.now) (Keeps g.K.Fn.post g.J.Fn.post c.args.self.now) c.args.len c.extend.new.list.items c.search.result c.requires.some
+    answer_of_length (Lists g.P.Fn.post c.args.self.now) (Keeps g.K.Fn.post g.J.Fn.post c.args.self.now) c.args.len c.extend.new.list.items c.search.new.found c.requires.some
     (extended_listed _ _ _ _ _ _ (rw c.new-list.ensures at extended)) c.search.ensures

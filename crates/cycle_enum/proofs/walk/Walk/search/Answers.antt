@@ -7,19 +7,25 @@ use Rattle.cycle_enum.specs.Walking.{Keeps, Lists}
 use Rattle.cycle_enum.proofs.walk.Walk.search.Goals as goal
 
 pub loop-self-init : goal.loop-self-init
-loop-self-init g c = stands_first _ _ c.args.len c.args.list.now.items c.requires.within c.requires.kept
+loop-self-init g c = record {
+  stands = stands_first _ _ c.args.len c.args.list.now.items c.requires.within c.requires.kept;
+  none = c.requires.none;
+}
 
 pub loop-self-smaller-else-leads_on : goal.loop-self-smaller-else-leads_on
 loop-self-smaller-else-leads_on g c =
     let some : 0 < length c.loop-self.list.items = search rules in
-    raised_falls _ c.args.len c.loop-self.list.items c.raise.new.list.items some c.loop-self.invariant.few c.raise.ensures
+    raised_falls _ c.args.len c.loop-self.list.items c.raise.new.list.items some c.loop-self.invariant.stands.few c.raise.ensures
 
 pub loop-self-preserved-else-leads_on : goal.loop-self-preserved-else-leads_on
 loop-self-preserved-else-leads_on g c =
     let some : 0 < length c.loop-self.list.items = search rules in
     let none : LeadsNowhere (Lists g.P.Fn.post c.args.self.now) c.loop-self.list.items = rw c.as_slice.ensures.value at (c.if-leads_on.ensures.refused refl) in
     let raised : IsRaised (IsCandidate c.args.self.now.relaxes) c.loop-self.list.items c.raise.new.list.items = search rules in
-    stands_raised _ _ c.args.len c.args.list.now.items c.loop-self.list.items c.raise.new.list.items c.loop-self.invariant some none (raised_listed _ _ _ _ _ _ raised)
+    record {
+      stands = stands_raised _ _ c.args.len c.args.list.now.items c.loop-self.list.items c.raise.new.list.items c.loop-self.invariant.stands some none (raised_listed _ _ _ _ _ _ raised);
+      none = c.loop-self.invariant.none;
+    }
 
 pub loop-self-smaller-then-leads_on : goal.loop-self-smaller-then-leads_on
 loop-self-smaller-then-leads_on g c =
@@ -33,27 +39,34 @@ loop-self-preserved-then-leads_on g c =
     let less : length c.loop-self.list.items < c.args.len = search rules in
     let agreed : Keeps g.K.Fn.post g.J.Fn.post c.args.self.now c.loop-self.list.items = rw c.as_slice.ensures.value at (c.if-leads_on.ensures.kept refl) in
     let extended : IsExtended (IsCandidate c.args.self.now.relaxes) c.loop-self.list.items c.extend.new.list.items = search rules in
-    stands_extended _ _ c.args.len c.args.list.now.items c.loop-self.list.items c.extend.new.list.items c.loop-self.invariant some less agreed (extended_listed _ _ _ _ _ _ extended)
+    record {
+      stands = stands_extended _ _ c.args.len c.args.list.now.items c.loop-self.list.items c.extend.new.list.items c.loop-self.invariant.stands some less agreed (extended_listed _ _ _ _ _ _ extended);
+      none = c.loop-self.invariant.none;
+    }
 
-pub listed-requires-clause-kept : goal.listed-requires-clause-kept
-listed-requires-clause-kept g c = rw c.as_slice-else-len-from.ensures.value c.loop-self.invariant.kept
+pub has_found-requires-clause-kept : goal.has_found-requires-clause-kept
+has_found-requires-clause-kept g c = rw c.as_slice-else-len-from.ensures.value c.loop-self.invariant.stands.kept
 
-pub returns-in-Some : goal.returns-in-Some
-returns-in-Some g c =
+pub returns-then-has_found : goal.returns-then-has_found
+returns-then-has_found g c =
     let some : 0 < length c.loop-self.list.items = search rules in
     let long : c.args.len ≤ length c.loop-self.list.items = search rules in
-    stands_found _ (Keeps g.K.Fn.post g.J.Fn.post c.args.self.now) c.args.len c.args.list.now.items c.loop-self.list.items c.in-Some.cycle c.loop-self.invariant some long
-    (c.in-Some.ensures.some.0 ∙ c.as_slice-else-len-from.ensures.value) c.in-Some.ensures.some.1
+    rw (c.if-has_found.ensures.found refl, c.as_slice-else-len-from.ensures.value)
+    (stands_found _ (Keeps g.K.Fn.post g.J.Fn.post c.args.self.now) c.args.len c.args.list.now.items c.loop-self.list.items c.loop-self.list.items c.loop-self.invariant.stands some long
+    refl (rw c.as_slice-else-len-from.ensures.value at (c.if-has_found.ensures.listed refl)))
 
 pub loop-self-smaller : goal.loop-self-smaller
 loop-self-smaller g c =
     let some : 0 < length c.loop-self.list.items = search rules in
-    raised_falls _ c.args.len c.loop-self.list.items c.raise-in-None.new.list.items some c.loop-self.invariant.few c.raise-in-None.ensures
+    raised_falls _ c.args.len c.loop-self.list.items c.raise-else-len-from.new.list.items some c.loop-self.invariant.stands.few c.raise-else-len-from.ensures
 
 pub loop-self-preserved : goal.loop-self-preserved
 loop-self-preserved g c =
     let some : 0 < length c.loop-self.list.items = search rules in
     let long : c.args.len ≤ length c.loop-self.list.items = search rules in
-    let raised : IsRaised (IsCandidate c.args.self.now.relaxes) c.loop-self.list.items c.raise-in-None.new.list.items = search rules in
-    stands_past _ _ c.args.len c.args.list.now.items c.loop-self.list.items c.raise-in-None.new.list.items c.loop-self.invariant some long
-    (rw c.as_slice-else-len-from.ensures.value at c.in-None.ensures.none) (raised_listed _ _ _ _ _ _ raised)
+    let raised : IsRaised (IsCandidate c.args.self.now.relaxes) c.loop-self.list.items c.raise-else-len-from.new.list.items = search rules in
+    record {
+      stands = stands_past _ _ c.args.len c.args.list.now.items c.loop-self.list.items c.raise-else-len-from.new.list.items c.loop-self.invariant.stands some long
+          (rw c.as_slice-else-len-from.ensures.value at (c.if-has_found.ensures.other refl)) (raised_listed _ _ _ _ _ _ raised);
+      none = search rules;
+    }

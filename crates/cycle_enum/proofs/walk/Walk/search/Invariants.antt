@@ -1,10 +1,14 @@
+use Rattle.std.proofs.Common.{◌≡◌, None}
 use Rattle.listing_laws.proofs.Counts.{to_go}
 use Rattle.listing_laws.proofs.Stepping.{Standing}
 use Rattle.cycle_enum.specs.Walking.{Keeps, Lists}
 use Rattle.cycle_enum.proofs.walk.Walk.search.Given as goal
 
 abbrev pub invariant-loop-self : goal.invariant-loop-self
-invariant-loop-self g l = Standing (Lists g.P.Fn.post l.self) (Keeps g.K.Fn.post g.J.Fn.post l.self) l.len l.fn.list.items l.list.items
+invariant-loop-self g l = record {
+  stands : Standing (Lists g.P.Fn.post l.self) (Keeps g.K.Fn.post g.J.Fn.post l.self) l.len l.fn.list.items l.list.items;
+  none : l.found ≡ None;
+}
 
 abbrev pub decreases-loop-self : goal.decreases-loop-self
 decreases-loop-self g l = to_go l.len l.list.items

@@ -3,7 +3,7 @@ use Rattle.std.proofs.lemmas.List.{drop_all}
 use Rattle.listing_laws.specs.Search.{LeadsNowhere}
 use Rattle.listing_laws.proofs.Raising.{kept_more, cut_refused, cut_whole, one_further}
 use Rattle.cycle_enum.specs.Walking.{Keeps, Lists}
-use Rattle.cycle_enum.proofs.walk.Walk.first_refused.Goals as goal
+use Rattle.cycle_enum.proofs.walk.Walk.put_first_refused.Goals as goal
 
 pub returns-then-not-is_kept : goal.returns-then-not-is_kept
 returns-then-not-is_kept g c =
