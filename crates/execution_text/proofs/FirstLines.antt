@@ -1,0 +1,37 @@
+-- The first line of a text.
+use Rattle.std.proofs.Common.{◌≡◌, ◌==◌, ◌<◌, ℕ, List, [], ◌∷◌, true, false, get_or, length, refl, ap, ◌∙◌, arith}
+use Rattle.std.specs.Prelude.{Bool, not}
+use Rattle.std.specs.List.{list_all, All, slice_split}
+use Rattle.std.proofs.lemmas.Bool.{eq-eqb}
+use Rattle.std.proofs.lemmas.List.Sums.{AllPass-from_list_all}
+use Rattle.std.proofs.lemmas.List.Splits.{slice_split_none, slice_split_at, length-slice_split}
+use Rattle.litmus_text.specs.Lines.{is_line_feed, without_return}
+use Rattle.litmus_text.specs.Views.{CutParts}
+use Rattle.execution_text.specs.ExecutionText.{lines_in, lines_of}
+
+not_true : (b : Bool) → not b ≡ true → b ≡ false
+not_true true e = cc
+not_true false e = refl
+
+no_feed : (text : List ℕ) → list_all (λ byte. not (byte == 10)) text ≡ true → All (λ byte. is_line_feed byte ≡ false) text
+no_feed text h i d k = not_true (get_or text i d == 10) (AllPass-from_list_all (λ byte. not (byte == 10)) text h i d k)
+
+-- there is a piece before others
+before_others : (front : List ℕ) (pieces : List (List ℕ)) → 0 < length pieces → lines_in (front ∷ pieces) ≡ without_return front ∷ lines_in pieces
+before_others front [] h = absurd (omega arith)
+before_others front (piece ∷ pieces) h = refl
+
+-- a text that is cut at a line feed
+pub line_cut : (text front rest : List ℕ) → CutParts 10 text front rest → lines_of text ≡ without_return front ∷ lines_of rest
+line_cut text front rest c =
+    let split : slice_split is_line_feed text ≡ front ∷ slice_split is_line_feed rest =
+    ap (slice_split is_line_feed) c.parts ∙ slice_split_at is_line_feed front 10 rest (no_feed front c.first) (eq-eqb 10 10 refl) in
+    ap lines_in split ∙ before_others front (slice_split is_line_feed rest) (some_piece rest)
+  where
+    some_piece : (t : List ℕ) → 0 < length (slice_split is_line_feed t)
+    some_piece t = omega (arith, length-slice_split is_line_feed t)
+
+-- a text without a line feed is its one line, if it has a byte
+pub line_last : (text : List ℕ) → list_all (λ byte. not (byte == 10)) text ≡ true → 0 < length text → lines_of text ≡ text ∷ []
+line_last [] h k = absurd (omega arith)
+line_last (byte ∷ text) h k = ap lines_in (slice_split_none is_line_feed (byte ∷ text) (no_feed (byte ∷ text) h))

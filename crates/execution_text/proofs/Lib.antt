@@ -1,0 +1,4 @@
+pub mod FirstLines
+pub mod Telling
+pub mod Growing
+pub mod Whole

@@ -1,0 +1,132 @@
+-- The text of an execution: a line for each thread with what its reads read, and then a line for each place with its writes in
+-- coherence order.
+-- Source: own.
+use Rattle.std.specs.Prelude.{ℕ, ◌+◌, cond, List, [], ◌∷◌, ◌++◌, length, map, codes, nat_lt, Option, Some, None, option_and_then, Result, Ok, Err}
+use Rattle.std.specs.Fmt.{decimal}
+use Rattle.std.specs.List.{slice_split, range_with_len}
+use Rattle.std.specs.Option.{option_map}
+use Rattle.std.specs.Str.{bytes_eq}
+use Rattle.text_laws.specs.Numbers.{number_of}
+use Rattle.litmus_text.specs.Cuts.{cut_at, words}
+use Rattle.litmus_text.specs.Lines.{is_line_feed, without_return}
+use Rattle.program_meaning.specs.declared.WriteAt.{WriteAt}
+use Rattle.program_meaning.specs.Executions.{Execution}
+use Rattle.execution_text.specs.declared.errors.ExecKind.{ExecKind}
+use Rattle.execution_text.specs.declared.errors.ExecKind.TheVariants.{BadThread, BadRead, BadPlace, BadWrite, EndMissing, StrayLine, TooLarge}
+use Rattle.execution_text.specs.declared.errors.ExecFault.{ExecFault}
+use Rattle.litmus_text.specs.declared.limits.TheConstants.{MAX_TEXT, MAX_ACCESSES}
+
+-- the number below a bound that digits write, without leading zeros
+abbrev pub kept_below : ℕ → ℕ → Option ℕ
+kept_below bound n = cond (nat_lt n bound) (Some n) None
+
+abbrev pub number_below : ℕ → List ℕ → Option ℕ
+number_below bound digits = option_and_then (kept_below bound) (number_of digits)
+
+-- an access by its thread and its number there, if there are both
+abbrev pub access_of : Option ℕ → Option ℕ → Option WriteAt
+access_of None access = None
+access_of (Some thread) None = None
+access_of (Some thread) (Some access) = Some (record { thread = thread; access = access })
+
+abbrev pub access_in : ℕ → Option (List ℕ × List ℕ) → Option WriteAt
+access_in threads None = None
+access_in threads (Some parts) = access_of (number_below threads parts.0) (number_below MAX_ACCESSES parts.1)
+
+-- the access that `T.N` names: number N, below 64, of thread T
+unfoldable pub access_named : ℕ → List ℕ → Option WriteAt
+access_named threads word = access_in threads (cut_at 46 word)
+
+-- what a read reads: `init`, the initial value, or an access
+unfoldable pub source_named : ℕ → List ℕ → Option (Option WriteAt)
+source_named threads word = cond (bytes_eq word (codes "init")) (Some None) (option_map Some (access_named threads word))
+
+-- a read by its value and by what it reads, if there are both
+abbrev pub read_of : Option ℕ → Option (Option WriteAt) → Option (ℕ × Option WriteAt)
+read_of None source = None
+read_of (Some value) None = None
+read_of (Some value) (Some source) = Some (value, source)
+
+abbrev pub read_in : ℕ → Option (List ℕ × List ℕ) → Option (ℕ × Option WriteAt)
+read_in threads None = None
+read_in threads (Some parts) = read_of (number_of parts.0) (source_named threads parts.1)
+
+-- the read that `VALUE@init` or `VALUE@T.N` tells
+unfoldable pub read_named : ℕ → List ℕ → Option (ℕ × Option WriteAt)
+read_named threads word = read_in threads (cut_at 64 word)
+
+-- one more before others, if there is it and they are right
+abbrev pub put_first : {X F : Type 0} → F → Option X → Result (List X) F → Result (List X) F
+put_first fault None rest = Err fault
+put_first fault (Some x) (Err later) = Err later
+put_first fault (Some x) (Ok xs) = Ok (x ∷ xs)
+
+-- what words name, one after another; a word that names nothing is a fault
+abbrev pub all_named : {X : Type 0} → ExecKind → (List ℕ → Option X) → List (List ℕ) → Result (List X) ExecKind
+all_named bad name [] = Ok []
+all_named bad name (word ∷ rest) = put_first bad (name word) (all_named bad name rest)
+
+-- what a line tells whose first word is its head
+unfoldable pub line_told : {X : Type 0} → ExecKind → ExecKind → (List ℕ → Option X) → List ℕ → List (List ℕ) → Result (List X) ExecKind
+line_told bad_head bad name head [] = Err bad_head
+line_told bad_head bad name head (word ∷ rest) = cond (bytes_eq word head) (all_named bad name rest) (Err bad_head)
+
+-- a fault at a line
+abbrev pub at_line : {A : Type 0} → ℕ → Result A ExecKind → Result A ExecFault
+at_line n (Ok a) = Ok a
+at_line n (Err kind) = Err (record { line = n; kind = kind })
+
+-- what stands on the lines, and the lines that are left
+abbrev pub put_line : {X : Type 0} → Result (List X) ExecFault → Result (List (List X) × List (List ℕ)) ExecFault → Result (List (List X) × List (List ℕ)) ExecFault
+put_line (Err fault) rest = Err fault
+put_line (Ok xs) (Err fault) = Err fault
+put_line (Ok xs) (Ok rest) = Ok (xs ∷ rest.0, rest.1)
+
+-- a line for each head, from line number n on
+unfoldable pub lines_told : {X : Type 0} → (List ℕ → List (List ℕ) → Result (List X) ExecKind) → ℕ → List (List ℕ) → List (List ℕ) → Result (List (List X) × List (List ℕ)) ExecFault
+lines_told told n [] lines = Ok ([], lines)
+lines_told told n (head ∷ heads) [] = Err (record { line = n; kind = EndMissing })
+lines_told told n (head ∷ heads) (line ∷ lines) = put_line (at_line n (told head (words line))) (lines_told told (n + 1) heads lines)
+
+-- the head of a thread's line, and of a place's
+abbrev pub thread_head : ℕ → List ℕ
+thread_head thread = codes "P" ++ (decimal thread ++ codes ":")
+
+abbrev pub place_head : List ℕ → List ℕ
+place_head place = place ++ codes ":"
+
+-- an execution by the lines of its threads and those of its places, if no line is left
+abbrev pub execution_of : ℕ → List (List (ℕ × Option WriteAt)) → List (List WriteAt) × List (List ℕ) → Result Execution ExecFault
+execution_of n reads (orders, []) = Ok (record { reads = reads; orders = orders })
+execution_of n reads (orders, line ∷ lines) = Err (record { line = n; kind = StrayLine })
+
+infixl 10 ◌>>=◌
+abbrev pub ◌>>=◌ : {A B : Type 0} → Result A ExecFault → (A → Result B ExecFault) → Result B ExecFault
+(Ok x) >>= f = f x
+(Err e) >>= f = Err e
+
+-- the execution that lines tell, of a program of so many threads and of these places
+unfoldable pub lines_read : ℕ → List (List ℕ) → List (List ℕ) → Result Execution ExecFault
+lines_read threads places lines = do
+  reads ← lines_told (line_told BadThread BadRead (read_named threads)) 1 (map thread_head (range_with_len 0 threads)) lines
+  orders ← lines_told (line_told BadPlace BadWrite (access_named threads)) (threads + 1) (map place_head places) reads.1
+  execution_of (threads + length places + 1) reads.0 orders
+
+-- what stands after the last line feed is a line if it has a byte
+abbrev pub last_line : List ℕ → List (List ℕ)
+last_line [] = []
+last_line (byte ∷ bytes) = (byte ∷ bytes) ∷ []
+
+-- the lines of a text by its pieces between line feeds; a carriage return before a line feed is dropped
+abbrev pub lines_in : List (List ℕ) → List (List ℕ)
+lines_in [] = []
+lines_in (piece ∷ []) = last_line piece
+lines_in (piece ∷ next ∷ pieces) = without_return piece ∷ lines_in (next ∷ pieces)
+
+abbrev pub lines_of : List ℕ → List (List ℕ)
+lines_of text = lines_in (slice_split is_line_feed text)
+
+-- the execution that a text tells
+unfoldable pub execution_read : ℕ → List (List ℕ) → List ℕ → Result Execution ExecFault
+execution_read threads places text =
+    cond (nat_lt MAX_TEXT (length text)) (Err (record { line = 1; kind = TooLarge })) (lines_read threads places (lines_of text))

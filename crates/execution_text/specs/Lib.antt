@@ -1,0 +1,2 @@
+pub mod ExecutionText
+pub mod Steps
