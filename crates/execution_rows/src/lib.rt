@@ -1,0 +1,5 @@
+//! Executions that are given, of a test that is read, with what is said of each. Tests alone.
+#![tactic(auto)]
+
+#[cfg(test)]
+mod given;
