@@ -2,4 +2,6 @@
 #![tactic(auto)]
 
 #[cfg(test)]
+mod edges;
+#[cfg(test)]
 mod given;
