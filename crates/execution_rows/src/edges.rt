@@ -54,153 +54,102 @@ fn edges_on<A: Arch>(alloc: Global, edges: &str, text: &str, execution: &str) ->
     standing(alloc, &test, &exec, &cycle)
 }
 
-/// Which edges stand is what is wanted.
-fn is_so<A: Arch>(
-    alloc: Global,
-    edges: &str,
-    text: &str,
-    execution: &str,
-    wanted: &[bool],
-) -> bool {
-    match edges_on::<A>(alloc, edges, text, execution) {
-        Some(stand) => stand.as_slice() == wanted,
+/// An execution of a test, both as texts, and which edges of a cycle are to stand in it.
+struct Case {
+    edges: &'static str,
+    text: &'static str,
+    execution: &'static str,
+    stand: &'static [bool],
+}
+
+/// The second thread of message passing reads the flag and then the initial value.
+const FLAG_READ: &str = "P0:\nP1: 1@0.1 0@init\nx: 0.0\ny: 0.1\n";
+
+/// Whether the edges that stand are those that are to stand.
+fn is_so<A: Arch>(alloc: Global, case: &Case) -> bool {
+    match edges_on::<A>(alloc, case.edges, case.text, case.execution) {
+        Some(stand) => stand.as_slice() == case.stand,
         None => false,
     }
 }
 
-/// Message passing with `lwsync` and an address: all edges stand.
+/// On Power, each with one thing wrong or right.
+const POWER: [Case; 6] = [
+    // Message passing with `lwsync` and an address: all edges stand.
+    Case {
+        edges: "LwSyncdWW Rfe DpAddrdR Fre",
+        text: "PPC A\n{\n0:r2=x; 0:r4=y;\n1:r2=y; 1:r5=x;\n}\n P0 | P1 ;\n li r1,1 | lwz r1,0(r2) ;\n stw r1,0(r2) | xor r3,r1,r1 ;\n lwsync | lwzx r4,r3,r5 ;\n li r3,1 | ;\n stw r3,0(r4) | ;\nexists (1:r1=1)\n",
+        execution: FLAG_READ,
+        stand: &[true, true, true, true],
+    },
+    // Its index is dropped: the second load depends on nothing.
+    Case {
+        edges: "LwSyncdWW Rfe DpAddrdR Fre",
+        text: "PPC A\n{\n0:r2=x; 0:r4=y;\n1:r2=y; 1:r5=x;\n}\n P0 | P1 ;\n li r1,1 | lwz r1,0(r2) ;\n stw r1,0(r2) | xor r3,r1,r1 ;\n lwsync | lwz r4,0(r5) ;\n li r3,1 | ;\n stw r3,0(r4) | ;\nexists (1:r1=1)\n",
+        execution: FLAG_READ,
+        stand: &[true, true, false, true],
+    },
+    // A stray fence stands before the second load.
+    Case {
+        edges: "LwSyncdWW Rfe DpAddrdR Fre",
+        text: "PPC A\n{\n0:r2=x; 0:r4=y;\n1:r2=y; 1:r5=x;\n}\n P0 | P1 ;\n li r1,1 | lwz r1,0(r2) ;\n stw r1,0(r2) | xor r3,r1,r1 ;\n lwsync | sync ;\n li r3,1 | lwzx r4,r3,r5 ;\n stw r3,0(r4) | ;\nexists (1:r1=1)\n",
+        execution: FLAG_READ,
+        stand: &[true, true, false, true],
+    },
+    // The fence of thread 0 stands after both stores.
+    Case {
+        edges: "LwSyncdWW Rfe DpAddrdR Fre",
+        text: "PPC A\n{\n0:r2=x; 0:r4=y;\n1:r2=y; 1:r5=x;\n}\n P0 | P1 ;\n li r1,1 | lwz r1,0(r2) ;\n stw r1,0(r2) | xor r3,r1,r1 ;\n li r3,1 | lwzx r4,r3,r5 ;\n stw r3,0(r4) | ;\n lwsync | ;\nexists (1:r1=1)\n",
+        execution: FLAG_READ,
+        stand: &[false, true, true, true],
+    },
+    // A branch governs all that follows it: load 0 is in the control mask of the store too, and its Po edge
+    // stands.
+    Case {
+        edges: "PodWW Rfe DpCtrldR PodRW Wse",
+        text: "PPC A\n{\n0:r2=x; 0:r4=y;\n1:r2=y; 1:r4=z; 1:r6=x;\n}\n P0 | P1 ;\n li r1,2 | lwz r1,0(r2) ;\n stw r1,0(r2) | cmpw r1,r1 ;\n li r3,1 | beq L ;\n stw r3,0(r4) | L: ;\n | lwz r3,0(r4) ;\n | li r5,1 ;\n | stw r5,0(r6) ;\nexists (1:r1=1)\n",
+        execution: "P0:\nP1: 1@0.1 0@init\nx: 1.2 0.0\ny: 0.1\nz:\n",
+        stand: &[true, true, true, true, true],
+    },
+    // An `isync` before its branch isn't that of the dependency.
+    Case {
+        edges: "SyncdWW Rfe DpCtrlIsyncdR Fre",
+        text: "PPC A\n{\n0:r2=x; 0:r4=y;\n1:r2=y; 1:r4=x;\n}\n P0 | P1 ;\n li r1,1 | lwz r1,0(r2) ;\n stw r1,0(r2) | cmpw r1,r1 ;\n sync | isync ;\n li r3,1 | beq L ;\n stw r3,0(r4) | L: ;\n | lwz r3,0(r4) ;\nexists (1:r1=1)\n",
+        execution: FLAG_READ,
+        stand: &[true, true, false, true],
+    },
+];
+
+/// On AArch64, each with one thing wrong or right.
+const AARCH64: [Case; 2] = [
+    // Message passing with a store-release and a load-acquire.
+    Case {
+        edges: "PodWWPL RfeLA PodRRAP Fre",
+        text: "AArch64 A\n{\n0:X1=x; 0:X3=y;\n1:X1=y; 1:X3=x;\n}\n P0 | P1 ;\n MOV W0,#1 | LDAR W0,[X1] ;\n STR W0,[X1] | LDR W2,[X3] ;\n MOV W2,#1 | ;\n STLR W2,[X3] | ;\nexists (1:X0=1)\n",
+        execution: FLAG_READ,
+        stand: &[true, true, true, true],
+    },
+    // A plain load isn't a load-acquire: neither edge at it stands.
+    Case {
+        edges: "PodWWPL RfeLA PodRRAP Fre",
+        text: "AArch64 A\n{\n0:X1=x; 0:X3=y;\n1:X1=y; 1:X3=x;\n}\n P0 | P1 ;\n MOV W0,#1 | LDR W0,[X1] ;\n STR W0,[X1] | LDR W2,[X3] ;\n MOV W2,#1 | ;\n STLR W2,[X3] | ;\nexists (1:X0=1)\n",
+        execution: FLAG_READ,
+        stand: &[true, false, false, true],
+    },
+];
+
 #[test]
-fn an_address_dependency(rt: HostRuntime) -> Result<(), Fail> {
-    let text =
-        "PPC A\n{\n0:r2=x; 0:r4=y;\n1:r2=y; 1:r5=x;\n}\n P0 | P1 ;\n li r1,1 | lwz r1,0(r2) ;\n stw r1,0(r2) | xor r3,r1,r1 ;\n lwsync | lwzx r4,r3,r5 ;\n li r3,1 | ;\n stw r3,0(r4) | ;\nexists (1:r1=1)\n";
-    assert!(rt;
-        is_so::<Power>(
-            rt.alloc(),
-            "LwSyncdWW Rfe DpAddrdR Fre",
-            text,
-            "P0:\nP1: 1@0.1 0@init\nx: 0.0\ny: 0.1\n",
-            &[true; 4]
-        )
-    );
+fn edges_on_power(rt: HostRuntime) -> Result<(), Fail> {
+    for (number, case) in POWER.iter().enumerate() {
+        assert!(rt; is_so::<Power>(rt.alloc(), case), "case {number}");
+    }
     Ok(())
 }
 
-/// Its index is dropped: the second load depends on nothing.
 #[test]
-fn an_index_that_is_dropped(rt: HostRuntime) -> Result<(), Fail> {
-    let text =
-        "PPC A\n{\n0:r2=x; 0:r4=y;\n1:r2=y; 1:r5=x;\n}\n P0 | P1 ;\n li r1,1 | lwz r1,0(r2) ;\n stw r1,0(r2) | xor r3,r1,r1 ;\n lwsync | lwz r4,0(r5) ;\n li r3,1 | ;\n stw r3,0(r4) | ;\nexists (1:r1=1)\n";
-    assert!(rt;
-        is_so::<Power>(
-            rt.alloc(),
-            "LwSyncdWW Rfe DpAddrdR Fre",
-            text,
-            "P0:\nP1: 1@0.1 0@init\nx: 0.0\ny: 0.1\n",
-            &[true, true, false, true]
-        )
-    );
-    Ok(())
-}
-
-/// A stray fence stands before the second load.
-#[test]
-fn a_stray_fence(rt: HostRuntime) -> Result<(), Fail> {
-    let text =
-        "PPC A\n{\n0:r2=x; 0:r4=y;\n1:r2=y; 1:r5=x;\n}\n P0 | P1 ;\n li r1,1 | lwz r1,0(r2) ;\n stw r1,0(r2) | xor r3,r1,r1 ;\n lwsync | sync ;\n li r3,1 | lwzx r4,r3,r5 ;\n stw r3,0(r4) | ;\nexists (1:r1=1)\n";
-    assert!(rt;
-        is_so::<Power>(
-            rt.alloc(),
-            "LwSyncdWW Rfe DpAddrdR Fre",
-            text,
-            "P0:\nP1: 1@0.1 0@init\nx: 0.0\ny: 0.1\n",
-            &[true, true, false, true]
-        )
-    );
-    Ok(())
-}
-
-/// The fence of thread 0 stands after both stores.
-#[test]
-fn a_fence_after_its_accesses(rt: HostRuntime) -> Result<(), Fail> {
-    let text =
-        "PPC A\n{\n0:r2=x; 0:r4=y;\n1:r2=y; 1:r5=x;\n}\n P0 | P1 ;\n li r1,1 | lwz r1,0(r2) ;\n stw r1,0(r2) | xor r3,r1,r1 ;\n li r3,1 | lwzx r4,r3,r5 ;\n stw r3,0(r4) | ;\n lwsync | ;\nexists (1:r1=1)\n";
-    assert!(rt;
-        is_so::<Power>(
-            rt.alloc(),
-            "LwSyncdWW Rfe DpAddrdR Fre",
-            text,
-            "P0:\nP1: 1@0.1 0@init\nx: 0.0\ny: 0.1\n",
-            &[false, true, true, true]
-        )
-    );
-    Ok(())
-}
-
-/// A branch governs all that follows it: load 0 is in the control mask of the store too, and its Po edge
-/// stands.
-#[test]
-fn a_branch_governs_what_follows(rt: HostRuntime) -> Result<(), Fail> {
-    let text =
-        "PPC A\n{\n0:r2=x; 0:r4=y;\n1:r2=y; 1:r4=z; 1:r6=x;\n}\n P0 | P1 ;\n li r1,2 | lwz r1,0(r2) ;\n stw r1,0(r2) | cmpw r1,r1 ;\n li r3,1 | beq L ;\n stw r3,0(r4) | L: ;\n | lwz r3,0(r4) ;\n | li r5,1 ;\n | stw r5,0(r6) ;\nexists (1:r1=1)\n";
-    assert!(rt;
-        is_so::<Power>(
-            rt.alloc(),
-            "PodWW Rfe DpCtrldR PodRW Wse",
-            text,
-            "P0:\nP1: 1@0.1 0@init\nx: 1.2 0.0\ny: 0.1\nz:\n",
-            &[true; 5]
-        )
-    );
-    Ok(())
-}
-
-/// An `isync` before its branch isn't that of the dependency.
-#[test]
-fn an_isync_before_its_branch(rt: HostRuntime) -> Result<(), Fail> {
-    let text =
-        "PPC A\n{\n0:r2=x; 0:r4=y;\n1:r2=y; 1:r4=x;\n}\n P0 | P1 ;\n li r1,1 | lwz r1,0(r2) ;\n stw r1,0(r2) | cmpw r1,r1 ;\n sync | isync ;\n li r3,1 | beq L ;\n stw r3,0(r4) | L: ;\n | lwz r3,0(r4) ;\nexists (1:r1=1)\n";
-    assert!(rt;
-        is_so::<Power>(
-            rt.alloc(),
-            "SyncdWW Rfe DpCtrlIsyncdR Fre",
-            text,
-            "P0:\nP1: 1@0.1 0@init\nx: 0.0\ny: 0.1\n",
-            &[true, true, false, true]
-        )
-    );
-    Ok(())
-}
-
-/// Message passing with a store-release and a load-acquire.
-#[test]
-fn a_load_acquire(rt: HostRuntime) -> Result<(), Fail> {
-    let text =
-        "AArch64 A\n{\n0:X1=x; 0:X3=y;\n1:X1=y; 1:X3=x;\n}\n P0 | P1 ;\n MOV W0,#1 | LDAR W0,[X1] ;\n STR W0,[X1] | LDR W2,[X3] ;\n MOV W2,#1 | ;\n STLR W2,[X3] | ;\nexists (1:X0=1)\n";
-    assert!(rt;
-        is_so::<A64>(
-            rt.alloc(),
-            "PodWWPL RfeLA PodRRAP Fre",
-            text,
-            "P0:\nP1: 1@0.1 0@init\nx: 0.0\ny: 0.1\n",
-            &[true; 4]
-        )
-    );
-    Ok(())
-}
-
-/// A plain load isn't a load-acquire: neither edge at it stands.
-#[test]
-fn a_plain_load_for_an_acquire(rt: HostRuntime) -> Result<(), Fail> {
-    let text =
-        "AArch64 A\n{\n0:X1=x; 0:X3=y;\n1:X1=y; 1:X3=x;\n}\n P0 | P1 ;\n MOV W0,#1 | LDR W0,[X1] ;\n STR W0,[X1] | LDR W2,[X3] ;\n MOV W2,#1 | ;\n STLR W2,[X3] | ;\nexists (1:X0=1)\n";
-    assert!(rt;
-        is_so::<A64>(
-            rt.alloc(),
-            "PodWWPL RfeLA PodRRAP Fre",
-            text,
-            "P0:\nP1: 1@0.1 0@init\nx: 0.0\ny: 0.1\n",
-            &[true, false, false, true]
-        )
-    );
+fn edges_on_aarch64(rt: HostRuntime) -> Result<(), Fail> {
+    for (number, case) in AARCH64.iter().enumerate() {
+        assert!(rt; is_so::<A64>(rt.alloc(), case), "case {number}");
+    }
     Ok(())
 }
