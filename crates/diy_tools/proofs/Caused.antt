@@ -12,6 +12,9 @@ use Rattle.cycle_lines.specs.Classified.{Classifies}
 use Rattle.classified_files.specs.declared.errors.FilesEnd.{FilesEnd}
 use Rattle.classified_files.specs.declared.errors.FilesEnd.TheVariants as classing
 use Rattle.classified_files.specs.declared.errors.FileKind.TheVariants as kinds
+use Rattle.checked_files.specs.declared.errors.CheckEnd.{CheckEnd}
+use Rattle.checked_files.specs.declared.errors.CheckEnd.TheVariants as checking
+use Rattle.checked_files.specs.declared.errors.CheckedKind.TheVariants as checked
 use Rattle.cycle_lines.specs.Normed.{Norms, name_line}
 use Rattle.diy_io.specs.Count.{Rose, count_of}
 use Rattle.diy_io.specs.Shelf.{ShelfSeen}
@@ -20,7 +23,7 @@ use Rattle.diy_io.specs.Wrote.{SinkSeen, WroteAll, WrotePart}
 use Rattle.diy_words.specs.declared.usage.Usage.{Usage}
 use Rattle.diy_words.specs.declared.usage.UsageKind.TheVariants.{UnknownName}
 use Rattle.diy_words.specs.Requests.{Asked, TestAsked, ListAsked, Sought, asked_of}
-use Rattle.diy_words.specs.Requests.{AsksTest, AsksName, AsksList, AsksFamilies, AsksSum, AsksCross, AsksDemo, OfEdges, OfName, OfLines, CrossAsked, DemoAsked}
+use Rattle.diy_words.specs.Requests.{AsksTest, AsksName, AsksList, AsksFamilies, AsksSum, AsksCross, AsksDemo, AsksCheck, OfEdges, OfName, OfLines, CrossAsked, DemoAsked, CheckAsked}
 use Rattle.listed_tests.specs.declared.ending.ListingEnd.{ListingEnd}
 use Rattle.listed_tests.specs.declared.ending.ListingEnd.TheVariants as listings
 use Rattle.listed_tests.specs.Ends.{StopsAtTest, StopsAtAll}
@@ -43,6 +46,7 @@ use Rattle.diy_tools.specs.FamilyAnswers.{AnswersClassify, EndsFamilies, files_s
 use Rattle.diy_tools.specs.ListAnswers.{EndsAsked, plan_asked}
 use Rattle.diy_tools.specs.CrossAnswers.{AnswersCross, EndsCrossed}
 use Rattle.diy_tools.specs.DemoAnswers.{demo_asked}
+use Rattle.diy_tools.specs.CheckAnswers.{EndsCheck, check_status}
 use Rattle.diy_tools.specs.SumAnswers.{EndsInput, EndsSum, sum_status}
 use Rattle.diy_tools.specs.Answers.{Answers, AnswersAsked}
 use Rattle.diy_tools.specs.Memory.{NeverWantsMemory}
@@ -199,16 +203,16 @@ module _ (old new : Devices) where
   named_caused words arch file files classing.OutFault status e h =
       of_status words (of_files arch (file ∷ files)) status (statuses.WriteFault Out) e (h.both.classified.wrote.fault, h)
   named_caused words arch file files (classing.Wrong at line (kinds.Test kind)) status e h =
-      of_status words (of_files arch (file ∷ files)) status (statuses.BadText (Some at) line (texts.Test kind)) e (h, record { out = h.both.classified.1; files = h.both.stay })
+      of_status words (of_files arch (file ∷ files)) status (statuses.BadText (Some at) line (texts.Test kind)) e (inl (h, record { out = h.both.classified.1; files = h.both.stay }))
   named_caused words arch file files (classing.Wrong at line kinds.WrongArch) status e h =
-      of_status words (of_files arch (file ∷ files)) status (statuses.BadText (Some at) line texts.WrongArch) e (h, record { out = h.both.classified.1; files = h.both.stay })
+      of_status words (of_files arch (file ∷ files)) status (statuses.BadText (Some at) line texts.WrongArch) e (inl (h, record { out = h.both.classified.1; files = h.both.stay }))
   named_caused words arch file files (classing.Wrong at line kinds.NoCycle) status e h =
       of_status words (of_files arch (file ∷ files)) status (statuses.BadText (Some at) line texts.NoCycle) e (h, record { out = h.both.classified.1; files = h.both.stay })
   named_caused words arch file files (classing.NoFile word) status e h =
-      of_status words (of_files arch (file ∷ files)) status (statuses.NoFile word) e (inr (h, record { out = h.both.classified.1; files = h.both.stay }))
+      of_status words (of_files arch (file ∷ files)) status (statuses.NoFile word) e (inr (inl (h, record { out = h.both.classified.1; files = h.both.stay })))
   named_caused words arch file files classing.ShelfFault status e h =
       of_status words (of_files arch (file ∷ files)) status (statuses.ReadFault Shelf) e
-      (h.both.classified.0.fault, inr (h, record { out = h.both.classified.1; files = h.both.stay }))
+      (h.both.classified.0.fault, inr (inl (h, record { out = h.both.classified.1; files = h.both.stay })))
   named_caused words arch file files classing.NoMemory status e h =
       of_status words (of_files arch (file ∷ files)) status statuses.NoMemory e (tt, record { out = h.both.classified; files = h.both.stay })
 
@@ -216,6 +220,30 @@ module _ (old new : Devices) where
       → CausesAsked words (of_files arch files) status old new
   classify_caused words arch [] status h = families_caused words arch h.both.result status h.shelf h.both.status_is h.both.classifies
   classify_caused words arch (file ∷ files) status h = named_caused words arch file files h.end status h.status_is h.ends
+
+  -- mcheck7
+  check_caused : (words : List (List ℕ)) (asked : CheckAsked) (end : CheckEnd) (status : Status) → status ≡ check_status end
+      → EndsCheck words asked end old new → CausesAsked words (Ok (AsksCheck asked)) status old new
+  check_caused words asked checking.Done status e h = of_status words (Ok (AsksCheck asked)) status statuses.Done e h
+  check_caused words asked checking.OutFault status e h =
+      of_status words (Ok (AsksCheck asked)) status (statuses.WriteFault Out) e (h.both.checked.wrote.fault, h)
+  check_caused words asked (checking.Wrong at line (checked.Test kind)) status e h =
+      of_status words (Ok (AsksCheck asked)) status (statuses.BadText (Some at) line (texts.Test kind)) e
+      (inr (h, record { out = h.both.checked.1; files = h.both.stay }))
+  check_caused words asked (checking.Wrong at line checked.WrongArch) status e h =
+      of_status words (Ok (AsksCheck asked)) status (statuses.BadText (Some at) line texts.WrongArch) e
+      (inr (h, record { out = h.both.checked.1; files = h.both.stay }))
+  check_caused words asked (checking.Wrong at line (checked.Exec kind)) status e h =
+      of_status words (Ok (AsksCheck asked)) status (statuses.BadText (Some at) line (texts.Exec kind)) e
+      (h, record { out = h.both.checked.1; files = h.both.stay })
+  check_caused words asked (checking.NoFile word) status e h =
+      of_status words (Ok (AsksCheck asked)) status (statuses.NoFile word) e
+      (inr (inr (h, record { out = h.both.checked.1; files = h.both.stay })))
+  check_caused words asked checking.ShelfFault status e h =
+      of_status words (Ok (AsksCheck asked)) status (statuses.ReadFault Shelf) e
+      (h.both.checked.0.fault, inr (inr (h, record { out = h.both.checked.1; files = h.both.stay })))
+  check_caused words asked checking.NoMemory status e h =
+      of_status words (Ok (AsksCheck asked)) status statuses.NoMemory e (tt, record { out = h.both.checked; files = h.both.stay })
 
   files_caused : (tool log : List ℕ) (logs : List (List ℕ)) (end : SumEnd) (status : Status) → status ≡ sum_status end
       → EndsSum (tool ∷ log ∷ logs) end old new → CausesAsked (tool ∷ log ∷ logs) (Ok AsksSum) status old new
@@ -278,6 +306,7 @@ module _ (old new : Devices) where
   asked_caused words (Ok (AsksDemo asked)) status h = demo_caused words asked status h.input h.shelf h.out
   asked_caused words (Ok (AsksFamilies asked)) status h = classify_caused words asked.arch asked.files status h
   asked_caused words (Ok AsksSum) status h = sum_caused words h.end status h.status_is h.ends
+  asked_caused words (Ok (AsksCheck asked)) status h = check_caused words asked h.end status h.status_is h.ends
 
 -- what is answered has its cause
 pub answers_caused : (words : List (List ℕ)) (status : Status) (old new : Seen) → Answers words status old new → Causes words status old new

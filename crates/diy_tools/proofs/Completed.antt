@@ -1,7 +1,7 @@
 -- That what can be done is done, from what is answered.
 use Rattle.std.proofs.Common.{◌≡◌, ◌≤◌, ◌<◌, ◌+◌, ◌^◌, ◌++◌, ℕ, suc, Bool, true, List, [], ◌∷◌, length, get_or, Option}
 use Rattle.std.proofs.Common.{Some, None, Ok, Err, refl, sym, ap, subst, arith, inl, inr, ◌∙◌, length-append}
-use Rattle.std.specs.Prelude.{Result, MatchOption, map, slice_get, slice_index_or, unwrap_or, is_ok}
+use Rattle.std.specs.Prelude.{Result, ◌⊎◌, MatchOption, map, slice_get, slice_index_or, unwrap_or, is_ok}
 use Rattle.std.specs.List.{list_all}
 use Rattle.std.specs.Result.{result_err}
 use Rattle.std.specs.Io.KnownBytes.{Consumes}
@@ -25,6 +25,10 @@ use Rattle.classified_files.specs.declared.errors.FilesEnd.{FilesEnd}
 use Rattle.classified_files.specs.declared.errors.FilesEnd.TheVariants as classing
 use Rattle.classified_files.specs.FilesEnds.{AreNamed, FileWrong, FilesClassified, IsAtPlace, SayCycles, name_at, said_on}
 use Rattle.classified_files.specs.FilesEnds as classed
+use Rattle.checked_files.specs.declared.errors.CheckEnd.{CheckEnd}
+use Rattle.checked_files.specs.declared.errors.CheckEnd.TheVariants as checking
+use Rattle.checked_files.specs.FilesChecked.{AreRight as AreRightFiles, FilesChecked}
+use Rattle.checked_files.specs.CheckedLaws.{right_files_done}
 use Rattle.diy_io.specs.declared.source.TheConstants.{MAX_INPUT}
 use Rattle.diy_io.specs.Count.{Rose}
 use Rattle.diy_io.specs.Shelf.{Files, ShelfSeen}
@@ -32,7 +36,7 @@ use Rattle.diy_io.specs.Taken.{SourceSeen}
 use Rattle.diy_io.specs.Wrote.{SinkSeen}
 use Rattle.diy_words.specs.declared.usage.Usage.{Usage}
 use Rattle.diy_words.specs.Requests.{Asked, ListAsked, Sought, asked_of}
-use Rattle.diy_words.specs.Requests.{AsksTest, AsksName, AsksList, AsksFamilies, AsksSum, AsksCross, AsksDemo, OfEdges, OfName, OfLines, CrossAsked, DemoAsked}
+use Rattle.diy_words.specs.Requests.{AsksTest, AsksName, AsksList, AsksFamilies, AsksSum, AsksCross, AsksDemo, AsksCheck, OfEdges, OfName, OfLines, CrossAsked, DemoAsked, CheckAsked}
 use Rattle.listed_tests.specs.declared.ending.ListingEnd.{ListingEnd}
 use Rattle.listed_tests.specs.declared.ending.ListingEnd.TheVariants as listings
 use Rattle.log_sum.specs.declared.errors.LogError.{LogError}
@@ -56,6 +60,8 @@ use Rattle.diy_tools.specs.NameAnswers.{AnswersName, AnswersSought}
 use Rattle.diy_tools.specs.ListAnswers.{EndsAsked}
 use Rattle.diy_tools.specs.CrossAnswers.{AnswersCross, EndsCrossed}
 use Rattle.diy_tools.specs.DemoAnswers.{demo_asked}
+use Rattle.diy_tools.specs.CheckAnswers.{check_status}
+use Rattle.diy_tools.specs.Machines.{machine_of}
 use Rattle.diy_tools.specs.SumAnswers.{EndsInput, EndsSum, sum_status}
 use Rattle.diy_tools.specs.Answers.{Answers, AnswersAsked}
 use Rattle.diy_tools.specs.Complete.{Complete, CanBeDone, CanName, CanSum, CanClassify, AreRightTests, IsSoundText, IsRightLog, AreRightLogs, OfItsText, OfItsFiles, NoFaults, IsDone}
@@ -236,6 +242,23 @@ classify_done words arch [] status old new none can h = families_done arch h.bot
 classify_done words arch (file ∷ files) status old new none can h =
     named_done words arch (file ∷ files) status old.shelf new.shelf old.out new.out h.end old.shelf.files refl can none.shelf none.out h.status_is h.ends.both.classified
 
+-- mcheck7 checks right files
+check_ends : (asked : CheckAsked) (end : CheckEnd) (status : Status) → status ≡ check_status end → (end ≡ checking.Done) ⊎ (end ≡ checking.NoMemory)
+    → IsDone (Ok (AsksCheck asked)) status
+check_ends asked end status e (inl done) = inl (e ∙ ap check_status done)
+check_ends asked end status e (inr none) = inr (e ∙ ap check_status none, tt)
+
+check_done : (words : List (List ℕ)) (asked : CheckAsked) (status : Status) (old new : ShelfSeen) (before after : SinkSeen) (end : CheckEnd)
+    (told : Option Files) → old.files ≡ told
+    → OfItsFiles told (λ files. AreRightFiles files asked.arch (machine_of asked.arch).writing words asked.test asked.execution)
+    → (Rose old.faults new.faults → ⊥) → (Rose before.faults after.faults → ⊥)
+    → status ≡ check_status end → FilesChecked asked.arch (machine_of asked.arch).writing old new words asked.test asked.execution before after end
+    → IsDone (Ok (AsksCheck asked)) status
+check_done words asked status old new before after end None told right none none_out e h = absurd right
+check_done words asked status old new before after end (Some files) told right none none_out e h =
+    check_ends asked end status e
+    (right_files_done files asked.arch (machine_of asked.arch).writing old new words asked.test asked.execution before after end h told right none none_out)
+
 -- logs that have a sum have no fault
 right_wrong : (logs others : List (List ℕ)) (error : LogError) → AreRight logs → logs ≡ others → logs_text others ≡ Err error → ⊥
 right_wrong logs others error right e h =
@@ -378,6 +401,8 @@ asked_done words (Ok (AsksList asked)) status old new h can none = list_done ask
 asked_done words (Ok (AsksCross asked)) status old new h can none = cross_done asked status old new none h.both
 asked_done words (Ok (AsksDemo asked)) status old new h can none = demo_done asked status old.out new.out none.out h.out
 asked_done words (Ok (AsksFamilies asked)) status old new h can none = classify_done words asked.arch asked.files status old new none can h
+asked_done words (Ok (AsksCheck asked)) status old new h can none =
+    check_done words asked status old.shelf new.shelf old.out new.out h.end old.shelf.files refl can none.shelf none.out h.status_is h.ends.both.checked
 asked_done words (Ok AsksSum) status old new h can none = of_words words can h.ends
   where
     of_words : (words : List (List ℕ)) → CanSum words old → EndsSum words h.end old new → IsDone (Ok AsksSum) status

@@ -37,7 +37,7 @@ use Rattle.litmus_text.specs.Printable.{IsTestName}
 use Rattle.litmus_text.proofs.CutBack.{weaker}
 use Rattle.diy_words.specs.declared.usage.Usage.{Usage}
 use Rattle.diy_words.specs.Names.{is_name, is_name_byte}
-use Rattle.diy_words.specs.Requests.{Asked, TestAsked, ListAsked, AsksTest, AsksName, AsksList, AsksFamilies, AsksSum, AsksCross, AsksDemo, CrossAsked, asked_of}
+use Rattle.diy_words.specs.Requests.{Asked, TestAsked, ListAsked, AsksTest, AsksName, AsksList, AsksFamilies, AsksSum, AsksCross, AsksDemo, AsksCheck, CrossAsked, asked_of}
 use Rattle.cycle_names.specs.Names.{name_of}
 use Rattle.diy_words.proofs.RequestForm.{asked_form}
 use Rattle.test_maker.specs.declared.refusal.MakeRefusal.{MakeRefusal}
@@ -201,6 +201,7 @@ asked_force words status old new h = of_asked (asked_of words) refl h
     of_asked (Ok (AsksDemo asked)) e h = tt
     of_asked (Ok (AsksFamilies asked)) e h = tt
     of_asked (Ok AsksSum) e h = tt
+    of_asked (Ok (AsksCheck asked)) e h = tt
     of_asked (Ok (AsksTest asked)) e h = of_test asked e h.out
 
 pub answers_force : (words : List (List ℕ)) (status : Status) (old new : Seen) → Answers words status old new → Headline words status old new

@@ -12,6 +12,9 @@ use Rattle.cycle_lines.specs.Classified.{Classifies}
 use Rattle.classified_files.specs.declared.errors.FilesEnd.{FilesEnd}
 use Rattle.classified_files.specs.declared.errors.FilesEnd.TheVariants as classing
 use Rattle.classified_files.proofs.FewLaws.{classified_few}
+use Rattle.checked_files.specs.declared.errors.CheckEnd.{CheckEnd}
+use Rattle.checked_files.specs.declared.errors.CheckEnd.TheVariants as checking
+use Rattle.checked_files.specs.CheckedLaws.{checked_few}
 use Rattle.cycle_lines.specs.Normed.{Norms}
 use Rattle.cycle_lines.specs.Reading.{TookUpTo}
 use Rattle.diy_io.specs.declared.source.TheConstants.{MAX_INPUT}
@@ -21,7 +24,7 @@ use Rattle.diy_io.specs.Taken.{SourceSeen}
 use Rattle.diy_io.specs.Wrote.{SinkSeen}
 use Rattle.diy_words.specs.declared.usage.Usage.{Usage}
 use Rattle.diy_words.specs.Requests.{Asked, ListAsked, Sought, asked_of}
-use Rattle.diy_words.specs.Requests.{AsksTest, AsksName, AsksList, AsksFamilies, AsksSum, AsksCross, AsksDemo, CrossAsked, OfEdges, OfName, OfLines}
+use Rattle.diy_words.specs.Requests.{AsksTest, AsksName, AsksList, AsksFamilies, AsksSum, AsksCross, AsksDemo, AsksCheck, CrossAsked, CheckAsked, OfEdges, OfName, OfLines}
 use Rattle.listed_tests.specs.declared.ending.ListingEnd.{ListingEnd}
 use Rattle.listed_tests.specs.declared.ending.ListingEnd.TheVariants as listings
 use Rattle.listed_tests.specs.Ends.{StopsAtTest, StopsAtAll}
@@ -40,6 +43,8 @@ use Rattle.diy_tools.specs.NameAnswers.{AnswersSought}
 use Rattle.diy_tools.specs.ListAnswers.{EndsAsked, plan_asked}
 use Rattle.diy_tools.specs.CrossAnswers.{AnswersCross, EndsCrossed}
 use Rattle.diy_tools.specs.SumAnswers.{EndsInput, EndsSum, sum_status}
+use Rattle.diy_tools.specs.Machines.{machine_of}
+use Rattle.diy_tools.specs.CheckAnswers.{EndsCheck, checked_kind, check_status}
 use Rattle.diy_tools.specs.Answers.{Answers, AnswersAsked}
 use Rattle.diy_tools.proofs.Opened.{IsWithin, files_within, failed_within}
 use Rattle.diy_tools.specs.Limit.{Limited, StopsReading, TookTooMuch}
@@ -146,6 +151,15 @@ module _ (old new : Devices) (much : TookTooMuch old new) where
       families_limit arch h.both.result status (same_shelf old.shelf new.shelf (ap (λ (s : ShelfSeen). s.opened) h.shelf)) h.both.status_is h.both.classifies
   classify_limit words arch (file ∷ files) status h = named_limit words arch file files h.end status h.status_is h.ends
 
+  -- mcheck7
+  check_limit : (words : List (List ℕ)) (asked : CheckAsked) (end : CheckEnd) (status : Status) → status ≡ check_status end
+      → EndsCheck words asked end old new → StopsReading (Ok (AsksCheck asked)) status
+  check_limit words asked (checking.Wrong at line kind) status e h = wrong (Ok (AsksCheck asked)) status (Some at) line (checked_kind kind) e
+  check_limit words asked checking.NoMemory status e h = subst (λ (s : Status). StopsReading (Ok (AsksCheck asked)) s) (sym e) tt
+  check_limit words asked end status e h =
+      absurd (neither (same_input old.input new.input h.input)
+      (λ more. omega (arith, checked_few asked.arch (machine_of asked.arch).writing old.shelf new.shelf words asked.test asked.execution old.out new.out end h.both.checked (λ none. cc none) more)))
+
   files_limit : (tool log : List ℕ) (logs : List (List ℕ)) (end : SumEnd) (status : Status) → status ≡ sum_status end
       → EndsSum (tool ∷ log ∷ logs) end old new → StopsReading (Ok AsksSum) status
   files_limit tool log logs sums.Done status e h = absurd (neither (same_input old.input new.input h.input) (files_within old.shelf new.shelf h.both.summed.read.logs h.both.summed.read.took h.both.summed.read.are.short))
@@ -197,6 +211,7 @@ module _ (old new : Devices) (much : TookTooMuch old new) where
       absurd (neither (same_input old.input new.input h.input) (same_shelf old.shelf new.shelf (ap (λ (s : ShelfSeen). s.opened) h.shelf)))
   asked_limit words (Ok (AsksFamilies asked)) status h = classify_limit words asked.arch asked.files status h
   asked_limit words (Ok AsksSum) status h = sum_limit words h.end status h.status_is h.ends
+  asked_limit words (Ok (AsksCheck asked)) status h = check_limit words asked h.end status h.status_is h.ends
 
 -- what is answered keeps to the limit of what is read
 pub answers_limited : (words : List (List ℕ)) (status : Status) (old new : Seen) → Answers words status old new → Limited words status old new

@@ -26,12 +26,14 @@ use Rattle.diy_tools.specs.SumAnswers.{AnswersSum}
 use Rattle.test_maker.specs.CycleText.{cycle_text}
 use Rattle.diy_words.specs.declared.request.Sought.{Sought}
 use Rattle.diy_words.specs.declared.request.Sought.TheVariants as sought
-use Rattle.diy_words.specs.Requests.{Asked, ListAsked, AsksTest, AsksName, AsksList, AsksSum, AsksCross, AsksDemo, OfEdges, OfName, OfLines, asked_of}
+use Rattle.diy_words.specs.Requests.{Asked, ListAsked, AsksTest, AsksName, AsksList, AsksSum, AsksCross, AsksDemo, AsksCheck, CheckAsked, OfEdges, OfName, OfLines, asked_of}
 use Rattle.diy_words.specs.Requests as words
 use Rattle.diy_words.specs.Given.{IsSought, Gives, list_kept}
 use Rattle.diy_words.specs.declared.usage.Usage.{Usage}
 use Rattle.demo_tests.specs.DemoText.{demo_text}
-use Rattle.diy_tools.specs.Kept.{AnswersCrossing}
+use Rattle.diy_tools.specs.Kept.{AnswersCrossing, ChecksFiles}
+use Rattle.diy_tools.specs.CheckAnswers.{AnswersCheck}
+use Rattle.diy_words.specs.declared.request.Check.{Check}
 use Rattle.diy_words.specs.declared.request.Demo.{Demo}
 use Rattle.diy_words.specs.declared.request.DiyOne.{DiyOne}
 use Rattle.diy_words.specs.declared.request.Norm.{Norm}
@@ -246,4 +248,21 @@ demo_answered words request status input shelf old new given h = of_asked (asked
       out = subst (λ (n : ℕ). Prints (demo_text (machine_of asked.arch).puts (machine_of asked.arch).writing n) status old new) g.1
           (subst (λ (a : ArchName). Prints (demo_text (machine_of a).puts (machine_of a).writing request.count) status old new) g.0 h);
     }
+    of_asked asked g = absurd g
+
+-- what is answered of a request to check an execution
+pub check_answered : (words : List (List ℕ)) (request : Check) (status : Status) (input : SourceSeen) (old new : ShelfSeen) (before after : SinkSeen)
+    → Gives (Ok (requests.Check request)) (asked_of words)
+    → ChecksFiles words request.arch request.test request.execution status old new before after
+    → Answers words status (input, before, old) (input, after, new)
+check_answered words request status input old new before after given h = of_asked (asked_of words) given
+  where
+    checks : (asked : CheckAsked) → record { arch = request.arch; test = request.test; execution = request.execution } ≡ asked
+        → AnswersCheck words asked status (devices (input, before, old)) (devices (input, after, new))
+    checks asked e =
+        subst (λ (a : CheckAsked). AnswersCheck words a status (devices (input, before, old)) (devices (input, after, new))) e
+        (record { end = h.end; ends = record { input = refl; both = h.ends }; status_is = h.status_is })
+
+    of_asked : (asked : Result Asked Usage) → Gives (Ok (requests.Check request)) asked → AnswersAsked words asked status (devices (input, before, old)) (devices (input, after, new))
+    of_asked (Ok (AsksCheck asked)) g = checks asked g
     of_asked asked g = absurd g

@@ -2,7 +2,7 @@
 -- Source: own.
 use Rattle.std.specs.Prelude.{ℕ, ◌≡◌, List, Result, Ok, Err}
 use Rattle.diy_words.specs.declared.usage.Usage.{Usage}
-use Rattle.diy_words.specs.Requests.{Asked, AsksTest, AsksName, AsksList, AsksFamilies, AsksSum, AsksCross, AsksDemo, asked_of}
+use Rattle.diy_words.specs.Requests.{Asked, AsksTest, AsksName, AsksList, AsksFamilies, AsksSum, AsksCross, AsksDemo, AsksCheck, asked_of}
 use Rattle.diy_tools.specs.declared.status.Status.{Status}
 use Rattle.diy_tools.specs.declared.status.Status.TheVariants as statuses
 use Rattle.diy_tools.specs.Devices.{Devices, OutAlone, InputAndOut, ShelfAndOut, Seen, devices}
@@ -12,6 +12,7 @@ use Rattle.diy_tools.specs.FamilyAnswers.{AnswersClassify}
 use Rattle.diy_tools.specs.ListAnswers.{AnswersList}
 use Rattle.diy_tools.specs.CrossAnswers.{AnswersCross}
 use Rattle.diy_tools.specs.DemoAnswers.{demo_asked}
+use Rattle.diy_tools.specs.CheckAnswers.{AnswersCheck}
 use Rattle.diy_tools.specs.Printing.{Prints}
 use Rattle.diy_tools.specs.SumAnswers.{AnswersSum}
 
@@ -26,6 +27,7 @@ AnswersAsked words (Ok (AsksCross asked)) status old new = ShelfAndOut (AnswersC
 AnswersAsked words (Ok (AsksFamilies asked)) status old new = AnswersClassify words asked.arch asked.files status old new
 AnswersAsked words (Ok AsksSum) status old new = AnswersSum words status old new
 AnswersAsked words (Ok (AsksDemo asked)) status old new = OutAlone (Prints (demo_asked asked) status) old new
+AnswersAsked words (Ok (AsksCheck asked)) status old new = AnswersCheck words asked status old new
 
 -- a call with these words ends with this status, and takes the devices from old to new
 abbrev pub Answers : List (List ℕ) → Status → Seen → Seen → Type 0

@@ -11,13 +11,17 @@ use Rattle.classified_files.specs.declared.errors.FilesEnd.{FilesEnd}
 use Rattle.classified_files.specs.declared.errors.FilesEnd.TheVariants as classing
 use Rattle.classified_files.specs.declared.errors.FileKind.{FileKind}
 use Rattle.classified_files.specs.declared.errors.FileKind.TheVariants as kinds
+use Rattle.checked_files.specs.declared.errors.CheckEnd.{CheckEnd}
+use Rattle.checked_files.specs.declared.errors.CheckEnd.TheVariants as checking
+use Rattle.checked_files.specs.declared.errors.CheckedKind.{CheckedKind}
+use Rattle.checked_files.specs.declared.errors.CheckedKind.TheVariants as checked
 use Rattle.diy_io.specs.Count.{Rose, count_of}
 use Rattle.diy_io.specs.Taken.{SourceSeen}
 use Rattle.diy_io.specs.Wrote.{SinkSeen, WroteAll, WrotePart}
 use Rattle.diy_words.specs.declared.usage.Usage.{Usage}
 use Rattle.diy_words.specs.declared.usage.UsageKind.{UsageKind}
 use Rattle.diy_words.specs.declared.usage.UsageKind.TheVariants.{UnknownName}
-use Rattle.diy_words.specs.Requests.{Asked, Sought, AsksTest, AsksName, AsksList, AsksFamilies, AsksSum, AsksCross, AsksDemo, OfEdges, OfName, OfLines, asked_of}
+use Rattle.diy_words.specs.Requests.{Asked, Sought, AsksTest, AsksName, AsksList, AsksFamilies, AsksSum, AsksCross, AsksDemo, AsksCheck, OfEdges, OfName, OfLines, asked_of}
 use Rattle.listed_tests.specs.declared.ending.ListingEnd.TheVariants as listings
 use Rattle.summed_logs.specs.declared.sum_end.SumEnd.{SumEnd}
 use Rattle.summed_logs.specs.declared.sum_end.SumEnd.TheVariants as sums
@@ -28,6 +32,7 @@ use Rattle.diy_tools.specs.declared.status.Refusal.{Refusal}
 use Rattle.diy_tools.specs.declared.status.TextKind.TheVariants as texts
 use Rattle.diy_tools.specs.declared.status.Device.TheVariants.{Input, Out, Shelf}
 use Rattle.diy_tools.specs.Devices.{Devices, OutAlone, InputAndOut, ShelfAndOut, Seen, devices}
+use Rattle.diy_tools.specs.CheckAnswers.{EndsCheck}
 use Rattle.diy_tools.specs.CrossAnswers.{EndsCrossed}
 use Rattle.diy_tools.specs.DemoAnswers.{demo_asked}
 use Rattle.diy_tools.specs.FamilyAnswers.{EndsFamilies}
@@ -87,6 +92,16 @@ abbrev pub FileStops : List (List ℕ) → Result Asked Usage → Option ℕ →
 FileStops words asked (Some file) line kind old new = FilesStop words asked (classing.Wrong file line kind) old new
 FileStops words asked None line kind old new = ⊥
 
+-- mcheck7 reads its two files, up to where they can't be read on, and nothing is written
+abbrev pub CheckStops : List (List ℕ) → Result Asked Usage → CheckEnd → Devices → Devices → Type 0
+CheckStops words (Ok (AsksCheck asked)) end old new = EndsCheck words asked end old new × NothingWritten old new
+CheckStops words _ end old new = ⊥
+
+-- the file of the word at a place has this fault
+abbrev pub CheckedStops : List (List ℕ) → Result Asked Usage → Option ℕ → ℕ → CheckedKind → Devices → Devices → Type 0
+CheckedStops words asked (Some file) line kind old new = CheckStops words asked (checking.Wrong file line kind) old new
+CheckedStops words asked None line kind old new = ⊥
+
 -- msum7 reads logs, up to where they can't be read on, and nothing is written
 abbrev pub SumStops : List (List ℕ) → Result Asked Usage → SumEnd → Devices → Devices → Type 0
 SumStops words (Ok AsksSum) end old new = EndsSum words end old new × NothingWritten old new
@@ -136,6 +151,7 @@ Finishes words (Ok (AsksCross asked)) old new = ShelfAndOut (EndsCrossed asked l
 Finishes words (Ok (AsksDemo asked)) old new = OutAlone (λ out out'. WroteAll out out' (demo_asked asked)) old new
 Finishes words (Ok (AsksFamilies asked)) old new = FamiliesAll words asked.arch asked.files old new
 Finishes words (Ok AsksSum) old new = EndsSum words sums.Done old new
+Finishes words (Ok (AsksCheck asked)) old new = EndsCheck words asked checking.Done old new
 
 -- norm7 has written a prefix of the lines, over lines of cycles of those before the first fault of what was read
 abbrev pub NamesPart : ArchName → Sought → SourceSeen → SourceSeen → SinkSeen → SinkSeen → Type 0
@@ -155,6 +171,7 @@ OutStops words (Ok (AsksCross asked)) old new = ShelfAndOut (EndsCrossed asked l
 OutStops words (Ok (AsksDemo asked)) old new = OutAlone (λ out out'. WrotePart out out' (demo_asked asked)) old new
 OutStops words (Ok (AsksFamilies asked)) old new = FamiliesPart words asked.arch asked.files old new
 OutStops words (Ok AsksSum) old new = EndsSum words sums.OutFault old new
+OutStops words (Ok (AsksCheck asked)) old new = EndsCheck words asked checking.OutFault old new
 
 -- the cause of a status, and what stands
 abbrev pub CausesAsked : List (List ℕ) → Result Asked Usage → Status → Devices → Devices → Type 0
@@ -168,31 +185,38 @@ CausesAsked words asked (statuses.Usage word kind) old new = IsUsage asked word 
 CausesAsked words asked (statuses.BadText file line (texts.Line kind)) old new = (file ≡ None) × LinesStop asked (lines.Wrong line kind) old new
 -- a log of msum7 has this fault, the first such
 CausesAsked words asked (statuses.BadText file line (texts.Log kind)) old new = SumStops words asked (sums.Wrong file line kind) old new
--- a file of classify7 has this fault, the first such: it is no test, or one of another architecture, or quotes no cycle
-CausesAsked words asked (statuses.BadText file line (texts.Test kind)) old new = FileStops words asked file line (kinds.Test kind) old new
-CausesAsked words asked (statuses.BadText file line texts.WrongArch) old new = FileStops words asked file line kinds.WrongArch old new
+-- a file of classify7, or the test of mcheck7, has this fault, the first such: it is no test, or one of another architecture
+CausesAsked words asked (statuses.BadText file line (texts.Test kind)) old new =
+    FileStops words asked file line (kinds.Test kind) old new ⊎ CheckedStops words asked file line (checked.Test kind) old new
+CausesAsked words asked (statuses.BadText file line texts.WrongArch) old new =
+    FileStops words asked file line kinds.WrongArch old new ⊎ CheckedStops words asked file line checked.WrongArch old new
+-- a file of classify7, the first such, is a test that quotes no cycle
 CausesAsked words asked (statuses.BadText file line texts.NoCycle) old new = FileStops words asked file line kinds.NoCycle old new
+-- the execution of mcheck7 has this fault, the first such
+CausesAsked words asked (statuses.BadText file line (texts.Exec kind)) old new = CheckedStops words asked file line (checked.Exec kind) old new
 -- a text of norm7, classify7 or msum7 has more than 2^40 bytes
 CausesAsked words asked (statuses.BadText file line texts.TooMuch) old new = PassesLimit words asked file line old new
--- msum7 is to sum, or classify7 to read, a file that isn't there; where the shelf tells no files, its count of faults rose
+-- msum7 is to sum, or classify7 or mcheck7 to read, a file that isn't there; where the shelf tells no files, its count of
+-- faults rose
 CausesAsked words asked (statuses.NoFile word) old new =
     (FileMissing old.shelf new.shelf words 1 word × SumStops words asked (sums.NoFile word) old new)
-    ⊎ FilesStop words asked (classing.NoFile word) old new
+    ⊎ (FilesStop words asked (classing.NoFile word) old new ⊎ CheckStops words asked (checking.NoFile word) old new)
 -- the input of norm7, classify7 or msum7 failed
 CausesAsked words asked (statuses.ReadFault Input) old new =
     Rose old.input.faults new.input.faults
     × (LinesStop asked lines.InputFault old new ⊎ SumStops words asked sums.InputFault old new)
--- the shelf failed while msum7 read a log, or classify7 a file
+-- the shelf failed while msum7 read a log, or classify7 or mcheck7 a file
 CausesAsked words asked (statuses.ReadFault Shelf) old new =
     Rose old.shelf.faults new.shelf.faults
-    × (SumStops words asked sums.ShelfFault old new ⊎ FilesStop words asked classing.ShelfFault old new)
+    × (SumStops words asked sums.ShelfFault old new
+    ⊎ (FilesStop words asked classing.ShelfFault old new ⊎ CheckStops words asked checking.ShelfFault old new))
 CausesAsked words asked (statuses.ReadFault Out) old new = ⊥
 -- standard output failed
 CausesAsked words asked (statuses.WriteFault Out) old new = Rose old.out.faults new.out.faults × OutStops words asked old new
 -- the shelf failed while diy7 or diycross7 wrote a file
 CausesAsked words asked (statuses.WriteFault Shelf) old new = Rose old.shelf.faults new.shelf.faults × ListStops asked old new
 CausesAsked words asked (statuses.WriteFault Input) old new = ⊥
--- classify7, msum7 or diycross7 wants memory
+-- classify7, msum7, diycross7 or mcheck7 wants memory
 CausesAsked words asked statuses.NoMemory old new = MayWantMemory asked × NothingWritten old new
 
 abbrev pub Causes : List (List ℕ) → Status → Seen → Seen → Type 0

@@ -4,6 +4,7 @@ use Rattle.std.specs.Prelude.{◌≡◌, ◌≤◌, ◌+◌, ◌⊎◌, ⊤, ℕ
 use Rattle.relax_edges.specs.declared.edge.Edge.{Edge}
 use Rattle.relax_edges.specs.declared.kinds.ArchName.{ArchName}
 use Rattle.classified_files.specs.FilesEnds.{ReadFiles}
+use Rattle.checked_files.specs.FilesChecked.{AreRight as AreRightFiles}
 use Rattle.cycle_names.specs.Laws.{NamesNone}
 use Rattle.cycle_lines.specs.Cycles.{are_sound}
 use Rattle.cycle_lines.specs.Lines.{lines_of}
@@ -11,13 +12,14 @@ use Rattle.diy_io.specs.declared.source.TheConstants.{MAX_INPUT}
 use Rattle.diy_io.specs.Count.{Rose}
 use Rattle.diy_io.specs.Shelf.{Files}
 use Rattle.diy_words.specs.declared.usage.Usage.{Usage}
-use Rattle.diy_words.specs.Requests.{Asked, Sought, AsksTest, AsksName, AsksList, AsksFamilies, AsksSum, AsksCross, AsksDemo, OfEdges, OfName, OfLines, asked_of}
+use Rattle.diy_words.specs.Requests.{Asked, CheckAsked, Sought, AsksTest, AsksName, AsksList, AsksFamilies, AsksSum, AsksCross, AsksDemo, AsksCheck, OfEdges, OfName, OfLines, asked_of}
 use Rattle.summed_logs.specs.Logs.{IsText, IsShort, AreRight}
 use Rattle.summed_logs.specs.SumEnds.{AreLogs}
 use Rattle.diy_tools.specs.declared.status.Status.{Status}
 use Rattle.diy_tools.specs.declared.status.Status.TheVariants.{Done, NoMemory}
 use Rattle.diy_tools.specs.Devices.{Devices, Seen, devices}
 use Rattle.diy_tools.specs.FamilyAnswers.{read_on}
+use Rattle.diy_tools.specs.Machines.{machine_of}
 use Rattle.diy_tools.specs.Memory.{MayWantMemory}
 use Rattle.diy_tools.specs.Refused.{refused_list}
 use Rattle.diy_tools.specs.TestAnswers.{test_refused}
@@ -70,6 +72,11 @@ abbrev pub CanClassify : List (List ℕ) → ArchName → List ℕ → Devices �
 CanClassify words arch [] old = OfItsText old.input.left (IsSoundText arch)
 CanClassify words arch (file ∷ rest) old = OfItsFiles old.shelf.files (λ files. AreRightTests files words arch (file ∷ rest))
 
+-- mcheck7 can check: its words name files, a test of the architecture and an execution of it
+abbrev pub CanCheck : List (List ℕ) → CheckAsked → Devices → Type 0
+CanCheck words asked old =
+    OfItsFiles old.shelf.files (λ files. AreRightFiles files asked.arch (machine_of asked.arch).writing words asked.test asked.execution)
+
 -- words make a request that can be done
 abbrev pub CanBeDone : List (List ℕ) → Result Asked Usage → Devices → Type 0
 CanBeDone words (Err usage) old = ⊥
@@ -80,6 +87,7 @@ CanBeDone words (Ok (AsksCross asked)) old = ⊤
 CanBeDone words (Ok (AsksDemo asked)) old = ⊤
 CanBeDone words (Ok (AsksFamilies asked)) old = CanClassify words asked.arch asked.files old
 CanBeDone words (Ok AsksSum) old = CanSum words old
+CanBeDone words (Ok (AsksCheck asked)) old = CanCheck words asked old
 
 -- no count of faults rises
 pub record NoFaults (old new : Devices) : Type 0 where

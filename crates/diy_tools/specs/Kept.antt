@@ -30,6 +30,9 @@ use Rattle.diy_tools.specs.declared.status.Refusal.TheVariants as refusals
 use Rattle.diy_words.specs.Requests.{Asked, AsksCross}
 use Rattle.diy_words.specs.declared.usage.Usage.{Usage}
 use Rattle.classified_files.specs.declared.errors.FilesEnd.{FilesEnd}
+use Rattle.checked_files.specs.declared.errors.CheckEnd.{CheckEnd}
+use Rattle.diy_words.specs.Requests.{CheckAsked}
+use Rattle.diy_tools.specs.CheckAnswers.{EndsChecked, check_status}
 use Rattle.diy_tools.specs.CrossAnswers.{AnswersCross}
 use Rattle.diy_tools.specs.FamilyAnswers.{EndsNamed, files_status}
 use Rattle.diy_tools.specs.Machines.{Machine}
@@ -93,6 +96,12 @@ pub record ClassifiesFiles (words : List (List ℕ)) (arch : ArchName) (files : 
   pub end : FilesEnd
   pub ends : EndsNamed words arch files end old new before after
   pub status_is : status ≡ files_status end
+
+-- the execution in one file is checked of the test in another, or there is a reason why it can't be; no file changes
+pub record ChecksFiles (words : List (List ℕ)) (arch : ArchName) (test execution : ℕ) (status : Status) (old new : ShelfSeen) (before after : SinkSeen) : Type 0 where
+  pub end : CheckEnd
+  pub ends : EndsChecked words (record { arch = arch; test = test; execution = execution }) end old new before after
+  pub status_is : status ≡ check_status end
 
 -- the input is summed as one log, or there is a reason why it can't be
 pub record SumsInput (status : Status) (old new : SourceSeen) (before after : SinkSeen) : Type 0 where

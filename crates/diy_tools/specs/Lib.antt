@@ -11,6 +11,7 @@ pub mod ListAnswers
 pub mod SumAnswers
 pub mod CrossAnswers
 pub mod DemoAnswers
+pub mod CheckAnswers
 pub mod Answers
 pub mod Kept
 pub mod Memory

@@ -9,6 +9,8 @@ use Rattle.cycle_lines.specs.declared.errors.LineKind.{LineKind}
 use Rattle.cycle_lines.specs.declared.errors.LineKind.TheVariants as lines
 use Rattle.litmus_text.specs.declared.errors.TestKind.{TestKind}
 use Rattle.litmus_text.specs.declared.errors.TestKind.TheVariants as tests
+use Rattle.execution_text.specs.declared.errors.ExecKind.{ExecKind}
+use Rattle.execution_text.specs.declared.errors.ExecKind.TheVariants as executions
 use Rattle.log_sum.specs.declared.errors.LogKind.{LogKind}
 use Rattle.log_sum.specs.declared.errors.LogKind.TheVariants as logs
 use Rattle.diy_words.specs.declared.usage.UsageKind.{UsageKind}
@@ -66,6 +68,7 @@ usage_text usages.StrayWord = codes "StrayWord"
 usage_text usages.MissingArch = codes "MissingArch"
 usage_text usages.MissingEdges = codes "MissingEdges"
 usage_text usages.MissingNumber = codes "MissingNumber"
+usage_text usages.MissingFile = codes "MissingFile"
 usage_text usages.TooManyChoices = codes "TooManyChoices"
 
 -- the name of what is wrong with a line of cycles, and with a line of a log
@@ -101,11 +104,22 @@ test_text tests.BadCondition = codes "BadCondition"
 test_text tests.TooLarge = codes "TooLarge"
 test_text tests.EndMissing = codes "EndMissing"
 
+-- the name of what is wrong with a line of an execution
+abbrev pub exec_text : ExecKind → List ℕ
+exec_text executions.BadThread = codes "BadThread"
+exec_text executions.BadRead = codes "BadRead"
+exec_text executions.BadPlace = codes "BadPlace"
+exec_text executions.BadWrite = codes "BadWrite"
+exec_text executions.EndMissing = codes "EndMissing"
+exec_text executions.StrayLine = codes "StrayLine"
+exec_text executions.TooLarge = codes "TooLarge"
+
 -- the name of what is wrong with a line
 abbrev pub kind_text : TextKind → List ℕ
 kind_text (texts.Line kind) = line_text kind
 kind_text (texts.Log kind) = log_text kind
 kind_text (texts.Test kind) = test_text kind
+kind_text (texts.Exec kind) = exec_text kind
 kind_text texts.WrongArch = codes "WrongArch"
 kind_text texts.NoCycle = codes "NoCycle"
 kind_text texts.TooMuch = codes "TooMuch"

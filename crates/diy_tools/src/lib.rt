@@ -1,6 +1,7 @@
 //! What each tool does, and `run`, the one call that the program makes.
 #![tactic(auto)]
 
+mod checking;
 mod crossing;
 mod demo;
 mod edges;

@@ -4,13 +4,14 @@ ghost use Rattle.relax_edges.specs.declared.TheConstants.{MAX_EDGES};
 ghost use Rattle.arch_trait.specs.Names.{location_name};
 ghost use Rattle.diy_io.specs.Page.{Sends};
 ghost use Rattle.diy_io.specs.Wrote.{Wrote};
-ghost use Rattle.diy_tools.specs.Report.{status_line, refusal_line, refusal_text, usage_line, usage_text, line_text, log_text, test_text, kind_text, word_at, file_text, shown_word, device_text, NamesLocation, RefusesLocation};
+ghost use Rattle.diy_tools.specs.Report.{status_line, refusal_line, refusal_text, usage_line, usage_text, line_text, log_text, test_text, exec_text, kind_text, word_at, file_text, shown_word, device_text, NamesLocation, RefusesLocation};
 
 use crate::status::{Device, Refusal, Status, TextKind};
 use arch_trait::Places;
 use cycle_lines::LineKind;
 use diy_io::{Failed, Page, Sink, Words};
 use diy_words::UsageKind;
+use execution_text::ExecKind;
 use itoa::Buffer;
 use litmus_text::TestKind;
 use log_sum::LogKind;
@@ -117,6 +118,7 @@ fn usage_name(kind: UsageKind) -> &'static [u8]
         UsageKind::MissingArch => b"MissingArch",
         UsageKind::MissingEdges => b"MissingEdges",
         UsageKind::MissingNumber => b"MissingNumber",
+        UsageKind::MissingFile => b"MissingFile",
         UsageKind::TooManyChoices => b"TooManyChoices",
     }
 }
@@ -167,6 +169,20 @@ fn test_name(kind: TestKind) -> &'static [u8]
     }
 }
 
+fn exec_name(kind: ExecKind) -> &'static [u8]
+    ensures { result.now ≡ exec_text kind }
+{
+    match kind {
+        ExecKind::BadThread => b"BadThread",
+        ExecKind::BadRead => b"BadRead",
+        ExecKind::BadPlace => b"BadPlace",
+        ExecKind::BadWrite => b"BadWrite",
+        ExecKind::EndMissing => b"EndMissing",
+        ExecKind::StrayLine => b"StrayLine",
+        ExecKind::TooLarge => b"TooLarge",
+    }
+}
+
 fn kind_name(kind: TextKind) -> &'static [u8]
     ensures { result.now ≡ kind_text kind }
 {
@@ -174,6 +190,7 @@ fn kind_name(kind: TextKind) -> &'static [u8]
         TextKind::Line(kind) => line_name(kind),
         TextKind::Log(kind) => log_name(kind),
         TextKind::Test(kind) => test_name(kind),
+        TextKind::Exec(kind) => exec_name(kind),
         TextKind::WrongArch => b"WrongArch",
         TextKind::NoCycle => b"NoCycle",
         TextKind::TooMuch => b"TooMuch",

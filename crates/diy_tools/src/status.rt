@@ -5,6 +5,7 @@ ghost use Rattle.diy_tools.specs.Refused.{composing_refusal, making_refusal};
 use cycle_lines::LineKind;
 use diy_words::UsageKind;
 use edge_algebra::CycleError;
+use execution_text::ExecKind;
 use litmus_text::TestKind;
 use log_sum::LogKind;
 use test_maker::MakeRefusal;
@@ -64,6 +65,8 @@ pub enum TextKind {
     Log(LogKind),
     /// It is a line of a test.
     Test(TestKind),
+    /// It is a line of an execution.
+    Exec(ExecKind),
     /// The header names another architecture than the one asked for; the line is 1.
     WrongArch,
     /// The test quotes no cycle of the architecture; the line is 2.

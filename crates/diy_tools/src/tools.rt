@@ -8,6 +8,7 @@ ghost use Rattle.diy_tools.specs.Limit.{Limited};
 ghost use Rattle.diy_tools.specs.Memory.{NeverWantsMemory};
 ghost use Rattle.diy_tools.specs.Report.{TakesLine, status_line, NamesLocation};
 
+use crate::checking::check;
 use crate::crossing::cross;
 use crate::demo::demo;
 use crate::families::families;
@@ -22,8 +23,8 @@ use diy_words::{Request, read_request};
 use std::alloc::Global;
 
 /// Does what the words ask for: it prints the test of a cycle to `out`, or the names of cycles, or
-/// the sum of logs, or how long some tests are, or writes the tests of a listing, or of choices, to
-/// the shelf.
+/// the sum of logs, or how long some tests are, or what is said of an execution of a test, or writes
+/// the tests of a listing, or of choices, to the shelf.
 ///
 /// Where the words make no request, or the edges are refused, no device changes but `err`. What each
 /// tool reads of `input` and of the shelf, what it writes to `out` and to the shelf, and what stands
@@ -82,6 +83,7 @@ fn answer<I: Source, O: Sink, H: Shelf>(
         Ok(Request::Families(arch)) => families(alloc, words, arch, input, shelf, out),
         Ok(Request::Cross(request)) => cross(alloc, words, request, shelf, out),
         Ok(Request::Demo(request)) => demo(&request, out),
+        Ok(Request::Check(request)) => check(alloc, words, request, shelf, out),
         Ok(Request::Sum) => sum(alloc, words, input, shelf, out),
     }
 }

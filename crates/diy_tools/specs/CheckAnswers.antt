@@ -1,0 +1,47 @@
+-- What mcheck7 answers.
+-- Source: own.
+use Rattle.std.specs.Prelude.{◌≡◌, ℕ, List, Some}
+use Rattle.checked_files.specs.declared.errors.CheckEnd.{CheckEnd}
+use Rattle.checked_files.specs.declared.errors.CheckEnd.TheVariants as ends
+use Rattle.checked_files.specs.declared.errors.CheckedKind.{CheckedKind}
+use Rattle.checked_files.specs.declared.errors.CheckedKind.TheVariants as kinds
+use Rattle.checked_files.specs.FilesChecked.{FilesChecked}
+use Rattle.diy_io.specs.Shelf.{ShelfSeen}
+use Rattle.diy_io.specs.Wrote.{SinkSeen}
+use Rattle.diy_words.specs.Requests.{CheckAsked}
+use Rattle.diy_tools.specs.declared.status.Status.{Status}
+use Rattle.diy_tools.specs.declared.status.Status.TheVariants.{Done, BadText, NoFile, ReadFault, WriteFault, NoMemory}
+use Rattle.diy_tools.specs.declared.status.TextKind.{TextKind}
+use Rattle.diy_tools.specs.declared.status.TextKind.TheVariants as texts
+use Rattle.diy_tools.specs.declared.status.Device.TheVariants.{Out, Shelf}
+use Rattle.diy_tools.specs.Devices.{Devices, ShelfAndOut}
+use Rattle.diy_tools.specs.Machines.{machine_of}
+
+-- what is wrong with the file of a test, or with that of an execution
+abbrev pub checked_kind : CheckedKind → TextKind
+checked_kind (kinds.Test kind) = texts.Test kind
+checked_kind kinds.WrongArch = texts.WrongArch
+checked_kind (kinds.Exec kind) = texts.Exec kind
+
+-- the status of the end of checking
+abbrev pub check_status : CheckEnd → Status
+check_status ends.Done = Done
+check_status (ends.Wrong file line kind) = BadText (Some file) line (checked_kind kind)
+check_status (ends.NoFile word) = NoFile word
+check_status ends.ShelfFault = ReadFault Shelf
+check_status ends.OutFault = WriteFault Out
+check_status ends.NoMemory = NoMemory
+
+-- the checking of the execution in one file of the test in another ends so, and no file changes
+pub record EndsChecked (words : List (List ℕ)) (asked : CheckAsked) (end : CheckEnd) (old new : ShelfSeen) (before after : SinkSeen) : Type 0 where
+  pub checked : FilesChecked asked.arch (machine_of asked.arch).writing old new words asked.test asked.execution before after end
+  pub stay : new.files ≡ old.files
+
+abbrev pub EndsCheck : List (List ℕ) → CheckAsked → CheckEnd → Devices → Devices → Type 0
+EndsCheck words asked end old new = ShelfAndOut (EndsChecked words asked end) old new
+
+-- the checking ends, and the status says how
+pub record AnswersCheck (words : List (List ℕ)) (asked : CheckAsked) (status : Status) (old new : Devices) : Type 0 where
+  pub end : CheckEnd
+  pub ends : EndsCheck words asked end old new
+  pub status_is : status ≡ check_status end

@@ -1,0 +1,92 @@
+ghost use Rattle.std.specs.Prelude.{◌≡◌, ◌<◌, length};
+ghost use Rattle.diy_io.specs.Shelf.{Idle};
+ghost use Rattle.checked_files.specs.FilesChecked.{FilesChecked};
+ghost use Rattle.diy_tools.specs.CheckAnswers.{check_status, checked_kind};
+ghost use Rattle.diy_tools.specs.Kept.{ChecksFiles};
+ghost use Rattle.diy_tools.specs.Machines.{machine_of};
+ghost use Rattle.diy_tools.specs.Report.{NamesLocation};
+
+use crate::status::{Device, Status, TextKind};
+use arch_aarch64::A64;
+use arch_power::Power;
+use arch_riscv::Riscv;
+use arch_x86::X86;
+use checked_files::{CheckEnd, CheckedKind, check_files};
+use diy_io::{Shelf, Sink, Words};
+use diy_words::Check;
+use relax_edges::ArchName;
+use std::alloc::Global;
+
+/// Writes what is said of the execution that one file tells of the test that another one is.
+pub(crate) fn check<H: Shelf, O: Sink>(
+    alloc: Global,
+    words: &Words,
+    request: Check,
+    shelf: &mut H,
+    out: &mut O,
+) -> Status
+    requires idle { (H.seen shelf.old).mode ≡ Idle }
+    requires test { request.test < length words.now }
+    requires execution { request.execution < length words.now }
+    ensures answers { ChecksFiles words.now request.arch request.test request.execution result (H.seen shelf.old) (H.seen shelf.new) (O.seen out.old) (O.seen out.new) }
+    ensures idle { (H.seen shelf.new).mode ≡ Idle }
+    ensures location { NamesLocation result }
+{
+    check_end(check_on(alloc, words, request, shelf, out))
+}
+
+#[inline(never)]
+fn check_on<H: Shelf, O: Sink>(
+    alloc: Global,
+    words: &Words,
+    request: Check,
+    shelf: &mut H,
+    out: &mut O,
+) -> CheckEnd
+    requires idle { (H.seen shelf.old).mode ≡ Idle }
+    requires test { request.test < length words.now }
+    requires execution { request.execution < length words.now }
+    ensures checked { FilesChecked request.arch (machine_of request.arch).writing (H.seen shelf.old) (H.seen shelf.new) words.now request.test request.execution (O.seen out.old) (O.seen out.new) result }
+    ensures idle { (H.seen shelf.new).mode ≡ Idle }
+    ensures stay { (H.seen shelf.new).files ≡ (H.seen shelf.old).files }
+{
+    let Check {
+        arch,
+        test,
+        execution,
+    } = request;
+    match arch {
+        ArchName::X86 => check_files::<X86, H, O>(alloc, words, test, execution, shelf, out),
+        ArchName::PPC => check_files::<Power, H, O>(alloc, words, test, execution, shelf, out),
+        ArchName::AArch64 => check_files::<A64, H, O>(alloc, words, test, execution, shelf, out),
+        ArchName::RISCV => check_files::<Riscv, H, O>(alloc, words, test, execution, shelf, out),
+    }
+}
+
+fn check_end(end: CheckEnd) -> Status
+    ensures status { result ≡ check_status end }
+    ensures location { NamesLocation result }
+{
+    match end {
+        CheckEnd::Done => Status::Done,
+        CheckEnd::Wrong { file, line, kind } => Status::BadText {
+            file: Some(file),
+            line,
+            kind: text_kind(kind),
+        },
+        CheckEnd::NoFile { word } => Status::NoFile { word },
+        CheckEnd::ShelfFault => Status::ReadFault { of: Device::Shelf },
+        CheckEnd::OutFault => Status::WriteFault { of: Device::Out },
+        CheckEnd::NoMemory => Status::NoMemory,
+    }
+}
+
+fn text_kind(kind: CheckedKind) -> TextKind
+    ensures { result ≡ checked_kind kind }
+{
+    match kind {
+        CheckedKind::Test(kind) => TextKind::Test(kind),
+        CheckedKind::WrongArch => TextKind::WrongArch,
+        CheckedKind::Exec(kind) => TextKind::Exec(kind),
+    }
+}
