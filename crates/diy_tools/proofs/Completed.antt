@@ -257,7 +257,7 @@ check_done : (words : List (List ℕ)) (asked : CheckAsked) (status : Status) (o
 check_done words asked status old new before after end None told right none none_out e h = absurd right
 check_done words asked status old new before after end (Some files) told right none none_out e h =
     check_ends asked end status e
-    (right_files_done files asked.arch (machine_of asked.arch).writing old new words asked.test asked.execution before after end h told right none none_out)
+    (right_files_done asked.arch (machine_of asked.arch).writing old new words asked.test asked.execution before after end files h told right none none_out)
 
 -- logs that have a sum have no fault
 right_wrong : (logs others : List (List ℕ)) (error : LogError) → AreRight logs → logs ≡ others → logs_text others ≡ Err error → ⊥
