@@ -13,11 +13,11 @@ use Rattle.relax_edges.specs.declared.edge.Edge.{Edge}
 use Rattle.litmus_text.specs.declared.limits.TheConstants.{MAX_TEXT}
 use Rattle.cycle_lines.specs.Classified.{families_text}
 use Rattle.cycle_lines.specs.Tables.{Entry, Holds}
-use Rattle.classified_files.specs.declared.errors.FileFault.{FileFault}
-use Rattle.classified_files.specs.declared.errors.FileFault.TheVariants.{Missing, Device, Text}
+use Rattle.classified_files.specs.declared.errors.CycleFault.{CycleFault}
+use Rattle.classified_files.specs.declared.errors.CycleFault.TheVariants.{Missing, Device, Text}
 use Rattle.classified_files.specs.declared.errors.TextFault.TheVariants.{Wrong, NoMemory}
 use Rattle.classified_files.specs.FilesEnds.{Asked, said_on, name_at, AreNamed, SayCycles, ReadFiles, FilesWritten, FilesUnwritten, IsAtPlace, FilesClassified}
-use Rattle.classified_files.specs.Read.{FileSaid, FileTo, file_end}
+use Rattle.classified_files.specs.Read.{FileSaid, CycleTo, file_end}
 
 -- the files of the first places were read, and the names of their cycles are kept
 pub record FilesSoFar (asked : Asked) (old new : ShelfSeen) (words : List (List ℕ)) (places : List ℕ) (families : List Entry) : Type 0 where
@@ -119,9 +119,9 @@ absent_same old mid m n k name other files same called h =
     subst P files (subst Q same (subst R called h))
 
 -- a file gives no cycle
-pub files_refused : (asked : Asked) (old mid new : ShelfSeen) (a : SinkSeen) (words : List (List ℕ)) (places : List ℕ) (i place : ℕ) (name : List ℕ) (families : List Entry) (fault : FileFault)
+pub files_refused : (asked : Asked) (old mid new : ShelfSeen) (a : SinkSeen) (words : List (List ℕ)) (places : List ℕ) (i place : ℕ) (name : List ℕ) (families : List Entry) (fault : CycleFault)
     → i < length places → place ≡ get_or places i 0 → (s : FilesSoFar asked old mid words (take i places) families) → mid.files ≡ old.files
-    → slice_get words place ≡ Some name → FileTo asked mid new name (Err fault) → FilesClassified asked old new words places a a (file_end place fault)
+    → slice_get words place ≡ Some name → CycleTo asked mid new name (Err fault) → FilesClassified asked old new words places a a (file_end place fault)
 files_refused asked old mid new a words places i place name families Missing within is s files word f = (
   record {
     texts = s.texts;

@@ -1,0 +1,4 @@
+pub mod FilesRead
+pub mod TestSaid
+pub mod FirstBytes
+pub mod OpenFiles
