@@ -34,7 +34,7 @@ said_few asked (text ∷ texts) [] say = cc say
 said_few asked (text ∷ texts) (cycle ∷ cycles) say =
     let first : said_on asked text ≡ Ok cycle = cc say in
     let rest : map (said_on asked) texts ≡ map Ok cycles = cc say in
-    both_few (text ∷ []) texts (one_few text (omega (arith, said_short asked.arch asked.writing text cycle first))) (said_few asked texts cycles rest)
+    both_few (text ∷ []) texts (one_few text (omega (arith, said_short asked text cycle first))) (said_few asked texts cycles rest)
 
 -- of the file that was opened last at most one byte more than a test may have is taken
 pub classified_few : (asked : Asked) (old new : ShelfSeen) (words : List (List ℕ)) (places : List ℕ) (a b : SinkSeen) (end : FilesEnd)

@@ -1,9 +1,9 @@
 ghost use Rattle.std.specs.Prelude.{◌≡◌};
-ghost use Rattle.classified_files.specs.Read.{file_end};
+ghost use Rattle.classified_files.specs.Read.{file_end, file_fault};
 ghost use Rattle.classified_files.specs.Said.{test_error, test_kind};
 
 use litmus_text::TestKind;
-use test_files::{TestFileError, TestFileKind};
+use test_files::{FileFault, TestFileError, TestFileKind};
 
 /// What is wrong with a file of a test.
 #[derive(Clone, Copy, Debug, PartialEq, Eq)]
@@ -91,6 +91,17 @@ impl FileError {
 }
 
 impl CycleFault {
+    /// Where a file isn't read.
+    pub(crate) fn of_file(fault: FileFault) -> CycleFault
+        ensures { result ≡ file_fault fault }
+    {
+        match fault {
+            FileFault::Missing => CycleFault::Missing,
+            FileFault::Failed => CycleFault::Device,
+            FileFault::NoMemory => CycleFault::Text(TextFault::NoMemory),
+        }
+    }
+
     /// The end where the file that a word names gives no cycle.
     pub(crate) fn end_at(self, word: usize) -> FilesEnd
         ensures { result ≡ file_end word self }

@@ -1,17 +1,17 @@
 ghost use Rattle.std.specs.Prelude.{◌≡◌, ◌<◌, length};
 ghost use Rattle.diy_io.specs.Shelf.{Idle};
-ghost use Rattle.classified_files.specs.Read.{CycleTo, SaysClosed};
-ghost use Rattle.classified_files.specs.Said.{text_said};
+ghost use Rattle.classified_files.specs.Read.{CycleTo};
 
-use crate::errors::{CycleFault, TextFault};
+use crate::errors::CycleFault;
 use crate::said::cycle_of_text;
 use arch_trait::Arch;
 use diy_io::{Failed, Shelf};
 use edge_algebra::Cycle;
 use std::alloc::Global;
-use test_files::{FileFault, read_file};
+use test_files::read_file;
 
-/// The cycle that the test quotes which a file is. The file is read into `text`, in pieces as long as `piece`.
+/// The cycle that the test quotes which a file is. The file is read into `text`, in pieces as long as `piece`. A
+/// fault of its text is the answer also where the closing fails.
 pub(crate) fn cycle_of_file<A: Arch, H: Shelf>(
     alloc: Global,
     shelf: &mut H,
@@ -25,23 +25,11 @@ pub(crate) fn cycle_of_file<A: Arch, H: Shelf>(
     ensures files { (H.seen shelf.new).files ≡ (H.seen shelf.old).files }
     ensures file { CycleTo (record { arch = A.NAME; writing = A.writing }) (H.seen shelf.old) (H.seen shelf.new) name.now result }
 {
-    match read_file(shelf, name, piece, text) {
-        Ok(closed) => cycle_of_closed::<A>(alloc, closed, text.as_slice()),
-        Err(FileFault::Missing) => Err(CycleFault::Missing),
-        Err(FileFault::Failed) => Err(CycleFault::Device),
-        Err(FileFault::NoMemory) => Err(CycleFault::Text(TextFault::NoMemory)),
-    }
-}
-
-/// The same of the text of a file that was closed, or whose closing failed. A fault of the text is the answer also then.
-fn cycle_of_closed<A: Arch>(
-    alloc: Global,
-    closed: Result<(), Failed>,
-    text: &[u8],
-) -> Result<Cycle, CycleFault>
-    ensures { SaysClosed result closed (text_said A.NAME A.writing text.now) }
-{
-    match cycle_of_text::<A>(alloc, text) {
+    let closed = match read_file(shelf, name, piece, text) {
+        Ok(closed) => closed,
+        Err(fault) => return Err(CycleFault::of_file(fault)),
+    };
+    match cycle_of_text::<A>(alloc, text.as_slice()) {
         Ok(cycle) => match closed {
             Ok(()) => Ok(cycle),
             Err(Failed) => Err(CycleFault::Device),

@@ -37,6 +37,21 @@ pub record FileFailed (old new : ShelfSeen) (name : List ℕ) : Type 0 where
   pub fault : Rose old.faults new.faults
   pub took : TookFiles old new [] ⊎ ((bytes : List ℕ) × Begins old.files name bytes × TookFiles old new (bytes ∷ []))
 
+-- all of a file was taken, its text is judged to be this, and the shelf didn't fail
+pub record FileIs {X E : Type 0} (judge : List ℕ → Result X E) (old new : ShelfSeen) (name : List ℕ) (x : X) : Type 0 where
+  pub text : List ℕ
+  pub named : IsFile old.files name text
+  pub is : judge text ≡ Ok x
+  pub took : TookFiles old new (text ∷ [])
+  pub no_fault : new.faults ≡ old.faults
+
+-- the text of a file is judged to have this fault, and all of it was taken, or its first bytes, one more than a test may have
+pub record FileFaulty {X E : Type 0} (judge : List ℕ → Result X E) (old new : ShelfSeen) (name : List ℕ) (error : E) : Type 0 where
+  pub text : List ℕ
+  pub named : IsFile old.files name text
+  pub fault : judge text ≡ Err error
+  pub took : TookFiles old new (take (MAX_TEXT + 1) text ∷ [])
+
 -- an answer to the reading of a file, and the text that was read, or what is there in its place
 abbrev pub FileTo : ShelfSeen → ShelfSeen → List ℕ → List ℕ → Result (Result (Unit {0}) Failed) FileFault → Type 0
 FileTo old new name text (Ok closed) = FileRead old new name text closed
