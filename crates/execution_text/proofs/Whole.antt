@@ -130,13 +130,14 @@ threads_wrong threads places lines fault h = rw (is_wrong with_read (nothing_kep
 pub record ThreadsRead (threads : ℕ) (places lines : List (List ℕ)) (x : Execution) (left : List (List ℕ)) : Type 0 where
   pub reads : List (List (ℕ × Option WriteAt))
   pub is : threads_told threads lines ≡ Ok (reads, left)
+  pub many : length reads ≡ threads
   pub x_is : record { reads = reads; orders = empty_lists (length places) } ≡ x
 
 pub threads_read : (threads : ℕ) (places lines : List (List ℕ)) (x : Execution) (left : List (List ℕ)) → lines_added with_read (nothing_kept threads (length places)) 0 (threads_told threads lines) ≡ Ok (x, left) → ThreadsRead threads places lines x left
 threads_read threads places lines x left h =
     let t = is_told with_read (nothing_kept threads (length places)) x 0 (threads_told threads lines) left h in
     let many : length t.lists ≡ threads = told_length (line_told BadThread BadRead (read_named threads)) 1 (map thread_head (range_with_len 0 threads)) lines t.lists left t.is ∙ length-map-range_with_len thread_head 0 threads in
-    record { reads = t.lists; is = t.is; x_is = sym (reads_are threads (length places) t.lists many) ∙ t.grown }
+    record { reads = t.lists; is = t.is; many = many; x_is = sym (reads_are threads (length places) t.lists many) ∙ t.grown }
 
 pub orders_many : (threads : ℕ) (places lines : List (List ℕ)) (x : Execution) (left : List (List ℕ)) → ThreadsRead threads places lines x left → length x.orders ≡ length places
 orders_many threads places lines x left t = sym (ap (λ (y : Execution). length y.orders) t.x_is) ∙ length-replicate (length places) []
@@ -152,6 +153,8 @@ pub record AllRead (threads : ℕ) (places lines : List (List ℕ)) (y : Executi
   pub reads : List (List (ℕ × Option WriteAt))
   pub orders : List (List WriteAt)
   pub is : lines_read threads places lines ≡ execution_of (threads + length places + 1) reads (orders, left)
+  pub read_lists : length reads ≡ threads
+  pub write_lists : length orders ≡ length places
   pub y_is : record { reads = reads; orders = orders } ≡ y
 
 read_as : (threads : ℕ) (places lines left last : List (List ℕ)) (reads : List (List (ℕ × Option WriteAt))) (orders : List (List WriteAt))
@@ -168,11 +171,20 @@ all_read threads places lines x y left last t h =
       reads = t.reads;
       orders = p.lists;
       is = read_as threads places lines left last t.reads p.lists t.is p.is;
+      read_lists = t.many;
+      write_lists = many;
       y_is = sym (writes_are (length places) t.reads p.lists many) ∙ ap (λ z. each_added with_write z 0 p.lists) t.x_is ∙ p.grown;
     }
 
 pub ended_read : (threads : ℕ) (places lines : List (List ℕ)) (y : Execution) (left : List (List ℕ)) → AllRead threads places lines y left → left ≡ [] → lines_read threads places lines ≡ Ok y
 ended_read threads places lines y left a e = a.is ∙ ap (λ l. execution_of (threads + length places + 1) a.reads (a.orders, l)) e ∙ ap (λ z. Ok z) a.y_is
+
+-- it has as many lists of reads as threads, and as many orders as places
+pub shape_read : (threads : ℕ) (places lines : List (List ℕ)) (y : Execution) (left : List (List ℕ)) → AllRead threads places lines y left → (length y.reads ≡ threads) × (length y.orders ≡ length places)
+shape_read threads places lines y left a = (
+  sym (ap (λ (z : Execution). length z.reads) a.y_is) ∙ a.read_lists,
+  sym (ap (λ (z : Execution). length z.orders) a.y_is) ∙ a.write_lists,
+)
 
 pub stray_read : (threads : ℕ) (places lines : List (List ℕ)) (y : Execution) (left more : List (List ℕ)) (line : List ℕ) → AllRead threads places lines y left → left ≡ line ∷ more → lines_read threads places lines ≡ Err (record { line = threads + length places + 1; kind = StrayLine })
 stray_read threads places lines y left more line a e = a.is ∙ ap (λ l. execution_of (threads + length places + 1) a.reads (a.orders, l)) e

@@ -1,4 +1,4 @@
-ghost use Rattle.std.specs.Prelude.{◌≡◌, ◌<◌, ◌+◌, [], length, map, slice_index_or};
+ghost use Rattle.std.specs.Prelude.{◌≡◌, ◌<◌, ◌+◌, [], IfOk, length, map, slice_index_or};
 ghost use Rattle.std.specs.List.{range_with_len};
 ghost use Rattle.litmus_text.specs.Cuts.{words};
 ghost use Rattle.execution_text.specs.declared.errors.ExecKind.TheVariants.{BadThread, BadRead, BadPlace, BadWrite};
@@ -173,7 +173,8 @@ fn missing(line: u64) -> ExecError
 /// thread, `Pk:` and for each of its reads `VALUE@init` or `VALUE@T.N`, the value and the access that is
 /// read; then a line for each place, its name, a colon and its writes in coherence order, each as `T.N`.
 /// A text that tells none is answered with its first faulty line, and the leftmost fault in it. One of more
-/// than `MAX_TEXT` bytes is TooLarge at line 1, whatever it holds.
+/// than `MAX_TEXT` bytes is TooLarge at line 1, whatever it holds. The execution has as many lists of reads
+/// as threads, and as many orders as places.
 ///
 /// Whether the program has such accesses isn't judged here: see `exec_meaning::is_candidate`.
 #[tactic(auto, unfolding(crate::specs::ExecutionText::execution_read))]
@@ -183,7 +184,8 @@ pub fn read_execution(
     places: &Places,
     text: &[u8],
 ) -> Result<Execution, ExecError>
-    ensures { ReadsText result (execution_read threads places.now text.now) }
+    ensures read { ReadsText result (execution_read threads places.now text.now) }
+    ensures shape { IfOk result (λ x. (length x.reads ≡ threads) × (length x.orders ≡ length places.now)) }
 {
     if text.len() > MAX_TEXT {
         return Err(ExecError::Text(ExecFault {

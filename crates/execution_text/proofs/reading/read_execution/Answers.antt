@@ -1,11 +1,11 @@
 use Rattle.std.proofs.Common.{◌≡◌, length, ap, ◌∙◌, arith}
 use Rattle.exec_meaning.specs.Kept.{nothing_kept}
 use Rattle.execution_text.specs.ExecutionText.{lines_of}
-use Rattle.execution_text.proofs.Whole.{threads_wrong, threads_read, orders_many, places_wrong, all_read, ended_read, stray_read, short_read, wrong_text}
+use Rattle.execution_text.proofs.Whole.{threads_wrong, threads_read, orders_many, places_wrong, all_read, ended_read, shape_read, stray_read, short_read, wrong_text}
 use Rattle.execution_text.proofs.reading.read_execution.Goals as goal
 
-pub returns-in-Err-read_threads : goal.returns-in-Err-read_threads
-returns-in-Err-read_threads c =
+pub returns-in-Err-read_threads-clause-read : goal.returns-in-Err-read_threads-clause-read
+returns-in-Err-read_threads-clause-read c =
     let n = c.args.threads in
     let places = c.args.places.now in
     let lines = lines_of c.args.text.now in
@@ -22,8 +22,8 @@ read_places-requires c =
     let t = threads_read n places lines c.read_threads.new.exec (lines_of c.in-Ok-read_threads.rest.now) (rw begins at c.in-Ok-read_threads.ensures) in
     orders_many n places lines c.read_threads.new.exec (lines_of c.in-Ok-read_threads.rest.now) t
 
-pub returns-in-Err-read_places : goal.returns-in-Err-read_places
-returns-in-Err-read_places c =
+pub returns-in-Err-read_places-clause-read : goal.returns-in-Err-read_places-clause-read
+returns-in-Err-read_places-clause-read c =
     let n = c.args.threads in
     let places = c.args.places.now in
     let lines = lines_of c.args.text.now in
@@ -32,8 +32,8 @@ returns-in-Err-read_places c =
     let t = threads_read n places lines c.read_threads.new.exec (lines_of c.in-Ok-read_threads.rest.now) (rw begins at c.in-Ok-read_threads.ensures) in
     wrong_text c.in-Err-read_places.error c.read_places.new.exec _ _ c.in-Err-read_places.ensures (λ fault h. short ∙ places_wrong n places lines c.read_threads.new.exec (lines_of c.in-Ok-read_threads.rest.now) fault t h)
 
-pub returns-in-None : goal.returns-in-None
-returns-in-None c =
+pub returns-in-None-clause-read : goal.returns-in-None-clause-read
+returns-in-None-clause-read c =
     let n = c.args.threads in
     let places = c.args.places.now in
     let lines = lines_of c.args.text.now in
@@ -43,8 +43,18 @@ returns-in-None c =
     let a = all_read n places lines c.read_threads.new.exec c.read_places.new.exec (lines_of c.in-Ok-read_threads.rest.now) (lines_of c.in-Ok-read_places.rest.now) t c.in-Ok-read_places.ensures in
     short ∙ ended_read n places lines c.read_places.new.exec (lines_of c.in-Ok-read_places.rest.now) a c.in-None.ensures
 
-pub returns-in-Some : goal.returns-in-Some
-returns-in-Some c =
+pub returns-in-None-clause-shape : goal.returns-in-None-clause-shape
+returns-in-None-clause-shape c =
+    let n = c.args.threads in
+    let places = c.args.places.now in
+    let lines = lines_of c.args.text.now in
+    let begins : c.in-Ok.exec ≡ nothing_kept n (length places) = c.in-Ok.ensures ∙ ap (nothing_kept n) c.len.ensures in
+    let t = threads_read n places lines c.read_threads.new.exec (lines_of c.in-Ok-read_threads.rest.now) (rw begins at c.in-Ok-read_threads.ensures) in
+    shape_read n places lines c.read_places.new.exec (lines_of c.in-Ok-read_places.rest.now)
+    (all_read n places lines c.read_threads.new.exec c.read_places.new.exec (lines_of c.in-Ok-read_threads.rest.now) (lines_of c.in-Ok-read_places.rest.now) t c.in-Ok-read_places.ensures)
+
+pub returns-in-Some-clause-read : goal.returns-in-Some-clause-read
+returns-in-Some-clause-read c =
     let n = c.args.threads in
     let places = c.args.places.now in
     let lines = lines_of c.args.text.now in
