@@ -24,17 +24,17 @@ use Rattle.checked_files.specs.declared.errors.CheckEnd.{CheckEnd}
 use Rattle.checked_files.specs.declared.errors.CheckEnd.TheVariants as ends
 use Rattle.checked_files.specs.FilesChecked.{name_at, exec_told, IsTest, AreRight, BothRead, TestWrong, ExecWrong, IsAbsent, TestUnread, ExecUnread, FilesChecked}
 
+too_large : ExecFault
+too_large = record { line = 1; kind = TooLarge }
+
+executions_refuse_long : (test : TestRead) → RefusesLong (exec_told test) too_large (λ text. lines_read (length test.threads) test.places (lines_of text))
+unfolding execution_read
+executions_refuse_long test text = refl
+
 -- what a text tells as an execution of a test depends on its first bytes alone, one more than a test may have, and it isn't too long
 pub executions_by_first_bytes : (test : TestRead) → JudgesFirstBytes (exec_told test)
 executions_by_first_bytes test =
-    judges_first_bytes (exec_told test) (λ text. lines_read (length test.threads) test.places (lines_of text)) too_large refuses
-  where
-    too_large : ExecFault
-    too_large = record { line = 1; kind = TooLarge }
-
-    refuses : RefusesLong (exec_told test) too_large (λ text. lines_read (length test.threads) test.places (lines_of text))
-    unfolding execution_read
-    refuses text = refl
+    judges_first_bytes (exec_told test) (λ text. lines_read (length test.threads) test.places (lines_of text)) too_large (executions_refuse_long test)
 
 test_few : (arch : ArchName) (w : Writing) (files : Option Files) (name text : List ℕ) (test : TestRead) → IsTest arch w files name text test
     → AreFew (text ∷ [])

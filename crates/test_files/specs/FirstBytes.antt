@@ -72,16 +72,17 @@ judges_further {X} {Y} {E} {F} judge further kept h = record {
     of_judged text y (Ok x) e right = h.short text x e
     of_judged text y (Err error) e right = absurd (kept error y right)
 
+too_large : TestFileError
+too_large = record { line = 1; kind = Test TooLarge }
+
+tests_refuse_long : (arch : ArchName) (w : Writing) → RefusesLong (test_said arch w) too_large (λ text. headed_said arch w text (arch_in_text text))
+unfolding test_said
+tests_refuse_long arch w text = refl
+
 -- what a text is as a test depends on its first bytes alone, and it isn't too long
 pub tests_by_first_bytes : (arch : ArchName) (w : Writing) → JudgesFirstBytes (test_said arch w)
-tests_by_first_bytes arch w = judges_first_bytes (test_said arch w) (λ text. headed_said arch w text (arch_in_text text)) too_large refuses
-  where
-    too_large : TestFileError
-    too_large = record { line = 1; kind = Test TooLarge }
-
-    refuses : RefusesLong (test_said arch w) too_large (λ text. headed_said arch w text (arch_in_text text))
-    unfolding test_said
-    refuses text = refl
+tests_by_first_bytes arch w =
+    judges_first_bytes (test_said arch w) (λ text. headed_said arch w text (arch_in_text text)) too_large (tests_refuse_long arch w)
 
 -- what is taken of a text is as a test what the text is
 pub said_by_first_bytes : (arch : ArchName) (w : Writing) (text : List ℕ) → test_said arch w (take (MAX_TEXT + 1) text) ≡ test_said arch w text
