@@ -1,31 +1,17 @@
 -- How many bytes are taken of the file that was opened last.
-use Rattle.std.proofs.Common.{◌≡◌, ◌≤◌, ◌<◌, ◌+◌, ℕ, List, [], ◌∷◌, ◌++◌, length, take, get_or, refl, sym, ap, ◌∙◌, subst, arith, inl, inr}
-use Rattle.std.specs.Prelude.{◌⊎◌, All, map, Result, Ok, Err}
-use Rattle.std.proofs.lemmas.List.{length-take}
-use Rattle.std.proofs.lemmas.List.Elements.{All-append}
+use Rattle.std.proofs.Common.{◌≡◌, ◌≤◌, ◌<◌, ◌+◌, ℕ, List, [], ◌∷◌, ◌++◌, length, take, refl, arith, inl, inr}
+use Rattle.std.specs.Prelude.{◌⊎◌, map, Result, Ok, Err}
 use Rattle.diy_io.specs.Count.{count_of}
 use Rattle.diy_io.specs.Shelf.{ShelfSeen}
 use Rattle.diy_io.specs.Wrote.{SinkSeen}
 use Rattle.file_laws.specs.Opened.{TookFiles}
-use Rattle.file_laws.proofs.OpenedLaws.{took_within}
 use Rattle.relax_edges.specs.declared.edge.Edge.{Edge}
 use Rattle.litmus_text.specs.declared.limits.TheConstants.{MAX_TEXT}
+use Rattle.test_files.specs.FewBytes.{AreFew, none_few, one_few, both_few, front_few, few_taken}
 use Rattle.classified_files.specs.declared.errors.FilesEnd.{FilesEnd}
 use Rattle.classified_files.specs.declared.errors.FilesEnd.TheVariants as ends
 use Rattle.classified_files.specs.FilesEnds.{Asked, said_on, SayCycles, IsBegun, FilesClassified}
 use Rattle.classified_files.proofs.SaidLaws.{said_short}
-
-abbrev AreFew : List (List ℕ) → Type 0
-AreFew taken = All (λ bytes. length bytes ≤ MAX_TEXT + 1) taken
-
-none_few : AreFew []
-none_few k d less = absurd (omega arith)
-
-one_few : (bytes : List ℕ) → length bytes ≤ MAX_TEXT + 1 → AreFew (bytes ∷ [])
-one_few bytes few k d less = let zero : k ≡ 0 = omega arith in subst (λ i. length (get_or (bytes ∷ []) i d) ≤ MAX_TEXT + 1) (sym zero) few
-
-both_few : (xs ys : List (List ℕ)) → AreFew xs → AreFew ys → AreFew (xs ++ ys)
-both_few xs ys p q = All-append (λ bytes. length bytes ≤ MAX_TEXT + 1) xs ys p q
 
 -- texts that say cycles aren't too long
 said_few : (asked : Asked) (texts : List (List ℕ)) (cycles : List (List Edge)) → SayCycles asked texts cycles → AreFew texts
@@ -34,30 +20,28 @@ said_few asked (text ∷ texts) [] say = cc say
 said_few asked (text ∷ texts) (cycle ∷ cycles) say =
     let first : said_on asked text ≡ Ok cycle = cc say in
     let rest : map (said_on asked) texts ≡ map Ok cycles = cc say in
-    both_few (text ∷ []) texts (one_few text (omega (arith, said_short asked.arch asked.writing text cycle first))) (said_few asked texts cycles rest)
+    both_few (text ∷ []) texts (one_few text (omega (arith, said_short asked text cycle first))) (said_few asked texts cycles rest)
 
 -- of the file that was opened last at most one byte more than a test may have is taken
 pub classified_few : (asked : Asked) (old new : ShelfSeen) (words : List (List ℕ)) (places : List ℕ) (a b : SinkSeen) (end : FilesEnd)
     → FilesClassified asked old new words places a b end → (end ≡ ends.NoMemory → ⊥) → count_of old.opened < count_of new.opened → new.taken ≤ MAX_TEXT + 1
 classified_few asked old new words places a b ends.Done h some more =
-    took_within (MAX_TEXT + 1) old new h.read.texts (omega arith) h.read.took (said_few asked h.read.texts h.cycles h.read.read.say) more
+    few_taken old new h.read.texts h.read.took (said_few asked h.read.texts h.cycles h.read.read.say) more
 classified_few asked old new words places a b ends.OutFault h some more =
-    took_within (MAX_TEXT + 1) old new h.read.texts (omega arith) h.read.took (said_few asked h.read.texts h.cycles h.read.read.say) more
+    few_taken old new h.read.texts h.read.took (said_few asked h.read.texts h.cycles h.read.read.say) more
 classified_few asked old new words places a b (ends.Wrong file line kind) h some more =
-    took_within (MAX_TEXT + 1) old new (h.0.texts ++ take (MAX_TEXT + 1) h.0.text ∷ []) (omega arith) h.0.took
-    (both_few h.0.texts (take (MAX_TEXT + 1) h.0.text ∷ []) (said_few asked h.0.texts h.0.place_is.cycles h.0.place_is.read.say)
-    (one_few (take (MAX_TEXT + 1) h.0.text) (omega (arith, length-take (MAX_TEXT + 1) h.0.text))))
+    few_taken old new (h.0.texts ++ take (MAX_TEXT + 1) h.0.text ∷ []) h.0.took
+    (both_few h.0.texts (take (MAX_TEXT + 1) h.0.text ∷ []) (said_few asked h.0.texts h.0.place_is.cycles h.0.place_is.read.say) (front_few h.0.text))
     more
 classified_few asked old new words places a b (ends.NoFile word) h some more =
-    took_within (MAX_TEXT + 1) old new h.0.texts (omega arith) h.0.took (said_few asked h.0.texts h.0.place_is.cycles h.0.place_is.read.say) more
+    few_taken old new h.0.texts h.0.took (said_few asked h.0.texts h.0.place_is.cycles h.0.place_is.read.say) more
 classified_few asked old new words places a b ends.ShelfFault h some more = of_took h.0.took
   where
     of_took : (TookFiles old new h.0.texts ⊎ ((bytes : List ℕ) × IsBegun old.files words h.0.place bytes × TookFiles old new (h.0.texts ++ bytes ∷ []))) → new.taken ≤ MAX_TEXT + 1
-    of_took (inl took) =
-        took_within (MAX_TEXT + 1) old new h.0.texts (omega arith) took (said_few asked h.0.texts h.0.place_is.cycles h.0.place_is.read.say) more
+    of_took (inl took) = few_taken old new h.0.texts took (said_few asked h.0.texts h.0.place_is.cycles h.0.place_is.read.say) more
     of_took (inr part) =
         let short : length part.0 ≤ MAX_TEXT = part.1.short in
-        took_within (MAX_TEXT + 1) old new (h.0.texts ++ part.0 ∷ []) (omega arith) part.2
+        few_taken old new (h.0.texts ++ part.0 ∷ []) part.2
         (both_few h.0.texts (part.0 ∷ []) (said_few asked h.0.texts h.0.place_is.cycles h.0.place_is.read.say) (one_few part.0 (omega arith)))
         more
 classified_few asked old new words places a b ends.NoMemory h some more = absurd (some refl)

@@ -13,11 +13,12 @@ use Rattle.relax_edges.specs.declared.edge.Edge.{Edge}
 use Rattle.litmus_text.specs.declared.limits.TheConstants.{MAX_TEXT}
 use Rattle.cycle_lines.specs.Classified.{families_text}
 use Rattle.cycle_lines.specs.Tables.{Entry, Holds}
-use Rattle.classified_files.specs.declared.errors.FileFault.{FileFault}
-use Rattle.classified_files.specs.declared.errors.FileFault.TheVariants.{Missing, Device, Text}
+use Rattle.test_files.specs.FilesRead.{FileIs}
+use Rattle.classified_files.specs.declared.errors.CycleFault.{CycleFault}
+use Rattle.classified_files.specs.declared.errors.CycleFault.TheVariants.{Missing, Device, Text}
 use Rattle.classified_files.specs.declared.errors.TextFault.TheVariants.{Wrong, NoMemory}
 use Rattle.classified_files.specs.FilesEnds.{Asked, said_on, name_at, AreNamed, SayCycles, ReadFiles, FilesWritten, FilesUnwritten, IsAtPlace, FilesClassified}
-use Rattle.classified_files.specs.Read.{FileSaid, FileTo, file_end}
+use Rattle.classified_files.specs.Read.{CycleTo, file_end}
 
 -- the files of the first places were read, and the names of their cycles are kept
 pub record FilesSoFar (asked : Asked) (old new : ShelfSeen) (words : List (List ℕ)) (places : List ℕ) (families : List Entry) : Type 0 where
@@ -64,7 +65,7 @@ file_of files words place name text word is = subst (λ (n : List ℕ). IsFile f
 
 -- one file more
 pub one_more : (asked : Asked) (old mid new : ShelfSeen) (words : List (List ℕ)) (places : List ℕ) (place : ℕ) (name : List ℕ) (cycle : List Edge) (before after : List Entry)
-    (s : FilesSoFar asked old mid words places before) → mid.files ≡ old.files → slice_get words place ≡ Some name → FileSaid asked mid new name cycle
+    (s : FilesSoFar asked old mid words places before) → mid.files ≡ old.files → slice_get words place ≡ Some name → FileIs (said_on asked) mid new name cycle
     → ((cycles : List (List Edge)) → Holds before cycles → Holds after (cycles ++ cycle ∷ [])) → FilesSoFar asked old new words (places ++ place ∷ []) after
 one_more asked old mid new words places place name cycle before after s files word f put = record {
   texts = s.texts ++ f.text ∷ [];
@@ -72,7 +73,7 @@ one_more asked old mid new words places place name cycle before after s files wo
   read = record {
     named = more_named old.files words places s.texts place f.text s.read.named
         (file_of old.files words place name f.text word (subst (λ (o : Option Files). IsFile o name f.text) files f.named));
-    say = more_said asked s.texts s.cycles f.text cycle s.read.say f.says;
+    say = more_said asked s.texts s.cycles f.text cycle s.read.say f.is;
   };
   took = took_one_more old mid new s.texts f.text s.took f.took;
   no_fault = f.no_fault ∙ s.no_fault;
@@ -119,9 +120,9 @@ absent_same old mid m n k name other files same called h =
     subst P files (subst Q same (subst R called h))
 
 -- a file gives no cycle
-pub files_refused : (asked : Asked) (old mid new : ShelfSeen) (a : SinkSeen) (words : List (List ℕ)) (places : List ℕ) (i place : ℕ) (name : List ℕ) (families : List Entry) (fault : FileFault)
+pub files_refused : (asked : Asked) (old mid new : ShelfSeen) (a : SinkSeen) (words : List (List ℕ)) (places : List ℕ) (i place : ℕ) (name : List ℕ) (families : List Entry) (fault : CycleFault)
     → i < length places → place ≡ get_or places i 0 → (s : FilesSoFar asked old mid words (take i places) families) → mid.files ≡ old.files
-    → slice_get words place ≡ Some name → FileTo asked mid new name (Err fault) → FilesClassified asked old new words places a a (file_end place fault)
+    → slice_get words place ≡ Some name → CycleTo asked mid new name (Err fault) → FilesClassified asked old new words places a a (file_end place fault)
 files_refused asked old mid new a words places i place name families Missing within is s files word f = (
   record {
     texts = s.texts;

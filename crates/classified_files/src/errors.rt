@@ -1,7 +1,9 @@
 ghost use Rattle.std.specs.Prelude.{◌≡◌};
-ghost use Rattle.classified_files.specs.Read.{file_end};
+ghost use Rattle.classified_files.specs.Read.{file_end, file_fault};
+ghost use Rattle.classified_files.specs.Said.{test_error, test_kind};
 
 use litmus_text::TestKind;
+use test_files::{FileFault, TestFileError, TestFileKind};
 
 /// What is wrong with a file of a test.
 #[derive(Clone, Copy, Debug, PartialEq, Eq)]
@@ -54,18 +56,9 @@ pub(crate) enum TextFault {
     NoMemory,
 }
 
-/// Why a file isn't read.
-#[derive(Clone, Copy)]
-pub(crate) enum ReadFault {
-    /// The shelf failed.
-    Device,
-    /// There is no memory.
-    NoMemory,
-}
-
 /// Why a file gives no cycle.
 #[derive(Clone, Copy)]
-pub(crate) enum FileFault {
+pub(crate) enum CycleFault {
     /// It isn't there.
     Missing,
     /// The shelf failed.
@@ -73,20 +66,55 @@ pub(crate) enum FileFault {
     Text(TextFault),
 }
 
-impl FileFault {
+impl FileKind {
+    /// What is wrong with the text of a test.
+    fn of_test(kind: TestFileKind) -> FileKind
+        ensures { result ≡ test_kind kind }
+    {
+        match kind {
+            TestFileKind::Test(kind) => FileKind::Test(kind),
+            TestFileKind::WrongArch => FileKind::WrongArch,
+        }
+    }
+}
+
+impl FileError {
+    /// Where the text of a test is wrong.
+    pub(crate) fn of_test(error: TestFileError) -> FileError
+        ensures { result ≡ test_error error }
+    {
+        FileError {
+            line: error.line,
+            kind: FileKind::of_test(error.kind),
+        }
+    }
+}
+
+impl CycleFault {
+    /// Where a file isn't read.
+    pub(crate) fn of_file(fault: FileFault) -> CycleFault
+        ensures { result ≡ file_fault fault }
+    {
+        match fault {
+            FileFault::Missing => CycleFault::Missing,
+            FileFault::Failed => CycleFault::Device,
+            FileFault::NoMemory => CycleFault::Text(TextFault::NoMemory),
+        }
+    }
+
     /// The end where the file that a word names gives no cycle.
     pub(crate) fn end_at(self, word: usize) -> FilesEnd
         ensures { result ≡ file_end word self }
     {
         match self {
-            FileFault::Missing => FilesEnd::NoFile { word },
-            FileFault::Device => FilesEnd::ShelfFault,
-            FileFault::Text(TextFault::Wrong(FileError { line, kind })) => FilesEnd::Wrong {
+            CycleFault::Missing => FilesEnd::NoFile { word },
+            CycleFault::Device => FilesEnd::ShelfFault,
+            CycleFault::Text(TextFault::Wrong(FileError { line, kind })) => FilesEnd::Wrong {
                 file: word,
                 line,
                 kind,
             },
-            FileFault::Text(TextFault::NoMemory) => FilesEnd::NoMemory,
+            CycleFault::Text(TextFault::NoMemory) => FilesEnd::NoMemory,
         }
     }
 }

@@ -6,7 +6,6 @@ mod errors;
 mod file;
 mod files;
 mod said;
-mod text;
 
 pub use errors::{FileError, FileKind, FilesEnd};
 pub use files::classify_files;

@@ -1,7 +1,7 @@
 use Rattle.std.proofs.Common.{length, take, ap, arith, length-append}
 use Rattle.std.proofs.lemmas.List.{length-take-le}
-use Rattle.classified_files.proofs.TextLaws.{reads_whole, reads_failed, reads_long, reads_more}
-use Rattle.classified_files.proofs.text.read_text.Goals as goal
+use Rattle.test_files.proofs.TextLaws.{reads_whole, reads_failed, reads_long, reads_more}
+use Rattle.test_files.proofs.text.read_text.Goals as goal
 
 pub returns-in-Ok-eq0 : goal.returns-in-Ok-eq0
 returns-in-Ok-eq0 g c = record {

@@ -7,7 +7,7 @@ use Rattle.std.proofs.lemmas.List.{length-take-le, take_all, take_at}
 use Rattle.diy_io.specs.Count.{count_of, Rose}
 use Rattle.diy_io.specs.Shelf.{ShelfSeen, Gave, IsReading, Stopped, left_to_read}
 use Rattle.litmus_text.specs.declared.limits.TheConstants.{MAX_TEXT}
-use Rattle.classified_files.specs.Read.{ReadSoFar, ReadWhole, ReadPart, TookBytes}
+use Rattle.test_files.specs.OpenFiles.{ReadSoFar, ReadWhole, ReadPart, TookBytes}
 
 -- bytes that were consumed are the first of a text
 pub record FrontOf (told : Option (List ℕ)) (bytes : List ℕ) : Type 0 where

@@ -1,7 +1,7 @@
 use Rattle.std.proofs.Common.{◌<◌, ◌≤◌, ◌+◌, ◌-◌, length}
 use Rattle.litmus_text.specs.declared.limits.TheConstants.{MAX_TEXT}
-use Rattle.classified_files.specs.Read.{ReadSoFar}
-use Rattle.classified_files.proofs.text.read_text.Given as goal
+use Rattle.test_files.specs.OpenFiles.{ReadSoFar}
+use Rattle.test_files.proofs.text.read_text.Given as goal
 
 -- what was read so far is no more than a test may have
 abbrev pub invariant-loop-count : goal.invariant-loop-count

@@ -1,6 +1,6 @@
 ghost use Rattle.std.specs.Prelude.{◌≡◌, ◌<◌, ◌≤◌, [], length, take, IfOk, OnErr};
 ghost use Rattle.diy_io.specs.Shelf.{Gave, IsReading, Stopped};
-ghost use Rattle.classified_files.specs.Read.{ReadTo};
+ghost use Rattle.test_files.specs.OpenFiles.{ReadTo};
 
 use crate::errors::ReadFault;
 use diy_io::{Failed, Shelf};
@@ -23,7 +23,7 @@ pub(crate) fn read_text<H: Shelf>(
         let count = match read_piece(shelf, piece, room) {
             Ok(0) => return Ok(()),
             Ok(count) => count,
-            Err(Failed) => return Err(ReadFault::Device),
+            Err(Failed) => return Err(ReadFault::Failed),
         };
         match text.extend_from_slice(&piece[..count]) {
             Ok(()) => {}

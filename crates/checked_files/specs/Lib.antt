@@ -1,0 +1,3 @@
+pub mod FilesChecked
+pub mod CheckedLaws
+pub mod Steps

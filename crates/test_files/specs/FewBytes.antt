@@ -1,0 +1,34 @@
+-- Laws for callers: how many bytes are taken of the file that was opened last, where of each at most one more is taken than a test
+-- may have.
+-- Source: own.
+use Rattle.std.proofs.Common.{◌≡◌, ◌≤◌, ◌<◌, ◌+◌, ℕ, List, [], ◌∷◌, ◌++◌, length, take, get_or, sym, subst, arith}
+use Rattle.std.specs.Prelude.{All}
+use Rattle.std.proofs.lemmas.List.{length-take}
+use Rattle.std.proofs.lemmas.List.Elements.{All-append}
+use Rattle.diy_io.specs.Count.{count_of}
+use Rattle.diy_io.specs.Shelf.{ShelfSeen}
+use Rattle.file_laws.specs.Opened.{TookFiles}
+use Rattle.file_laws.proofs.OpenedLaws.{took_within}
+use Rattle.litmus_text.specs.declared.limits.TheConstants.{MAX_TEXT}
+
+-- each of these has at most one byte more than a test may have
+abbrev pub AreFew : List (List ℕ) → Type 0
+AreFew taken = All (λ bytes. length bytes ≤ MAX_TEXT + 1) taken
+
+pub none_few : AreFew []
+none_few k d less = absurd (omega arith)
+
+pub one_few : (bytes : List ℕ) → length bytes ≤ MAX_TEXT + 1 → AreFew (bytes ∷ [])
+one_few bytes few k d less = let zero : k ≡ 0 = omega arith in subst (λ i. length (get_or (bytes ∷ []) i d) ≤ MAX_TEXT + 1) (sym zero) few
+
+pub both_few : (xs ys : List (List ℕ)) → AreFew xs → AreFew ys → AreFew (xs ++ ys)
+both_few xs ys p q = All-append (λ bytes. length bytes ≤ MAX_TEXT + 1) xs ys p q
+
+-- what is taken of a text is as few
+pub front_few : (text : List ℕ) → AreFew (take (MAX_TEXT + 1) text ∷ [])
+front_few text = one_few (take (MAX_TEXT + 1) text) (omega (arith, length-take (MAX_TEXT + 1) text))
+
+-- so few are taken of the last file, where one was opened
+pub few_taken : (old new : ShelfSeen) (taken : List (List ℕ)) → TookFiles old new taken → AreFew taken → count_of old.opened < count_of new.opened
+    → new.taken ≤ MAX_TEXT + 1
+few_taken old new taken took few more = took_within (MAX_TEXT + 1) old new taken (omega arith) took few more

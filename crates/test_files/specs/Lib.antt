@@ -1,0 +1,5 @@
+pub mod FilesRead
+pub mod TestSaid
+pub mod FirstBytes
+pub mod FewBytes
+pub mod OpenFiles
