@@ -199,8 +199,8 @@ held_one h said rest =
     let count = later_twice h.count (count_in said) (last_given count_in rest) in
     let test = later_twice h.test (test_in said) (last_given test_in rest) in
     let execution = later_twice h.execution (execution_in said) (last_given execution_in rest) in
-    let taken : h.taken + operands_in said + operands_given rest ≡ h.taken + (operands_in said + operands_given rest) = omega arith in
-    cc (arch, name, mode, from, operand, edges, relaxes, size, exact, threads, accesses, after, folder, choices, count, test, execution, taken)
+    let total : h.taken + operands_in said + operands_given rest ≡ h.taken + (operands_in said + operands_given rest) = omega arith in
+    cc (arch, name, mode, from, operand, edges, relaxes, size, exact, threads, accesses, after, folder, choices, count, test, execution, total)
 
 abbrev held_or_fault : Held → Result (List Said) Usage → Result Held Usage
 held_or_fault h (Ok said) = Ok (held_after h said)
