@@ -7,7 +7,7 @@ use Rattle.relax_edges.specs.declared.kinds.ArchName.{ArchName}
 use Rattle.relax_edges.specs.declared.kinds.ObsMode.{ObsMode}
 use Rattle.edge_lists.specs.Kept.{kept, added}
 use Rattle.edge_lists.specs.KeptLaws.{added_more, added_whole}
-use Rattle.std.specs.Prelude.{◌||◌, is_some, nat_lt, if◌then◌else◌}
+use Rattle.std.specs.Prelude.{◌||◌, nat_lt, if◌then◌else◌}
 use Rattle.std.specs.List.{list_any}
 use Rattle.diy_words.specs.declared.request.Request.{Request}
 use Rattle.diy_words.specs.declared.request.Request.TheVariants as requests
@@ -21,8 +21,8 @@ use Rattle.diy_words.specs.declared.options.OptionName.{OptionName}
 use Rattle.diy_words.specs.Parts.{Alone, Valued, Unvalued, Waits, parts_from, parts_of, option_named, tool_named}
 use Rattle.diy_words.specs.declared.options.Tool.{Tool}
 use Rattle.diy_words.specs.declared.options.Tool.TheVariants as tools
-use Rattle.diy_words.specs.Requests.{Said, SaysArch, SaysName, SaysMode, SaysFrom, SaysEdges, SaysRelaxes, SaysSize, SaysExact, SaysThreads, SaysAfter, SaysFolder, SaysLog, SaysPlace, SaysCount, NameAsked, ListAsked, DemoAsked, Asked, AsksTest, AsksName, AsksList, AsksFamilies, AsksSum, AsksCross, AsksDemo, OfEdges, OfName, OfLines, said_by, saying, is_count, said_first, said_all, or_later, last_given, first_given, arch_in, name_in, mode_in, from_in, operand_in, edges_in, relaxes_in, size_in, is_exact, threads_in, after_in, folder_in, places_in, count_in, given_or, mode_or_accept, list_with, families_with, cross_with, places_given, choice_count, edges_given, asks, asked_with, named_with, asked_of, asked_for, tool_asked, files_given, SaysAccesses, accesses_in}
-use Rattle.diy_words.specs.Given.{Held, absorbed, all_absorbed, saying_from, finished, named, Kept, keeps, KeepsTest, KeepsName, KeepsList, KeepsFamilies, KeepsSum, KeepsCross, KeepsDemo, CrossHeld, crossed, classified, held_at_end, tool_held, shown, shown_request, nothing_held, AskedHeld, NameHeld, SoughtHeld, HeldEdges, HeldName, HeldLines, sought_held, Gives, IsKept, IsSought}
+use Rattle.diy_words.specs.Requests.{Said, SaysArch, SaysName, SaysMode, SaysFrom, SaysEdges, SaysRelaxes, SaysSize, SaysExact, SaysThreads, SaysAfter, SaysFolder, SaysLog, SaysPlace, SaysCount, SaysTest, SaysExecution, NameAsked, ListAsked, DemoAsked, CheckAsked, Asked, AsksTest, AsksName, AsksList, AsksFamilies, AsksSum, AsksCross, AsksDemo, AsksCheck, OfEdges, OfName, OfLines, said_by, saying, operands_in, taken_by, said_first, said_all, or_later, last_given, first_given, arch_in, name_in, mode_in, from_in, operand_in, edges_in, relaxes_in, size_in, is_exact, threads_in, after_in, folder_in, places_in, count_in, test_in, execution_in, given_or, mode_or_accept, list_with, families_with, cross_with, places_given, choice_count, edges_given, asks, asked_with, named_with, asked_of, asked_for, tool_asked, files_given, SaysAccesses, accesses_in}
+use Rattle.diy_words.specs.Given.{Held, absorbed, all_absorbed, saying_from, finished, named, Kept, keeps, KeepsTest, KeepsName, KeepsList, KeepsFamilies, KeepsSum, KeepsCross, KeepsDemo, KeepsCheck, CrossHeld, crossed, classified, held_at_end, tool_held, shown, shown_request, nothing_held, AskedHeld, NameHeld, SoughtHeld, HeldEdges, HeldName, HeldLines, sought_held, Gives, IsKept, IsSought}
 use Rattle.diy_words.specs.Requests as req
 
 drop_get : {X : Type 0} (xs : List X) (i : ℕ) (x : X) → slice_get xs i ≡ Some x → drop i xs ≡ x ∷ drop (i + 1) xs
@@ -39,30 +39,30 @@ option_parts : (tool : Tool) (word : List ℕ) (at : ℕ) (rest : List (List ℕ
 option_parts tool word at rest option e = rw e
 
 -- a word that stands alone and what the words after it say
-pub alone_first : (tool : Tool) (counted : Bool) (words : List (List ℕ)) (at : ℕ) (word : List ℕ) →
+pub alone_first : (tool : Tool) (taken : ℕ) (words : List (List ℕ)) (at : ℕ) (word : List ℕ) →
     slice_get words at ≡ Some word → option_named tool word ≡ None →
-    saying_from tool counted words at ≡ said_by tool counted (Alone at word) ∷ saying_from tool (is_count (said_by tool counted (Alone at word)) || counted) words (at + 1)
-alone_first tool counted words at word got plain =
-    ap (λ rest. saying tool counted (parts_of tool at rest)) (drop_get words at word got) ∙ ap (saying tool counted) (alone_parts tool word at (drop (at + 1) words) None plain refl)
+    saying_from tool taken words at ≡ said_by tool taken (Alone at word) ∷ saying_from tool (taken + taken_by (said_by tool taken (Alone at word))) words (at + 1)
+alone_first tool taken words at word got plain =
+    ap (λ rest. saying tool taken (parts_of tool at rest)) (drop_get words at word got) ∙ ap (saying tool taken) (alone_parts tool word at (drop (at + 1) words) None plain refl)
 
 -- an option with its value and what the words after them say
-pub value_first : (tool : Tool) (counted : Bool) (words : List (List ℕ)) (at : ℕ) (word value : List ℕ) (option : OptionName) →
+pub value_first : (tool : Tool) (taken : ℕ) (words : List (List ℕ)) (at : ℕ) (word value : List ℕ) (option : OptionName) →
     slice_get words at ≡ Some word → option_named tool word ≡ Some option → slice_get words (at + 1) ≡ Some value →
-    saying_from tool counted words at ≡ said_by tool counted (Valued option at value) ∷ saying_from tool (is_count (said_by tool counted (Valued option at value)) || counted) words (at + 2)
-value_first tool counted words at word value option got named valued =
-    ap (λ rest. saying tool counted (parts_of tool at rest)) (drop_get words at word got) ∙
-    ap (saying tool counted) (option_parts tool word at (drop (at + 1) words) option named) ∙
-    ap (λ rest. saying tool counted (parts_from tool (Waits option at) (at + 1) rest)) (drop_get words (at + 1) value valued) ∙
+    saying_from tool taken words at ≡ said_by tool taken (Valued option at value) ∷ saying_from tool (taken + taken_by (said_by tool taken (Valued option at value))) words (at + 2)
+value_first tool taken words at word value option got named valued =
+    ap (λ rest. saying tool taken (parts_of tool at rest)) (drop_get words at word got) ∙
+    ap (saying tool taken) (option_parts tool word at (drop (at + 1) words) option named) ∙
+    ap (λ rest. saying tool taken (parts_from tool (Waits option at) (at + 1) rest)) (drop_get words (at + 1) value valued) ∙
     (let e : at + 1 + 1 ≡ at + 2 = omega arith in rw e)
 
 -- an option that is the last word
-pub unvalued_last : (tool : Tool) (counted : Bool) (words : List (List ℕ)) (at : ℕ) (word : List ℕ) (option : OptionName) →
+pub unvalued_last : (tool : Tool) (taken : ℕ) (words : List (List ℕ)) (at : ℕ) (word : List ℕ) (option : OptionName) →
     slice_get words at ≡ Some word → option_named tool word ≡ Some option → at + 1 ≡ length words →
-    saying_from tool counted words at ≡ said_by tool counted (Unvalued option at) ∷ []
-unvalued_last tool counted words at word option got named last =
-    ap (λ rest. saying tool counted (parts_of tool at rest)) (drop_get words at word got) ∙
-    ap (saying tool counted) (option_parts tool word at (drop (at + 1) words) option named) ∙
-    ap (λ rest. saying tool counted (parts_from tool (Waits option at) (at + 1) rest)) (drop_all (at + 1) words (omega arith))
+    saying_from tool taken words at ≡ said_by tool taken (Unvalued option at) ∷ []
+unvalued_last tool taken words at word option got named last =
+    ap (λ rest. saying tool taken (parts_of tool at rest)) (drop_get words at word got) ∙
+    ap (saying tool taken) (option_parts tool word at (drop (at + 1) words) option named) ∙
+    ap (λ rest. saying tool taken (parts_from tool (Waits option at) (at + 1) rest)) (drop_all (at + 1) words (omega arith))
 
 fault_stays : (usage : Usage) (rest : List (Result Said Usage)) → all_absorbed (Err usage) rest ≡ Err usage
 fault_stays usage [] = refl
@@ -72,6 +72,11 @@ fault_stays usage (x ∷ rest) = fault_stays usage rest
 pub faulty : (old : Held) (usage : Usage) (said : Result Said Usage) (here rest : List (Result Said Usage)) →
     here ≡ said ∷ rest → Err usage ≡ absorbed old said → Err usage ≡ all_absorbed (Ok old) here
 faulty old usage said here rest e h = sym (fault_stays usage rest) ∙ ap (λ r. all_absorbed r rest) h ∙ ap (all_absorbed (Ok old)) (sym e)
+
+-- how many operands of a limited number words are
+abbrev operands_given : List Said → ℕ
+operands_given [] = 0
+operands_given (said ∷ rest) = operands_in said + operands_given rest
 
 -- what the definition takes from all words is what is held after them
 abbrev held_after : Held → List Said → Held
@@ -91,6 +96,9 @@ held_after h said = record {
   folder = or_later h.folder (last_given folder_in said);
   choices = choices_after h.choices (places_given said);
   count = or_later h.count (last_given count_in said);
+  test = or_later h.test (last_given test_in said);
+  execution = or_later h.execution (last_given execution_in said);
+  taken = h.taken + operands_given said;
 }
 
 later_twice : {X : Type 0} (a b c : Option X) → or_later (or_later a b) c ≡ or_later a (or_later b c)
@@ -119,6 +127,9 @@ held_with h said = record {
   folder = or_later h.folder (folder_in said);
   choices = choices_after h.choices (places_in said);
   count = or_later h.count (count_in said);
+  test = or_later h.test (test_in said);
+  execution = or_later h.execution (execution_in said);
+  taken = h.taken + operands_in said;
 }
 
 or_none : {X : Type 0} (a : Option X) → option_or a None ≡ a
@@ -137,36 +148,36 @@ or_true : (b : Bool) → b || true ≡ true
 or_true true = refl
 or_true false = refl
 
+none_more : (n : ℕ) → n + 0 ≡ n
+none_more n = omega arith
+
 exact_twice : (a b c : Bool) → (a || b) || c ≡ a || (b || c)
 exact_twice true b c = refl
 exact_twice false b c = refl
 
 absorbed_one : (h : Held) (said : Said) → absorbed h (Ok said) ≡ Ok (held_with h said)
-absorbed_one h SaysExact = rw (or_none h.operand, or_true h.exact) refl
-absorbed_one h (SaysEdges at edges) = rw (or_false h.exact) refl
-absorbed_one h said = rw (or_none h.operand, or_false h.exact) refl
+absorbed_one h SaysExact = rw (or_none h.operand, or_true h.exact, none_more h.taken) refl
+absorbed_one h (SaysEdges at edges) = rw (or_false h.exact, none_more h.taken) refl
+absorbed_one h (SaysCount count) = rw (or_none h.operand, or_false h.exact) refl
+absorbed_one h (SaysTest at) = rw (or_none h.operand, or_false h.exact) refl
+absorbed_one h (SaysExecution at) = rw (or_none h.operand, or_false h.exact) refl
+absorbed_one h said = rw (or_none h.operand, or_false h.exact, none_more h.taken) refl
 
 ok_is : {X : Type 0} (x y : X) → (let left : Result X Usage = Ok x in left) ≡ Ok y → x ≡ y
 ok_is x y e = cc e
 
-later_there : (a b : Option ℕ) → is_some b || is_some a ≡ is_some (or_later a b)
-later_there a None = refl
-later_there a (Some x) = refl
-
--- a number is held where a word said one
-counted : (old new : Held) (said : Result Said Usage) → Ok new ≡ absorbed old said → is_count said || is_some old.count ≡ is_some new.count
-counted old new (Err usage) e = cc e
-counted old new (Ok said) e =
-    let same : new ≡ held_with old said = ok_is _ _ (e ∙ absorbed_one old said) in
-    later_there old.count (count_in said) ∙ ap (λ (h : Held). is_some h.count) (sym same)
+-- operands are counted as they are taken
+taken_more : (old new : Held) (said : Result Said Usage) → Ok new ≡ absorbed old said → old.taken + taken_by said ≡ new.taken
+taken_more old new (Err usage) e = cc e
+taken_more old new (Ok said) e = let same : new ≡ held_with old said = ok_is _ _ (e ∙ absorbed_one old said) in ap (λ (h : Held). h.taken) (sym same)
 
 -- the next part was taken in
 pub taken : (tool : Tool) (words : List (List ℕ)) (at next : ℕ) (old new : Held) (said : Result Said Usage) →
-    saying_from tool (is_some old.count) words at ≡ said ∷ saying_from tool (is_count said || is_some old.count) words next →
+    saying_from tool old.taken words at ≡ said ∷ saying_from tool (old.taken + taken_by said) words next →
     Ok new ≡ absorbed old said → held_at_end tool words next new ≡ held_at_end tool words at old
 taken tool words at next old new said e h =
-    ap (λ b. all_absorbed (Ok new) (saying_from tool b words next)) (sym (counted old new said h)) ∙
-    ap (λ r. all_absorbed r (saying_from tool (is_count said || is_some old.count) words next)) h ∙
+    ap (λ n. all_absorbed (Ok new) (saying_from tool n words next)) (sym (taken_more old new said h)) ∙
+    ap (λ r. all_absorbed r (saying_from tool (old.taken + taken_by said) words next)) h ∙
     ap (all_absorbed (Ok old)) (sym e)
 
 held_one : (h : Held) (said : Said) (rest : List Said) → held_after (held_with h said) rest ≡ held_after h (said ∷ rest)
@@ -186,7 +197,10 @@ held_one h said rest =
     let folder = later_twice h.folder (folder_in said) (last_given folder_in rest) in
     let choices = choices_more h.choices (places_in said) (places_given rest) in
     let count = later_twice h.count (count_in said) (last_given count_in rest) in
-    cc (arch, name, mode, from, operand, edges, relaxes, size, exact, threads, accesses, after, folder, choices, count)
+    let test = later_twice h.test (test_in said) (last_given test_in rest) in
+    let execution = later_twice h.execution (execution_in said) (last_given execution_in rest) in
+    let total : h.taken + operands_in said + operands_given rest ≡ h.taken + (operands_in said + operands_given rest) = omega arith in
+    cc (arch, name, mode, from, operand, edges, relaxes, size, exact, threads, accesses, after, folder, choices, count, test, execution, total)
 
 abbrev held_or_fault : Held → Result (List Said) Usage → Result Held Usage
 held_or_fault h (Ok said) = Ok (held_after h said)
@@ -199,7 +213,7 @@ after_first h one said (Ok list) same = ap Ok (same list)
 after_first h one said (Err usage) same = refl
 
 all_held : (h : Held) (said : List (Result Said Usage)) → all_absorbed (Ok h) said ≡ held_or_fault h (said_all said)
-all_held h [] = rw (or_none h.operand, or_false h.exact) refl
+all_held h [] = rw (or_none h.operand, or_false h.exact, none_more h.taken) refl
 all_held h (Err usage ∷ rest) = fault_stays usage rest
 all_held h (Ok said ∷ rest) =
     ap (λ r. all_absorbed r rest) (absorbed_one h said) ∙ all_held (held_with h said) rest ∙ after_first h (held_with h said) said (said_all rest) (held_one h said)
@@ -317,6 +331,10 @@ kept_demo (requests.Demo request) asked h = fields _ _ h
     fields a b e = let same : a ≡ b = cc e in (ap (λ (o : DemoAsked). o.arch) same, ap (λ (o : DemoAsked). o.count) same)
 kept_demo request asked h = cc h
 
+kept_check : (request : Request) (asked : CheckAsked) → shown_request request ≡ KeepsCheck asked → IsKept request (AsksCheck asked)
+kept_check (requests.Check request) asked h = cc h
+kept_check request asked h = cc h
+
 gives_fault : (request : Result Request Usage) (usage : Usage) → shown request ≡ Err usage → Gives request (Err usage)
 gives_fault (Ok request) usage h = cc h
 gives_fault (Err other) usage h = cc h
@@ -352,6 +370,13 @@ gives_held tools.Cross count request (Ok said) h =
     (rw (sym (later_none (last_given arch_in said)), sym (later_none (last_given folder_in said))) h)
 gives_held tools.Demo count request (Ok said) h =
     gives_kept KeepsDemo AsksDemo kept_demo request _ (rw (sym (later_none (last_given arch_in said)), sym (later_none (last_given count_in said))) h)
+gives_held tools.Check count request (Ok said) h =
+    gives_kept KeepsCheck AsksCheck kept_check request _
+    (rw (
+      sym (later_none (last_given arch_in said)),
+      sym (later_none (last_given test_in said)),
+      sym (later_none (last_given execution_in said)),
+    ) h)
 
 -- the request of a tool, where the first word names it
 pub gives_named : (words : List (List ℕ)) (word : List ℕ) (tool : Tool) (request : Result Request Usage) →
@@ -361,5 +386,5 @@ gives_named [] word tool request got named h = cc got
 gives_named (first ∷ words) word tool request got named h =
     let same : first ≡ word = cc got in
     let e : tool_named first ≡ Some tool = ap (λ w. tool_named w) same ∙ named in
-    rw e (gives_held tool (length (first ∷ words)) request (said_all (saying tool false (parts_of tool 1 words)))
-    (h ∙ ap (tool_held tool (length (first ∷ words))) (all_held nothing_held (saying tool false (parts_of tool 1 words)))))
+    rw e (gives_held tool (length (first ∷ words)) request (said_all (saying tool 0 (parts_of tool 1 words)))
+    (h ∙ ap (tool_held tool (length (first ∷ words))) (all_held nothing_held (saying tool 0 (parts_of tool 1 words)))))

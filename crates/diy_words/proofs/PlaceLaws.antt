@@ -1,6 +1,6 @@
 -- Where words ask for something of diycross7, each word that is neither an option nor its value spells the relaxations of a place.
 use Rattle.std.proofs.Common.{◌≡◌, ◌<◌, ◌≤◌, ◌+◌, ⊎_elim, drop, get_or, ℕ, Bool, true, false, List, [], ◌∷◌, ◌++◌, length, Option, Some, None, Result, Ok, Err, append_assoc, append-nil, refl, sym, ap, ◌∙◌, subst, arith, slice_get, nat_lt, nat_le}
-use Rattle.std.specs.Prelude.{◌&&◌, ◌||◌, if◌then◌else◌, IsOk}
+use Rattle.std.specs.Prelude.{◌&&◌, if◌then◌else◌, IsOk}
 use Rattle.std.specs.List.{AllByRecursion}
 use Rattle.std.proofs.lemmas.Bool.{cases_lt}
 use Rattle.std.proofs.lemmas.List.{drop_all}
@@ -26,7 +26,7 @@ use Rattle.diy_words.specs.Given.{saying_from}
 use Rattle.diy_words.specs.Names.{is_name}
 use Rattle.diy_words.specs.Numbers.{number_to}
 use Rattle.diy_words.specs.Parts.{Part, Alone, Valued, Unvalued, parts_of, tool_named, option_named, arch_named, mode_named}
-use Rattle.diy_words.specs.Requests.{Said, SaysName, SaysFolder, Asked, AsksTest, AsksName, AsksList, AsksFamilies, AsksCross, AsksDemo, fault, place_said, arch_said, mode_said, relaxes_said, size_said, threads_said, cycle_said, after_said, begins_option, is_count, said_by, saying, said_first, said_all, places_in, places_given, files_given, choice_count, asks, cross_with, families_with, demo_with, diyone_asked, diy_asked, norm_asked, mode_or_accept, last_given, arch_in, mode_in, folder_in, count_in, tool_asked, asked_for, asked_of, IsCrossing, places_of, accesses_said}
+use Rattle.diy_words.specs.Requests.{Said, SaysName, SaysFolder, Asked, AsksTest, AsksName, AsksList, AsksFamilies, AsksCross, AsksDemo, AsksCheck, fault, place_said, arch_said, mode_said, relaxes_said, size_said, threads_said, cycle_said, after_said, begins_option, taken_by, said_by, saying, said_first, said_all, places_in, places_given, files_given, choice_count, asks, cross_with, families_with, demo_with, check_asked, diyone_asked, diy_asked, norm_asked, mode_or_accept, last_given, arch_in, mode_in, folder_in, count_in, tool_asked, asked_for, asked_of, IsCrossing, places_of, accesses_said}
 use Rattle.diy_words.proofs.Judged.{alone_first, value_first, unvalued_last}
 
 -- the relaxations of the places among what words say
@@ -40,7 +40,7 @@ places_said (said ∷ rest) = places_by said ++ places_said rest
 
 -- the words of diycross7 from a place on: none is faulty, and which relaxations they are
 abbrev pub from_place : List (List ℕ) → ℕ → List (Result Said Usage)
-from_place words at = saying_from tools.Cross false words at
+from_place words at = saying_from tools.Cross 0 words at
 
 abbrev pub AreFaultless : List (List ℕ) → ℕ → Type 0
 AreFaultless words at = AllByRecursion IsOk (from_place words at)
@@ -48,12 +48,12 @@ AreFaultless words at = AllByRecursion IsOk (from_place words at)
 abbrev pub places_from : List (List ℕ) → ℕ → List (List (List Edge))
 places_from words at = places_said (from_place words at)
 
--- no word of diycross7 is a number of tests
-uncounted : (parts : List Part) (a b : Bool) → saying tools.Cross a parts ≡ saying tools.Cross b parts
+-- no word of diycross7 is an operand of a limited number
+uncounted : (parts : List Part) (a b : ℕ) → saying tools.Cross a parts ≡ saying tools.Cross b parts
 uncounted [] a b = refl
-uncounted (Alone at text ∷ parts) a b = ap (λ rest. said_by tools.Cross a (Alone at text) ∷ rest) (uncounted parts (is_count (said_by tools.Cross a (Alone at text)) || a) (is_count (said_by tools.Cross b (Alone at text)) || b))
-uncounted (Valued option at value ∷ parts) a b = ap (λ rest. said_by tools.Cross a (Valued option at value) ∷ rest) (uncounted parts (is_count (said_by tools.Cross a (Valued option at value)) || a) (is_count (said_by tools.Cross b (Valued option at value)) || b))
-uncounted (Unvalued option at ∷ parts) a b = ap (λ rest. said_by tools.Cross a (Unvalued option at) ∷ rest) (uncounted parts (is_count (said_by tools.Cross a (Unvalued option at)) || a) (is_count (said_by tools.Cross b (Unvalued option at)) || b))
+uncounted (Alone at text ∷ parts) a b = ap (λ rest. said_by tools.Cross a (Alone at text) ∷ rest) (uncounted parts (a + taken_by (said_by tools.Cross a (Alone at text))) (b + taken_by (said_by tools.Cross b (Alone at text))))
+uncounted (Valued option at value ∷ parts) a b = ap (λ rest. said_by tools.Cross a (Valued option at value) ∷ rest) (uncounted parts (a + taken_by (said_by tools.Cross a (Valued option at value))) (b + taken_by (said_by tools.Cross b (Valued option at value))))
+uncounted (Unvalued option at ∷ parts) a b = ap (λ rest. said_by tools.Cross a (Unvalued option at) ∷ rest) (uncounted parts (a + taken_by (said_by tools.Cross a (Unvalued option at))) (b + taken_by (said_by tools.Cross b (Unvalued option at))))
 
 -- a word that spells relaxations, before others
 pub record PlaceFirst (words : List (List ℕ)) (at : ℕ) (text : List ℕ) : Type 0 where
@@ -63,7 +63,7 @@ pub record PlaceFirst (words : List (List ℕ)) (at : ℕ) (text : List ℕ) : T
 
 pub place_first : (words : List (List ℕ)) (at : ℕ) (text : List ℕ) → slice_get words at ≡ Some text → option_named tools.Cross text ≡ None → AreFaultless words at → PlaceFirst words at text
 place_first words at text got plain fit =
-    of_test (begins_option text) (relaxes_of text) refl (alone_first tools.Cross false words at text got plain ∙ ap (λ rest. said_by tools.Cross false (Alone at text) ∷ rest) (uncounted (parts_of tools.Cross (at + 1) (drop (at + 1) words)) (is_count (said_by tools.Cross false (Alone at text)) || false) false))
+    of_test (begins_option text) (relaxes_of text) refl (alone_first tools.Cross 0 words at text got plain ∙ ap (λ rest. said_by tools.Cross 0 (Alone at text) ∷ rest) (uncounted (parts_of tools.Cross (at + 1) (drop (at + 1) words)) (0 + taken_by (said_by tools.Cross 0 (Alone at text))) 0))
   where
     of_test : (b : Bool) (read : Result (List (List Edge)) RelaxError) → relaxes_of text ≡ read → from_place words at ≡ (if b then fault at UnknownOption else place_said at read) ∷ from_place words (at + 1) → PlaceFirst words at text
     of_test true read r e = let k = rw e at fit in cc k.0
@@ -117,7 +117,7 @@ folder_none at text true = refl
 folder_none at text false = refl
 
 -- an option gives no relaxations of a place
-value_none : (option : OptionName) (at : ℕ) (value : List ℕ) → places_by (said_by tools.Cross false (Valued option at value)) ≡ []
+value_none : (option : OptionName) (at : ℕ) (value : List ℕ) → places_by (said_by tools.Cross 0 (Valued option at value)) ≡ []
 value_none opts.Arch at value = arch_none (at + 1) (arch_named value)
 value_none opts.Name at value = name_none (at + 1) value (is_name value)
 value_none opts.Obs at value = mode_none (at + 1) (mode_named value)
@@ -140,9 +140,9 @@ option_first words at text option within got named fit = ⊎_elim of_more of_las
   where
     of_value : (value : List ℕ) → at + 1 < length words → slice_get words (at + 1) ≡ Some value → OptionFirst words at
     of_value value more valued =
-        let e : from_place words at ≡ said_by tools.Cross false (Valued option at value) ∷ from_place words (at + 2) =
-        value_first tools.Cross false words at text value option got named valued ∙
-        ap (λ rest. said_by tools.Cross false (Valued option at value) ∷ rest) (uncounted (parts_of tools.Cross (at + 2) (drop (at + 2) words)) (is_count (said_by tools.Cross false (Valued option at value)) || false) false) in
+        let e : from_place words at ≡ said_by tools.Cross 0 (Valued option at value) ∷ from_place words (at + 2) =
+        value_first tools.Cross 0 words at text value option got named valued ∙
+        ap (λ rest. said_by tools.Cross 0 (Valued option at value) ∷ rest) (uncounted (parts_of tools.Cross (at + 2) (drop (at + 2) words)) (0 + taken_by (said_by tools.Cross 0 (Valued option at value))) 0) in
         let k = subst (AllByRecursion IsOk) e fit in
         record {
           valued = more;
@@ -155,7 +155,7 @@ option_first words at text option within got named fit = ⊎_elim of_more of_las
 
     of_last : length words ≤ at + 1 → OptionFirst words at
     of_last last =
-        let k = subst (AllByRecursion IsOk) (unvalued_last tools.Cross false words at text option got named (omega arith)) fit in cc k.0
+        let k = subst (AllByRecursion IsOk) (unvalued_last tools.Cross 0 words at text option got named (omega arith)) fit in cc k.0
 
 other_tool : {X : Type 0} (request : X → Asked) (asked : Result X Usage) → ((x : X) → IsCrossing (Ok (request x)) → ⊥) → IsCrossing (asks request asked) → ⊥
 other_tool request (Ok x) apart h = apart x h
@@ -197,22 +197,23 @@ no_cross tools.Norm count (Ok said) other h = other_tool AsksName (norm_asked co
 no_cross tools.Classify count (Ok said) other h = other_tool AsksFamilies (families_with count (last_given arch_in said) (files_given said)) (λ x k. k) h
 no_cross tools.Msum count (Ok said) other h = h
 no_cross tools.Demo count (Ok said) other h = other_tool AsksDemo (demo_with count (last_given arch_in said) (last_given count_in said)) (λ x k. k) h
+no_cross tools.Check count (Ok said) other h = other_tool AsksCheck (check_asked count said) (λ x k. k) h
 
 -- the words of diycross7 after the tool's name, and what they ask for
 record CrossAsks (words : List (List ℕ)) (asked : Result Asked Usage) : Type 0 where
-  faultless : AllByRecursion IsOk (saying tools.Cross false (parts_of tools.Cross 1 words))
-  first : places_said (saying tools.Cross false (parts_of tools.Cross 1 words)) ≡ places_of asked
+  faultless : AllByRecursion IsOk (saying tools.Cross 0 (parts_of tools.Cross 1 words))
+  first : places_said (saying tools.Cross 0 (parts_of tools.Cross 1 words)) ≡ places_of asked
 
 cross_asks : (found : Option Tool) (count : ℕ) (words : List (List ℕ)) → IsCrossing (asked_for found count words) → CrossAsks words (asked_for found count words)
 cross_asks None count words h = absurd h
-cross_asks (Some tools.Cross) count words h = of_said (said_all (saying tools.Cross false (parts_of tools.Cross 1 words))) refl h
+cross_asks (Some tools.Cross) count words h = of_said (said_all (saying tools.Cross 0 (parts_of tools.Cross 1 words))) refl h
   where
-    of_said : (said : Result (List Said) Usage) → said_all (saying tools.Cross false (parts_of tools.Cross 1 words)) ≡ said → IsCrossing (tool_asked tools.Cross count said) → CrossAsks words (tool_asked tools.Cross count said)
+    of_said : (said : Result (List Said) Usage) → said_all (saying tools.Cross 0 (parts_of tools.Cross 1 words)) ≡ said → IsCrossing (tool_asked tools.Cross count said) → CrossAsks words (tool_asked tools.Cross count said)
     of_said (Err usage) e h = absurd h
     of_said (Ok said) e h =
-        let all : AllSaid (saying tools.Cross false (parts_of tools.Cross 1 words)) said = all_said (saying tools.Cross false (parts_of tools.Cross 1 words)) said e in
+        let all : AllSaid (saying tools.Cross 0 (parts_of tools.Cross 1 words)) said = all_said (saying tools.Cross 0 (parts_of tools.Cross 1 words)) said e in
         record { faultless = all.faultless; first = all.places ∙ crossed count (last_given arch_in said) (mode_or_accept (last_given mode_in said)) (last_given folder_in said) (places_given said) h }
-cross_asks (Some tool) count words h = absurd (no_cross tool count (said_all (saying tool false (parts_of tool 1 words))) (λ e. cc e) h)
+cross_asks (Some tool) count words h = absurd (no_cross tool count (said_all (saying tool 0 (parts_of tool 1 words))) (λ e. cc e) h)
 
 -- the words of diycross7 begin so
 pub record CrossWords (words : List (List ℕ)) : Type 0 where
@@ -227,7 +228,7 @@ cross_words (first ∷ words) h =
 
 -- no word is left at the end
 pub none_left : (words : List (List ℕ)) (at : ℕ) → length words ≤ at → places_from words at ≡ []
-none_left words at h = ap (λ rest. places_said (saying tools.Cross false (parts_of tools.Cross at rest))) (drop_all at words h)
+none_left words at h = ap (λ rest. places_said (saying tools.Cross 0 (parts_of tools.Cross at rest))) (drop_all at words h)
 
 -- the lists of the operands before a place are read, and no word from there on is faulty
 pub record PlacesRead (words : List (List ℕ)) (at : ℕ) (places : List (List (List Edge))) : Type 0 where

@@ -1,5 +1,5 @@
 -- What words have said so far, as it is held while they are read.
-use Rattle.std.specs.Prelude.{is_some, ℕ, ◌+◌, ◌*◌, ◌≡◌, ◌<◌, ◌≤◌, Bool, true, false, nat_lt, min, if◌then◌else◌, IfSome, List, [], ◌∷◌, length, drop, slice_get, Option, Some, None, Result, Ok, Err}
+use Rattle.std.specs.Prelude.{ℕ, ◌+◌, ◌*◌, ◌≡◌, ◌<◌, ◌≤◌, Bool, true, false, nat_lt, min, if◌then◌else◌, IfSome, List, [], ◌∷◌, length, drop, slice_get, Option, Some, None, Result, Ok, Err}
 use Rattle.std.specs.Option.{option_map, option_or, ForSome}
 use Rattle.relax_edges.specs.declared.kinds.ArchName.{ArchName}
 use Rattle.relax_edges.specs.declared.kinds.ObsMode.{ObsMode}
@@ -11,6 +11,7 @@ use Rattle.edge_lists.specs.declared.list.EdgeList.TheVariants.{Whole, TooLong}
 use Rattle.edge_lists.specs.Kept.{kept, added}
 use Rattle.edge_algebra.specs.Compose.{composed}
 use Rattle.std.specs.Result.{result_ok}
+use Rattle.diy_words.specs.declared.request.Check.{Check}
 use Rattle.diy_words.specs.declared.request.Diy.{Diy}
 use Rattle.diy_words.specs.declared.request.TheConstants.{MAX_FOLDER, MAX_CHOICES, MAX_TESTS}
 use Rattle.diy_words.specs.declared.options.OptionName.{OptionName}
@@ -25,11 +26,12 @@ use Rattle.diy_words.specs.declared.said.Said.{Said}
 use Rattle.diy_words.specs.declared.usage.Usage.{Usage}
 use Rattle.diy_words.specs.declared.usage.UsageKind.TheVariants.{MissingArch, StrayWord, TooManyChoices}
 use Rattle.diy_words.specs.Parts.{parts_of, option_named}
-use Rattle.diy_words.specs.Requests.{Asked, AsksTest, AsksName, AsksList, AsksFamilies, AsksSum, AsksCross, AsksDemo, ListAsked, DemoAsked, OfEdges, OfName, OfLines, SaysArch, SaysName, SaysMode, SaysFrom, SaysEdges, SaysRelaxes, SaysSize, SaysExact, SaysThreads, SaysAfter, SaysFolder, SaysLog, SaysFile, SaysPlace, SaysCount, said_by, saying, list_with, demo_with, SaysAccesses}
+use Rattle.diy_words.specs.Requests.{Asked, AsksTest, AsksName, AsksList, AsksFamilies, AsksSum, AsksCross, AsksDemo, AsksCheck, ListAsked, DemoAsked, CheckAsked, OfEdges, OfName, OfLines, SaysArch, SaysName, SaysMode, SaysFrom, SaysEdges, SaysRelaxes, SaysSize, SaysExact, SaysThreads, SaysAfter, SaysFolder, SaysLog, SaysFile, SaysTest, SaysExecution, SaysPlace, SaysCount, said_by, saying, list_with, demo_with, check_with, SaysAccesses}
 use Rattle.diy_words.specs.Requests as req
 
 -- what is held: the last of each thing that was given, where the last value of `-from` and the first operand of edges
--- stand, and the edges; in how many ways a relaxation can be chosen for each place, and how many tests demo makes
+-- stand, and the edges; in how many ways a relaxation can be chosen for each place, and how many tests demo makes; where the
+-- files of mcheck7 stand; and how many operands were taken, of those whose number is limited
 pub record Held : Type 0 where
   pub arch : Option ArchName
   pub name : Option (List ℕ)
@@ -46,6 +48,9 @@ pub record Held : Type 0 where
   pub folder : Option (List ℕ)
   pub choices : ℕ
   pub count : Option ℕ
+  pub test : Option ℕ
+  pub execution : Option ℕ
+  pub taken : ℕ
 
 -- what the code holds
 abbrev pub held : Said → Held
@@ -65,6 +70,9 @@ held said = record {
   folder = option_map (λ folder. folder.now) said.folder;
   choices = said.choices;
   count = said.count;
+  test = said.test;
+  execution = said.execution;
+  taken = said.taken;
 }
 
 -- nothing yet
@@ -85,6 +93,9 @@ nothing_held = record {
   folder = None;
   choices = 1;
   count = None;
+  test = None;
+  execution = None;
+  taken = 0;
 }
 
 -- in how many ways relaxations are chosen with those of one place more: no number of ways above the limit is told from another
@@ -108,7 +119,9 @@ absorbed h (Ok (SaysFolder folder)) = Ok (record h { folder = Some folder })
 absorbed h (Ok SaysLog) = Ok h
 absorbed h (Ok (SaysFile at)) = Ok h
 absorbed h (Ok (SaysPlace relaxes)) = Ok (record h { choices = more_choices h.choices (length relaxes) })
-absorbed h (Ok (SaysCount count)) = Ok (record h { count = Some count })
+absorbed h (Ok (SaysCount count)) = Ok (record h { count = Some count; taken = h.taken + 1 })
+absorbed h (Ok (SaysTest at)) = Ok (record h { test = Some at; taken = h.taken + 1 })
+absorbed h (Ok (SaysExecution at)) = Ok (record h { execution = Some at; taken = h.taken + 1 })
 absorbed h (Err usage) = Err usage
 
 -- what a call leaves held, or its fault
@@ -122,13 +135,13 @@ all_absorbed h [] = h
 all_absorbed (Ok h) (said ∷ rest) = all_absorbed (absorbed h said) rest
 all_absorbed (Err usage) (said ∷ rest) = all_absorbed (Err usage) rest
 
--- what the words from a place on say
-abbrev pub saying_from : Tool → Bool → List (List ℕ) → ℕ → List (Result req.Said Usage)
-saying_from tool counted words at = saying tool counted (parts_of tool at (drop at words))
+-- what the words from a place on say, where so many operands were taken before
+abbrev pub saying_from : Tool → ℕ → List (List ℕ) → ℕ → List (Result req.Said Usage)
+saying_from tool taken words at = saying tool taken (parts_of tool at (drop at words))
 
 -- what is held after all words, from what is held before those from a place on
 abbrev pub held_at_end : Tool → List (List ℕ) → ℕ → Held → Result Held Usage
-held_at_end tool words at h = all_absorbed (Ok h) (saying_from tool (is_some h.count) words at)
+held_at_end tool words at h = all_absorbed (Ok h) (saying_from tool h.taken words at)
 
 -- the cycle that is sought, as it is kept
 abbrev pub IsSought : Sought → req.Sought → Type 0
@@ -151,6 +164,10 @@ list_kept request = record {
   folder = option_map (λ folder. folder.now) request.folder;
 }
 
+-- what mcheck7 is asked for as it is kept
+abbrev pub check_kept : Check → CheckAsked
+check_kept request = record { arch = request.arch; test = request.test; execution = request.execution }
+
 -- the request as it is kept
 abbrev pub IsKept : Request → Asked → Type 0
 IsKept (requests.Test request) (AsksTest asked) =
@@ -162,6 +179,7 @@ IsKept requests.Sum AsksSum = Unit {0}
 IsKept (requests.Cross request) (AsksCross asked) =
     (request.arch ≡ asked.arch) × (request.mode ≡ asked.mode) × (option_map (λ folder. folder.now) request.folder ≡ asked.folder)
 IsKept (requests.Demo request) (AsksDemo asked) = (request.arch ≡ asked.arch) × (request.count ≡ asked.count)
+IsKept (requests.Check request) (AsksCheck asked) = check_kept request ≡ asked
 IsKept _ _ = ⊥
 
 -- a call gives the request that words make, or their first fault
@@ -179,6 +197,11 @@ HasForm (requests.List request) = (request.limits.size ≤ MAX_EDGES) × ForSome
 HasForm (requests.Cross request) = ForSome request.folder (λ folder. length folder.now ≤ MAX_FOLDER)
 HasForm (requests.Demo request) = (1 ≤ request.count) × (request.count ≤ MAX_TESTS)
 HasForm _ = Unit {0}
+
+-- the files of mcheck7 are words among so many
+abbrev pub WithinWords : ℕ → Request → Type 0
+WithinWords count (requests.Check request) = (request.test < count) × (request.execution < count)
+WithinWords count _ = Unit {0}
 
 -- a call that takes in the part of the words at a place gives the place behind it, or the fault there: what is held
 -- after all words stays the same
@@ -246,12 +269,13 @@ pub data Kept : Type 0 where
   KeepsSum : Kept
   KeepsCross : CrossHeld → Kept
   KeepsDemo : DemoAsked → Kept
+  KeepsCheck : CheckAsked → Kept
 
 abbrev pub keeps : {X : Type 0} → (X → Kept) → Result X Usage → Result Kept Usage
 keeps request (Ok asked) = Ok (request asked)
 keeps request (Err usage) = Err usage
 
--- the requests of diyone7, norm7, diy7, diycross7 and demo from what is held
+-- the requests of diyone7, norm7, diy7, diycross7, demo and mcheck7 from what is held
 abbrev pub test_held : ℕ → Held → Result AskedHeld Usage
 test_held count h = finished count h.arch h.name h.mode h.edges
 
@@ -267,6 +291,9 @@ cross_held count h = crossed count h.arch h.mode h.folder h.choices
 abbrev pub demo_held : ℕ → Held → Result DemoAsked Usage
 demo_held count h = demo_with count h.arch h.count
 
+abbrev pub check_held : ℕ → Held → Result CheckAsked Usage
+check_held count h = check_with count h.arch h.test h.execution
+
 -- the request of a tool from what is held after all words
 abbrev pub tool_held : Tool → ℕ → Result Held Usage → Result Kept Usage
 tool_held tool count (Err usage) = Err usage
@@ -277,6 +304,7 @@ tool_held tools.Classify count (Ok h) = keeps KeepsFamilies (classified count h.
 tool_held tools.Msum count (Ok h) = Ok KeepsSum
 tool_held tools.Cross count (Ok h) = keeps KeepsCross (cross_held count h)
 tool_held tools.Demo count (Ok h) = keeps KeepsDemo (demo_held count h)
+tool_held tools.Check count (Ok h) = keeps KeepsCheck (check_held count h)
 
 -- a request as it is shown
 abbrev pub shown_request : Request → Kept
@@ -289,6 +317,7 @@ shown_request requests.Sum = KeepsSum
 shown_request (requests.Cross request) =
     KeepsCross (record { arch = request.arch; mode = request.mode; folder = option_map (λ folder. folder.now) request.folder })
 shown_request (requests.Demo request) = KeepsDemo (record { arch = request.arch; count = request.count })
+shown_request (requests.Check request) = KeepsCheck (check_kept request)
 
 -- what a call gives
 abbrev pub shown : Result Request Usage → Result Kept Usage

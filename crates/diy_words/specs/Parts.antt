@@ -18,7 +18,8 @@ named (row ∷ rows) text = if bytes_eq text row.0 then Some row.1 else named ro
 -- the tools by their names
 abbrev pub tool_named : List ℕ → Option Tool
 tool_named = named ((codes "diyone7", tools.DiyOne) ∷ (codes "diy7", tools.Diy) ∷ (codes "diycross7", tools.Cross) ∷
-    (codes "norm7", tools.Norm) ∷ (codes "classify7", tools.Classify) ∷ (codes "msum7", tools.Msum) ∷ (codes "demo", tools.Demo) ∷ [])
+    (codes "norm7", tools.Norm) ∷ (codes "classify7", tools.Classify) ∷ (codes "msum7", tools.Msum) ∷ (codes "demo", tools.Demo) ∷
+    (codes "mcheck7", tools.Check) ∷ [])
 
 -- the options of a tool that take a value, by their names
 abbrev pub options_of : Tool → List (List ℕ × OptionName)
@@ -31,6 +32,7 @@ options_of tools.Classify = (codes "-arch", opts.Arch) ∷ []
 options_of tools.Msum = []
 options_of tools.Cross = (codes "-arch", opts.Arch) ∷ (codes "-obs", opts.Obs) ∷ (codes "-o", opts.Folder) ∷ []
 options_of tools.Demo = (codes "-arch", opts.Arch) ∷ []
+options_of tools.Check = (codes "-arch", opts.Arch) ∷ []
 
 abbrev pub option_named : Tool → List ℕ → Option OptionName
 option_named tool = named (options_of tool)

@@ -1,6 +1,6 @@
 -- The request that words make, or the first fault among them. Words are judged from left to right, an option with its
 -- value; then all of them. Source: own, after the command lines of the diy tools.
-use Rattle.std.specs.Prelude.{is_some, ℕ, ◌+◌, ◌*◌, ◌==◌, ◌&&◌, ◌||◌, Bool, true, false, nat_lt, nat_le, if◌then◌else◌, List, [], ◌∷◌, ◌++◌, length, Option, Some, None, Result, Ok, Err, codes}
+use Rattle.std.specs.Prelude.{ℕ, ◌+◌, ◌*◌, ◌==◌, ◌&&◌, Bool, true, false, nat_lt, nat_le, if◌then◌else◌, List, [], ◌∷◌, ◌++◌, length, Option, Some, None, Result, Ok, Err, codes}
 use Rattle.std.specs.Option.{option_or}
 use Rattle.std.specs.List.{list_any}
 use Rattle.std.specs.Str.{bytes_eq}
@@ -19,7 +19,7 @@ use Rattle.relax_edges.specs.declared.kinds.ObsMode.TheVariants.{Accept}
 use Rattle.relax_edges.specs.declared.edge.Edge.{Edge}
 use Rattle.diy_words.specs.declared.usage.Usage.{Usage}
 use Rattle.diy_words.specs.declared.usage.UsageKind.{UsageKind}
-use Rattle.diy_words.specs.declared.usage.UsageKind.TheVariants.{UnknownTool, UnknownOption, MissingValue, BadNumber, UnknownArch, BadMode, BadName, BadFolder, UnknownEdge, BadBracket, RelaxTooLong, DoesNotJoin, TooManyRelaxes, BadAfter, StrayWord, MissingArch, MissingEdges, MissingNumber, TooManyChoices}
+use Rattle.diy_words.specs.declared.usage.UsageKind.TheVariants.{UnknownTool, UnknownOption, MissingValue, BadNumber, UnknownArch, BadMode, BadName, BadFolder, UnknownEdge, BadBracket, RelaxTooLong, DoesNotJoin, TooManyRelaxes, BadAfter, StrayWord, MissingArch, MissingEdges, MissingNumber, MissingFile, TooManyChoices}
 use Rattle.diy_words.specs.declared.request.TheConstants.{MAX_FOLDER, MAX_CHOICES, MAX_TESTS}
 use Rattle.diy_words.specs.declared.options.Tool.{Tool}
 use Rattle.diy_words.specs.declared.options.Tool.TheVariants as tools
@@ -31,7 +31,7 @@ use Rattle.diy_words.specs.Parts.{Part, Alone, Valued, Unvalued, parts_of, tool_
 
 -- what a word says, an option with its value; the value of `-from` and an operand of edges with their places; an operand of
 -- diycross7, the relaxations of a place of its cycles; the operand of demo, a number; an operand of classify7, which names a
--- file, by its place
+-- file, by its place; the operands of mcheck7, the file of a test and that of an execution, by their places
 pub data Said : Type 0 where
   SaysArch : ArchName → Said
   SaysName : List ℕ → Said
@@ -47,6 +47,8 @@ pub data Said : Type 0 where
   SaysFolder : List ℕ → Said
   SaysLog : Said
   SaysFile : ℕ → Said
+  SaysTest : ℕ → Said
+  SaysExecution : ℕ → Said
   SaysPlace : List (List Edge) → Said
   SaysCount : ℕ → Said
 
@@ -101,8 +103,15 @@ pub record DemoAsked : Type 0 where
   pub arch : ArchName
   pub count : ℕ
 
--- what words ask for: a test; the names of cycles; the tests of a listing; the names of cycles by their families; the sum of the logs that the words behind the first name, or of the input where there is none; the tests of
--- the choices of relaxations; some number of tests
+-- what mcheck7 is asked for: what is so of an execution of a test; the words at these places name the files of the two
+pub record CheckAsked : Type 0 where
+  pub arch : ArchName
+  pub test : ℕ
+  pub execution : ℕ
+
+-- what words ask for: a test; the names of cycles; the tests of a listing; the names of cycles by their families; the sum of
+-- the logs that the words behind the first name, or of the input where there is none; the tests of the choices of relaxations;
+-- some number of tests; what is so of an execution
 pub data Asked : Type 0 where
   AsksTest : TestAsked → Asked
   AsksName : NameAsked → Asked
@@ -111,6 +120,7 @@ pub data Asked : Type 0 where
   AsksSum : Asked
   AsksCross : CrossAsked → Asked
   AsksDemo : DemoAsked → Asked
+  AsksCheck : CheckAsked → Asked
 
 -- a fault at a word
 abbrev pub fault : ℕ → UsageKind → Result Said Usage
@@ -195,45 +205,53 @@ abbrev pub dashed_said : Tool → ℕ → List ℕ → Result Said Usage
 dashed_said tools.Diy at text = if bytes_eq text (codes "-exact") then Ok SaysExact else fault at UnknownOption
 dashed_said _ at text = fault at UnknownOption
 
--- an operand of a tool, at its place; demo takes one, and where it is counted already, a second is stray
-abbrev pub operand_said : Tool → Bool → ℕ → List ℕ → Result Said Usage
+-- a file that is an operand of mcheck7, at its place, where so many were taken before: the first is that of the test, the
+-- second that of the execution, and a third is stray
+abbrev pub checked_said : ℕ → ℕ → Result Said Usage
+checked_said taken at = if taken == 0 then Ok (SaysTest at) else if taken == 1 then Ok (SaysExecution at) else fault at StrayWord
+
+-- an operand of a tool, at its place, where so many of those whose number is limited were taken before: demo takes one
+abbrev pub operand_said : Tool → ℕ → ℕ → List ℕ → Result Said Usage
 operand_said tools.DiyOne _ at text = edges_said at (operand_edges text)
 operand_said tools.Diy _ at text = fault at StrayWord
 operand_said tools.Cross _ at text = place_said at (relaxes_of text)
 operand_said tools.Norm _ at text = edges_said at (operand_edges text)
 operand_said tools.Classify _ at text = Ok (SaysFile at)
 operand_said tools.Msum _ at text = Ok SaysLog
-operand_said tools.Demo false at text = count_said at (number_to MAX_TESTS text)
-operand_said tools.Demo true at text = fault at StrayWord
+operand_said tools.Demo taken at text = if taken == 0 then count_said at (number_to MAX_TESTS text) else fault at StrayWord
+operand_said tools.Check taken at text = checked_said taken at
 
--- what a word says, an option with its value, or what is wrong with it; `counted` says whether a word before it said a number
-abbrev pub said_by : Tool → Bool → Part → Result Said Usage
-said_by tool counted (Alone at text) = if begins_option text then dashed_said tool at text else operand_said tool counted at text
-said_by tool counted (Valued opts.Arch at value) = arch_said (at + 1) (arch_named value)
-said_by tool counted (Valued opts.Name at value) = name_said (at + 1) value
-said_by tool counted (Valued opts.Obs at value) = mode_said (at + 1) (mode_named value)
-said_by tool counted (Valued opts.From at value) = Ok (SaysFrom (at + 1) value)
-said_by tool counted (Valued opts.Edges at value) = relaxes_said (at + 1) (relaxes_of value)
-said_by tool counted (Valued opts.Size at value) = size_said (at + 1) (number_to MAX_EDGES value)
-said_by tool counted (Valued opts.Nprocs at value) = threads_said (at + 1) (number_to MAX_EDGES value)
-said_by tool counted (Valued opts.Accesses at value) = accesses_said (at + 1) (number_to MAX_EDGES value)
-said_by tool counted (Valued opts.After at value) = after_said (at + 1) (edges_of BlanksAndCommas value)
-said_by tool counted (Valued opts.Folder at value) = folder_said (at + 1) value
-said_by tool counted (Unvalued _ at) = fault at MissingValue
+-- what a word says, an option with its value, or what is wrong with it; `taken` is how many operands were taken before, of
+-- those whose number is limited
+abbrev pub said_by : Tool → ℕ → Part → Result Said Usage
+said_by tool taken (Alone at text) = if begins_option text then dashed_said tool at text else operand_said tool taken at text
+said_by tool taken (Valued opts.Arch at value) = arch_said (at + 1) (arch_named value)
+said_by tool taken (Valued opts.Name at value) = name_said (at + 1) value
+said_by tool taken (Valued opts.Obs at value) = mode_said (at + 1) (mode_named value)
+said_by tool taken (Valued opts.From at value) = Ok (SaysFrom (at + 1) value)
+said_by tool taken (Valued opts.Edges at value) = relaxes_said (at + 1) (relaxes_of value)
+said_by tool taken (Valued opts.Size at value) = size_said (at + 1) (number_to MAX_EDGES value)
+said_by tool taken (Valued opts.Nprocs at value) = threads_said (at + 1) (number_to MAX_EDGES value)
+said_by tool taken (Valued opts.Accesses at value) = accesses_said (at + 1) (number_to MAX_EDGES value)
+said_by tool taken (Valued opts.After at value) = after_said (at + 1) (edges_of BlanksAndCommas value)
+said_by tool taken (Valued opts.Folder at value) = folder_said (at + 1) value
+said_by tool taken (Unvalued _ at) = fault at MissingValue
 
--- how many tests demo makes, and whether a word says so
-abbrev pub count_in : Said → Option ℕ
-count_in (SaysCount count) = Some count
-count_in _ = None
+-- how many operands of a limited number a word is: one where it is the number of demo or a file of mcheck7
+abbrev pub operands_in : Said → ℕ
+operands_in (SaysCount _) = 1
+operands_in (SaysTest _) = 1
+operands_in (SaysExecution _) = 1
+operands_in _ = 0
 
-abbrev pub is_count : Result Said Usage → Bool
-is_count (Ok said) = is_some (count_in said)
-is_count (Err _) = false
+abbrev pub taken_by : Result Said Usage → ℕ
+taken_by (Ok said) = operands_in said
+taken_by (Err _) = 0
 
 -- what the parts of the words say, one after another
-abbrev pub saying : Tool → Bool → List Part → List (Result Said Usage)
-saying tool counted [] = []
-saying tool counted (part ∷ parts) = said_by tool counted part ∷ saying tool (is_count (said_by tool counted part) || counted) parts
+abbrev pub saying : Tool → ℕ → List Part → List (Result Said Usage)
+saying tool taken [] = []
+saying tool taken (part ∷ parts) = said_by tool taken part ∷ saying tool (taken + taken_by (said_by tool taken part)) parts
 
 -- something said before the rest, where the rest has no fault
 abbrev pub said_first : Said → Result (List Said) Usage → Result (List Said) Usage
@@ -300,6 +318,20 @@ after_in _ = None
 abbrev pub folder_in : Said → Option (List ℕ)
 folder_in (SaysFolder folder) = Some folder
 folder_in _ = None
+
+-- how many tests demo makes
+abbrev pub count_in : Said → Option ℕ
+count_in (SaysCount count) = Some count
+count_in _ = None
+
+-- the places of the files of mcheck7
+abbrev pub test_in : Said → Option ℕ
+test_in (SaysTest at) = Some at
+test_in _ = None
+
+abbrev pub execution_in : Said → Option ℕ
+execution_in (SaysExecution at) = Some at
+execution_in _ = None
 
 -- the relaxations of a place
 abbrev pub places_in : Said → List (List (List Edge))
@@ -393,6 +425,13 @@ demo_with count None tests = Err (record { word = count; kind = MissingArch })
 demo_with count (Some arch) None = Err (record { word = count; kind = MissingNumber })
 demo_with count (Some arch) (Some tests) = Ok (record { arch = arch; count = tests })
 
+-- the request of mcheck7 from what was given: both files are needed
+abbrev pub check_with : ℕ → Option ArchName → Option ℕ → Option ℕ → Result CheckAsked Usage
+check_with count None test execution = Err (record { word = count; kind = MissingArch })
+check_with count (Some arch) (Some test) (Some execution) = Ok (record { arch = arch; test = test; execution = execution })
+check_with count (Some arch) (Some test) None = Err (record { word = count; kind = MissingFile })
+check_with count (Some arch) None execution = Err (record { word = count; kind = MissingFile })
+
 -- a request of one of the tools
 abbrev pub asks : {X : Type 0} → (X → Asked) → Result X Usage → Result Asked Usage
 asks request (Ok asked) = Ok (request asked)
@@ -421,6 +460,10 @@ abbrev pub cross_asked : ℕ → List Said → Result CrossAsked Usage
 cross_asked count said =
     cross_with count (last_given arch_in said) (mode_or_accept (last_given mode_in said)) (last_given folder_in said) (places_given said)
 
+-- the request of mcheck7 from what its words say
+abbrev pub check_asked : ℕ → List Said → Result CheckAsked Usage
+check_asked count said = check_with count (last_given arch_in said) (last_given test_in said) (last_given execution_in said)
+
 -- the request of a tool from what its words say, where no word is faulty
 abbrev pub tool_asked : Tool → ℕ → Result (List Said) Usage → Result Asked Usage
 tool_asked tool count (Err usage) = Err usage
@@ -431,11 +474,12 @@ tool_asked tools.Classify count (Ok said) = asks AsksFamilies (families_with cou
 tool_asked tools.Msum count (Ok said) = Ok AsksSum
 tool_asked tools.Cross count (Ok said) = asks AsksCross (cross_asked count said)
 tool_asked tools.Demo count (Ok said) = asks AsksDemo (demo_with count (last_given arch_in said) (last_given count_in said))
+tool_asked tools.Check count (Ok said) = asks AsksCheck (check_asked count said)
 
 -- the request of a tool from its words but the first
 abbrev pub asked_for : Option Tool → ℕ → List (List ℕ) → Result Asked Usage
 asked_for None count words = Err (record { word = 0; kind = UnknownTool })
-asked_for (Some tool) count words = tool_asked tool count (said_all (saying tool false (parts_of tool 1 words)))
+asked_for (Some tool) count words = tool_asked tool count (said_all (saying tool 0 (parts_of tool 1 words)))
 
 -- the request that words make: the first names the tool
 abbrev pub asked_of : List (List ℕ) → Result Asked Usage

@@ -14,6 +14,7 @@ pub enum Tool {
     Classify,
     Msum,
     Demo,
+    Check,
 }
 
 /// The options of the tools that take a value.
@@ -43,6 +44,7 @@ pub fn tool_named(text: &str) -> Option<Tool>
         "classify7" => Some(Tool::Classify),
         "msum7" => Some(Tool::Msum),
         "demo" => Some(Tool::Demo),
+        "mcheck7" => Some(Tool::Check),
         _ => None,
     }
 }
@@ -56,7 +58,7 @@ pub fn option_named(tool: Tool, text: &str) -> Option<OptionName>
         Tool::Diy => diy_option(text),
         Tool::Cross => cross_option(text),
         Tool::Norm => norm_option(text),
-        Tool::Classify | Tool::Demo => arch_option(text),
+        Tool::Classify | Tool::Demo | Tool::Check => arch_option(text),
         Tool::Msum => None,
     }
 }

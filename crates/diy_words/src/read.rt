@@ -1,10 +1,10 @@
 ghost use Rattle.std.specs.Prelude.{◌≡◌, ◌<◌, ◌+◌, ◌^◌, length, IfOk, Ok};
 ghost use Rattle.diy_words.specs.declared.usage.UsageKind.TheVariants.{MissingArch};
 ghost use Rattle.diy_words.specs.Requests.{asked_of};
-ghost use Rattle.diy_words.specs.Given.{Gives, HasForm, Steps, IsPlain, IsOption, held, saying_from, shown, keeps, KeepsTest, KeepsName, KeepsList, KeepsFamilies, KeepsCross, KeepsDemo, tool_held, test_held, name_held, list_held, cross_held, demo_held, classified, held_at_end, nothing_held};
+ghost use Rattle.diy_words.specs.Given.{Gives, HasForm, WithinWords, Steps, IsPlain, IsOption, held, saying_from, shown, keeps, KeepsTest, KeepsName, KeepsList, KeepsFamilies, KeepsCross, KeepsDemo, KeepsCheck, tool_held, test_held, name_held, list_held, cross_held, demo_held, check_held, classified, held_at_end, nothing_held};
 
 use crate::options::{OptionName, Tool, option_named, tool_named};
-use crate::request::{Cross, Demo, Diy, DiyOne, MAX_CHOICES, Norm, Request, Sought};
+use crate::request::{Check, Cross, Demo, Diy, DiyOne, MAX_CHOICES, Norm, Request, Sought};
 use crate::said::{Said, unvalued};
 use crate::usage::{Usage, UsageKind};
 use diy_io::Words;
@@ -18,6 +18,9 @@ pub fn read_request(words: &Words) -> Result<Request<'_>, Usage>
     // folder and that of diycross7 have at most `MAX_FOLDER` bytes, and demo makes 1 to `MAX_TESTS`
     // tests.
     ensures form { IfOk result HasForm }
+
+    // The files of mcheck7 are places of words.
+    ensures within { IfOk result (WithinWords (length words.now)) }
 {
     if words.len() == 0 {
         return Err(Usage {
@@ -107,6 +110,7 @@ fn finish(tool: Tool, count: usize, said: Said<'_>) -> Result<Request<'_>, Usage
         Tool::Msum => Ok(Request::Sum),
         Tool::Cross => finish_cross(count, said),
         Tool::Demo => finish_demo(count, said),
+        Tool::Check => finish_check(count, said),
     }
 }
 
@@ -142,6 +146,9 @@ fn finish_list(count: usize, said: Said<'_>) -> Result<Request<'_>, Usage>
         edges: _,
         choices: _,
         count: _,
+        test: _,
+        execution: _,
+        taken: _,
     } = said;
     let Some(arch) = arch else {
         return Err(missing_arch(count));
@@ -203,6 +210,25 @@ fn finish_demo(count: usize, said: Said<'_>) -> Result<Request<'_>, Usage>
         None => Err(Usage {
             word: count,
             kind: UsageKind::MissingNumber,
+        }),
+    }
+}
+
+fn finish_check(count: usize, said: Said<'_>) -> Result<Request<'_>, Usage>
+    ensures { shown result ≡ keeps KeepsCheck (check_held count (held said.entry)) }
+{
+    let Some(arch) = said.arch else {
+        return Err(missing_arch(count));
+    };
+    match (said.test, said.execution) {
+        (Some(test), Some(execution)) => Ok(Request::Check(Check {
+            arch,
+            test,
+            execution,
+        })),
+        _ => Err(Usage {
+            word: count,
+            kind: UsageKind::MissingFile,
         }),
     }
 }

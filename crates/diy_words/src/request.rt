@@ -39,6 +39,8 @@ pub enum Request<'a> {
     Cross(Cross<'a>),
     /// Some number of tests, of demo.
     Demo(Demo),
+    /// What is so of one execution of one test, of mcheck7.
+    Check(Check),
 }
 
 /// What norm7 is asked for.
@@ -122,4 +124,15 @@ pub struct Demo {
     pub arch: ArchName,
     /// How many tests, from 1 to `MAX_TESTS`.
     pub count: u32,
+}
+
+/// What mcheck7 is asked for.
+#[derive(Drop)]
+pub struct Check {
+    /// The architecture of the test.
+    pub arch: ArchName,
+    /// Which word names the file of the test.
+    pub test: usize,
+    /// Which word names the file of the execution.
+    pub execution: usize,
 }

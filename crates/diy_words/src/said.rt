@@ -1,4 +1,4 @@
-ghost use Rattle.std.specs.Prelude.{◌≡◌, ◌<◌, ◌≤◌, ◌+◌, ◌^◌, Bool, is_some, Err};
+ghost use Rattle.std.specs.Prelude.{◌≡◌, ◌<◌, ◌≤◌, ◌+◌, ◌^◌, ℕ, Err};
 ghost use Rattle.relax_edges.specs.Relaxations.{relaxes_of};
 ghost use Rattle.relax_edges.specs.declared.TheConstants.{MAX_EDGES};
 ghost use Rattle.edge_lists.specs.declared.read.Separators.TheVariants.{BlanksAndCommas};
@@ -9,7 +9,7 @@ ghost use Rattle.diy_words.specs.Given.{cycle_kept, more_choices};
 ghost use Rattle.diy_words.specs.Numbers.{number_to};
 ghost use Rattle.diy_words.specs.declared.options.Tool.TheVariants as tools;
 ghost use Rattle.diy_words.specs.Parts.{Part, Alone, Valued, Unvalued, arch_named, mode_named};
-ghost use Rattle.diy_words.specs.Requests.{said_by, arch_said, name_said, mode_said, edges_said, relaxes_said, relax_usage, size_said, threads_said, accesses_said, after_said, cycle_said, folder_said, place_said, count_said, dashed_said, operand_said, begins_option};
+ghost use Rattle.diy_words.specs.Requests.{said_by, arch_said, name_said, mode_said, edges_said, relaxes_said, relax_usage, size_said, threads_said, accesses_said, after_said, cycle_said, folder_said, place_said, count_said, checked_said, dashed_said, operand_said, begins_option};
 
 use crate::name::name_of;
 use crate::number::number_to;
@@ -43,6 +43,12 @@ pub struct Said<'a> {
     pub choices: u32,
     /// How many tests demo makes.
     pub count: Option<u32>,
+    /// Which word names the file of the test of mcheck7.
+    pub test: Option<usize>,
+    /// Which word names the file of its execution.
+    pub execution: Option<usize>,
+    /// How many operands were taken, of demo or of mcheck7.
+    pub taken: u8,
 }
 
 impl<'a> Said<'a> {
@@ -69,6 +75,9 @@ impl<'a> Said<'a> {
             folder: None,
             choices: 1,
             count: None,
+            test: None,
+            execution: None,
+            taken: 0,
         }
     }
 
@@ -81,7 +90,7 @@ impl<'a> Said<'a> {
         value: &'a str,
     ) -> Result<(), Usage>
         requires { at + 1 < 2 ^ 64 }
-        ensures { left_by result (held self.new) ≡ absorbed (held self.old) (said_by tool (is_some self.old.count) (Valued option at value.now)) }
+        ensures { left_by result (held self.new) ≡ absorbed (held self.old) (said_by tool self.old.taken (Valued option at value.now)) }
     {
         let _tool = tool;
         match option {
@@ -247,7 +256,7 @@ impl<'a> Said<'a> {
 
     /// Takes in a word of a tool at place `at` that stands alone.
     pub fn take_alone(&mut self, tool: Tool, at: usize, text: &str) -> Result<(), Usage>
-        ensures { left_by result (held self.new) ≡ absorbed (held self.old) (said_by tool (is_some self.old.count) (Alone at text.now)) }
+        ensures { left_by result (held self.new) ≡ absorbed (held self.old) (said_by tool self.old.taken (Alone at text.now)) }
     {
         if begins_option(text.as_bytes()) {
             self.take_dashed(tool, at, text)
@@ -273,7 +282,7 @@ impl<'a> Said<'a> {
     }
 
     fn take_operand(&mut self, tool: Tool, at: usize, text: &str) -> Result<(), Usage>
-        ensures { left_by result (held self.new) ≡ absorbed (held self.old) (operand_said tool (is_some self.old.count) at text.now) }
+        ensures { left_by result (held self.new) ≡ absorbed (held self.old) (operand_said tool self.old.taken at text.now) }
     {
         match tool {
             Tool::DiyOne | Tool::Norm => self.take_edges(at, text),
@@ -284,6 +293,7 @@ impl<'a> Said<'a> {
             Tool::Msum | Tool::Classify => Ok(()),
             Tool::Cross => self.take_place(at, text),
             Tool::Demo => self.take_count(at, text),
+            Tool::Check => self.take_checked(at),
         }
     }
 
@@ -319,11 +329,29 @@ impl<'a> Said<'a> {
         }
     }
 
+    /// Takes in a file of mcheck7: that of the test before that of the execution, and no third.
+    fn take_checked(&mut self, at: usize) -> Result<(), Usage>
+        ensures { left_by result (held self.new) ≡ absorbed (held self.old) (checked_said self.old.taken at) }
+    {
+        match self.taken {
+            0 => self.test = Some(at),
+            1 => self.execution = Some(at),
+            _ => {
+                return Err(Usage {
+                    word: at,
+                    kind: UsageKind::StrayWord,
+                });
+            }
+        }
+        self.taken += 1;
+        Ok(())
+    }
+
     /// Takes in the number of demo, if none was taken before.
     fn take_count(&mut self, at: usize, text: &str) -> Result<(), Usage>
-        ensures { left_by result (held self.new) ≡ absorbed (held self.old) (operand_said tools.Demo (is_some self.old.count) at text.now) }
+        ensures { left_by result (held self.new) ≡ absorbed (held self.old) (operand_said tools.Demo self.old.taken at text.now) }
     {
-        if self.count.is_some() {
+        if self.taken != 0 {
             return Err(Usage {
                 word: at,
                 kind: UsageKind::StrayWord,
@@ -332,6 +360,7 @@ impl<'a> Said<'a> {
         match number_to(MAX_TESTS, text) {
             Some(count) => {
                 self.count = Some(count);
+                self.taken += 1;
                 Ok(())
             }
             None => Err(Usage {
@@ -375,7 +404,7 @@ fn cycle_of(list: &EdgeList) -> Option<Cycle>
 
 /// What is wrong with an option at place `at` that is the last word.
 pub fn unvalued(tool: Tool, option: OptionName, at: usize) -> Usage
-    ensures { (counted : Bool) → said_by tool counted (Unvalued option at) ≡ Err result }
+    ensures { (taken : ℕ) → said_by tool taken (Unvalued option at) ≡ Err result }
 {
     let _ = (tool, option);
     Usage {

@@ -47,6 +47,8 @@ pub enum UsageKind {
     MissingEdges,
     /// The tool needs a number, and it isn't there.
     MissingNumber,
+    /// The tool needs two files, and one of them isn't there.
+    MissingFile,
     /// There are more than 65,536 ways to choose a relaxation for each place.
     TooManyChoices,
 }
