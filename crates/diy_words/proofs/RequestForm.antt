@@ -162,11 +162,13 @@ parts_among : (count : ℕ) (tool : Tool) (waiting : Waiting) (at : ℕ) (words 
 parts_among count tool Ready at [] h = tt
 parts_among count tool (Waits option place) at [] h = (tt, tt)
 parts_among count tool (Waits option place) at (value ∷ words) h = (tt, parts_among count tool Ready (at + 1) words (omega (arith, h)))
-parts_among count tool Ready at (word ∷ words) h = of_found (option_named tool word)
+parts_among count tool Ready at (word ∷ words) h =
+    of_found (option_named tool word) (λ waiting. parts_among count tool waiting (at + 1) words (omega (arith, h)))
   where
-    of_found : (found : Option OptionName) → AllByRecursion (IsAmong count) (alone_before found at word (parts_from tool (waiting_at found at) (at + 1) words))
-    of_found (Some option) = parts_among count tool (Waits option at) (at + 1) words (omega (arith, h))
-    of_found None = (omega (arith, h), parts_among count tool Ready (at + 1) words (omega (arith, h)))
+    of_found : (found : Option OptionName) → ((waiting : Waiting) → AllByRecursion (IsAmong count) (parts_from tool waiting (at + 1) words))
+        → AllByRecursion (IsAmong count) (alone_before found at word (parts_from tool (waiting_at found at) (at + 1) words))
+    of_found (Some option) rest = rest (Waits option at)
+    of_found None rest = (omega (arith, h), rest Ready)
 
 said_form : (count : ℕ) (tool : Tool) (taken : ℕ) (part : Part) → IsAmong count part → SaysForm count (said_by tool taken part)
 said_form count tool taken (Alone at text) h = alone_form count tool taken at text (begins_option text) h
