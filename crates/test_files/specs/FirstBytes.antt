@@ -76,7 +76,7 @@ too_large : TestFileError
 too_large = record { line = 1; kind = Test TooLarge }
 
 tests_refuse_long : (arch : ArchName) (w : Writing) → RefusesLong (test_said arch w) too_large (λ text. headed_said arch w text (arch_in_text text))
-unfolding test_said
+unfolding test_said too_large
 tests_refuse_long arch w text = refl
 
 -- what a text is as a test depends on its first bytes alone, and it isn't too long
