@@ -24,7 +24,7 @@ use Rattle.checked_files.specs.declared.errors.CheckEnd.{CheckEnd}
 use Rattle.checked_files.specs.declared.errors.CheckEnd.TheVariants as ends
 use Rattle.checked_files.specs.FilesChecked.{name_at, exec_told, IsTest, AreRight, BothRead, TestWrong, ExecWrong, IsAbsent, TestUnread, ExecUnread, FilesChecked}
 
-too_large : ExecFault
+abbrev too_large : ExecFault
 too_large = record { line = 1; kind = TooLarge }
 
 executions_refuse_long : (test : TestRead) → RefusesLong (exec_told test) too_large (λ text. lines_read (length test.threads) test.places (lines_of text))

@@ -1,13 +1,13 @@
 -- A file that is open and read.
 use Rattle.std.proofs.Common.{◌≡◌, ◌≤◌, ◌<◌, ◌+◌, ℕ, List, [], ◌++◌, length, take, Some, None, refl, sym, ap, ◌∙◌, subst, arith, length-append, append-nil}
 use Rattle.std.specs.Prelude.{Option, IfSome}
-use Rattle.std.specs.Io.KnownBytes.{Consumes, IsAtEnd}
+use Rattle.std.specs.Io.KnownBytes.{Consumes}
 use Rattle.std.proofs.KnownBytes.{Consumes-nil, Consumes-trans, Consumes-whole}
-use Rattle.std.proofs.lemmas.List.{length-take-le, take_all, take_at}
+use Rattle.std.proofs.lemmas.List.{take_all, take_at}
 use Rattle.diy_io.specs.Count.{count_of, Rose}
 use Rattle.diy_io.specs.Shelf.{ShelfSeen, Gave, IsReading, Stopped, left_to_read}
 use Rattle.litmus_text.specs.declared.limits.TheConstants.{MAX_TEXT}
-use Rattle.test_files.specs.OpenFiles.{ReadSoFar, ReadWhole, ReadPart, TookBytes}
+use Rattle.test_files.specs.OpenFiles.{ReadSoFar, ReadWhole, ReadPart}
 
 -- bytes that were consumed are the first of a text
 pub record FrontOf (told : Option (List ℕ)) (bytes : List ℕ) : Type 0 where

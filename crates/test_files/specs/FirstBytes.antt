@@ -13,7 +13,7 @@ use Rattle.relax_edges.specs.declared.kinds.ArchName.{ArchName}
 use Rattle.arch_trait.specs.Writing.{Writing}
 use Rattle.litmus_text.specs.declared.errors.TestKind.TheVariants.{TooLarge}
 use Rattle.litmus_text.specs.declared.limits.TheConstants.{MAX_TEXT}
-use Rattle.litmus_text.specs.TestReading.{TestRead, arch_in_text}
+use Rattle.litmus_text.specs.TestReading.{arch_in_text}
 use Rattle.test_files.specs.declared.errors.TestFileError.{TestFileError}
 use Rattle.test_files.specs.declared.errors.TestFileKind.TheVariants.{Test}
 use Rattle.test_files.specs.FilesRead.{FileRead, FileFailed, FileIs, FileFaulty}
@@ -72,7 +72,7 @@ judges_further {X} {Y} {E} {F} judge further kept h = record {
     of_judged text y (Ok x) e right = h.short text x e
     of_judged text y (Err error) e right = absurd (kept error y right)
 
-too_large : TestFileError
+abbrev too_large : TestFileError
 too_large = record { line = 1; kind = Test TooLarge }
 
 tests_refuse_long : (arch : ArchName) (w : Writing) → RefusesLong (test_said arch w) too_large (λ text. headed_said arch w text (arch_in_text text))
