@@ -1,6 +1,6 @@
 -- How many bytes are taken of the file that was opened last.
 use Rattle.std.proofs.Common.{◌≡◌, ◌≤◌, ◌<◌, ◌+◌, ℕ, List, [], ◌∷◌, ◌++◌, length, take, refl, arith, inl, inr}
-use Rattle.std.specs.Prelude.{◌⊎◌, map, Result, Ok, Err}
+use Rattle.std.specs.Prelude.{◌⊎◌, map, Ok}
 use Rattle.diy_io.specs.Count.{count_of}
 use Rattle.diy_io.specs.Shelf.{ShelfSeen}
 use Rattle.diy_io.specs.Wrote.{SinkSeen}

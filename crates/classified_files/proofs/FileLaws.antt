@@ -1,6 +1,6 @@
 -- What one file gives, by what was read of it.
-use Rattle.std.proofs.Common.{◌≡◌, ℕ, List}
-use Rattle.std.specs.Prelude.{Result, Ok, Err}
+use Rattle.std.proofs.Common.{ℕ, List}
+use Rattle.std.specs.Prelude.{Result, Err}
 use Rattle.diy_io.specs.Shelf.{ShelfSeen}
 use Rattle.diy_io.specs.declared.errors.Failed.{Failed}
 use Rattle.test_files.specs.declared.errors.FileFault.{FileFault}

@@ -1,11 +1,11 @@
 -- Files that are read, one after another.
-use Rattle.std.proofs.Common.{◌≡◌, ◌≤◌, ◌<◌, ◌+◌, ℕ, zero, suc, List, [], ◌∷◌, ◌++◌, length, take, drop, get_or, Some, None, refl, sym, ap, ◌∙◌, subst, arith, inl, inr, append_assoc}
-use Rattle.std.specs.Prelude.{Option, MatchOption, map, slice_get, Result, Ok, Err}
-use Rattle.std.proofs.lemmas.List.{take-append-drop, take_all}
+use Rattle.std.proofs.Common.{◌≡◌, ◌≤◌, ◌<◌, ◌+◌, ℕ, zero, suc, List, [], ◌∷◌, ◌++◌, length, take, drop, get_or, Some, None, refl, sym, ap, ◌∙◌, subst, arith, inl, inr}
+use Rattle.std.specs.Prelude.{Option, MatchOption, map, slice_get, Ok, Err}
+use Rattle.std.proofs.lemmas.List.{take_all}
 use Rattle.std.proofs.lemmas.Option.{get_or_from_slice_get}
 use Rattle.diy_io.specs.Count.{Rose}
 use Rattle.diy_io.specs.Shelf.{Files, ShelfSeen}
-use Rattle.diy_io.specs.Wrote.{SinkSeen, Wrote, WroteAll, WrotePart}
+use Rattle.diy_io.specs.Wrote.{SinkSeen, Wrote}
 use Rattle.diy_io.specs.declared.errors.Failed.{Failed}
 use Rattle.file_laws.specs.Opened.{IsFile, TookFiles}
 use Rattle.file_laws.proofs.OpenedLaws.{took_no_more, took_one_more}

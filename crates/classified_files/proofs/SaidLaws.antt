@@ -1,9 +1,7 @@
 -- What a text says by what was taken of it.
-use Rattle.std.proofs.Common.{◌≡◌, ◌≤◌, ◌+◌, ℕ, List, length, take}
-use Rattle.std.specs.Prelude.{Ok, Err}
+use Rattle.std.proofs.Common.{◌≡◌, ◌≤◌, ℕ, List, length}
+use Rattle.std.specs.Prelude.{Ok}
 use Rattle.relax_edges.specs.declared.edge.Edge.{Edge}
-use Rattle.relax_edges.specs.declared.kinds.ArchName.{ArchName}
-use Rattle.arch_trait.specs.Writing.{Writing}
 use Rattle.litmus_text.specs.declared.limits.TheConstants.{MAX_TEXT}
 use Rattle.test_files.specs.FirstBytes.{JudgesFirstBytes, judges_further, tests_by_first_bytes}
 use Rattle.test_files.specs.TestSaid.{test_said}
