@@ -1,20 +1,15 @@
 -- AArch64's instructions stand in the cells of a table, and each of its loads and stores is one of them.
-use Rattle.std.proofs.Common.{refl}
 use Rattle.arch_trait.specs.Cells.{WritesCells, MakesOneAccess}
 use Rattle.arch_trait.specs.Forms.{register_names}
-use Rattle.arch_laws.proofs.AddressedOnce.{accesses_once}
 use Rattle.form_laws.proofs.InCells as tables
+use Rattle.form_laws.proofs.OwnCode.{own_code_once}
 use Rattle.arch_aarch64.specs.Puts.{puts, instructions}
 use Rattle.arch_aarch64.specs.Table.{table, numbered, writing}
 use Rattle.arch_aarch64.specs.Clear.{is_clear_table}
+use Rattle.arch_aarch64.specs.Laws.{own_code}
 
 pub writes_cells : WritesCells puts writing
 writes_cells = tables.writes_cells puts table (register_names numbered) is_clear_table (λ op h. h)
 
 pub makes_one_access : MakesOneAccess puts
-makes_one_access = accesses_once instructions (record {
-  branch = λ s n rest. refl;
-  load = λ d v a. refl;
-  store = λ d v a. refl;
-  joins = λ d n. refl;
-})
+makes_one_access = own_code_once instructions own_code

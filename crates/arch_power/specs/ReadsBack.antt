@@ -1,14 +1,14 @@
 -- Power's instructions read back from their text, and its registers have names of their own.
 use Rattle.std.proofs.Common.{ℕ, ◌<◌, ◌≡◌, refl, arith}
-use Rattle.arch_trait.specs.Forms.{register_name}
+use Rattle.arch_trait.specs.Forms.{register_name, register_names}
 use Rattle.arch_trait.specs.Reading.{ReadsOwn}
 use Rattle.arch_trait.specs.Writing.{WritesBack, name_in}
 use Rattle.arch_laws.proofs.FormBacks.{IsNumbered, name_at}
-use Rattle.form_laws.proofs.ReadsHad.{reads_what_it_has}
+use Rattle.form_laws.proofs.Ranges as ranges
 use Rattle.form_laws.proofs.ReadsBack.{numbered_back}
 use Rattle.arch_power.specs.Puts.{puts}
 use Rattle.arch_power.specs.Table.{table, numbered, writing}
-use Rattle.arch_power.specs.Clear.{is_clear_table, table_in_range}
+use Rattle.arch_power.specs.Clear.{is_clear_table, few_registers}
 
 are_numbered : IsNumbered numbered
 are_numbered = record { letter = refl; small = omega arith }
@@ -21,4 +21,4 @@ reads_back = numbered_back puts table numbered is_clear_table (λ op h. h) are_n
 
 -- what is read is one of its instructions
 pub reads_own : ReadsOwn puts writing
-reads_own = record { had = reads_what_it_has table; in_range = table_in_range }
+reads_own = ranges.reads_own puts table (register_names numbered) few_registers (λ op. refl)

@@ -2,24 +2,19 @@
 use Rattle.std.proofs.Common.{◌≡◌, refl, true}
 use Rattle.std.specs.Fmt.{digits}
 use Rattle.std.specs.List.{list_all}
-use Rattle.micro_ops.specs.declared.operation.Micro.{Micro}
-use Rattle.micro_ops.specs.Machines.{InRange}
 use Rattle.text_laws.specs.Numbers.{number_of}
 use Rattle.arch_trait.specs.Writing.{immediate}
-use Rattle.form_laws.specs.Tables.{table_has, piece_found, after_prefix, before_suffix}
+use Rattle.form_laws.specs.Tables.{piece_found, after_prefix, before_suffix}
 use Rattle.form_laws.specs.Clear.{is_clear, differ, piece_apart, pieces_apart, forms_apart, is_piece_good, most_of, is_form_good}
-use Rattle.form_laws.proofs.Ranges.{is_small_form, in_range}
-use Rattle.arch_x86.specs.Table.{table, forms}
+use Rattle.form_laws.proofs.Ranges.{is_small_form}
+use Rattle.arch_x86.specs.Table.{forms}
 
 -- the table is clear: what it writes reads back
 pub is_clear_table : is_clear forms ≡ true
 unfolding forms is_clear is_form_good is_piece_good most_of forms_apart pieces_apart piece_apart differ piece_found after_prefix before_suffix immediate number_of digits
 is_clear_table = refl
 
--- its operations are in the range of the machine
-few_registers : list_all is_small_form forms ≡ true
+-- its operations name registers that the machine has
+pub few_registers : list_all is_small_form forms ≡ true
 unfolding forms
 few_registers = refl
-
-pub table_in_range : (op : Micro) → table_has table op ≡ true → InRange op
-table_in_range op h = in_range table op few_registers h

@@ -5,11 +5,11 @@ use Rattle.std.specs.Str.{bytes_eq}
 use Rattle.text_laws.specs.Names.{is_register_name}
 use Rattle.arch_trait.specs.Reading.{ReadsOwn}
 use Rattle.arch_trait.specs.Writing.{WritesBack}
-use Rattle.form_laws.proofs.ReadsHad.{reads_what_it_has}
+use Rattle.form_laws.proofs.Ranges as ranges
 use Rattle.form_laws.proofs.ReadsBack.{AreNames, writes_back}
 use Rattle.arch_x86.specs.Puts.{puts}
 use Rattle.arch_x86.specs.Table.{table, register_names, writing}
-use Rattle.arch_x86.specs.Clear.{is_clear_table, table_in_range}
+use Rattle.arch_x86.specs.Clear.{is_clear_table, few_registers}
 
 registers_formed : list_all is_register_name register_names ≡ true
 unfolding is_register_name
@@ -27,4 +27,4 @@ reads_back = writes_back puts table register_names is_clear_table (λ op h. h) a
 
 -- what is read is one of its instructions
 pub reads_own : ReadsOwn puts writing
-reads_own = record { had = reads_what_it_has table; in_range = table_in_range }
+reads_own = ranges.reads_own puts table register_names few_registers (λ op. refl)

@@ -8,3 +8,5 @@ pub mod ReadsBack
 pub mod ReadsHad
 pub mod InCells
 pub mod Ranges
+pub mod OwnCode
+pub mod Fenced

@@ -6,6 +6,8 @@ use Rattle.std.proofs.lemmas.Bool.{and_parts, and_from, leb-true, ltb-true, lt-l
 use Rattle.micro_ops.specs.declared.operation.Micro.{Micro}
 use Rattle.micro_ops.specs.declared.operation.Micro.TheVariants as ops
 use Rattle.micro_ops.specs.Machines.{InRange}
+use Rattle.arch_trait.specs.Reading.{ReadsOwn}
+use Rattle.arch_trait.specs.Threads.{Puts}
 use Rattle.arch_trait.proofs.Taking.{by_test}
 use Rattle.form_laws.specs.declared.form.Hole.{Hole}
 use Rattle.form_laws.specs.declared.form.Hole.TheVariants as holes
@@ -14,8 +16,9 @@ use Rattle.form_laws.specs.declared.kind.Kind.TheVariants as kinds
 use Rattle.form_laws.specs.declared.kind.Operand.{Operand}
 use Rattle.form_laws.specs.declared.kind.Operand.TheVariants as operands
 use Rattle.form_laws.specs.Kinds.{operands_of}
-use Rattle.form_laws.specs.Tables.{PieceText, FormText, TableText, fits_first, after_hole, fits, does, table_has, given}
+use Rattle.form_laws.specs.Tables.{PieceText, FormText, TableText, fits_first, after_hole, fits, does, table_has, given, table_writing}
 use Rattle.form_laws.proofs.ChosenForms.{done}
+use Rattle.form_laws.proofs.ReadsHad.{reads_what_it_has}
 
 -- a hole holds one of at most 32 registers
 abbrev pub is_small_hole : Hole → Bool
@@ -112,3 +115,11 @@ any_in_range op (f ∷ fs) small h =
 pub in_range : (t : TableText) (op : Micro) → list_all is_small_form t.forms ≡ true → table_has t op ≡ true → InRange op
 in_range t (ops.Label l) small h = tt
 in_range t op small h = any_in_range op t.forms small h
+
+-- so what is read by such a table is an instruction of the architecture that has it, and in that range
+pub reads_own : (a : Puts) (t : TableText) (registers : List (List ℕ)) → list_all is_small_form t.forms ≡ true →
+    ((op : Micro) → a.has op ≡ table_has t op) → ReadsOwn a (table_writing t registers)
+reads_own a t registers small same = record {
+  had = λ w raw e. same raw.op ∙ reads_what_it_has t w raw e;
+  in_range = λ op h. in_range t op small (sym (same op) ∙ h);
+}
