@@ -197,12 +197,7 @@ fn put_tests<
 }
 
 /// The next of a walk's cycles that has a test. It is made in `test`.
-fn next_made<
-    A: Arch,
-    K: Fn(&[Edge]) -> bool,
-    J: Fn(&[Edge]) -> bool,
-    P: Fn(&Cycle) -> bool,
->(
+fn next_made<A: Arch, K: Fn(&[Edge]) -> bool, J: Fn(&[Edge]) -> bool, P: Fn(&Cycle) -> bool>(
     walk: &mut Walk<K, J, P>,
     mode: ObsMode,
     test: &mut Test,

@@ -165,12 +165,7 @@ fn put_behind<
 }
 
 /// The next of a walk's cycles that has a test. None is made.
-fn next_accepted<
-    A: Arch,
-    K: Fn(&[Edge]) -> bool,
-    J: Fn(&[Edge]) -> bool,
-    P: Fn(&Cycle) -> bool,
->(
+fn next_accepted<A: Arch, K: Fn(&[Edge]) -> bool, J: Fn(&[Edge]) -> bool, P: Fn(&Cycle) -> bool>(
     walk: &mut Walk<K, J, P>,
     mode: ObsMode,
 ) -> Option<Cycle>
