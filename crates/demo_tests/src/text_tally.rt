@@ -1,4 +1,4 @@
-ghost use Rattle.std.specs.Prelude.{◌≡◌, ◌≤◌, IsOk, length};
+ghost use Rattle.std.specs.Prelude.{◌≡◌, IsOk};
 ghost use Rattle.diy_io.specs.Sink.{line_feed_count, tally_after};
 ghost use Rattle.diy_io.specs.Wrote.{Wrote, tally_seen};
 
@@ -65,8 +65,7 @@ impl Sink for TextTally {
 /// How many line feeds a text has. A plain loop is compiled to vector instructions.
 #[tactic(auto, using(std::proofs::lemmas::List::Sums::count_by_more_yes, std::proofs::lemmas::List::Sums::count_by_more_no))]
 fn count_line_feeds(text: &[u8]) -> u64
-    ensures count { result ≡ line_feed_count text.now }
-    ensures bound { result ≤ length text.now }
+    ensures { result ≡ line_feed_count text.now }
 {
     let mut count = 0;
     for byte in text {

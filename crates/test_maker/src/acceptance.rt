@@ -26,22 +26,21 @@ pub fn accepted<A: Arch>(cycle: &Cycle, mode: ObsMode) -> Result<(), MakeRefusal
 fn accepted_of_arch<A: Arch>(cycle: &Cycle, mode: ObsMode) -> Result<(), MakeRefusal>
     ensures { AcceptsResolution A.puts (resolution_of cycle.now) mode result }
 {
-    match &resolve(cycle) {
+    match resolve(cycle) {
         Err(ResolveError::TooFewThreads) => Err(MakeRefusal::TooFewThreads),
         Err(ResolveError::CoherenceOnly) => Err(MakeRefusal::CoherenceOnly),
-        Ok(resolved) => accepted_resolved::<A>(resolved, mode),
+        Ok(resolved) => accepted_resolved::<A>(&resolved, mode),
     }
 }
 
 fn accepted_resolved<A: Arch>(resolved: &Resolved, mode: ObsMode) -> Result<(), MakeRefusal>
     ensures { AcceptsResolution A.puts (Ok resolved.now) mode result }
 {
-    match &value(resolved, mode) {
-        Err(NeedsObserver { location, event }) => Err(MakeRefusal::NeedsObserver {
-            location: *location,
-            event: *event,
-        }),
-        Ok(valued) => accepted_valued::<A>(valued),
+    match value(resolved, mode) {
+        Err(NeedsObserver { location, event }) => {
+            Err(MakeRefusal::NeedsObserver { location, event })
+        }
+        Ok(valued) => accepted_valued::<A>(&valued),
     }
 }
 

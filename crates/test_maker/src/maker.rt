@@ -69,10 +69,10 @@ fn make_of_arch<A: Arch>(cycle: &Cycle, mode: ObsMode, test: &mut Test) -> Resul
     ensures located { IfErr result NamesLocation }
 {
     let _edges = cycle.edges();
-    match &resolve(cycle) {
+    match resolve(cycle) {
         Err(ResolveError::TooFewThreads) => Err(MakeRefusal::TooFewThreads),
         Err(ResolveError::CoherenceOnly) => Err(MakeRefusal::CoherenceOnly),
-        Ok(resolved) => make_resolved::<A>(resolved, mode, test),
+        Ok(resolved) => make_resolved::<A>(&resolved, mode, test),
     }
 }
 
@@ -88,12 +88,11 @@ fn make_resolved<A: Arch>(
     ensures located { IfErr result NamesLocation }
 {
     let _edges = resolved.cycle();
-    match &value(resolved, mode) {
-        Err(NeedsObserver { location, event }) => Err(MakeRefusal::NeedsObserver {
-            location: *location,
-            event: *event,
-        }),
-        Ok(valued) => make_valued::<A>(valued, test),
+    match value(resolved, mode) {
+        Err(NeedsObserver { location, event }) => {
+            Err(MakeRefusal::NeedsObserver { location, event })
+        }
+        Ok(valued) => make_valued::<A>(&valued, test),
     }
 }
 
