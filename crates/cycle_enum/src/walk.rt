@@ -252,6 +252,21 @@ impl<K: Fn(&[Edge]) -> bool, J: Fn(&[Edge]) -> bool, P: Fn(&Cycle) -> bool> Walk
         if !self.leads_on(list) {
             return false;
         }
+        self.has_listed(list, found)
+    }
+
+    /// Whether the cycle of these edges is listed, where the walk keeps them: it is found then. It is a function of its own in
+    /// the program too (`inline(never)`), so that room for a cycle is cleared for lists alone that may be one.
+    #[inline(never)]
+    fn has_listed(&self, list: &[Edge], found: &mut Option<Cycle>) -> bool
+        requires knows { KnowsOf K.pre K.Fn.post J.pre J.Fn.post P.pre P.Fn.post self.now.keep self.now.fit self.now.take }
+        requires limits { KeepsLimits self.now.limits.size self.now.limits.exact (length list.now) }
+        requires kept { KeptWhole (Keeps K.Fn.post J.Fn.post self.now) list.now }
+        ensures found { IsTrue result → found.new ≡ Some list.now }
+        ensures listed { IsTrue result → Lists P.Fn.post self.now list.now }
+        ensures same { IsFalse result → found.new ≡ found.old }
+        ensures other { IsFalse result → Lists P.Fn.post self.now list.now → ⊥ }
+    {
         match &cycle(list) {
             Ok(cycle) => {
                 if !self.is_listed(cycle) {

@@ -11,7 +11,7 @@ use cycle_names::{Family, edges_of};
 use edge_algebra::{Cycle, cycle};
 use relax_edges::{Edge, MAX_EDGES};
 
-type Edges = ArrayVec<Edge, MAX_EDGES>;
+pub(crate) type Edges = ArrayVec<Edge, MAX_EDGES>;
 
 /// The edge for an edge of a family's cycle.
 fn edge_for(slot: Edge, choices: &Choices, draws: &mut Draws) -> Edge
@@ -39,15 +39,20 @@ fn fill(slots: &[Edge], choices: &Choices, draws: &mut Draws, edges: &mut Edges)
     }
 }
 
-/// The cycle of a test of a family.
-pub(crate) fn draw_cycle(family: Family, choices: &Choices, draws: &mut Draws) -> Cycle
+/// The cycle of a test of a family. It is drawn in `edges`, and what these were before doesn't count.
+pub(crate) fn draw_cycle(
+    family: Family,
+    choices: &Choices,
+    draws: &mut Draws,
+    edges: &mut Edges,
+) -> Cycle
     requires { IsAmong all_families family }
     ensures cycle { result ≡ filled choices.now.arch draws.old.seed (family_edges family) }
     ensures seed { draws.new.seed ≡ seed_after draws.old.seed (family_edges family) }
 {
     let slots = edges_of(family);
-    let mut edges = Edges::new();
-    fill(slots.as_slice(), choices, draws, &mut edges);
+    edges.clear();
+    fill(slots.as_slice(), choices, draws, edges);
     match cycle(edges.as_slice()) {
         Ok(cycle) => cycle,
         Err(_) => unreachable!(),

@@ -8,5 +8,6 @@ mod making;
 mod measure;
 mod summary;
 mod tally;
+mod text_tally;
 
 pub use making::demo;

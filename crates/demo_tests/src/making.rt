@@ -7,7 +7,7 @@ ghost use Rattle.demo_tests.specs.Tallies.{family_tallies, numbered_text, tally_
 
 use crate::choices::Choices;
 use crate::draws::Draws;
-use crate::filling::draw_cycle;
+use crate::filling::{Edges, draw_cycle};
 use crate::measure::Desk;
 use crate::summary::Summary;
 use arch_trait::Arch;
@@ -43,11 +43,12 @@ fn tally_tests<A: Arch>(count: u32, test: &mut Test) -> Summary
 {
     let choices = Choices::new(A::NAME);
     let mut draws = Draws::new();
+    let mut edges = Edges::new();
     let mut desk = Desk::new();
     let mut summary = Summary::new();
     for number in 0..count {
         let place = number as usize % FAMILIES.len();
-        let cycle = draw_cycle(FAMILIES[place], &choices, &mut draws);
+        let cycle = draw_cycle(FAMILIES[place], &choices, &mut draws, &mut edges);
         let text = desk.measure::<A>(&cycle, test);
         summary.count(place, &text);
     }

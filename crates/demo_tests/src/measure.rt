@@ -5,10 +5,11 @@ ghost use Rattle.diy_io.specs.Sink.{line_feed_count, tally_of};
 ghost use Rattle.test_maker.specs.CycleText.{cycle_text};
 ghost use Rattle.test_maker.specs.Refusals.{refusal_of};
 
+use crate::text_tally::TextTally;
 use arch_trait::Arch;
 use arrayvec::ArrayString;
 use cycle_names::{MAX_NAME, name_of};
-use diy_io::{Failed, Page, TallySink};
+use diy_io::{Failed, Page};
 use edge_algebra::Cycle;
 use litmus_text::{KeptTable, Test, print_test_by};
 use relax_edges::ObsMode;
@@ -34,7 +35,7 @@ impl Desk {
     }
 
     /// The bytes and line feeds of the text of the test of a cycle that has one, under its name. The test is made in `test`.
-    pub(crate) fn measure<A: Arch>(&mut self, cycle: &Cycle, test: &mut Test) -> TallySink
+    pub(crate) fn measure<A: Arch>(&mut self, cycle: &Cycle, test: &mut Test) -> TextTally
         requires { refusal_of A.puts cycle.now Accept ≡ None }
         ensures { result ≡ tally_of (length (cycle_text A.puts A.writing Accept (name_of cycle.now) cycle.now)) (line_feed_count (cycle_text A.puts A.writing Accept (name_of cycle.now) cycle.now)) }
     {
@@ -45,8 +46,8 @@ impl Desk {
         }
         name_of(cycle, &mut self.name);
         self.page.clear();
-        let mut tally = TallySink::new();
-        match print_test_by::<A, TallySink>(
+        let mut tally = TextTally::new();
+        match print_test_by::<A, TextTally>(
             test,
             self.name.as_str(),
             &mut self.table,

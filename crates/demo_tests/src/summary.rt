@@ -8,8 +8,9 @@ ghost use Rattle.demo_tests.specs.Counting.{Fits, counted, nothing_counted};
 ghost use Rattle.demo_tests.specs.DemoText.{family_line, family_lines, tally_line};
 
 use crate::tally::TestTally;
+use crate::text_tally::TextTally;
 use cycle_names::{FAMILIES, Family};
-use diy_io::{Failed, Page, Sink, TallySink};
+use diy_io::{Failed, Page, Sink};
 use itoa::Buffer;
 
 /// How many families have a cycle.
@@ -35,7 +36,7 @@ impl Summary {
     }
 
     /// Counts a test more, of the family at a place of the table, by the tally of its text.
-    pub(crate) fn count(&mut self, place: usize, text: &TallySink)
+    pub(crate) fn count(&mut self, place: usize, text: &TextTally)
         requires place { place < length self.old.families }
         requires families { All (Fits text.now) self.old.families }
         requires all { Fits text.now self.old.all }

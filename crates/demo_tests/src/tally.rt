@@ -1,7 +1,7 @@
 ghost use Rattle.std.specs.Prelude.{◌≡◌};
 ghost use Rattle.demo_tests.specs.Counting.{Fits, counted, nothing_counted};
 
-use diy_io::TallySink;
+use crate::text_tally::TextTally;
 
 /// How many tests there are, and how many line feeds and bytes are in their texts.
 #[derive(Clone, Copy)]
@@ -24,12 +24,12 @@ impl TestTally {
     }
 
     /// Counts a test more, by the tally of its text.
-    pub(crate) fn count(&mut self, text: &TallySink)
+    pub(crate) fn count(&mut self, text: &TextTally)
         requires { Fits text.now self.old }
         ensures { self.new ≡ counted text.now self.old }
     {
         self.tests += 1;
-        self.lines += text.lines();
+        self.lines += text.line_feeds();
         self.bytes += text.bytes();
     }
 }

@@ -4,6 +4,7 @@ pub mod Behind
 pub mod Going
 pub mod GivenLaws
 pub mod Walks
+pub mod Passing
 pub mod Texts
 pub mod Wanting
 pub mod RunLaws

@@ -1,12 +1,13 @@
 -- Which cycles a listing wants, and what its walk is told of that.
-use Rattle.std.proofs.Common.{◌≡◌, ◌<◌, ◌≤◌, ◌+◌, ◌&&◌, nat_lt, ℕ, Bool, true, false, cond, not, List, ◌++◌, Option, Some, None, refl, sym, ◌∙◌, arith}
+use Rattle.std.proofs.Common.{◌≡◌, ◌<◌, ◌≤◌, ◌+◌, ◌&&◌, nat_lt, nat_le, ℕ, Bool, true, false, cond, not, List, ◌++◌, Option, Some, None, refl, sym, ◌∙◌, ap, arith}
 use Rattle.std.specs.Prelude.{◌↔◌, is_none}
 use Rattle.std.specs.List.{list_all, position_from}
 use Rattle.std.specs.Option.{option_map}
-use Rattle.std.proofs.lemmas.Bool.{and_parts, leb-true, le-leb, lt-ltb}
+use Rattle.std.proofs.lemmas.Bool.{and_parts, and_from, leb-true, le-leb, lt-ltb}
 use Rattle.std.proofs.lemmas.List.Sums.{sum_by-append}
 use Rattle.std.proofs.lemmas.List.Folds.{list_all-append}
 use Rattle.relax_edges.specs.declared.edge.Edge.{Edge}
+use Rattle.relax_edges.specs.declared.kinds.ArchName.{ArchName}
 use Rattle.relax_edges.specs.declared.kinds.ObsMode.{ObsMode}
 use Rattle.relax_edges.specs.EdgeTable.{is_of_arch, is_external}
 use Rattle.walk_laws.specs.Composable.{IsCycle}
@@ -19,7 +20,7 @@ use Rattle.test_maker.specs.declared.refusal.MakeRefusal.TheVariants.{NotOfArch,
 use Rattle.test_maker.specs.Refusals.{or_else, foreign_edge, resolved_refusal, refusal_of}
 use Rattle.test_maker.proofs.OfArch.{none_foreign}
 use Rattle.diy_io.specs.Shelf.{ShelfSeen}
-use Rattle.listed_tests.specs.Plans.{has_few_threads, has_few_accesses, is_wanted, may_lead}
+use Rattle.listed_tests.specs.Plans.{HaveTests, has_few_threads, has_few_accesses, is_sought, is_wanted, may_lead}
 use Rattle.listed_tests.specs.Runs.{HasLongRun}
 use Rattle.listed_tests.specs.Ends.{WritesAll, StopsAtTest, StopsAtAll}
 use Rattle.listed_tests.proofs.RunLaws.{long_run_crowds}
@@ -43,14 +44,19 @@ wanted_few puts mode threads accesses cycle h =
     and_parts (has_few_threads threads cycle) (has_few_accesses accesses cycle)
     (and_parts (is_none (refusal_of puts cycle mode)) (has_few_threads threads cycle && has_few_accesses accesses cycle) h).1
 
--- a cycle that has a test has two threads
-pub tested_threads : (puts : Puts) (mode : ObsMode) (cycle : List Edge) → refusal_of puts cycle mode ≡ None → 0 < external_count cycle
-tested_threads puts mode cycle h = by_less 0 (external_count cycle) (λ some. some) (λ none. absurd (refused (lt-ltb (external_count cycle) 2 (omega (arith, none)))))
-  where
-    or_none : (a b : Option MakeRefusal) → or_else a b ≡ None → b ≡ None
-    or_none None b e = e
-    or_none (Some reason) b e = cc
+-- two are more than none
+pub two_are_some : (n : ℕ) → nat_le 2 n ≡ true → 0 < n
+two_are_some n h = let two : 2 ≤ n = leb-true 2 n h in omega (arith, two)
 
+or_none : (a b : Option MakeRefusal) → or_else a b ≡ None → b ≡ None
+or_none None b e = e
+or_none (Some reason) b e = cc
+
+-- a cycle that has a test has two threads
+tested_two : (puts : Puts) (mode : ObsMode) (cycle : List Edge) → refusal_of puts cycle mode ≡ None → nat_le 2 (external_count cycle) ≡ true
+tested_two puts mode cycle h =
+    by_less (external_count cycle) 2 (λ few. absurd (refused (lt-ltb (external_count cycle) 2 few))) (λ enough. le-leb 2 (external_count cycle) (omega (arith, enough)))
+  where
     refused : nat_lt (external_count cycle) 2 ≡ true → ⊥
     refused few =
         let by : resolved_refusal puts (resolution_of cycle) mode ≡ Some TooFewThreads = rw few refl in
@@ -58,13 +64,12 @@ tested_threads puts mode cycle h = by_less 0 (external_count cycle) (λ some. so
         let apart : Some TooFewThreads ≡ None = sym by ∙ none in
         cc
 
--- a cycle may begin with edges with which one that is wanted does
-pub wanted_leads : (puts : Puts) (mode : ObsMode) (threads : ℕ) (accesses : Option ℕ) (u r : List Edge) → is_wanted puts mode threads accesses (u ++ r) ≡ true → may_lead puts.name threads u ≡ true
-unfolding may_lead
-wanted_leads puts mode threads accesses u r h =
-    let few : external_count (u ++ r) ≤ threads = leb-true (external_count (u ++ r)) threads (wanted_few puts mode threads accesses (u ++ r) h).0 in
-    let both : external_count (u ++ r) ≡ external_count u + external_count r = sum_by-append (λ e. cond (is_external e) 1 0) u r in
-    rw (of_arch, le-leb (external_count u) threads (omega (arith, few, both))) refl
+-- all its edges are of the architecture
+tested_of_arch : (puts : Puts) (mode : ObsMode) (cycle : List Edge) → refusal_of puts cycle mode ≡ None → list_all (λ e. is_of_arch e puts.name) cycle ≡ true
+tested_of_arch puts mode cycle none =
+    none_foreign (λ e. is_of_arch e puts.name) cycle 0
+    (unfound (position_from (λ e. not (is_of_arch e puts.name)) 0 cycle)
+    (unforeign (foreign_edge puts.name cycle) (resolved_refusal puts (resolution_of cycle) mode) none))
   where
     unforeign : (a b : Option MakeRefusal) → or_else a b ≡ None → a ≡ None
     unforeign None b h = refl
@@ -74,42 +79,82 @@ wanted_leads puts mode threads accesses u r h =
     unfound None e = refl
     unfound (Some at) e = cc
 
-    whole_of_arch : refusal_of puts (u ++ r) mode ≡ None → list_all (λ e. is_of_arch e puts.name) (u ++ r) ≡ true
-    whole_of_arch none =
-        none_foreign (λ e. is_of_arch e puts.name) (u ++ r) 0
-        (unfound (position_from (λ e. not (is_of_arch e puts.name)) 0 (u ++ r))
-        (unforeign (foreign_edge puts.name (u ++ r)) (resolved_refusal puts (resolution_of (u ++ r)) mode) none))
+-- a cycle may begin with the first of edges with which it may begin
+leads_first : (arch : ArchName) (threads : ℕ) (u r : List Edge) → may_lead arch threads (u ++ r) ≡ true → may_lead arch threads u ≡ true
+unfolding may_lead
+leads_first arch threads u r h =
+    let p = and_parts (list_all (λ e. is_of_arch e arch) (u ++ r)) (has_few_threads threads (u ++ r)) h in
+    let few : external_count (u ++ r) ≤ threads = leb-true (external_count (u ++ r)) threads p.1 in
+    let both : external_count (u ++ r) ≡ external_count u + external_count r = sum_by-append (λ e. cond (is_external e) 1 0) u r in
+    and_from (list_all (λ e. is_of_arch e arch) u) (has_few_threads threads u)
+    (and_parts (list_all (λ e. is_of_arch e arch) u) (list_all (λ e. is_of_arch e arch) r) (sym (list_all-append (λ e. is_of_arch e arch) u r) ∙ p.0)).0
+    (le-leb (external_count u) threads (omega (arith, few, both)))
 
-    of_arch : list_all (λ e. is_of_arch e puts.name) u ≡ true
-    of_arch =
-        (and_parts (list_all (λ e. is_of_arch e puts.name) u) (list_all (λ e. is_of_arch e puts.name) r)
-        (sym (list_all-append (λ e. is_of_arch e puts.name) u r) ∙ whole_of_arch (wanted_has_test puts mode threads accesses (u ++ r) h))).0
+few_that_lead : (arch : ArchName) (threads : ℕ) (u : List Edge) → may_lead arch threads u ≡ true → has_few_threads threads u ≡ true
+unfolding may_lead
+few_that_lead arch threads u h = (and_parts (list_all (λ e. is_of_arch e arch) u) (has_few_threads threads u) h).1
 
--- so one that is wanted begins with no others
-pub refused_leads_none : (puts : Puts) (mode : ObsMode) (threads : ℕ) (accesses : Option ℕ) (u r : List Edge) → may_lead puts.name threads u ≡ false → is_wanted puts mode threads accesses (u ++ r) ≡ true → ⊥
-refused_leads_none puts mode threads accesses u r none h =
-    let yes : may_lead puts.name threads u ≡ true = wanted_leads puts mode threads accesses u r h in cc
+-- what is known of a cycle that is wanted if it has a test
+sought_parts : (arch : ArchName) (threads : ℕ) (accesses : Option ℕ) (u : List Edge) → is_sought arch threads accesses u ≡ true
+    → (may_lead arch threads u ≡ true) × (nat_le 2 (external_count u) ≡ true) × (has_few_accesses accesses u ≡ true)
+unfolding is_sought
+sought_parts arch threads accesses u h =
+    let p = and_parts (may_lead arch threads u) (nat_le 2 (external_count u) && has_few_accesses accesses u) h in
+    let q = and_parts (nat_le 2 (external_count u)) (has_few_accesses accesses u) p.1 in
+    (p.0, q.0, q.1)
+
+-- no such cycle begins with edges with which none may
+pub refused_leads_none : (arch : ArchName) (threads : ℕ) (accesses : Option ℕ) (u r : List Edge) → may_lead arch threads u ≡ false → is_sought arch threads accesses (u ++ r) ≡ true → ⊥
+refused_leads_none arch threads accesses u r none h =
+    let yes : may_lead arch threads u ≡ true = leads_first arch threads u r (sought_parts arch threads accesses (u ++ r) h).0 in cc
 
 -- nor with edges that have a long run
-pub long_run_leads_none : (puts : Puts) (mode : ObsMode) (threads : ℕ) (accesses : Option ℕ) (u r : List Edge) → HasLongRun accesses u → is_wanted puts mode threads accesses (u ++ r) ≡ true → ⊥
-long_run_leads_none puts mode threads accesses u r run h =
-    long_run_crowds accesses u r (tested_threads puts mode (u ++ r) (wanted_has_test puts mode threads accesses (u ++ r) h)) run (wanted_few puts mode threads accesses (u ++ r) h).1
+pub long_run_leads_none : (arch : ArchName) (threads : ℕ) (accesses : Option ℕ) (u r : List Edge) → HasLongRun accesses u → is_sought arch threads accesses (u ++ r) ≡ true → ⊥
+long_run_leads_none arch threads accesses u r run h =
+    let p = sought_parts arch threads accesses (u ++ r) h in
+    long_run_crowds accesses u r (two_are_some (external_count (u ++ r)) p.1) run p.2
 
-listed_by : (takes others : List Edge → Type 0) (relaxes : List (List Edge)) (size : ℕ) (exact : Bool) → ((u : List Edge) → IsCycle u → takes u → others u)
-    → (u : List Edge) → IsListed takes relaxes size exact u → IsListed others relaxes size exact u
-listed_by takes others relaxes size exact to u l = record {
-  cycle = l.cycle;
-  normal = l.normal;
-  limits = l.limits;
-  made = l.made;
-  taken = to u l.cycle l.taken;
-}
+-- a cycle that is wanted is one of those, and has a test
+sought_if_wanted : (puts : Puts) (mode : ObsMode) (threads : ℕ) (accesses : Option ℕ) (u : List Edge) → is_wanted puts mode threads accesses u ≡ true → is_sought puts.name threads accesses u ≡ true
+unfolding is_sought may_lead
+sought_if_wanted puts mode threads accesses u h =
+    let few = wanted_few puts mode threads accesses u h in
+    let none = wanted_has_test puts mode threads accesses u h in
+    and_from (list_all (λ e. is_of_arch e puts.name) u && has_few_threads threads u) (nat_le 2 (external_count u) && has_few_accesses accesses u)
+    (and_from (list_all (λ e. is_of_arch e puts.name) u) (has_few_threads threads u) (tested_of_arch puts mode u none) few.0)
+    (and_from (nat_le 2 (external_count u)) (has_few_accesses accesses u) (tested_two puts mode u none) few.1)
 
--- a cycle is listed by one test where it is by another with the same answers
-pub listed_alike : (takes others : List Edge → Type 0) (relaxes : List (List Edge)) (size : ℕ) (exact : Bool) → ((u : List Edge) → IsCycle u → takes u ↔ others u)
-    → (u : List Edge) → IsListed takes relaxes size exact u ↔ IsListed others relaxes size exact u
-listed_alike takes others relaxes size exact same u =
-    (listed_by takes others relaxes size exact (λ u cycle. (same u cycle).0) u, listed_by others takes relaxes size exact (λ u cycle. (same u cycle).1) u)
+wanted_if_sought : (puts : Puts) (mode : ObsMode) (threads : ℕ) (accesses : Option ℕ) (u : List Edge) → is_sought puts.name threads accesses u ≡ true → refusal_of puts u mode ≡ None
+    → is_wanted puts mode threads accesses u ≡ true
+unfolding is_wanted
+wanted_if_sought puts mode threads accesses u h none =
+    let p = sought_parts puts.name threads accesses u h in
+    and_from (is_none (refusal_of puts u mode)) (has_few_threads threads u && has_few_accesses accesses u) (ap is_none none)
+    (and_from (has_few_threads threads u) (has_few_accesses accesses u) (few_that_lead puts.name threads u p.0) p.2)
+
+-- those of a walk's cycles that have a test are what a listing wants, where the walk lists what is wanted if it has one
+pub listed_alike : (puts : Puts) (mode : ObsMode) (threads : ℕ) (accesses : Option ℕ) (takes : List Edge → Type 0) (relaxes : List (List Edge)) (size : ℕ) (exact : Bool)
+    → ((u : List Edge) → IsCycle u → takes u ↔ (is_sought puts.name threads accesses u ≡ true))
+    → (u : List Edge) → HaveTests puts mode (IsListed takes relaxes size exact) u ↔ IsListed (λ v. is_wanted puts mode threads accesses v ≡ true) relaxes size exact u
+listed_alike puts mode threads accesses takes relaxes size exact same u = (
+  λ h. record {
+    cycle = h.0.cycle;
+    normal = h.0.normal;
+    limits = h.0.limits;
+    made = h.0.made;
+    taken = wanted_if_sought puts mode threads accesses u ((same u h.0.cycle).0 h.0.taken) h.1;
+  },
+  λ l. (
+    record {
+      cycle = l.cycle;
+      normal = l.normal;
+      limits = l.limits;
+      made = l.made;
+      taken = (same u l.cycle).1 (sought_if_wanted puts mode threads accesses u l.taken);
+    },
+    wanted_has_test puts mode threads accesses u l.taken,
+  ),
+)
 
 -- what a listing leaves, by another word for the listed cycles
 module _ (listed other : List Edge → Type 0) (same : (u : List Edge) → listed u ↔ other u) (folder : Option (List ℕ)) (text : List Edge → List ℕ) (given : Option (List Edge)) (a b : ShelfSeen) where

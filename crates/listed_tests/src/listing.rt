@@ -1,8 +1,10 @@
-ghost use Rattle.std.specs.Prelude.{◌≡◌, ◌≤◌, ◌↔◌, true, None, length, List, [], ◌∷◌, OnOk, OnErr, IfOk};
+ghost use Rattle.std.specs.Prelude.{◌≡◌, ◌<◌, ◌≤◌, ◌↔◌, true, Some, None, length, List, [], ◌∷◌, OnOk, OnErr, IfOk, IfSome};
 ghost use Rattle.std.specs.Option.{ForSome};
 ghost use Rattle.relax_edges.specs.declared.TheConstants.{MAX_EDGES};
 ghost use Rattle.relax_edges.specs.declared.edge.Edge.{Edge as EdgeValue};
 ghost use Rattle.walk_laws.specs.Composable.{IsCycle};
+ghost use Rattle.listing_laws.specs.Counting.{later};
+ghost use Rattle.listing_laws.specs.Listing.{IsAnswer};
 ghost use Rattle.cycle_enum.specs.Walking.{KnowsOf, Lists, Says};
 ghost use Rattle.diy_io.specs.Shelf.{Idle};
 ghost use Rattle.diy_io.specs.Wrote.{Wrote};
@@ -10,8 +12,9 @@ ghost use Rattle.test_maker.specs.Refusals.{refusal_of};
 ghost use Rattle.listed_tests.specs.Ends.{BeginsBehind, EndsBehind, EndsListing, StopsAtTest};
 ghost use Rattle.listed_tests.specs.Files.{count_line, path_of, file_of};
 ghost use Rattle.listed_tests.specs.Keeping.{HasGone};
-ghost use Rattle.listed_tests.specs.Plans.{folder_of, is_wanted, named_text, plan_of};
+ghost use Rattle.listed_tests.specs.Plans.{HaveTests, folder_of, is_sought, named_text, plan_of};
 ghost use Rattle.listed_tests.specs.Putting.{Put, PutPart};
+ghost use Rattle.listed_tests.specs.Ready.{IsReady};
 
 use crate::ending::ListingEnd;
 use crate::files::{FileName, MAX_FOLDER, file_named, set_path};
@@ -26,7 +29,7 @@ use cycle_names::name_of;
 use diy_io::{Failed, Shelf, Sink};
 use edge_algebra::Cycle;
 use itoa::Buffer;
-use litmus_text::Test;
+use litmus_text::{KeptTable, Test};
 use relax_edges::{Edge, ObsMode, Relaxes};
 
 /// Room for the line on how many tests there are, whose number has at most 39 digits.
@@ -98,8 +101,8 @@ pub fn list_tests<A: Arch, H: Shelf, O: Sink>(
     let keep = |edges: &[Edge]| wanted.may_lead::<A>(edges);
     let fit = |edges: &[Edge]| wanted.may_fit(edges);
     let take = |cycle: &Cycle| -> bool
-        ensures { result ≡ is_wanted A.puts wanted.entry.mode wanted.entry.threads wanted.entry.accesses cycle.now }
-    { wanted.takes::<A>(cycle) };
+        ensures { result ≡ is_sought A.puts.name wanted.entry.threads wanted.entry.accesses cycle.now }
+    { wanted.seeks::<A>(cycle) };
     let mut walk = Walk::new(relaxes, limits, keep, fit, take);
     begin_behind(&mut walk, &after);
     let mut test = Test::new();
@@ -121,7 +124,8 @@ fn begin_behind<K: Fn(&[Edge]) -> bool, J: Fn(&[Edge]) -> bool, P: Fn(&Cycle) ->
     }
 }
 
-/// Writes the files of a walk's cycles from where it stands, and the line on their number. Each test is made in `test`.
+/// Writes the files of those of a walk's cycles that have a test, from where it stands, and the line on their number. Each test
+/// is made in `test`.
 #[inline(never)]
 fn list_walk<
     A: Arch,
@@ -138,7 +142,7 @@ fn list_walk<
     out: &mut O,
 ) -> ListingEnd
     requires knows { KnowsOf K.pre K.Fn.post J.pre J.Fn.post P.pre P.Fn.post walk.old.keep walk.old.fit walk.old.take }
-    requires wanted { (cycle : List EdgeValue) → IsCycle cycle → Says P.Fn.post walk.old.take cycle true ↔ (is_wanted A.puts wanted.now.mode wanted.now.threads wanted.now.accesses cycle ≡ true) }
+    requires sought { (cycle : List EdgeValue) → IsCycle cycle → Says P.Fn.post walk.old.take cycle true ↔ (is_sought A.puts.name wanted.now.threads wanted.now.accesses cycle ≡ true) }
     requires folder { ForSome wanted.now.folder (λ folder. length folder.now ≤ MAX_FOLDER) }
     requires idle { (H.seen shelf.old).mode ≡ Idle }
     ensures { EndsBehind O.seen (plan_of A.puts A.writing wanted.now walk.old.relaxes walk.old.limits) walk.old.last result (H.seen shelf.old) (H.seen shelf.new) out.old out.new }
@@ -148,7 +152,7 @@ fn list_walk<
         Ok(count) => count,
         Err(Failed) => return ListingEnd::ShelfFault,
     };
-    match put_names(&mut names, wanted.folder, walk, shelf) {
+    match put_names::<A, H, K, J, P>(&mut names, wanted.mode, wanted.folder, walk, shelf) {
         Ok(()) => {}
         Err(Failed) => return ListingEnd::ShelfFault,
     }
@@ -158,8 +162,8 @@ fn list_walk<
     }
 }
 
-/// Puts the files of a walk's cycles on the shelf, from where it stands, keeps the lines that name
-/// them, and gives their number. Each test is made in `test`.
+/// Puts the files of those of a walk's cycles on the shelf that have a test, from where it stands, keeps
+/// the lines that name them, and gives their number. Each test is made in `test`.
 fn put_tests<
     A: Arch,
     H: Shelf,
@@ -174,23 +178,44 @@ fn put_tests<
     shelf: &mut H,
 ) -> Result<u128, Failed>
     requires knows { KnowsOf K.pre K.Fn.post J.pre J.Fn.post P.pre P.Fn.post walk.old.keep walk.old.fit walk.old.take }
-    requires have_tests { (cycle : List EdgeValue) → IsCycle cycle → Says P.Fn.post walk.old.take cycle true → refusal_of A.puts cycle wanted.now.mode ≡ None }
     requires folder { ForSome wanted.now.folder (λ folder. length folder.now ≤ MAX_FOLDER) }
     requires idle { (H.seen shelf.old).mode ≡ Idle }
     requires no_lines { names.old.lines.items ≡ [] }
     requires not_closed { names.old.closed ≡ None }
-    ensures ok { IfOk result (λ count. HasGone (Lists P.Fn.post walk.old) (folder_of wanted.now) (named_text A.puts A.writing wanted.now.mode) walk.old.last (H.seen shelf.old) (H.seen shelf.new) count names.new.lines.items names.new.closed) }
-    ensures failed { OnErr result (StopsAtTest (Lists P.Fn.post walk.old) (folder_of wanted.now) (named_text A.puts A.writing wanted.now.mode) walk.old.last (H.seen shelf.old) (H.seen shelf.new)) }
+    ensures ok { IfOk result (λ count. HasGone (HaveTests A.puts wanted.now.mode (Lists P.Fn.post walk.old)) (folder_of wanted.now) (named_text A.puts A.writing wanted.now.mode) walk.old.last (H.seen shelf.old) (H.seen shelf.new) count names.new.lines.items names.new.closed) }
+    ensures failed { OnErr result (StopsAtTest (HaveTests A.puts wanted.now.mode (Lists P.Fn.post walk.old)) (folder_of wanted.now) (named_text A.puts A.writing wanted.now.mode) walk.old.last (H.seen shelf.old) (H.seen shelf.new)) }
     ensures walk { walk.new ≡ record walk.old { last = walk.new.last } }
 {
     let mut desk = Desk::new();
     let mut count: u128 = 0;
-    while let Some(cycle) = walk.next() {
-        let file = put_test::<A, H>(wanted, &cycle, count, test, &mut desk, shelf)?;
+    while let Some(cycle) = next_made::<A, K, J, P>(walk, wanted.mode, test, &mut desk.table) {
+        let file = put_made::<A, H>(wanted, &cycle, count, test, &mut desk, shelf)?;
         count = count.saturating_add(1);
         names.keep(&cycle, &file, count);
     }
     Ok(count)
+}
+
+/// The next of a walk's cycles that has a test. It is made in `test`.
+fn next_made<A: Arch, K: Fn(&[Edge]) -> bool, J: Fn(&[Edge]) -> bool, P: Fn(&Cycle) -> bool>(
+    walk: &mut Walk<K, J, P>,
+    mode: ObsMode,
+    test: &mut Test,
+    table: &mut KeptTable,
+) -> Option<Cycle>
+    requires knows { KnowsOf K.pre K.Fn.post J.pre J.Fn.post P.pre P.Fn.post walk.old.keep walk.old.fit walk.old.take }
+    ensures next { IsAnswer (HaveTests A.puts mode (Lists P.Fn.post walk.old)) walk.old.last result }
+    ensures some { IfSome result (λ cycle. walk.new ≡ record walk.old { last = Some cycle }) }
+    ensures same { walk.new ≡ record walk.old { last = walk.new.last } }
+    ensures falls { IfSome result (λ cycle. later walk.old.limits.size (Some cycle) < later walk.old.limits.size walk.old.last) }
+    ensures ready { IfSome result (λ cycle. IsReady A.NAME A.REGISTERS A.puts A.writing mode cycle test.new table.new) }
+{
+    while let Some(cycle) = walk.next() {
+        if make_test::<A>(&cycle, mode, test, table) {
+            return Some(cycle);
+        }
+    }
+    None
 }
 
 /// Puts the file of a cycle's test on the shelf, and gives its name. The test is made in `test`, and what that was before
@@ -210,8 +235,29 @@ pub(crate) fn put_test<A: Arch, H: Shelf>(
     ensures ok { OnOk result (Put (H.seen shelf.old) (H.seen shelf.new) ((path_of (folder_of wanted.now) (file_of number cycle.now), named_text A.puts A.writing wanted.now.mode cycle.now) ∷ [])) }
     ensures failed { OnErr result (PutPart (H.seen shelf.old) (H.seen shelf.new) [] (path_of (folder_of wanted.now) (file_of number cycle.now)) (named_text A.puts A.writing wanted.now.mode cycle.now)) }
 {
+    if !make_test::<A>(cycle, wanted.mode, test, &mut desk.table) {
+        unreachable!();
+    }
+    put_made::<A, H>(wanted, cycle, number, test, desk, shelf)
+}
+
+/// Puts the file of a cycle's test, which is made, on the shelf, and gives its name.
+fn put_made<A: Arch, H: Shelf>(
+    wanted: &Wanted,
+    cycle: &Cycle,
+    number: u128,
+    test: &Test,
+    desk: &mut Desk,
+    shelf: &mut H,
+) -> Result<FileName, Failed>
+    requires ready { IsReady A.NAME A.REGISTERS A.puts A.writing wanted.now.mode cycle.now test.now desk.old.table }
+    requires folder { ForSome wanted.now.folder (λ folder. length folder.now ≤ MAX_FOLDER) }
+    requires idle { (H.seen shelf.old).mode ≡ Idle }
+    ensures file { IfOk result (λ file. file.bytes ≡ file_of number cycle.now) }
+    ensures ok { OnOk result (Put (H.seen shelf.old) (H.seen shelf.new) ((path_of (folder_of wanted.now) (file_of number cycle.now), named_text A.puts A.writing wanted.now.mode cycle.now) ∷ [])) }
+    ensures failed { OnErr result (PutPart (H.seen shelf.old) (H.seen shelf.new) [] (path_of (folder_of wanted.now) (file_of number cycle.now)) (named_text A.puts A.writing wanted.now.mode cycle.now)) }
+{
     name_of(cycle, &mut desk.name);
-    make_test::<A>(cycle, wanted.mode, test, &mut desk.table);
     let file = file_named(number, desk.name.as_str());
     set_path(wanted.folder, file.as_str(), &mut desk.path);
     put_text::<A, H>(

@@ -1,10 +1,6 @@
-ghost use Rattle.std.specs.Prelude.{◌≡◌, None, ℕ, List, length};
-ghost use Rattle.std.specs.List.{All};
-ghost use Rattle.litmus_text.specs.KeptCells.{HoldsTable};
-ghost use Rattle.litmus_text.specs.Tests.{IsPrintable, test_seen};
-ghost use Rattle.litmus_text.specs.TestText.{test_text};
-ghost use Rattle.test_maker.specs.CycleText.{cycle_text};
+ghost use Rattle.std.specs.Prelude.{◌≡◌, IsTrue, IsFalse, None};
 ghost use Rattle.test_maker.specs.Refusals.{refusal_of};
+ghost use Rattle.listed_tests.specs.Ready.{IsReady};
 
 use crate::files::Path;
 use arch_trait::Arch;
@@ -38,22 +34,23 @@ impl Desk {
     }
 }
 
-/// Makes `test` that of a cycle that has one, ready to be printed.
+/// Makes `test` that of a cycle, ready to be printed, and says whether the cycle has one. Where it has none, nothing is known
+/// of `test` and `table`.
 pub(crate) fn make_test<A: Arch>(
     cycle: &Cycle,
     mode: ObsMode,
     test: &mut Test,
     table: &mut KeptTable,
-)
-    requires { refusal_of A.puts cycle.now mode ≡ None }
-    ensures text { (name : List ℕ) → test_text A.NAME A.writing name (test_seen test.new) ≡ cycle_text A.puts A.writing mode name cycle.now }
-    ensures printable { All (λ code. IsPrintable A.puts.has A.REGISTERS (length test.new.places) code) test.new.threads.items }
-    ensures kept { HoldsTable A.writing (test_seen test.new) table.new }
+) -> bool
+    ensures made { IsTrue result → refusal_of A.puts cycle.now mode ≡ None }
+    ensures ready { IsTrue result → IsReady A.NAME A.REGISTERS A.puts A.writing mode cycle.now test.new table.new }
+    ensures refused { IsFalse result → refusal_of A.puts cycle.now mode ≡ None → ⊥ }
 {
-    let _edges = cycle.edges();
     match make_into::<A>(cycle, mode, test) {
-        Ok(()) => {}
-        Err(_) => unreachable!(),
+        Ok(()) => {
+            table.keep::<A>(test);
+            true
+        }
+        Err(_) => false,
     }
-    table.keep::<A>(test);
 }

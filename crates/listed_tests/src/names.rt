@@ -1,19 +1,25 @@
-ghost use Rattle.std.specs.Prelude.{◌≡◌, ◌≤◌, ◌+◌, ◌++◌, [], ◌∷◌, None, length, codes, OnOk, OnErr, MatchOption};
+ghost use Rattle.std.specs.Prelude.{◌≡◌, ◌<◌, ◌≤◌, ◌+◌, ◌++◌, [], ◌∷◌, Some, None, length, codes, IsTrue, IsFalse, IfSome, OnOk, OnErr, MatchOption};
 ghost use Rattle.std.specs.Option.{ForSome, ForNone, option_map};
 ghost use Rattle.walk_laws.specs.Order.{IsNormal};
+ghost use Rattle.listing_laws.specs.Counting.{later};
+ghost use Rattle.listing_laws.specs.Listing.{IsAnswer};
 ghost use Rattle.cycle_enum.specs.Walking.{KnowsOf, Lists};
 ghost use Rattle.diy_io.specs.Shelf.{Idle};
 ghost use Rattle.listed_tests.specs.Files.{all_path, file_of};
 ghost use Rattle.listed_tests.specs.Keeping.{KeepsLine, NamesAll, NamesBehind, StopsBehind, StopsNaming};
+ghost use Rattle.listed_tests.specs.Plans.{HaveTests};
+ghost use Rattle.test_maker.specs.Refusals.{refusal_of};
 
 use crate::files::{FileName, MAX_FOLDER, file_named, path_of};
 use crate::putting::put_file;
+use arch_trait::Arch;
 use arrayvec::{ArrayString, ArrayVec};
 use cycle_enum::Walk;
 use cycle_names::{MAX_NAME, name_of};
 use diy_io::{Failed, Shelf};
 use edge_algebra::Cycle;
-use relax_edges::Edge;
+use relax_edges::{Edge, ObsMode};
+use test_maker::accepted;
 
 /// The most bytes of a line that names a file.
 pub(crate) const MAX_LINE: usize = 208;
@@ -86,14 +92,16 @@ pub(crate) fn file_of(cycle: &Cycle, number: u128) -> FileName
 }
 
 /// Puts the file that names all others on the shelf. The lines that weren't kept are those of the
-/// walk's cycles behind the last one that was.
+/// walk's cycles that have a test, behind the last one that was.
 pub(crate) fn put_names<
+    A: Arch,
     H: Shelf,
     K: Fn(&[Edge]) -> bool,
     J: Fn(&[Edge]) -> bool,
     P: Fn(&Cycle) -> bool,
 >(
     names: &mut Names,
+    mode: ObsMode,
     folder: Option<&str>,
     walk: &mut Walk<K, J, P>,
     shelf: &mut H,
@@ -102,34 +110,49 @@ pub(crate) fn put_names<
     requires idle { (H.seen shelf.old).mode ≡ Idle }
     requires folder { ForSome folder (λ folder. length folder.now ≤ MAX_FOLDER) }
     requires normal { ForSome names.old.closed (λ closed. IsNormal closed.cycle) }
-    ensures ok { OnOk result (NamesAll (Lists P.Fn.post walk.old) (all_path (option_map (λ folder. folder.now) folder.entry)) names.old.lines.items names.old.closed (H.seen shelf.old) (H.seen shelf.new)) }
-    ensures failed { OnErr result (StopsNaming (Lists P.Fn.post walk.old) (all_path (option_map (λ folder. folder.now) folder.entry)) names.old.lines.items names.old.closed (H.seen shelf.old) (H.seen shelf.new)) }
+    ensures ok { OnOk result (NamesAll (HaveTests A.puts mode (Lists P.Fn.post walk.old)) (all_path (option_map (λ folder. folder.now) folder.entry)) names.old.lines.items names.old.closed (H.seen shelf.old) (H.seen shelf.new)) }
+    ensures failed { OnErr result (StopsNaming (HaveTests A.puts mode (Lists P.Fn.post walk.old)) (all_path (option_map (λ folder. folder.now) folder.entry)) names.old.lines.items names.old.closed (H.seen shelf.old) (H.seen shelf.new)) }
 {
     let path = path_of(folder, "@all");
     match &names.closed {
         None => put_file(path.as_str(), names.lines.as_slice(), shelf),
-        Some(closed) => put_behind(path.as_str(), &mut names.lines, closed, walk, shelf),
+        Some(closed) => put_behind::<A, H, K, J, P>(
+            path.as_str(),
+            &mut names.lines,
+            closed,
+            mode,
+            walk,
+            shelf,
+        ),
     }
 }
 
-/// Puts a file on the shelf that has the lines, and then those of the walk's cycles behind a cycle.
-fn put_behind<H: Shelf, K: Fn(&[Edge]) -> bool, J: Fn(&[Edge]) -> bool, P: Fn(&Cycle) -> bool>(
+/// Puts a file on the shelf that has the lines, and then those of the walk's cycles that have a test,
+/// behind a cycle.
+fn put_behind<
+    A: Arch,
+    H: Shelf,
+    K: Fn(&[Edge]) -> bool,
+    J: Fn(&[Edge]) -> bool,
+    P: Fn(&Cycle) -> bool,
+>(
     path: &str,
     lines: &mut Lines,
     closed: &Closed,
+    mode: ObsMode,
     walk: &mut Walk<K, J, P>,
     shelf: &mut H,
 ) -> Result<(), Failed>
     requires knows { KnowsOf K.pre K.Fn.post J.pre J.Fn.post P.pre P.Fn.post walk.old.keep walk.old.fit walk.old.take }
     requires idle { (H.seen shelf.old).mode ≡ Idle }
     requires normal { IsNormal closed.now.cycle }
-    ensures ok { OnOk result (NamesBehind (Lists P.Fn.post walk.old) path.now lines.old.items closed.now (H.seen shelf.old) (H.seen shelf.new)) }
-    ensures failed { OnErr result (StopsBehind (Lists P.Fn.post walk.old) path.now lines.old.items closed.now (H.seen shelf.old) (H.seen shelf.new)) }
+    ensures ok { OnOk result (NamesBehind (HaveTests A.puts mode (Lists P.Fn.post walk.old)) path.now lines.old.items closed.now (H.seen shelf.old) (H.seen shelf.new)) }
+    ensures failed { OnErr result (StopsBehind (HaveTests A.puts mode (Lists P.Fn.post walk.old)) path.now lines.old.items closed.now (H.seen shelf.old) (H.seen shelf.new)) }
 {
     shelf.create(path)?;
     walk.after(&closed.cycle);
     let mut number = closed.number;
-    while let Some(cycle) = walk.next() {
+    while let Some(cycle) = next_accepted::<A, K, J, P>(walk, mode) {
         if lines.remaining_capacity() < MAX_LINE {
             shelf.append(lines.as_slice())?;
             lines.clear();
@@ -139,4 +162,33 @@ fn put_behind<H: Shelf, K: Fn(&[Edge]) -> bool, J: Fn(&[Edge]) -> bool, P: Fn(&C
     }
     shelf.append(lines.as_slice())?;
     shelf.finish()
+}
+
+/// The next of a walk's cycles that has a test. None is made.
+fn next_accepted<A: Arch, K: Fn(&[Edge]) -> bool, J: Fn(&[Edge]) -> bool, P: Fn(&Cycle) -> bool>(
+    walk: &mut Walk<K, J, P>,
+    mode: ObsMode,
+) -> Option<Cycle>
+    requires knows { KnowsOf K.pre K.Fn.post J.pre J.Fn.post P.pre P.Fn.post walk.old.keep walk.old.fit walk.old.take }
+    ensures next { IsAnswer (HaveTests A.puts mode (Lists P.Fn.post walk.old)) walk.old.last result }
+    ensures some { IfSome result (λ cycle. walk.new ≡ record walk.old { last = Some cycle }) }
+    ensures falls { IfSome result (λ cycle. later walk.old.limits.size (Some cycle) < later walk.old.limits.size walk.old.last) }
+{
+    while let Some(cycle) = walk.next() {
+        if is_accepted::<A>(&cycle, mode) {
+            return Some(cycle);
+        }
+    }
+    None
+}
+
+/// Whether a cycle has a test.
+fn is_accepted<A: Arch>(cycle: &Cycle, mode: ObsMode) -> bool
+    ensures accepted { IsTrue result → refusal_of A.puts cycle.now mode ≡ None }
+    ensures refused { IsFalse result → refusal_of A.puts cycle.now mode ≡ None → ⊥ }
+{
+    match accepted::<A>(cycle, mode) {
+        Ok(()) => true,
+        Err(_) => false,
+    }
 }

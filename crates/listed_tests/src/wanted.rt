@@ -1,14 +1,14 @@
-ghost use Rattle.std.specs.Prelude.{◌≡◌, ◌↔◌, IsFalse};
+ghost use Rattle.std.specs.Prelude.{◌≡◌, ◌↔◌, IsFalse, nat_le};
 ghost use Rattle.std.specs.List.{list_all};
 ghost use Rattle.relax_edges.specs.EdgeTable.{is_of_arch};
-ghost use Rattle.listed_tests.specs.Plans.{has_few_threads, is_wanted, may_lead};
+ghost use Rattle.resolution_laws.specs.Resolution.{external_count};
+ghost use Rattle.listed_tests.specs.Plans.{has_few_threads, is_sought, may_lead};
 ghost use Rattle.listed_tests.specs.Runs.{HasLongRun};
 
 use crate::runs::{has_few_accesses, stays_below};
 use arch_trait::Arch;
 use edge_algebra::Cycle;
 use relax_edges::{Edge, ObsMode};
-use test_maker::accepted;
 
 /// What is wanted of a cycle that has a file in a listing, and where the file lies.
 #[derive(Clone, Copy)]
@@ -42,14 +42,14 @@ impl Wanted<'_> {
         }
     }
 
-    /// Whether a cycle is wanted: it has a test, no more threads than are asked for, and no more
-    /// accesses in each of them.
-    #[tactic(auto, using(crate::proofs::Wanting::tested_threads), unfolding(crate::specs::Plans::is_wanted))]
-    pub(crate) fn takes<A: Arch>(&self, cycle: &Cycle) -> bool
-        ensures { result ≡ is_wanted A.puts self.now.mode self.now.threads self.now.accesses cycle.now }
+    /// Whether a cycle is wanted if it has a test: its edges are of the architecture and lead to two
+    /// threads or more, but to no more than are asked for, and each has no more accesses.
+    #[tactic(auto, using(crate::proofs::Wanting::two_are_some), unfolding(crate::specs::Plans::is_sought))]
+    pub(crate) fn seeks<A: Arch>(&self, cycle: &Cycle) -> bool
+        ensures { result ≡ is_sought A.puts.name self.now.threads self.now.accesses cycle.now }
     {
-        accepted::<A>(cycle, self.mode).is_ok()
-            && has_few_threads(cycle.edges(), self.threads)
+        self.may_lead::<A>(cycle.edges())
+            && has_two_threads(cycle.edges())
             && has_few_accesses(cycle.edges(), self.accesses)
     }
 }
@@ -66,4 +66,11 @@ fn has_few_threads(edges: &[Edge], threads: u8) -> bool
     ensures { result ≡ has_few_threads threads edges.now }
 {
     edges.iter().filter(|edge| edge.is_external()).count() <= usize::from(threads)
+}
+
+/// Whether two edges or more lead to another thread.
+fn has_two_threads(edges: &[Edge]) -> bool
+    ensures { result ≡ nat_le 2 (external_count edges.now) }
+{
+    edges.iter().filter(|edge| edge.is_external()).count() >= 2
 }

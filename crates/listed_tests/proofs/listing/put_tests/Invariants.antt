@@ -2,12 +2,12 @@ use Rattle.std.proofs.Common.{◌≡◌}
 use Rattle.listing_laws.specs.Counting.{later}
 use Rattle.cycle_enum.specs.Walking.{Lists}
 use Rattle.listed_tests.specs.Keeping.{Goes}
-use Rattle.listed_tests.specs.Plans.{folder_of, named_text}
+use Rattle.listed_tests.specs.Plans.{HaveTests, folder_of, named_text}
 use Rattle.listed_tests.proofs.listing.put_tests.Given as goal
 
 abbrev pub invariant-loop-cycle : goal.invariant-loop-cycle
 invariant-loop-cycle g l = record {
-  goes : Goes (Lists g.P.Fn.post l.fn.walk) (folder_of l.wanted) (named_text g.A.Arch.puts g.A.Arch.writing l.wanted.mode) l.fn.walk.last l.walk.last (g.H.Shelf.seen l.fn.shelf) (g.H.Shelf.seen l.shelf) l.count l.names.lines.items l.names.closed;
+  goes : Goes (HaveTests g.A.Arch.puts l.wanted.mode (Lists g.P.Fn.post l.fn.walk)) (folder_of l.wanted) (named_text g.A.Arch.puts g.A.Arch.writing l.wanted.mode) l.fn.walk.last l.walk.last (g.H.Shelf.seen l.fn.shelf) (g.H.Shelf.seen l.shelf) l.count l.names.lines.items l.names.closed;
   walk : l.walk ≡ record l.fn.walk { last = l.walk.last };
 }
 

@@ -1,6 +1,9 @@
 use Rattle.test_maker.specs.CycleTextLaws.{made_text}
 use Rattle.listed_tests.proofs.making.make_test.Goals as goal
 
-pub returns-clause-text : goal.returns-clause-text
-returns-clause-text g c =
-    λ name. made_text g.A.Arch.puts g.A.Arch.writing c.args.mode name c.args.cycle.now g.A.Arch.NAME c.make_into.new.test g.met.A.Arch.same_name c.in-Ok.ensures.made.1
+pub returns-in-Ok-clause-ready : goal.returns-in-Ok-clause-ready
+returns-in-Ok-clause-ready g c = λ yes. record {
+  text = λ name. made_text g.A.Arch.puts g.A.Arch.writing c.args.mode name c.args.cycle.now g.A.Arch.NAME c.make_into.new.test g.met.A.Arch.same_name c.in-Ok.ensures.made.1;
+  printable = c.in-Ok.ensures.printable;
+  kept = c.keep.ensures;
+}

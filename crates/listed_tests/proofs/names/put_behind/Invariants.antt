@@ -2,11 +2,12 @@ use Rattle.std.proofs.Common.{◌≡◌}
 use Rattle.listing_laws.specs.Counting.{later}
 use Rattle.cycle_enum.specs.Walking.{Lists}
 use Rattle.listed_tests.specs.Keeping.{Naming}
+use Rattle.listed_tests.specs.Plans.{HaveTests}
 use Rattle.listed_tests.proofs.names.put_behind.Given as goal
 
 abbrev pub invariant-loop-cycle : goal.invariant-loop-cycle
 invariant-loop-cycle g l = record {
-  naming : Naming (Lists g.P.Fn.post l.fn.walk) l.path l.fn.lines.items l.closed l.walk.last (g.H.Shelf.seen l.fn.shelf) (g.H.Shelf.seen l.shelf) l.number l.lines.items;
+  naming : Naming (HaveTests g.A.Arch.puts l.mode (Lists g.P.Fn.post l.fn.walk)) l.path l.fn.lines.items l.closed l.walk.last (g.H.Shelf.seen l.fn.shelf) (g.H.Shelf.seen l.shelf) l.number l.lines.items;
   walk : l.walk ≡ record l.fn.walk { last = l.walk.last };
 }
 

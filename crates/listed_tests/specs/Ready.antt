@@ -1,0 +1,20 @@
+-- A test that is made and ready to be printed.
+-- Source: own.
+use Rattle.std.specs.Prelude.{◌≡◌, ℕ, List, length}
+use Rattle.std.specs.List.{All}
+use Rattle.relax_edges.specs.declared.edge.Edge.{Edge}
+use Rattle.relax_edges.specs.declared.kinds.ArchName.{ArchName}
+use Rattle.relax_edges.specs.declared.kinds.ObsMode.{ObsMode}
+use Rattle.arch_trait.specs.Threads.{Puts}
+use Rattle.arch_trait.specs.Writing.{Writing}
+use Rattle.litmus_text.specs.declared.test.Test.{Test}
+use Rattle.litmus_text.specs.KeptCells.{TableSeen, HoldsTable}
+use Rattle.litmus_text.specs.Tests.{IsPrintable, test_seen}
+use Rattle.litmus_text.specs.TestText.{test_text}
+use Rattle.test_maker.specs.CycleText.{cycle_text}
+
+-- a test is that of a cycle on an architecture with so many registers, it can be printed, and its table is kept
+pub record IsReady (arch : ArchName) (registers : ℕ) (puts : Puts) (writing : Writing) (mode : ObsMode) (cycle : List Edge) (test : Test) (table : TableSeen) : Type 0 where
+  pub text : (name : List ℕ) → test_text arch writing name (test_seen test) ≡ cycle_text puts writing mode name cycle
+  pub printable : All (λ code. IsPrintable puts.has registers (length test.places) code) test.threads.items
+  pub kept : HoldsTable writing (test_seen test) table
