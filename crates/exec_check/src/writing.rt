@@ -96,7 +96,7 @@ fn send_edge<O: Sink>(
 
 /// Sends a line of a word and an answer.
 fn send_answer<O: Sink>(
-    word: &[u8],
+    word: &'static [u8],
     answer: bool,
     page: &mut Page,
     out: &mut O,
