@@ -1,5 +1,5 @@
 -- The lines of a verdict, sent one after another.
-use Rattle.std.proofs.Common.{◌≡◌, ◌≤◌, ◌<◌, ℕ, ◌+◌, ◌-◌, Bool, true, false, List, [], ◌∷◌, ◌++◌, length, get_or, take, drop, Ok, Err, refl, sym, subst, arith, append_assoc}
+use Rattle.std.proofs.Common.{◌≡◌, ◌≤◌, ◌<◌, ℕ, ◌+◌, ◌-◌, Bool, true, false, List, [], ◌∷◌, ◌++◌, length, get_or, take, drop, Ok, Err, refl, subst, arith}
 use Rattle.std.specs.Prelude.{codes, Result}
 use Rattle.std.specs.Result.{IsErrAnd}
 use Rattle.std.specs.Fmt.{decimal}
