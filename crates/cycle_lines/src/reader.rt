@@ -20,7 +20,7 @@ const PIECE: usize = 36_864;
 /// Room for a piece, after a line of `MAX_LINE` bytes and its carriage return.
 const BUFFER: usize = PIECE + MAX_LINE + 1;
 
-/// What is found behind the lines that were given. Its cycle is put where it is to be, if it has one.
+/// What is found after the lines that were given. The cycle that it says is put where it is to be.
 #[derive(Clone, Copy)]
 pub(crate) enum Found {
     /// The next line.
@@ -32,7 +32,7 @@ pub(crate) enum Found {
 /// Whether the next line was read.
 #[derive(Clone, Copy)]
 pub(crate) enum Line {
-    /// Its cycle is put where it is to be, if it has one.
+    /// It was, and the cycle that it says, if any, is put where it is to be.
     Read,
     /// It has a fault.
     Wrong(LineKind),

@@ -47,7 +47,7 @@ fn cut_at_separator(separators: Separators, bytes: &[u8]) -> Option<(&[u8], &[u8
     }
 }
 
-/// The kind of separators is looked at once, and not for each byte.
+/// The place of the first separator. Which bytes separate is asked once, and not for each byte.
 fn first_separator(separators: Separators, bytes: &[u8]) -> Option<usize>
     ensures place { result ≡ position (separates separators) bytes.now }
     ensures within { IfSome result (λ at. at < length bytes.now) }
