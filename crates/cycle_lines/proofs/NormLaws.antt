@@ -23,7 +23,7 @@ use Rattle.cycle_lines.specs.declared.errors.NormError.TheVariants.{Lines, OutFa
 use Rattle.cycle_lines.specs.Reading.{ReadAll, ReadUpTo}
 use Rattle.cycle_lines.specs.Normed.{name_line, name_lines, last_lines, WritesLast, NormedUpTo, NormedPart, Norms}
 use Rattle.cycle_lines.specs.Steps.{ReaderSeen, HasRead, GivesLine, last_cycle}
-use Rattle.cycle_lines.proofs.ReadLaws.{Before, nothing_read, line_given, no_cycle_given, fault_given, no_cycles, given_before, all_before}
+use Rattle.cycle_lines.proofs.ReadLaws.{Before, nothing_read, line_given, fault_given, no_cycles, given_before, all_before}
 
 pub line_text : (cycle : List Edge) (name words : List ℕ) → name ≡ name_of cycle → words ≡ join_by word_of (codes " ") (named_rotation cycle) →
     ((name ++ codes ": ") ++ words) ++ codes "\n" ≡ name_line cycle
@@ -67,20 +67,30 @@ nothing_normed arch s a r page e f =
 name_lines_more : (cycles : List (List Edge)) (cycle : List Edge) → name_lines cycles ++ name_line cycle ≡ name_lines (cycles ++ cycle ∷ [])
 name_lines_more cycles cycle = sym (lines_more cycles (cycle ∷ []) ∙ ap (λ t. name_lines cycles ++ t) (one_line cycle))
 
-pub line_normed : (arch : ArchName) (s t : SourceSeen) (a b c : SinkSeen) (r q : ReaderSeen) (page next : List ℕ) (cycle : List Edge)
-    → Normed arch s t a b r page → GivesLine arch r q (Ok (Some cycle)) → SentAll b page c next (name_line cycle) → Normed arch s t a c q next
-line_normed arch s t a b c r q page next cycle given g k = record {
+cycle_given : (arch : ArchName) (s t : SourceSeen) (r q : ReaderSeen) (cycles : List (List Edge)) (said : Option (List Edge)) (cycle : List Edge)
+    → HasRead arch s t r cycles → GivesLine arch r q (Ok said) → said ≡ Some cycle → HasRead arch s t q (cycles ++ cycle ∷ [])
+cycle_given arch s t r q cycles said cycle h g e = subst (λ o. HasRead arch s t q (cycles ++ last_cycle o)) e (line_given arch s t r q cycles said h g)
+
+pub line_normed : (arch : ArchName) (s t : SourceSeen) (a b c : SinkSeen) (r q : ReaderSeen) (page next : List ℕ) (said : Option (List Edge)) (cycle : List Edge)
+    → Normed arch s t a b r page → GivesLine arch r q (Ok said) → said ≡ Some cycle → SentAll b page c next (name_line cycle) → Normed arch s t a c q next
+line_normed arch s t a b c r q page next said cycle given g e k = record {
   cycles = given.cycles ++ cycle ∷ [];
-  read = line_given arch s t r q given.cycles (Some cycle) given.read g;
+  read = cycle_given arch s t r q given.cycles said cycle given.read g e;
   sent =
       sent_same a c [] next (name_lines given.cycles ++ name_line cycle) (name_lines (given.cycles ++ cycle ∷ []))
       (sent_both a b c [] page next (name_lines given.cycles) (name_line cycle) given.sent k) (name_lines_more given.cycles cycle);
 }
 
 -- a line of blanks
-pub blank_normed : (arch : ArchName) (s t : SourceSeen) (a b : SinkSeen) (r q : ReaderSeen) (page : List ℕ)
-    → Normed arch s t a b r page → GivesLine arch r q (Ok None) → Normed arch s t a b q page
-blank_normed arch s t a b r q page given g = record { cycles = given.cycles; read = no_cycle_given arch s t r q given.cycles given.read g; sent = given.sent }
+pub blank_normed : (arch : ArchName) (s t : SourceSeen) (a b : SinkSeen) (r q : ReaderSeen) (page : List ℕ) (said : Option (List Edge))
+    → Normed arch s t a b r page → GivesLine arch r q (Ok said) → said ≡ None → Normed arch s t a b q page
+blank_normed arch s t a b r q page said given g e = record {
+  cycles = given.cycles;
+  read =
+      subst (HasRead arch s t q) (append-nil given.cycles)
+      (subst (λ o. HasRead arch s t q (given.cycles ++ last_cycle o)) e (line_given arch s t r q given.cycles said given.read g));
+  sent = given.sent;
+}
 
 -- the sink fails, and has taken a prefix of the lines of cycles that stand before the first fault
 part_before : (arch : ArchName) (s t : SourceSeen) (a b : SinkSeen) (cycles : List (List Edge)) → Before arch s t cycles → WrotePart a b (name_lines cycles) → NormedPart arch s t a b
@@ -93,11 +103,11 @@ part_before arch s t a b cycles h part = record {
 }
 
 -- at the line of a cycle
-pub line_stopped : (arch : ArchName) (s t : SourceSeen) (a b c : SinkSeen) (r q : ReaderSeen) (page : List ℕ) (cycle : List Edge)
-    → Normed arch s t a b r page → GivesLine arch r q (Ok (Some cycle)) → WrotePart b c (page ++ name_line cycle) → NormedPart arch s t a c
-line_stopped arch s t a b c r q page cycle given g part =
+pub line_stopped : (arch : ArchName) (s t : SourceSeen) (a b c : SinkSeen) (r q : ReaderSeen) (page : List ℕ) (said : Option (List Edge)) (cycle : List Edge)
+    → Normed arch s t a b r page → GivesLine arch r q (Ok said) → said ≡ Some cycle → WrotePart b c (page ++ name_line cycle) → NormedPart arch s t a c
+line_stopped arch s t a b c r q page said cycle given g e part =
     part_before arch s t a c (given.cycles ++ cycle ∷ [])
-    (given_before arch s t q (given.cycles ++ cycle ∷ []) (line_given arch s t r q given.cycles (Some cycle) given.read g) (no_cycles given.cycles cycle))
+    (given_before arch s t q (given.cycles ++ cycle ∷ []) (cycle_given arch s t r q given.cycles said cycle given.read g e) (no_cycles given.cycles cycle))
     (subst (WrotePart a c) (name_lines_more given.cycles cycle) (sent_part a b c [] page (name_lines given.cycles) (name_line cycle) given.sent part))
 
 -- where the page is handed on

@@ -150,12 +150,6 @@ line_given arch s t r q cycles said h g =
       few = subst (λ n. n ≤ MAX_INPUT) (sym g.taken_is) h.few;
     }
 
--- no cycle more
-pub no_cycle_given : (arch : ArchName) (s t : SourceSeen) (r q : ReaderSeen) (cycles : List (List Edge)) →
-    HasRead arch s t r cycles → GivesLine arch r q (Ok None) → HasRead arch s t q cycles
-no_cycle_given arch s t r q cycles h g =
-    subst (HasRead arch s t q) (append-nil cycles) (line_given arch s t r q cycles None h g)
-
 took_pending : (arch : ArchName) (s t : SourceSeen) (r : ReaderSeen) (cycles : List (List Edge)) (h : HasRead arch s t r cycles) → 0 < length r.pending → Took s t (h.given ++ r.pending)
 took_pending arch s t r cycles h some = took_some s t (h.given ++ r.pending) h.took (omega (arith, some, length-append h.given r.pending))
 
@@ -462,8 +456,8 @@ buffer_left buffer pending bytes behind start end next e cut n =
     ∙ ap (take ((end - start) - (length bytes + 1))) (sym (drop-drop (length bytes + 1) start buffer))
     ∙ sym (drop_take (drop start buffer) (length bytes + 1) (end - start)) ∙ ap (drop (length bytes + 1)) (sym e) ∙ behind_is
 
-pub given_next : (arch : ArchName) (r q : ReaderSeen) (line : Line) (said : Result (Option (List Edge)) LineKind) → said_by line ≡ Some said → GivesLine arch r q said → GivesNext arch r q line
-given_next arch r q line said e h = subst (λ o. MatchOption o (Without 10 r.pending × (q ≡ r)) (λ said. GivesLine arch r q said)) (sym e) h
+pub given_next : (arch : ArchName) (r q : ReaderSeen) (cycle : Option (List Edge)) (line : Line) (said : Result (Option (List Edge)) LineKind) → said_by line cycle ≡ Some said → GivesLine arch r q said → GivesNext arch r q cycle line
+given_next arch r q cycle line said e h = subst (λ o. MatchOption o (Without 10 r.pending × (q ≡ r)) (λ said. GivesLine arch r q said)) (sym e) h
 
 -- a line falls off the work
 pub line_less : (arch : ArchName) (r q : ReaderSeen) (said : Result (Option (List Edge)) LineKind) → GivesLine arch r q said → work q < work r
@@ -490,13 +484,13 @@ some_if text pending e h = by_length (length pending) refl
     by_length (suc n) k = omega arith
 
 pub ends_less : (old new : ℕ) (result : Result Found LinesError) → Ends result → LessToDo old new result
-ends_less old new (Ok (Next cycle)) h = absurd h
-ends_less old new (Ok (Last cycle)) h = tt
+ends_less old new (Ok Next) h = absurd h
+ends_less old new (Ok Last) h = tt
 ends_less old new (Err error) h = tt
 
 -- what was found, taken apart
-pub found_next : (arch : ArchName) (s t : SourceSeen) (r : ReaderSeen) (cycles : List (List Edge)) (found : Found) (cycle : List Edge) → found ≡ Next cycle → Continues arch s t r cycles (Ok found) → HasRead arch s t r (cycles ++ cycle ∷ [])
-found_next arch s t r cycles found cycle e h = subst (λ f. Continues arch s t r cycles (Ok f)) e h
+pub found_next : (arch : ArchName) (s t : SourceSeen) (r : ReaderSeen) (cycles : List (List Edge)) (cycle : Option (List Edge)) (found : Found) → found ≡ Next → Continues arch s t r cycles cycle (Ok found) → HasRead arch s t r (cycles ++ last_cycle cycle)
+found_next arch s t r cycles cycle found e h = subst (λ f. Continues arch s t r cycles cycle (Ok f)) e h
 
-pub found_last : (arch : ArchName) (s t : SourceSeen) (r : ReaderSeen) (cycles : List (List Edge)) (found : Found) (cycle : Option (List Edge)) → found ≡ Last cycle → Continues arch s t r cycles (Ok found) → ReadAll arch s t (cycles ++ last_cycle cycle)
-found_last arch s t r cycles found cycle e h = subst (λ f. Continues arch s t r cycles (Ok f)) e h
+pub found_last : (arch : ArchName) (s t : SourceSeen) (r : ReaderSeen) (cycles : List (List Edge)) (cycle : Option (List Edge)) (found : Found) → found ≡ Last → Continues arch s t r cycles cycle (Ok found) → ReadAll arch s t (cycles ++ last_cycle cycle)
+found_last arch s t r cycles cycle found e h = subst (λ f. Continues arch s t r cycles cycle (Ok f)) e h

@@ -1,5 +1,5 @@
 -- The names of cycles by their families, as they are kept and written.
-use Rattle.std.proofs.Common.{◌≡◌, ◌≤◌, ◌<◌, ◌+◌, ℕ, zero, suc, List, [], ◌∷◌, ◌++◌, length, take, get_or, Option, Some, None, Ok, Err, true, false, refl, sym, ap, inl, inr, ◌∙◌, subst, arith, append-nil, append_assoc}
+use Rattle.std.proofs.Common.{◌≡◌, ◌≤◌, ◌<◌, ◌+◌, ℕ, zero, suc, List, [], ◌∷◌, ◌++◌, length, take, get_or, Option, None, Ok, Err, true, false, refl, sym, ap, inl, inr, ◌∙◌, subst, arith, append-nil, append_assoc}
 use Rattle.std.specs.Prelude.{cond, map, filter, fold, codes, Result, OnOk, IsTrue, ◌↔◌, slice_set}
 use Rattle.std.specs.List.{flat_map}
 use Rattle.std.specs.Result.{IsErrAnd}
@@ -28,12 +28,10 @@ use Rattle.cycle_names.specs.declared.family.Family.TheVariants as families
 use Rattle.cycle_names.specs.Families.{family_word}
 use Rattle.cycle_names.specs.Names.{name_of}
 use Rattle.cycle_names.specs.Rotations.{family_of}
-use Rattle.cycle_lines.specs.declared.errors.ClassifyError.{ClassifyError}
-use Rattle.cycle_lines.specs.declared.errors.ClassifyError.TheVariants.{Lines, OutFault, NoMemory}
 use Rattle.cycle_lines.specs.declared.table.FamilyNames.{FamilyNames}
 use Rattle.cycle_lines.specs.Reading.{ReadAll}
 use Rattle.cycle_lines.specs.Classified.{families_in_order, is_family, with_text, family_names, name_entry, family_text, families_text, ReadsPart, ClassifiedAll, ClassifiedPart}
-use Rattle.cycle_lines.specs.Tables.{place_of, texts_of, Entry, entry_view, entry_text, table_of, Holds, entry_with, name_put, Adds, PutsLast, Gathered, Gathers}
+use Rattle.cycle_lines.specs.Tables.{place_of, texts_of, Entry, entry_view, entry_text, table_of, Holds, entry_with, name_put, Adds, AddsLast, Gathered}
 use Rattle.cycle_lines.specs.Steps.{ReaderSeen, HasRead, last_cycle}
 use Rattle.cycle_lines.proofs.LineLaws.{by_test}
 use Rattle.cycle_lines.proofs.ReadLaws.{nothing_read, kept_same}
@@ -258,12 +256,10 @@ pub nothing_gathered : (arch : ArchName) (s : SourceSeen) (r : ReaderSeen) (tabl
 nothing_gathered arch s r table e h = subst (λ r. Gathering arch s s r table) (sym e) (record { cycles = []; read = nothing_read arch s; holds = h })
 
 -- the last one
-pub gathered_last : (arch : ArchName) (s t : SourceSeen) (cycles : List (List Edge)) (cycle : Option (List Edge)) (table : List Entry) (result : Result (List Entry) ClassifyError) →
-    ReadAll arch s t (cycles ++ last_cycle cycle) → Holds table cycles → PutsLast table cycle result → Gathers arch s t result
-gathered_last arch s t cycles (Some cycle) table (Ok new) h held puts = record { cycles = cycles ++ cycle ∷ []; read = h; holds = puts cycles held }
-gathered_last arch s t cycles None table (Ok new) h held puts = record { cycles = cycles; read = subst (ReadAll arch s t) (append-nil cycles) h; holds = puts ∙ held }
-gathered_last arch s t cycles cycle table (Err NoMemory) h held puts = whole_read arch s t (cycles ++ last_cycle cycle) h
-gathered_last arch s t cycles (Some cycle) table (Err (Lines error)) h held puts = absurd puts
-gathered_last arch s t cycles None table (Err (Lines error)) h held puts = absurd puts
-gathered_last arch s t cycles (Some cycle) table (Err OutFault) h held puts = absurd puts
-gathered_last arch s t cycles None table (Err OutFault) h held puts = absurd puts
+pub gathered_last : (arch : ArchName) (s t : SourceSeen) (cycles : List (List Edge)) (cycle : Option (List Edge)) (old new : List Entry) →
+    ReadAll arch s t (cycles ++ last_cycle cycle) → Holds old cycles → AddsLast old new cycle → Gathered arch s t new
+gathered_last arch s t cycles cycle old new h held adds = record { cycles = cycles ++ last_cycle cycle; read = h; holds = adds cycles held }
+
+-- no cycle is kept
+pub adds_none : (table : List Entry) (cycle : Option (List Edge)) → cycle ≡ None → AddsLast table table cycle
+adds_none table cycle e = subst (AddsLast table table) (sym e) (λ cycles holds. subst (Holds table) (sym (append-nil cycles)) holds)

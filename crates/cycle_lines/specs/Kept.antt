@@ -1,5 +1,5 @@
--- What is made of the edges of a line as they are kept.
-use Rattle.std.specs.Prelude.{List, Option, Result, Err}
+-- What is made of a line, and of its edges as they are kept.
+use Rattle.std.specs.Prelude.{List, Option, Result, Ok, Err}
 use Rattle.relax_edges.specs.declared.kinds.ArchName.{ArchName}
 use Rattle.relax_edges.specs.declared.edge.Edge.{Edge}
 use Rattle.edge_lists.specs.declared.list.EdgeList.{EdgeList}
@@ -7,6 +7,11 @@ use Rattle.edge_lists.specs.declared.list.EdgeList.TheVariants.{Whole, TooLong}
 use Rattle.cycle_lines.specs.declared.errors.LineKind.{LineKind}
 use Rattle.cycle_lines.specs.declared.errors.LineKind.TheVariants as kinds
 use Rattle.cycle_lines.specs.Cycles.{cycle_made}
+
+-- what a line says, which was put where it was to be, or its fault
+abbrev pub said_with : Result (Unit {0}) LineKind → Option (List Edge) → Result (Option (List Edge)) LineKind
+said_with (Ok _) cycle = Ok cycle
+said_with (Err kind) cycle = Err kind
 
 -- the cycle of an architecture that edges make as they are kept, or their first fault
 abbrev pub made_kept : ArchName → EdgeList → Result (Option (List Edge)) LineKind

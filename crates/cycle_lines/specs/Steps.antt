@@ -55,16 +55,15 @@ pub record GivesLine (arch : ArchName) (old new : ReaderSeen) (said : Result (Op
   pub line_is : new.line ≡ old.line + 1
   pub taken_is : new.taken ≡ old.taken
 
--- what the next line says, if it is pending as a whole
-abbrev pub said_by : Line → Option (Result (Option (List Edge)) LineKind)
-said_by (lines.Cycle cycle) = Some (Ok (Some cycle))
-said_by lines.Blank = Some (Ok None)
-said_by (lines.Wrong kind) = Some (Err kind)
-said_by lines.Unended = None
+-- what the next line says, if it is pending as a whole: it was put where it was to be, or is its fault
+abbrev pub said_by : Line → Option (List Edge) → Option (Result (Option (List Edge)) LineKind)
+said_by lines.Read cycle = Some (Ok cycle)
+said_by (lines.Wrong kind) cycle = Some (Err kind)
+said_by lines.Unended cycle = None
 
 -- the next line was given, if it was pending as a whole
-abbrev pub GivesNext : ArchName → ReaderSeen → ReaderSeen → Line → Type 0
-GivesNext arch old new line = MatchOption (said_by line) (Without 10 old.pending × (new ≡ old)) (λ said. GivesLine arch old new said)
+abbrev pub GivesNext : ArchName → ReaderSeen → ReaderSeen → Option (List Edge) → Line → Type 0
+GivesNext arch old new cycle line = MatchOption (said_by line cycle) (Without 10 old.pending × (new ≡ old)) (λ said. GivesLine arch old new said)
 
 -- a source was read and is at its end
 pub record Ended (seen : SourceSeen) : Type 0 where
@@ -96,41 +95,41 @@ pub record Stops (old new : SourceSeen) : Type 0 where
   pub fault : Rose old.faults new.faults
   pub never_falls : old.faults ≤ new.faults
 
--- the cycle of a last line, if it has one
+-- the cycle of a line, if it has one
 abbrev pub last_cycle : Option (List Edge) → List (List Edge)
 last_cycle (Some cycle) = cycle ∷ []
 last_cycle None = []
 
--- the source was read on to the next cycle, to its end, or to a reason why it can't be
-abbrev pub Continues : ArchName → SourceSeen → SourceSeen → ReaderSeen → List (List Edge) → Result Found LinesError → Type 0
-Continues arch old new reader cycles (Ok (Next cycle)) = HasRead arch old new reader (cycles ++ cycle ∷ [])
-Continues arch old new reader cycles (Ok (Last cycle)) = ReadAll arch old new (cycles ++ last_cycle cycle)
-Continues arch old new reader cycles (Err error) = ReadUpTo arch old new cycles error
+-- the source was read on over a line, to its end, or to a reason why it can't be; this is the cycle of the line
+abbrev pub Continues : ArchName → SourceSeen → SourceSeen → ReaderSeen → List (List Edge) → Option (List Edge) → Result Found LinesError → Type 0
+Continues arch old new reader cycles cycle (Ok Next) = HasRead arch old new reader (cycles ++ last_cycle cycle)
+Continues arch old new reader cycles cycle (Ok Last) = ReadAll arch old new (cycles ++ last_cycle cycle)
+Continues arch old new reader cycles cycle (Err error) = ReadUpTo arch old new cycles error
 
 -- a call reads on, from whatever was read before it
-abbrev pub ReadsOn : ArchName → SourceSeen → SourceSeen → ReaderSeen → ReaderSeen → Result Found LinesError → Type 0
-ReadsOn arch old new before after result =
-    (first : SourceSeen) (cycles : List (List Edge)) → HasRead arch first old before cycles → Continues arch first new after cycles result
+abbrev pub ReadsOn : ArchName → SourceSeen → SourceSeen → ReaderSeen → ReaderSeen → Option (List Edge) → Result Found LinesError → Type 0
+ReadsOn arch old new before after cycle result =
+    (first : SourceSeen) (cycles : List (List Edge)) → HasRead arch first old before cycles → Continues arch first new after cycles cycle result
 
--- a source was read to its end, or to the fault of its last line
-abbrev pub ReadToEnd : ArchName → SourceSeen → SourceSeen → List (List Edge) → Result (Option (List Edge)) LinesError → Type 0
-ReadToEnd arch old new cycles (Ok cycle) = ReadAll arch old new (cycles ++ last_cycle cycle)
-ReadToEnd arch old new cycles (Err error) = ReadUpTo arch old new cycles error
+-- a source was read to its end, or to the fault of its last line, of which this is the cycle
+abbrev pub ReadToEnd : ArchName → SourceSeen → SourceSeen → List (List Edge) → Option (List Edge) → Result (Unit {0}) LinesError → Type 0
+ReadToEnd arch old new cycles cycle (Ok _) = ReadAll arch old new (cycles ++ last_cycle cycle)
+ReadToEnd arch old new cycles cycle (Err error) = ReadUpTo arch old new cycles error
 
 -- a call reads the last line, where the source is at its end, whatever was read before it
-abbrev pub ReadsLast : ArchName → ReaderSeen → Result (Option (List Edge)) LinesError → Type 0
-ReadsLast arch reader result =
-    (first last : SourceSeen) (cycles : List (List Edge)) → HasRead arch first last reader cycles → Ended last → ReadToEnd arch first last cycles result
+abbrev pub ReadsLast : ArchName → ReaderSeen → Option (List Edge) → Result (Unit {0}) LinesError → Type 0
+ReadsLast arch reader cycle result =
+    (first last : SourceSeen) (cycles : List (List Edge)) → HasRead arch first last reader cycles → Ended last → ReadToEnd arch first last cycles cycle result
 
 -- the same, and what is found is told
-abbrev pub FindsLast : ArchName → ReaderSeen → Result Found LinesError → Type 0
-FindsLast arch reader result =
-    (first last : SourceSeen) (cycles : List (List Edge)) → HasRead arch first last reader cycles → Ended last → Continues arch first last reader cycles result
+abbrev pub FindsLast : ArchName → ReaderSeen → Option (List Edge) → Result Found LinesError → Type 0
+FindsLast arch reader cycle result =
+    (first last : SourceSeen) (cycles : List (List Edge)) → HasRead arch first last reader cycles → Ended last → Continues arch first last reader cycles cycle result
 
--- what is found isn't a cycle that more may follow
+-- what is found isn't a line that more may follow
 abbrev pub Ends : Result Found LinesError → Type 0
-Ends (Ok (Next cycle)) = ⊥
-Ends (Ok (Last cycle)) = Unit {0}
+Ends (Ok Next) = ⊥
+Ends (Ok Last) = Unit {0}
 Ends (Err error) = Unit {0}
 
 -- more bytes are pending, or the source is at its end; or there is a reason why it can't be read on
@@ -142,8 +141,8 @@ abbrev pub Refills : SourceSeen → SourceSeen → ReaderSeen → ReaderSeen →
 Refills old new before after result =
     (arch : ArchName) (first : SourceSeen) (cycles : List (List Edge)) → HasRead arch first old before cycles → Refilled arch first new after cycles result
 
--- a cycle was found, and less is to do
+-- a line was found, and less is to do
 abbrev pub LessToDo : ℕ → ℕ → Result Found LinesError → Type 0
-LessToDo old new (Ok (Next cycle)) = new < old
-LessToDo old new (Ok (Last cycle)) = Unit {0}
+LessToDo old new (Ok Next) = new < old
+LessToDo old new (Ok Last) = Unit {0}
 LessToDo old new (Err error) = Unit {0}

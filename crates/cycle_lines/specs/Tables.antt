@@ -1,5 +1,5 @@
 -- The names of cycles by their families, as they are kept.
-use Rattle.std.specs.Prelude.{◌≡◌, ℕ, List, [], ◌∷◌, ◌++◌, map, slice_set, slice_index_or, Option, Some, None, Result, Ok, Err}
+use Rattle.std.specs.Prelude.{◌≡◌, ℕ, List, [], ◌∷◌, ◌++◌, map, slice_set, slice_index_or, Option, Result, Ok, Err}
 use Rattle.std.specs.BTreeSet.{BTreeSet}
 use Rattle.std.specs.declared.vec.Vec.{Vec}
 use Rattle.std.specs.declared.alloc.Global.{Global}
@@ -12,6 +12,7 @@ use Rattle.cycle_lines.specs.declared.errors.ClassifyError.{ClassifyError}
 use Rattle.cycle_lines.specs.declared.errors.ClassifyError.TheVariants.{Lines, OutFault, NoMemory}
 use Rattle.cycle_lines.specs.declared.table.FamilyNames.{FamilyNames}
 use Rattle.cycle_lines.specs.Reading.{ReadAll}
+use Rattle.cycle_lines.specs.Steps.{last_cycle}
 use Rattle.cycle_lines.specs.Classified.{families_in_order, family_names, family_text, with_text, ReadsUpTo, ReadsPart}
 
 -- the place of a family
@@ -65,13 +66,9 @@ name_put place name table = slice_set table place (entry_with name (slice_index_
 abbrev pub Adds : List Entry → List Entry → List Edge → Type 0
 Adds old new cycle = (cycles : List (List Edge)) → Holds old cycles → Holds new (cycles ++ cycle ∷ [])
 
--- the name of a last cycle is kept, if there is one, unless there is no memory
-abbrev pub PutsLast : List Entry → Option (List Edge) → Result (List Entry) ClassifyError → Type 0
-PutsLast old (Some cycle) (Ok new) = Adds old new cycle
-PutsLast old None (Ok new) = ◌≡◌ {A = List Entry} new old
-PutsLast old cycle (Err NoMemory) = Unit {0}
-PutsLast old cycle (Err (Lines error)) = ⊥
-PutsLast old cycle (Err OutFault) = ⊥
+-- the cycle of a line is kept, if it has one
+abbrev pub AddsLast : List Entry → List Entry → Option (List Edge) → Type 0
+AddsLast old new cycle = (cycles : List (List Edge)) → Holds old cycles → Holds new (cycles ++ last_cycle cycle)
 
 -- a source was read to its end, and the names of its cycles are kept
 pub record Gathered (arch : ArchName) (old new : SourceSeen) (table : List Entry) : Type 0 where

@@ -1,11 +1,13 @@
 ghost use Rattle.cycle_lines.specs.Classified.{Classifies};
-ghost use Rattle.cycle_lines.specs.Tables.{Gathers, PutsLast};
+ghost use Rattle.std.specs.Prelude.{OnOk};
+ghost use Rattle.cycle_lines.specs.Tables.{Gathers, AddsLast};
 
 use crate::errors::ClassifyError;
 use crate::families::Families;
 use crate::reader::{Found, LineReader};
 use diy_io::{Failed, NoMemory, Sink, Source};
 use edge_algebra::Cycle;
+use edge_lists::EdgeList;
 use relax_edges::ArchName;
 use std::alloc::Global;
 
@@ -45,28 +47,31 @@ fn gather<I: Source>(
         Err(NoMemory) => return Err(ClassifyError::NoMemory),
     };
     let mut reader = LineReader::new();
+    let mut edges = EdgeList::new();
+    let mut cycle = None;
     loop {
-        match reader.next_cycle(arch, input) {
-            Ok(Found::Next(cycle)) => match families.put(&cycle) {
+        match reader.next_found(arch, input, &mut edges, &mut cycle) {
+            Ok(Found::Next) => match put_said(&mut families, &cycle) {
                 Ok(()) => {}
                 Err(NoMemory) => return Err(ClassifyError::NoMemory),
             },
-            Ok(Found::Last(cycle)) => return put_last(families, &cycle),
+            Ok(Found::Last) => {
+                return match put_said(&mut families, &cycle) {
+                    Ok(()) => Ok(families),
+                    Err(NoMemory) => Err(ClassifyError::NoMemory),
+                };
+            }
             Err(error) => return Err(ClassifyError::Lines(error)),
         }
     }
 }
 
-/// Puts the name of a last cycle, if there is one.
-fn put_last(families: Families, cycle: &Option<Cycle>) -> Result<Families, ClassifyError>
-    ensures { PutsLast families cycle.now result }
+/// Puts the name of the cycle of a line, if it has one.
+fn put_said(families: &mut Families, cycle: &Option<Cycle>) -> Result<(), NoMemory>
+    ensures { OnOk result (AddsLast families.old families.new cycle.now) }
 {
-    let mut families = families;
     match cycle {
-        Some(cycle) => match families.put(cycle) {
-            Ok(()) => Ok(families),
-            Err(NoMemory) => Err(ClassifyError::NoMemory),
-        },
-        None => Ok(families),
+        Some(cycle) => families.put(cycle),
+        None => Ok(()),
     }
 }

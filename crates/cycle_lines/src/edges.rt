@@ -2,22 +2,27 @@ ghost use Rattle.std.specs.Prelude.{◌≡◌};
 ghost use Rattle.edge_algebra.specs.Compose.{composed};
 ghost use Rattle.cycle_names.specs.Laws.{are_of_arch};
 ghost use Rattle.cycle_lines.specs.Cycles.{is_blank, text_edges, spelled_made, cycle_made, composed_or, cycle_spelled};
-ghost use Rattle.cycle_lines.specs.Kept.{made_kept};
+ghost use Rattle.cycle_lines.specs.Kept.{made_kept, said_with};
 
 use crate::errors::LineKind;
 use edge_algebra::{Cycle, cycle};
 use edge_lists::{EdgeList, Separators, read_edges};
 use relax_edges::{ArchName, Edge, MAX_EDGES, UnknownEdge};
 
-/// The cycle of an architecture that a text spells, whose edges blanks separate, or the first fault
-/// that it has.
+/// Makes `cycle` the cycle of an architecture that a text spells, whose edges blanks separate, or
+/// finds the first fault that it has. `edges` is room for the edges: what it held doesn't count.
 #[tactic(auto, using(crate::proofs::Words::read_made, crate::proofs::Words::read_none))]
-pub(crate) fn read_cycle(arch: ArchName, text: &[u8]) -> Result<Option<Cycle>, LineKind>
-    ensures { result ≡ spelled_made arch (text_edges text.now) }
+pub(crate) fn read_cycle(
+    arch: ArchName,
+    text: &[u8],
+    edges: &mut EdgeList,
+    cycle: &mut Option<Cycle>,
+) -> Result<(), LineKind>
+    ensures { said_with result cycle.new ≡ spelled_made arch (text_edges text.now) }
 {
-    let mut edges = EdgeList::new();
-    match read_edges(text, Separators::Blanks, &mut edges) {
-        Ok(()) => made_of(arch, &edges),
+    edges.clear();
+    match read_edges(text, Separators::Blanks, edges) {
+        Ok(()) => make_of(arch, edges, cycle),
         Err(UnknownEdge) => Err(LineKind::UnknownEdge),
     }
 }
@@ -27,24 +32,27 @@ pub(crate) fn read_cycle(arch: ArchName, text: &[u8]) -> Result<Option<Cycle>, L
 pub fn cycle_spelled(arch: ArchName, text: &[u8]) -> Option<Cycle>
     ensures { result ≡ cycle_spelled arch text.now }
 {
-    match read_cycle(arch, text) {
-        Ok(cycle) => cycle,
+    let mut edges = EdgeList::new();
+    let mut cycle = None;
+    match read_cycle(arch, text, &mut edges, &mut cycle) {
+        Ok(()) => cycle,
         Err(_) => None,
     }
 }
 
-/// The cycle of an architecture that the edges of a line make, or their first fault.
-fn made_of(arch: ArchName, edges: &EdgeList) -> Result<Option<Cycle>, LineKind>
-    ensures { result ≡ made_kept arch edges.now }
+/// Makes `cycle` the cycle of an architecture that the edges of a line make, or finds their first
+/// fault.
+fn make_of(arch: ArchName, edges: &EdgeList, cycle: &mut Option<Cycle>) -> Result<(), LineKind>
+    ensures { said_with result cycle.new ≡ made_kept arch edges.now }
 {
     match edges {
-        EdgeList::Whole(list) => cycle_made(arch, list.as_slice()),
+        EdgeList::Whole(list) => make_cycle(arch, list.as_slice(), cycle),
         EdgeList::TooLong => Err(LineKind::TooLong),
     }
 }
 
-fn cycle_made(arch: ArchName, edges: &[Edge]) -> Result<Option<Cycle>, LineKind>
-    ensures { result ≡ cycle_made arch edges.now }
+fn make_cycle(arch: ArchName, edges: &[Edge], cycle: &mut Option<Cycle>) -> Result<(), LineKind>
+    ensures { said_with result cycle.new ≡ cycle_made arch edges.now }
 {
     if edges.is_empty() {
         return Err(LineKind::Empty);
@@ -55,7 +63,7 @@ fn cycle_made(arch: ArchName, edges: &[Edge]) -> Result<Option<Cycle>, LineKind>
     if !are_of_arch(arch, edges) {
         return Err(LineKind::NotOfArch);
     }
-    composed(edges)
+    compose(edges, cycle)
 }
 
 fn are_of_arch(arch: ArchName, edges: &[Edge]) -> bool
@@ -64,11 +72,14 @@ fn are_of_arch(arch: ArchName, edges: &[Edge]) -> bool
     edges.iter().all(|edge| edge.of_arch(arch))
 }
 
-fn composed(edges: &[Edge]) -> Result<Option<Cycle>, LineKind>
-    ensures { result ≡ composed_or (composed edges.now) }
+fn compose(edges: &[Edge], place: &mut Option<Cycle>) -> Result<(), LineKind>
+    ensures { said_with result place.new ≡ composed_or (composed edges.now) }
 {
     match cycle(edges) {
-        Ok(cycle) => Ok(Some(cycle)),
+        Ok(cycle) => {
+            *place = Some(cycle);
+            Ok(())
+        }
         Err(_) => Err(LineKind::DoesNotCompose),
     }
 }

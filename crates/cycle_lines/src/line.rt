@@ -2,28 +2,36 @@ ghost use Rattle.std.specs.Prelude.{◌≡◌, MatchOption};
 ghost use Rattle.std.specs.List.{list_all};
 ghost use Rattle.cycle_lines.specs.Lines.{without_return};
 ghost use Rattle.cycle_lines.specs.Cycles.{is_blank, line_said, without_label};
+ghost use Rattle.cycle_lines.specs.Kept.{said_with};
 ghost use Rattle.cycle_lines.specs.Steps.{Without, CutsAt};
 
 use crate::MAX_LINE;
 use crate::edges::{is_blank, read_cycle};
 use crate::errors::LineKind;
 use edge_algebra::Cycle;
+use edge_lists::EdgeList;
 use memchr::memchr;
 use relax_edges::ArchName;
 
-/// What a line says: its cycle, nothing where it has no byte but blanks, or the first fault that it
-/// has.
+/// Makes `cycle` what a line says: its cycle, or none where it has no byte but blanks; or finds the
+/// first fault that it has. `edges` is room for the edges: what it held doesn't count.
 #[tactic(auto, unfolding(crate::specs::Cycles::line_said))]
-pub(crate) fn read_line(arch: ArchName, line: &[u8]) -> Result<Option<Cycle>, LineKind>
-    ensures { result ≡ line_said arch line.now }
+pub(crate) fn read_line(
+    arch: ArchName,
+    line: &[u8],
+    edges: &mut EdgeList,
+    cycle: &mut Option<Cycle>,
+) -> Result<(), LineKind>
+    ensures { said_with result cycle.new ≡ line_said arch line.now }
 {
     if line.len() > MAX_LINE {
         return Err(LineKind::LineTooLong);
     }
     if are_blank(line) {
-        return Ok(None);
+        *cycle = None;
+        return Ok(());
     }
-    read_cycle(arch, without_label(line))
+    read_cycle(arch, without_label(line), edges, cycle)
 }
 
 fn are_blank(line: &[u8]) -> bool

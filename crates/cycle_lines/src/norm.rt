@@ -9,6 +9,7 @@ use arrayvec::ArrayString;
 use cycle_names::{MAX_NAME, name_and_words};
 use diy_io::{Failed, Page, Sink, Source};
 use edge_algebra::Cycle;
+use edge_lists::EdgeList;
 use relax_edges::ArchName;
 
 /// The most bytes of the line of a cycle: its name, a colon and a blank, its edges and a line feed.
@@ -37,16 +38,20 @@ pub fn norm_lines<I: Source, O: Sink>(
     let mut name: ArrayString<MAX_NAME> = ArrayString::new();
     let mut words: ArrayString<MAX_NAME> = ArrayString::new();
     let mut line: ArrayString<MAX_NAME_LINE> = ArrayString::new();
+    let mut edges = EdgeList::new();
+    let mut cycle = None;
     loop {
         let number = reader.line();
-        match reader.next_line(arch) {
-            Line::Cycle(cycle) => {
-                match send_line(&cycle, &mut name, &mut words, &mut line, &mut page, out) {
-                    Ok(()) => {}
-                    Err(Failed) => return Err(NormError::OutFault),
+        match reader.next_line(arch, &mut edges, &mut cycle) {
+            Line::Read => match &cycle {
+                Some(cycle) => {
+                    match send_line(cycle, &mut name, &mut words, &mut line, &mut page, out) {
+                        Ok(()) => {}
+                        Err(Failed) => return Err(NormError::OutFault),
+                    }
                 }
-            }
-            Line::Blank => {}
+                None => {}
+            },
             Line::Wrong(kind) => {
                 return match hand_on(&mut page, out) {
                     Ok(()) => Err(NormError::Lines(LinesError::Wrong { line: number, kind })),
@@ -60,8 +65,8 @@ pub fn norm_lines<I: Source, O: Sink>(
                 }
                 match reader.read_more(&page, input) {
                     Ok(0) => {
-                        return match reader.last_cycle(arch) {
-                            Ok(cycle) => write_last(&cycle, out),
+                        return match reader.last_line(arch, &mut edges, &mut cycle) {
+                            Ok(()) => write_last(&cycle, out),
                             Err(error) => Err(NormError::Lines(error)),
                         };
                     }

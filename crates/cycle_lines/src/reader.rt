@@ -1,5 +1,7 @@
-ghost use Rattle.std.specs.Prelude.{◌≡◌, ◌≤◌, ◌<◌, ℕ, ◌+◌, ◌-◌, [], false, length, take, drop, Some, IfOk, OnErr};
+ghost use Rattle.std.specs.Prelude.{◌≡◌, ◌≤◌, ◌<◌, ℕ, ◌+◌, ◌-◌, List, [], false, length, take, drop, Option, Some, IfOk, OnErr};
+ghost use Rattle.relax_edges.specs.declared.edge.Edge.{Edge};
 ghost use Rattle.cycle_lines.specs.Cycles.{is_too_long};
+ghost use Rattle.cycle_lines.specs.Kept.{said_with};
 ghost use Rattle.cycle_lines.specs.Lines.{without_return};
 ghost use Rattle.cycle_lines.specs.Steps.{ReaderSeen, Without, GivesNext, said_by, Fills, FillsBuffer, Stops, ReadsOn, Refills, LessToDo, FindsLast, ReadsLast, Ends, work};
 
@@ -8,6 +10,7 @@ use crate::errors::{LineKind, LinesError};
 use crate::line::{cut, read_line, without_return};
 use diy_io::{Failed, MAX_INPUT, Page, Source};
 use edge_algebra::Cycle;
+use edge_lists::EdgeList;
 use relax_edges::ArchName;
 use std::marker::Model;
 
@@ -17,22 +20,20 @@ const PIECE: usize = 36_864;
 /// Room for a piece, after a line of `MAX_LINE` bytes and its carriage return.
 const BUFFER: usize = PIECE + MAX_LINE + 1;
 
-/// What is found behind the lines that were given.
-#[derive(Drop)]
+/// What is found after the lines that were given. The cycle that it says is put where it is to be.
+#[derive(Clone, Copy)]
 pub(crate) enum Found {
-    /// The next cycle.
-    Next(Cycle),
-    /// The end, and the cycle of a last line that no line feed ends, if there is one.
-    Last(Option<Cycle>),
+    /// The next line.
+    Next,
+    /// The end, and a last line that no line feed ends, if there is one.
+    Last,
 }
 
-/// What the next line says.
-#[derive(Drop)]
+/// Whether the next line was read.
+#[derive(Clone, Copy)]
 pub(crate) enum Line {
-    /// A cycle.
-    Cycle(Cycle),
-    /// Nothing.
-    Blank,
+    /// It was, and the cycle that it says, if any, is put where it is to be.
+    Read,
     /// It has a fault.
     Wrong(LineKind),
     /// It isn't pending as a whole.
@@ -83,23 +84,25 @@ impl LineReader {
         }
     }
 
-    /// The next cycle of the source's lines, or their end, or why they can't be read on.
-    pub(crate) fn next_cycle<I: Source>(
+    /// Makes `cycle` what the next line of the source says, or finds why there is none. `edges` is room
+    /// for the edges.
+    pub(crate) fn next_found<I: Source>(
         &mut self,
         arch: ArchName,
         input: &mut I,
+        edges: &mut EdgeList,
+        cycle: &mut Option<Cycle>,
     ) -> Result<Found, LinesError>
-        ensures reads { ReadsOn arch (I.seen input.old) (I.seen input.new) self.old self.new result }
+        ensures reads { ReadsOn arch (I.seen input.old) (I.seen input.new) self.old self.new cycle.new result }
         ensures less { LessToDo (work self.old) (work self.new) result }
     {
         loop {
             let line = self.line;
-            match self.next_line(arch) {
-                Line::Cycle(cycle) => return Ok(Found::Next(cycle)),
-                Line::Blank => {}
+            match self.next_line(arch, edges, cycle) {
+                Line::Read => return Ok(Found::Next),
                 Line::Wrong(kind) => return Err(LinesError::Wrong { line, kind }),
                 Line::Unended => match self.refill(input) {
-                    Ok(0) => return self.last_found(arch),
+                    Ok(0) => return self.last_found(arch, edges, cycle),
                     Ok(_) => {}
                     Err(error) => return Err(error),
                 },
@@ -122,42 +125,60 @@ impl LineReader {
         &self.buffer[self.start..self.end]
     }
 
-    /// What the next line says, which is given then, if all of it is pending.
-    pub(crate) fn next_line(&mut self, arch: ArchName) -> Line
-        ensures { GivesNext arch self.old self.new result }
+    /// Makes `cycle` what the next line says, which is given then, if all of it is pending. `edges` is
+    /// room for the edges.
+    pub(crate) fn next_line(
+        &mut self,
+        arch: ArchName,
+        edges: &mut EdgeList,
+        cycle: &mut Option<Cycle>,
+    ) -> Line
+        ensures { GivesNext arch self.old self.new cycle.new result }
     {
         let Some((bytes, _)) = cut(b'\n', self.pending()) else {
             return Line::Unended;
         };
         let length = bytes.len();
-        let line = line_of(read_line(arch, without_return(bytes)));
+        let line = line_of(read_line(arch, without_return(bytes), edges, cycle));
         self.start += length + 1;
         self.line += 1;
         line
     }
 
-    /// The end, and the cycle of a last line, if there is one.
-    fn last_found(&self, arch: ArchName) -> Result<Found, LinesError>
+    /// The end, and what the last line says, if there is one.
+    fn last_found(
+        &self,
+        arch: ArchName,
+        edges: &mut EdgeList,
+        cycle: &mut Option<Cycle>,
+    ) -> Result<Found, LinesError>
         requires { Without 10 self.now.pending }
-        ensures reads { FindsLast arch self.now result }
+        ensures reads { FindsLast arch self.now cycle.new result }
         ensures ends { Ends result }
     {
-        match self.last_cycle(arch) {
-            Ok(cycle) => Ok(Found::Last(cycle)),
+        match self.last_line(arch, edges, cycle) {
+            Ok(()) => Ok(Found::Last),
             Err(error) => Err(error),
         }
     }
 
-    /// The cycle of the last line, which no line feed ends, if there is one.
-    pub(crate) fn last_cycle(&self, arch: ArchName) -> Result<Option<Cycle>, LinesError>
+    /// Makes `cycle` what the last line says, which no line feed ends, and none where there is no such
+    /// line. `edges` is room for the edges.
+    pub(crate) fn last_line(
+        &self,
+        arch: ArchName,
+        edges: &mut EdgeList,
+        cycle: &mut Option<Cycle>,
+    ) -> Result<(), LinesError>
         requires { Without 10 self.now.pending }
-        ensures { ReadsLast arch self.now result }
+        ensures { ReadsLast arch self.now cycle.new result }
     {
         if self.pending().is_empty() {
-            return Ok(None);
+            *cycle = None;
+            return Ok(());
         }
-        match read_line(arch, self.pending()) {
-            Ok(cycle) => Ok(cycle),
+        match read_line(arch, self.pending(), edges, cycle) {
+            Ok(()) => Ok(()),
             Err(kind) => Err(LinesError::Wrong {
                 line: self.line,
                 kind,
@@ -237,12 +258,11 @@ impl LineReader {
     }
 }
 
-fn line_of(said: Result<Option<Cycle>, LineKind>) -> Line
-    ensures { said_by result ≡ Some said }
+fn line_of(read: Result<(), LineKind>) -> Line
+    ensures { (cycle : Option (List Edge)) → said_by result cycle ≡ Some (said_with read cycle) }
 {
-    match said {
-        Ok(Some(cycle)) => Line::Cycle(cycle),
-        Ok(None) => Line::Blank,
+    match read {
+        Ok(()) => Line::Read,
         Err(kind) => Line::Wrong(kind),
     }
 }

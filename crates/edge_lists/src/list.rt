@@ -21,6 +21,16 @@ impl EdgeList {
         EdgeList::Whole(ArrayVec::new())
     }
 
+    /// Drops all edges.
+    pub fn clear(&mut self)
+        ensures { self.new ≡ kept [] }
+    {
+        match self {
+            EdgeList::Whole(list) => list.clear(),
+            EdgeList::TooLong => *self = EdgeList::new(),
+        }
+    }
+
     /// Keeps one edge more.
     pub(crate) fn push(&mut self, edge: Edge)
         ensures { self.new ≡ pushed self.old edge }

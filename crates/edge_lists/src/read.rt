@@ -16,17 +16,6 @@ pub enum Separators {
     BlanksAndCommas,
 }
 
-impl Separators {
-    fn has(self, byte: u8) -> bool
-        ensures { result ≡ separates self byte }
-    {
-        match self {
-            Separators::Blanks => byte == b' ' || byte == b'\t',
-            Separators::BlanksAndCommas => byte == b' ' || byte == b'\t' || byte == b',',
-        }
-    }
-}
-
 /// Appends the edges that a text spells, or finds a word that is no edge: then nothing is known of
 /// `edges`.
 pub fn read_edges(
@@ -58,11 +47,37 @@ fn cut_at_separator(separators: Separators, bytes: &[u8]) -> Option<(&[u8], &[u8
     }
 }
 
+/// The place of the first separator. Which bytes separate is asked once, and not for each byte.
 fn first_separator(separators: Separators, bytes: &[u8]) -> Option<usize>
     ensures place { result ≡ position (separates separators) bytes.now }
     ensures within { IfSome result (λ at. at < length bytes.now) }
 {
-    bytes.iter().position(|byte| separators.has(*byte))
+    match separators {
+        Separators::Blanks => first_blank(bytes),
+        Separators::BlanksAndCommas => first_blank_or_comma(bytes),
+    }
+}
+
+fn first_blank(bytes: &[u8]) -> Option<usize>
+    ensures place { result ≡ position (separates Separators.Blanks) bytes.now }
+    ensures within { IfSome result (λ at. at < length bytes.now) }
+{
+    bytes.iter().position(|byte| is_blank(*byte))
+}
+
+fn first_blank_or_comma(bytes: &[u8]) -> Option<usize>
+    ensures place { result ≡ position (separates Separators.BlanksAndCommas) bytes.now }
+    ensures within { IfSome result (λ at. at < length bytes.now) }
+{
+    bytes
+        .iter()
+        .position(|byte| is_blank(*byte) || *byte == b',')
+}
+
+fn is_blank(byte: u8) -> bool
+    ensures { result ≡ separates Separators.Blanks byte }
+{
+    byte == b' ' || byte == b'\t'
 }
 
 /// Appends the edge that a word spells, if there is a word.

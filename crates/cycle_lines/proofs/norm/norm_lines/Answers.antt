@@ -7,13 +7,13 @@ pub loop-cycle-init : goal.loop-cycle-init
 loop-cycle-init g c = nothing_normed c.args.arch _ _ c.new-reader.result c.new-page.result c.new-reader.ensures c.new-page.ensures
 
 pub loop-cycle-preserved-in-Ok : goal.loop-cycle-preserved-in-Ok
-loop-cycle-preserved-in-Ok g c = line_normed c.args.arch _ _ _ _ _ c.loop-cycle.reader _ _ _ c.in-Cycle.cycle c.loop-cycle.invariant c.in-Cycle.ensures c.in-Ok.ensures.ok
+loop-cycle-preserved-in-Ok g c = line_normed c.args.arch _ _ _ _ _ c.loop-cycle.reader _ _ _ c.next_line.new.cycle c.in-Some.cycle c.loop-cycle.invariant c.in-Read.ensures c.in-Some.is c.in-Ok.ensures.ok
 
 pub returns-in-Err : goal.returns-in-Err
-returns-in-Err g c = line_stopped c.args.arch _ _ _ _ _ c.loop-cycle.reader c.next_line.new.self _ c.in-Cycle.cycle c.loop-cycle.invariant c.in-Cycle.ensures c.in-Err.ensures.failed
+returns-in-Err g c = line_stopped c.args.arch _ _ _ _ _ c.loop-cycle.reader c.next_line.new.self _ c.next_line.new.cycle c.in-Some.cycle c.loop-cycle.invariant c.in-Read.ensures c.in-Some.is c.in-Err.ensures.failed
 
-pub loop-cycle-preserved-in-Blank : goal.loop-cycle-preserved-in-Blank
-loop-cycle-preserved-in-Blank g c = blank_normed c.args.arch _ _ _ _ c.loop-cycle.reader _ _ c.loop-cycle.invariant c.in-Blank.ensures
+pub loop-cycle-preserved-in-None : goal.loop-cycle-preserved-in-None
+loop-cycle-preserved-in-None g c = blank_normed c.args.arch _ _ _ _ c.loop-cycle.reader _ _ c.next_line.new.cycle c.loop-cycle.invariant c.in-Read.ensures c.in-None.is
 
 pub returns-in-Ok-hand_on : goal.returns-in-Ok-hand_on
 returns-in-Ok-hand_on g c =
@@ -41,20 +41,20 @@ returns-in-Err-read_more g c =
     normed_up_to c.args.arch _ _ _ _ given.cycles c.in-Err-read_more.error (c.in-Err-read_more.ensures.refills c.args.arch _ given.cycles unmoved)
     (all_written _ _ _ _ _ given.sent c.in-Ok-hand_on-2.ensures.wrote.ok)
 
-pub returns-in-Ok-last_cycle : goal.returns-in-Ok-last_cycle
-returns-in-Ok-last_cycle g c =
+pub returns-in-Ok-last_line : goal.returns-in-Ok-last_line
+returns-in-Ok-last_line g c =
     let given = c.loop-cycle.invariant in
     let unmoved = subst (λ r. HasRead c.args.arch (g.I.Source.seen c.args.input.now) (g.I.Source.seen c.loop-cycle.input) r given.cycles) (sym c.in-Unended.ensures.1) given.read in
     let refilled = c.in-Ok-eq0.ensures.refills c.args.arch _ given.cycles unmoved in
-    normed_last c.args.arch _ _ _ _ _ given.cycles c.in-Ok-last_cycle.cycle c.write_last.result
-    (c.in-Ok-last_cycle.ensures _ _ given.cycles refilled.0 (refilled.1 c.in-Ok-eq0.field-0-test))
+    normed_last c.args.arch _ _ _ _ _ given.cycles c.last_line.new.cycle c.write_last.result
+    (c.in-Ok-last_line.ensures _ _ given.cycles refilled.0 (refilled.1 c.in-Ok-eq0.field-0-test))
     (all_written _ _ _ _ _ given.sent c.in-Ok-hand_on-2.ensures.wrote.ok) c.write_last.ensures
 
-pub returns-in-Err-last_cycle : goal.returns-in-Err-last_cycle
-returns-in-Err-last_cycle g c =
+pub returns-in-Err-last_line : goal.returns-in-Err-last_line
+returns-in-Err-last_line g c =
     let given = c.loop-cycle.invariant in
     let unmoved = subst (λ r. HasRead c.args.arch (g.I.Source.seen c.args.input.now) (g.I.Source.seen c.loop-cycle.input) r given.cycles) (sym c.in-Unended.ensures.1) given.read in
     let refilled = c.in-Ok-eq0.ensures.refills c.args.arch _ given.cycles unmoved in
-    normed_up_to c.args.arch _ _ _ _ given.cycles c.in-Err-last_cycle.error
-    (c.in-Err-last_cycle.ensures _ _ given.cycles refilled.0 (refilled.1 c.in-Ok-eq0.field-0-test))
+    normed_up_to c.args.arch _ _ _ _ given.cycles c.in-Err-last_line.error
+    (c.in-Err-last_line.ensures _ _ given.cycles refilled.0 (refilled.1 c.in-Ok-eq0.field-0-test))
     (all_written _ _ _ _ _ given.sent c.in-Ok-hand_on-2.ensures.wrote.ok)

@@ -7,7 +7,7 @@ use Rattle.cycle_lines.proofs.reader.LineReader.next_line.Goals as goal
 pub returns : goal.returns
 returns c =
     let pending_is = c.pending.ensures.pending ∙ ap (λ r. r.pending) (sym c.self.view_is) in
-    given_next c.args.arch c.args.self.now _ c.line_of-line.result c.read_line.result c.line_of-line.ensures
-    (given_line c.args.arch c.args.self.now _ c.in-Some.bytes.now c.in-Some.field-0-1.now c.read_line.result (subst (λ t. CutsAt 10 t c.in-Some.bytes.now c.in-Some.field-0-1.now) c.pending.ensures.pending c.in-Some.ensures)
+    given_next c.args.arch c.args.self.now _ c.read_line.new.cycle c.line_of-line.result _ (c.line_of-line.ensures c.read_line.new.cycle)
+    (given_line c.args.arch c.args.self.now _ c.in-Some.bytes.now c.in-Some.field-0-1.now _ (subst (λ t. CutsAt 10 t c.in-Some.bytes.now c.in-Some.field-0-1.now) c.pending.ensures.pending c.in-Some.ensures)
     (buffer_left c.self.inside.buffer c.pending.result.now c.in-Some.bytes.now c.in-Some.field-0-1.now c.self.inside.start c.self.inside.end _ pending_is c.in-Some.ensures refl)
     (c.read_line.ensures ∙ ap (line_said c.args.arch) c.without_return.ensures) (ap (λ r. r.line + 1) c.self.view_is) (ap (λ r. r.taken) c.self.view_is))

@@ -2,15 +2,15 @@ use Rattle.std.proofs.Common.{◌≤◌, List}
 use Rattle.diy_io.specs.Taken.{SourceSeen}
 use Rattle.relax_edges.specs.declared.edge.Edge.{Edge}
 use Rattle.cycle_lines.specs.Steps.{HasRead, work}
-use Rattle.cycle_lines.proofs.reader.LineReader.next_cycle.Given as goal
+use Rattle.cycle_lines.proofs.reader.LineReader.next_found.Given as goal
 
-abbrev pub invariant-loop-cycle : goal.invariant-loop-cycle
-invariant-loop-cycle g l = record {
+abbrev pub invariant-loop-kind : goal.invariant-loop-kind
+invariant-loop-kind g l = record {
   reads : (first : SourceSeen) (cycles : List (List Edge)) →
       HasRead l.arch first (g.I.Source.seen l.fn.input) l.fn.self cycles →
       HasRead l.arch first (g.I.Source.seen l.input) l.self cycles;
   less : work l.self ≤ work l.fn.self;
 }
 
-abbrev pub decreases-loop-cycle : goal.decreases-loop-cycle
-decreases-loop-cycle g l = work l.self
+abbrev pub decreases-loop-kind : goal.decreases-loop-kind
+decreases-loop-kind g l = work l.self

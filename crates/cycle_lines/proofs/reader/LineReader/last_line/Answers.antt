@@ -2,11 +2,11 @@ use Rattle.std.proofs.Common.{ap, sym, subst, ◌∙◌}
 use Rattle.cycle_lines.specs.Cycles.{line_said}
 use Rattle.cycle_lines.specs.Reading.{ReadToFault}
 use Rattle.cycle_lines.proofs.ReadLaws.{said_last, fault_last, some_if}
-use Rattle.cycle_lines.proofs.reader.LineReader.last_cycle.Goals as goal
+use Rattle.cycle_lines.proofs.reader.LineReader.last_line.Goals as goal
 
 pub returns-in-Ok : goal.returns-in-Ok
 returns-in-Ok c = λ first last cycles h e.
-    said_last c.args.arch first last c.args.self.now cycles c.in-Ok.cycle h (some_if c.pending.result.now c.args.self.now.pending c.pending.ensures.pending c.if-is_empty.ensures) e c.requires
+    said_last c.args.arch first last c.args.self.now cycles c.read_line.new.cycle h (some_if c.pending.result.now c.args.self.now.pending c.pending.ensures.pending c.if-is_empty.ensures) e c.requires
     (c.in-Ok.ensures ∙ ap (line_said c.args.arch) c.pending-2.ensures.pending)
 
 pub returns-in-Err : goal.returns-in-Err
