@@ -1,5 +1,5 @@
 -- The law of printed tests: what is read of the text is the test without observers, but for the numbers of places.
-use Rattle.std.proofs.Common.{◌≡◌, ℕ, ◌<◌, List, length, map, Some, ap, subst}
+use Rattle.std.proofs.Common.{◌≡◌, ℕ, ◌<◌, List, length, Some, ap, subst}
 use Rattle.list_laws.specs.Numbers.{upto}
 use Rattle.relax_edges.specs.declared.kinds.ArchName.{ArchName}
 use Rattle.relax_edges.specs.declared.kinds.ObsMode.TheVariants.{Avoid}
