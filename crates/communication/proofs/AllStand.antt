@@ -17,6 +17,7 @@ use Rattle.program_meaning.specs.Standing.{AccessAt, Named, access_at, IsEvent, 
 use Rattle.program_meaning.specs.Intended.{IsNumbering, event_access, event_at, observer_accesses, observed_locations, cycle_accesses}
 use Rattle.communication.specs.Premises.{MeetsCondition}
 use Rattle.communication.specs.Joining.{AreFree, IsTiedUp}
+use Rattle.communication.specs.Laws.{AllJoin}
 use Rattle.communication.proofs.Lists.{image_of, got_map}
 use Rattle.communication.proofs.Accesses.{got_from_list, thread_accesses, observer_thread, event_stands}
 use Rattle.communication.proofs.EdgesJoin.{edges_join}
@@ -43,7 +44,7 @@ visit_of_access visits name access h =
     record { visit = j.element; got = ap (λ o. got_from o name.access) i.got ∙ j.got; access_is = j.image }
 
 -- an event of a program that makes these accesses is the event's access
-is_event_at : (es : List Edge) (mode : ObsMode) (number : ℕ → ℕ) (p : Program) (x : Execution) (i : ℕ) (e : Named) → Resolves es → accesses_in p x ≡ cycle_accesses es mode number → i < length es → IsEvent es (visits_in p x) i e → access_at e ≡ event_at es number i
+pub is_event_at : (es : List Edge) (mode : ObsMode) (number : ℕ → ℕ) (p : Program) (x : Execution) (i : ℕ) (e : Named) → Resolves es → accesses_in p x ≡ cycle_accesses es mode number → i < length es → IsEvent es (visits_in p x) i e → access_at e ≡ event_at es number i
 is_event_at es mode number p x i e r m h v =
     let a : at_name (accesses_in p x) e.name ≡ Some e.visit.access = access_of_visit (visits_in p x) e.name e.visit v.visit_is in
     let b : Some (event_access es number i) ≡ Some e.visit.access =
@@ -96,16 +97,20 @@ has_events es mode number p x r m f = record {
         let i = image_of (observer_accesses es number) (observed_locations es mode) (k - external_count es) (accesses_of visits) (sym (observer_thread es mode number k (k - external_count es) e) ∙ made k visits g) in
         loads_read es number i.element (accesses_of visits) j visit.access i.image (got_map (λ v. v.access) visits j visit q)
 
--- all edges stand in it, where it meets the condition
-pub all_stand : (es : List Edge) (mode : ObsMode) (number : ℕ → ℕ) (p : Program) (x : Execution) → Resolves es → EntersLast es mode → IsNumbering es number → accesses_in p x ≡ cycle_accesses es mode number → MeetsCondition es mode number x → IsTiedUp es p x → AllStand es p x
-all_stand es mode number p x r q n m c f = record {
+-- all edges stand in it, where each joins its events
+pub joined_stand : (es : List Edge) (mode : ObsMode) (number : ℕ → ℕ) (p : Program) (x : Execution) → Resolves es → accesses_in p x ≡ cycle_accesses es mode number → AllJoin es mode number x → IsTiedUp es p x → AllStand es p x
+joined_stand es mode number p x r m j f = record {
   events = has_events es mode number p x r m f;
   stand = λ i e g h u v. record {
     joins = subst (λ (z : AccessAt × AccessAt × List (List Access)). Joins z.2 x (edge_at es i) z.0 z.1)
         (λ t. (sym (is_event_at es mode number p x i e r m h u) t, sym (is_event_at es mode number p x (event_after es i) g r m (after_below es i h) v) t, sym m t))
-        (edges_join es mode number x i r q n c h);
+        (j i h);
     leaves_mark = f.marks i e h u;
     enters_mark = f.marks (event_after es i) g (after_below es i h) v ∙ sym (r.marks i h);
     ties = f.ties i e g h u v;
   };
 }
+
+-- and so where it meets the condition
+pub all_stand : (es : List Edge) (mode : ObsMode) (number : ℕ → ℕ) (p : Program) (x : Execution) → Resolves es → EntersLast es mode → IsNumbering es number → accesses_in p x ≡ cycle_accesses es mode number → MeetsCondition es mode number x → IsTiedUp es p x → AllStand es p x
+all_stand es mode number p x r q n m c f = joined_stand es mode number p x r m (λ i h. edges_join es mode number x i r q n c h) f

@@ -45,4 +45,4 @@ pub cycle_text_short : (a : Puts) (w : Writing) (mode : ObsMode) (cycle : List E
     → length (cycle_text a w mode (name_of cycle) cycle) ≤ MAX_TEXT
 unfolding cycle_text
 cycle_text_short a w mode cycle laws back cells one whole accepted =
-    (readable a a.name w (name_of cycle) (turned cycle) mode laws back cells one (cycle_named cycle whole) (accepted_has_test a cycle mode whole accepted)).short
+    (readable a a.name w (name_of cycle) (turned cycle) mode laws back cells one (cycle_named cycle whole) (accepted_has_test a cycle mode whole accepted).code).short

@@ -38,7 +38,7 @@ use Rattle.litmus_text.specs.Progress.{CodeFits, code_lands}
 use Rattle.litmus_text.specs.Terms.{TermFits}
 use Rattle.litmus_text.proofs.FormedFits.{HasPlaces, code_fits, lands_once, links_fit}
 use Rattle.communication.proofs.Lists.{image_of}
-use Rattle.test_laws.specs.Headline.{HasTest}
+use Rattle.test_laws.specs.Headline.{HasCode}
 use Rattle.test_laws.specs.Steps.{cycle_steps, numbers_read}
 use Rattle.test_laws.specs.TestOf.{plain, is_named, last_term, last_terms, load_term, thread_terms, load_terms}
 use Rattle.test_laws.proofs.Everywhere.{all_from, all_joined}
@@ -89,21 +89,21 @@ each_code a es mode P h =
     let i = image_of (compiled a) (cycle_steps es mode plain) k code g in subst P i.image (h k i.element i.got))
 
 -- the code of a thread
-pub record HasCode (a : Puts) (ss : List Step) : Type 0 where
+pub record IsThreadCode (a : Puts) (ss : List Step) : Type 0 where
   pub thread : IsThread a.name ss
   pub formed : IsFormed a ss (compiled a ss)
 
-pub thread_is : (a : Puts) (es : List Edge) (mode : ObsMode) (k : ℕ) (ss : List Step) → IsArch a → HasTest a es mode → slice_get (cycle_steps es mode plain) k ≡ Some ss → HasCode a ss
+pub thread_is : (a : Puts) (es : List Edge) (mode : ObsMode) (k : ℕ) (ss : List Step) → IsArch a → HasCode a es mode → slice_get (cycle_steps es mode plain) k ≡ Some ss → IsThreadCode a ss
 thread_is a es mode k ss laws t g =
     let thread = steps_fit es mode plain a.name k ss t.resolved t.of_arch g in
     record { thread = thread; formed = is_formed a laws ss thread.fit (t.room k ss g) }
 
-pub code_short : (a : Puts) (es : List Edge) (mode : ObsMode) (k : ℕ) (ss : List Step) → IsArch a → HasTest a es mode → slice_get (cycle_steps es mode plain) k ≡ Some ss → length (compiled a ss).instrs ≤ MAX_INSTRS
+pub code_short : (a : Puts) (es : List Edge) (mode : ObsMode) (k : ℕ) (ss : List Step) → IsArch a → HasCode a es mode → slice_get (cycle_steps es mode plain) k ≡ Some ss → length (compiled a ss).instrs ≤ MAX_INSTRS
 code_short a es mode k ss laws t g =
     let thread = (thread_is a es mode k ss laws t g).thread in
     omega (arith, thread_short a laws false (setting_out a.registers) ss thread.fit, thread.few)
 
-pub thread_code_fits : (a : Puts) (es : List Edge) (mode : ObsMode) (k : ℕ) (ss : List Step) → IsArch a → MakesOneAccess a → HasTest a es mode → slice_get (cycle_steps es mode plain) k ≡ Some ss
+pub thread_code_fits : (a : Puts) (es : List Edge) (mode : ObsMode) (k : ℕ) (ss : List Step) → IsArch a → MakesOneAccess a → HasCode a es mode → slice_get (cycle_steps es mode plain) k ≡ Some ss
     → CodeFits a (letters (move_count es)) (name_in (letters (move_count es))) 0 0 (compiled a ss).instrs
 thread_code_fits a es mode k ss laws one t g =
     let c = thread_is a es mode k ss laws t g in
@@ -111,7 +111,7 @@ thread_code_fits a es mode k ss laws one t g =
     code_fits a (letters (move_count es)) (name_in (letters (move_count es))) ss 0 0 (compiled a ss).instrs (has_places es mode k ss t.resolved g) c.formed.has c.formed.places
     (compiled_ordered a laws ss c.thread.fit (omega (arith, most, c.thread.few))) (omega (arith, compiled_accesses a one ss, c.thread.few))
 
-pub thread_lands : (a : Puts) (es : List Edge) (mode : ObsMode) (k : ℕ) (ss : List Step) → IsArch a → HasTest a es mode → slice_get (cycle_steps es mode plain) k ≡ Some ss → code_lands (compiled a ss).instrs (compiled a ss).instrs ≡ true
+pub thread_lands : (a : Puts) (es : List Edge) (mode : ObsMode) (k : ℕ) (ss : List Step) → IsArch a → HasCode a es mode → slice_get (cycle_steps es mode plain) k ≡ Some ss → code_lands (compiled a ss).instrs (compiled a ss).instrs ≡ true
 thread_lands a es mode k ss laws t g =
     let c = thread_is a es mode k ss laws t g in
     lands_once (compiled a ss).instrs (count_by (λ (s : Step). branches s.link) ss) c.formed.jumps c.formed.labels
@@ -124,7 +124,7 @@ all_links P n (t ∷ threads) h =
     (subst (λ m. AllByRecursion P (map (λ link. (m, link)) t.links)) (omega arith) (h 0 t refl))
     (all_links P (n + 1) threads (λ k u g. subst (λ m. AllByRecursion P (map (λ link. (m, link)) u.links)) (omega arith) (h (suc k) u g)))
 
-pub all_links_fit : (a : Puts) (w : Writing) (es : List Edge) (mode : ObsMode) → IsArch a → WritesBack a w → HasTest a es mode → length (cycle_steps es mode plain) ≤ MAX_EDGES
+pub all_links_fit : (a : Puts) (w : Writing) (es : List Edge) (mode : ObsMode) → IsArch a → WritesBack a w → HasCode a es mode → length (cycle_steps es mode plain) ≤ MAX_EDGES
     → AllByRecursion (LinkFits w (letters (move_count es)) (name_in (letters (move_count es)))) (links_of 0 (map (compiled a) (cycle_steps es mode plain)))
 all_links_fit a w es mode laws back t few =
     all_links (LinkFits w (letters (move_count es)) (name_in (letters (move_count es)))) 0 (map (compiled a) (cycle_steps es mode plain)) (λ k code g.
@@ -198,7 +198,7 @@ upto_below n = all_from (λ l. l < n) (upto n) (λ k l g.
     let is : l ≡ k = cc in omega arith)
 
 -- the terms of the condition
-pub terms_fit : (a : Puts) (w : Writing) (es : List Edge) (mode : ObsMode) → IsArch a → WritesBack a w → HasTest a es mode → length (cycle_steps es mode plain) ≤ MAX_EDGES
+pub terms_fit : (a : Puts) (w : Writing) (es : List Edge) (mode : ObsMode) → IsArch a → WritesBack a w → HasCode a es mode → length (cycle_steps es mode plain) ≤ MAX_EDGES
     → AllByRecursion (TermFits w (length (map (compiled a) (cycle_steps es mode plain))) (letters (move_count es))) (last_terms es mode ++ load_terms a (name_in w.registers) 0 (cycle_steps es mode plain))
 terms_fit a w es mode laws back t few =
     let threads = length (map (compiled a) (cycle_steps es mode plain)) in

@@ -46,7 +46,7 @@ bytes_force a arch w name es mode laws back t r = record {
 
     forced : Forces (reread_test r.table (test_of a (name_in w.registers) es mode)) (number_in w.registers) es mode number
     forced = renumbered_force_law a (name_in w.registers) (number_in w.registers) es mode (reread_test r.table (test_of a (name_in w.registers) es mode)) number laws (registers_found a w back) t
-        (reread_renumbered a (name_in w.registers) es mode r.table laws t (record { once = r.once; inside = r.among }) r.codes r.links)
+        (reread_renumbered a (name_in w.registers) es mode r.table laws t.code (record { once = r.once; inside = r.among }) r.codes r.links)
 
     same : intended es mode number ≡ intended es mode (place_of test)
     same = intended_same es mode number (place_of test) (λ l h. number_of_location r.table (move_count es) l h)

@@ -19,4 +19,4 @@ pub printed_force : (a : Puts) (arch : ArchName) (w : Writing) (name : List ℕ)
     → BytesForce arch w (test_text arch w name (shown_test a w es mode)) es mode
 printed_force a arch w name es mode laws back cells one named t =
     bytes_force a arch w name es mode laws back t
-    (reads_back a arch w name (shown_test a w es mode) back cells (readable a arch w name es mode laws back cells one named t))
+    (reads_back a arch w name (shown_test a w es mode) back cells (readable a arch w name es mode laws back cells one named t.code))

@@ -27,7 +27,7 @@ use Rattle.litmus_text.specs.Reread.{IsReadable}
 use Rattle.litmus_text.specs.Terms.{TermFits}
 use Rattle.litmus_text.proofs.FormedFits.{links_single}
 use Rattle.litmus_text.proofs.RowBack.{named_op}
-use Rattle.test_laws.specs.Headline.{HasTest}
+use Rattle.test_laws.specs.Headline.{HasCode}
 use Rattle.test_laws.specs.Steps.{cycle_steps}
 use Rattle.test_laws.specs.TestOf.{plain, last_terms, load_terms}
 use Rattle.test_laws.proofs.Everywhere.{all_from}
@@ -69,7 +69,7 @@ formed_terms : (w : Writing) (threads : ℕ) (table : List (List ℕ)) (terms : 
 formed_terms w threads table [] fit = tt
 formed_terms w threads table (term ∷ terms) fit = (fit.0.formed, formed_terms w threads table terms fit.1)
 
-pub readable : (a : Puts) (arch : ArchName) (w : Writing) (name : List ℕ) (es : List Edge) (mode : ObsMode) → IsArch a → WritesBack a w → WritesCells a w → MakesOneAccess a → IsTestName name → HasTest a es mode
+pub readable : (a : Puts) (arch : ArchName) (w : Writing) (name : List ℕ) (es : List Edge) (mode : ObsMode) → IsArch a → WritesBack a w → WritesCells a w → MakesOneAccess a → IsTestName name → HasCode a es mode
     → IsReadable a arch w name (shown_test a w es mode)
 readable a arch w name es mode laws back cells one named t = record {
   named = named;

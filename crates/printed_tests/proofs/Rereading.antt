@@ -36,7 +36,7 @@ use Rattle.litmus_text.proofs.NamesBack.{IsAmong, none_among, push_among, few_na
 use Rattle.program_meaning.specs.Intended.{intended, location_numbered, location_order}
 use Rattle.program_meaning.specs.Programs.{Thread}
 use Rattle.communication.proofs.Lists.{got_map, map_same}
-use Rattle.test_laws.specs.Headline.{HasTest, IsRenumbered}
+use Rattle.test_laws.specs.Headline.{HasCode, IsRenumbered}
 use Rattle.test_laws.specs.Programs.{thread_from}
 use Rattle.test_laws.specs.Steps.{event_step, thread_steps, cycle_steps}
 use Rattle.test_laws.specs.TestOf.{TestSeen, plain, test_of}
@@ -93,7 +93,7 @@ visited es mode location r h =
     }
 
 -- the name of each location stands in the table
-location_stands : (a : Puts) (es : List Edge) (mode : ObsMode) (table : List (List ℕ)) (location : ℕ) → IsArch a → HasTest a es mode
+location_stands : (a : Puts) (es : List Edge) (mode : ObsMode) (table : List (List ℕ)) (location : ℕ) → IsArch a → HasCode a es mode
     → AllByRecursion (λ (t : ThreadCode). AllByRecursion (λ op. op_is_in table (name_in (letters (move_count es))) op ≡ true) t.instrs) (map (compiled a) (cycle_steps es mode plain))
     → AllByRecursion (λ link. is_in table (name_in (letters (move_count es)) link.1.1) ≡ true) (links_of 0 (map (compiled a) (cycle_steps es mode plain)))
     → location < move_count es → is_in table (location_name location) ≡ true
@@ -126,7 +126,7 @@ reread_test table test = record {
   cond = test.cond;
 }
 
-pub reread_renumbered : (a : Puts) (register_name : ℕ → List ℕ) (es : List Edge) (mode : ObsMode) (table : List (List ℕ)) → IsArch a → HasTest a es mode → IsAmong table (letters (move_count es))
+pub reread_renumbered : (a : Puts) (register_name : ℕ → List ℕ) (es : List Edge) (mode : ObsMode) (table : List (List ℕ)) → IsArch a → HasCode a es mode → IsAmong table (letters (move_count es))
     → AllByRecursion (λ (t : ThreadCode). AllByRecursion (λ op. op_is_in table (name_in (letters (move_count es))) op ≡ true) t.instrs) (map (compiled a) (cycle_steps es mode plain))
     → AllByRecursion (λ link. is_in table (name_in (letters (move_count es)) link.1.1) ≡ true) (links_of 0 (map (compiled a) (cycle_steps es mode plain)))
     → IsRenumbered (test_of a register_name es mode) (reread_test table (test_of a register_name es mode)) (by_table table (letters (move_count es)))
@@ -182,10 +182,16 @@ find_agree p q (suc n) h =
     find-append p (upto n) (n ∷ [])
     ∙ rw (find_agree p q n (λ i l. h i (omega arith)), h n (omega arith)) (sym (find-append q (upto n) (n ∷ [])))
 
+-- which location a place has depends on the numbers of the cycle's locations alone
+pub numbered_same : (es : List Edge) (f g : ℕ → ℕ) → ((l : ℕ) → l < move_count es → f l ≡ g l) → (place : ℕ) → location_numbered es f place ≡ location_numbered es g place
+unfolding location_numbered
+numbered_same es f g h place =
+    ap (λ found. unwrap_or found 0) (find_agree (λ l. f l == place) (λ l. g l == place) (move_count es) (λ l k. ap (λ n. n == place) (h l k)))
+
 -- the intended execution looks at the numbers of the cycle's locations alone
 pub intended_same : (es : List Edge) (mode : ObsMode) (f g : ℕ → ℕ) → ((l : ℕ) → l < move_count es → f l ≡ g l) → intended es mode f ≡ intended es mode g
-unfolding intended location_numbered
+unfolding intended
 intended_same es mode f g h =
     let orders = map_same (λ place. location_order es (location_numbered es f place)) (λ place. location_order es (location_numbered es g place)) (upto (move_count es))
-    (λ place. ap (λ found. location_order es (unwrap_or found 0)) (find_agree (λ l. f l == place) (λ l. g l == place) (move_count es) (λ l k. ap (λ n. n == place) (h l k)))) in
+    (λ place. ap (location_order es) (numbered_same es f g h place)) in
     λ i. record { reads = (intended es mode f).reads; orders = orders i }

@@ -30,7 +30,7 @@ read_sc : (a : Puts) (arch : ArchName) (w : Writing) (name : List ℕ) (es : Lis
 read_sc a arch w name es mode laws t r =
     subst ScDecides program_is
     (tests_are_sc_per_location a (name_in w.registers) es mode (reread_test r.table (test_of a (name_in w.registers) es mode)) (by_table r.table (letters (move_count es))) laws t
-    (reread_renumbered a (name_in w.registers) es mode r.table laws t (record { once = r.once; inside = r.among }) r.codes r.links))
+    (reread_renumbered a (name_in w.registers) es mode r.table laws t.code (record { once = r.once; inside = r.among }) r.codes r.links))
   where
     program_is : test_program (reread_test r.table (test_of a (name_in w.registers) es mode)) ≡ program_read (reread r.table name (shown_test a w es mode))
     program_is = λ i. record { places = length r.table; threads = threads_numbered r.table (letters (move_count es)) (test_of a (name_in w.registers) es mode).threads i }
@@ -40,5 +40,5 @@ same_test one other e = cc e
 
 pub printed_are_sc_per_location : (a : Puts) (arch : ArchName) (w : Writing) → IsArch a → WritesBack a w → WritesCells a w → MakesOneAccess a → PrintedAreScPerLocation a arch w
 printed_are_sc_per_location a arch w laws back cells one name es mode test named t read =
-    let r = reads_back a arch w name (shown_test a w es mode) back cells (readable a arch w name es mode laws back cells one named t) in
+    let r = reads_back a arch w name (shown_test a w es mode) back cells (readable a arch w name es mode laws back cells one named t.code) in
     subst (λ (test : TestRead). ScDecides (program_read test)) (same_test (reread r.table name (shown_test a w es mode)) test (sym r.read ∙ read)) (read_sc a arch w name es mode laws t r)

@@ -31,7 +31,7 @@ use Rattle.communication.proofs.Lists.{got_below, got_map, image_of}
 use Rattle.test_laws.specs.Steps.{cycle_steps, numbers_read}
 use Rattle.test_laws.specs.TestOf.{plain, is_named, last_term, last_terms, thread_terms, load_terms}
 use Rattle.test_laws.specs.FinalStates.{final_state}
-use Rattle.test_laws.specs.Headline.{HasTest, FindsRegisters}
+use Rattle.test_laws.specs.Headline.{HasCode, FindsRegisters}
 use Rattle.test_laws.proofs.Terms.{reads-count}
 use Rattle.test_laws.proofs.Visits.{step_access}
 use Rattle.test_laws.proofs.ThreadRuns.{DidThread, did_thread}
@@ -55,7 +55,7 @@ record Ran (a : Puts) (es : List Edge) (mode : ObsMode) (number : ℕ → ℕ) (
   numbers : numbers_read origin.plain_steps ≡ numbers_read steps
   count : length (values_read reads) ≡ length (numbers_read origin.plain_steps)
 
-ran : (a : Puts) (es : List Edge) (mode : ObsMode) (number : ℕ → ℕ) (x : Execution) (k : ℕ) (steps : List Step) (reads : List (ℕ × Option WriteAt)) → IsArch a → HasTest a es mode → IsCandidate (cycle_program a es mode number) x → slice_get (cycle_steps es mode number) k ≡ Some steps → slice_get x.reads k ≡ Some reads → Ran a es mode number x k steps reads
+ran : (a : Puts) (es : List Edge) (mode : ObsMode) (number : ℕ → ℕ) (x : Execution) (k : ℕ) (steps : List Step) (reads : List (ℕ × Option WriteAt)) → IsArch a → HasCode a es mode → IsCandidate (cycle_program a es mode number) x → slice_get (cycle_steps es mode number) k ≡ Some steps → slice_get x.reads k ≡ Some reads → Ran a es mode number x k steps reads
 ran a es mode number x k steps reads laws t c g h =
     let m = are_codes a es mode number laws t.resolved t.of_arch in
     let n = candidate_enough (cycle_codes a es mode number) es mode number x m c k steps reads g h in
@@ -74,7 +74,7 @@ ran a es mode number x k steps reads laws t c g h =
     }
 
 -- where the terms of all loads are met, the values read are those asked for
-pub reads_asked : (a : Puts) (es : List Edge) (mode : ObsMode) (number : ℕ → ℕ) (names : List (List ℕ)) (register_name : ℕ → List ℕ) (register_number : List ℕ → Option ℕ) (x : Execution) → IsArch a → HasTest a es mode → FindsRegisters a register_name register_number → IsCandidate (cycle_program a es mode number) x → AllByRecursion (IsMet (final_state (cycle_program a es mode number) names register_number x)) (load_terms a register_name 0 (cycle_steps es mode plain)) → ReadsAsAsked es mode number x
+pub reads_asked : (a : Puts) (es : List Edge) (mode : ObsMode) (number : ℕ → ℕ) (names : List (List ℕ)) (register_name : ℕ → List ℕ) (register_number : List ℕ → Option ℕ) (x : Execution) → IsArch a → HasCode a es mode → FindsRegisters a register_name register_number → IsCandidate (cycle_program a es mode number) x → AllByRecursion (IsMet (final_state (cycle_program a es mode number) names register_number x)) (load_terms a register_name 0 (cycle_steps es mode plain)) → ReadsAsAsked es mode number x
 reads_asked a es mode number names register_name register_number x laws t finds c met k planned reads g h =
     let s = got_below (cycle_steps es mode number) k (omega (arith, slice_get_within (cycle_accesses es mode number) k planned g, planned-count es mode number)) in
     let f : Some (map step_access s.element) ≡ Some planned = sym (planned_at es mode number k s.element s.got) ∙ g in
@@ -89,7 +89,7 @@ reads_asked a es mode number names register_name register_number x laws t finds 
     ∙ ap (λ l. map (λ (access : Access). access.value) (filter is_read l)) q
 
 -- and back
-pub asked_met : (a : Puts) (es : List Edge) (mode : ObsMode) (number : ℕ → ℕ) (names : List (List ℕ)) (register_name : ℕ → List ℕ) (register_number : List ℕ → Option ℕ) (x : Execution) → IsArch a → HasTest a es mode → FindsRegisters a register_name register_number → IsCandidate (cycle_program a es mode number) x → ReadsAsAsked es mode number x → AllByRecursion (IsMet (final_state (cycle_program a es mode number) names register_number x)) (load_terms a register_name 0 (cycle_steps es mode plain))
+pub asked_met : (a : Puts) (es : List Edge) (mode : ObsMode) (number : ℕ → ℕ) (names : List (List ℕ)) (register_name : ℕ → List ℕ) (register_number : List ℕ → Option ℕ) (x : Execution) → IsArch a → HasCode a es mode → FindsRegisters a register_name register_number → IsCandidate (cycle_program a es mode number) x → ReadsAsAsked es mode number x → AllByRecursion (IsMet (final_state (cycle_program a es mode number) names register_number x)) (load_terms a register_name 0 (cycle_steps es mode plain))
 asked_met a es mode number names register_name register_number x laws t finds c asked =
     terms_from_threads (IsMet final) a register_name 0 (cycle_steps es mode plain) (λ k m steps e g. subst (λ i. AllByRecursion (IsMet final) (thread_terms a register_name i steps)) (let z : k ≡ m = omega (arith, e) in z) (thread_met k steps g))
   where
@@ -111,12 +111,12 @@ asked_met a es mode number names register_name register_number x laws t finds c 
         ∙ sym r.numbers))
 
 -- a place shows its final value
-place_shows : (a : Puts) (es : List Edge) (mode : ObsMode) (number : ℕ → ℕ) (names : List (List ℕ)) (register_number : List ℕ → Option ℕ) (x : Execution) (l : ℕ) → HasTest a es mode → IsNumbering es number → AreNamed es number names → l < move_count es → final_state (cycle_program a es mode number) names register_number x (AtPlace (location_name l)) ≡ Some (Num (final_value (accesses_in (cycle_program a es mode number) x) x (number l)))
+place_shows : (a : Puts) (es : List Edge) (mode : ObsMode) (number : ℕ → ℕ) (names : List (List ℕ)) (register_number : List ℕ → Option ℕ) (x : Execution) (l : ℕ) → HasCode a es mode → IsNumbering es number → AreNamed es number names → l < move_count es → final_state (cycle_program a es mode number) names register_number x (AtPlace (location_name l)) ≡ Some (Num (final_value (accesses_in (cycle_program a es mode number) x) x (number l)))
 place_shows a es mode number names register_number x l t n named h =
     ap (option_map (λ place. Num (final_value (accesses_in (cycle_program a es mode number) x) x place))) (place_found es number names l t.resolved n named h)
 
 -- where the terms of locations are met, the locations end as asked
-pub ends_asked : (a : Puts) (es : List Edge) (mode : ObsMode) (number : ℕ → ℕ) (names : List (List ℕ)) (register_number : List ℕ → Option ℕ) (x : Execution) → HasTest a es mode → IsNumbering es number → AreNamed es number names → AllByRecursion (IsMet (final_state (cycle_program a es mode number) names register_number x)) (last_terms es mode) → EndsAsAsked es mode number (cycle_program a es mode number) x
+pub ends_asked : (a : Puts) (es : List Edge) (mode : ObsMode) (number : ℕ → ℕ) (names : List (List ℕ)) (register_number : List ℕ → Option ℕ) (x : Execution) → HasCode a es mode → IsNumbering es number → AreNamed es number names → AllByRecursion (IsMet (final_state (cycle_program a es mode number) names register_number x)) (last_terms es mode) → EndsAsAsked es mode number (cycle_program a es mode number) x
 ends_asked a es mode number names register_number x t n named met l b u two =
     let yes : is_named es mode l ≡ true = and_from (nat_le 2 (write_count es l)) (not (is_observed es mode l)) (le-leb 2 (write_count es l) two) (ap not u) in
     let g = got_map (last_term es) (filter (is_named es mode) (upto (move_count es))) (count_by (is_named es mode) (upto l)) l (rank_upto (is_named es mode) (move_count es) l b yes) in
@@ -126,7 +126,7 @@ ends_asked a es mode number names register_number x t n named met l b u two =
     f
 
 -- and back
-pub asked_ends : (a : Puts) (es : List Edge) (mode : ObsMode) (number : ℕ → ℕ) (names : List (List ℕ)) (register_number : List ℕ → Option ℕ) (x : Execution) → HasTest a es mode → IsNumbering es number → AreNamed es number names → EndsAsAsked es mode number (cycle_program a es mode number) x → AllByRecursion (IsMet (final_state (cycle_program a es mode number) names register_number x)) (last_terms es mode)
+pub asked_ends : (a : Puts) (es : List Edge) (mode : ObsMode) (number : ℕ → ℕ) (names : List (List ℕ)) (register_number : List ℕ → Option ℕ) (x : Execution) → HasCode a es mode → IsNumbering es number → AreNamed es number names → EndsAsAsked es mode number (cycle_program a es mode number) x → AllByRecursion (IsMet (final_state (cycle_program a es mode number) names register_number x)) (last_terms es mode)
 asked_ends a es mode number names register_number x t n named asked =
     all_from (IsMet (final_state (cycle_program a es mode number) names register_number x)) (last_terms es mode)
     (λ k term g. let i = image_of (last_term es) (filter (is_named es mode) (upto (move_count es))) k term g in

@@ -29,7 +29,7 @@ use Rattle.test_laws.specs.Steps.{cycle_steps}
 use Rattle.test_laws.specs.TestOf.{TestSeen, plain, last_terms, load_terms, test_of}
 use Rattle.test_laws.specs.Programs.{thread_from, test_program}
 use Rattle.test_laws.specs.FinalStates.{final_state, IsAskedFor}
-use Rattle.test_laws.specs.Headline.{HasTest, FindsRegisters, IsRenumbered, TestsForce, RenumberedForce, TestsAsk}
+use Rattle.test_laws.specs.Headline.{HasCode, HasTest, FindsRegisters, IsRenumbered, TestsForce, RenumberedForce, TestsAsk}
 use Rattle.test_laws.proofs.Everywhere.{all_parts, all_joined, position_none}
 use Rattle.test_laws.proofs.PlaceNames.{AreNamed, letter_at, names_differ, locations_few}
 use Rattle.test_laws.proofs.TestCodes.{cycle_codes, cycle_program, are_codes}
@@ -45,7 +45,7 @@ pub record IsAsked (a : Puts) (register_name : ℕ → List ℕ) (es : List Edge
   pub meets : Meets (final_state (cycle_program a es mode number) names register_number x) (test_of a register_name es mode).cond
 
 -- is an outcome of it
-pub asked_outcome : (a : Puts) (register_name : ℕ → List ℕ) (es : List Edge) (mode : ObsMode) (number : ℕ → ℕ) (names : List (List ℕ)) (register_number : List ℕ → Option ℕ) (x : Execution) → IsArch a → FindsRegisters a register_name register_number → HasTest a es mode → IsNumbering es number → AreNamed es number names → IsAsked a register_name es mode number names register_number x → IsOutcome es mode number (cycle_program a es mode number) x
+pub asked_outcome : (a : Puts) (register_name : ℕ → List ℕ) (es : List Edge) (mode : ObsMode) (number : ℕ → ℕ) (names : List (List ℕ)) (register_number : List ℕ → Option ℕ) (x : Execution) → IsArch a → FindsRegisters a register_name register_number → HasCode a es mode → IsNumbering es number → AreNamed es number names → IsAsked a register_name es mode number names register_number x → IsOutcome es mode number (cycle_program a es mode number) x
 asked_outcome a register_name es mode number names register_number x laws finds t n named w =
     let m = all_parts (IsMet (final_state (cycle_program a es mode number) names register_number x)) (last_terms es mode) (load_terms a register_name 0 (cycle_steps es mode plain)) w.meets in
     record {
@@ -56,7 +56,7 @@ asked_outcome a register_name es mode number names register_number x laws finds 
     }
 
 -- and back
-pub outcome_asked : (a : Puts) (register_name : ℕ → List ℕ) (es : List Edge) (mode : ObsMode) (number : ℕ → ℕ) (names : List (List ℕ)) (register_number : List ℕ → Option ℕ) (x : Execution) → IsArch a → FindsRegisters a register_name register_number → HasTest a es mode → IsNumbering es number → AreNamed es number names → IsOutcome es mode number (cycle_program a es mode number) x → IsAsked a register_name es mode number names register_number x
+pub outcome_asked : (a : Puts) (register_name : ℕ → List ℕ) (es : List Edge) (mode : ObsMode) (number : ℕ → ℕ) (names : List (List ℕ)) (register_number : List ℕ → Option ℕ) (x : Execution) → IsArch a → FindsRegisters a register_name register_number → HasCode a es mode → IsNumbering es number → AreNamed es number names → IsOutcome es mode number (cycle_program a es mode number) x → IsAsked a register_name es mode number names register_number x
 outcome_asked a register_name es mode number names register_number x laws finds t n named o = record {
   candidate = o.candidate;
   coherent = o.coherent;
@@ -68,18 +68,18 @@ outcome_asked a register_name es mode number names register_number x laws finds 
 -- the three parts, for the program of a cycle's test under any numbers of places
 pub edges_stand : (a : Puts) (register_name : ℕ → List ℕ) (es : List Edge) (mode : ObsMode) (number : ℕ → ℕ) (names : List (List ℕ)) (register_number : List ℕ → Option ℕ) (x : Execution) → IsArch a → FindsRegisters a register_name register_number → HasTest a es mode → IsNumbering es number → AreNamed es number names → IsAsked a register_name es mode number names register_number x → AllStand es (cycle_program a es mode number) x
 edges_stand a register_name es mode number names register_number x laws finds t n named w =
-    all_edges_stand_law es mode number (cycle_program a es mode number) x t.resolved (served_if_valued es mode (record { edges = es; mode = mode }) t.valued) n
-    (makes (cycle_codes a es mode number) es mode number x (are_codes a es mode number laws t.resolved t.of_arch) w.candidate)
-    (tied_up a.name (cycle_codes a es mode number) es mode number x t.resolved t.of_arch (are_codes a es mode number laws t.resolved t.of_arch) w.candidate)
-    (asked_outcome a register_name es mode number names register_number x laws finds t n named w)
+    all_edges_stand_law es mode number (cycle_program a es mode number) x t.code.resolved (served_if_valued es mode (record { edges = es; mode = mode }) t.valued) n
+    (makes (cycle_codes a es mode number) es mode number x (are_codes a es mode number laws t.code.resolved t.code.of_arch) w.candidate)
+    (tied_up a.name (cycle_codes a es mode number) es mode number x t.code.resolved t.code.of_arch (are_codes a es mode number laws t.code.resolved t.code.of_arch) w.candidate)
+    (asked_outcome a register_name es mode number names register_number x laws finds t.code n named w)
 
 pub one_asked : (a : Puts) (register_name : ℕ → List ℕ) (es : List Edge) (mode : ObsMode) (number : ℕ → ℕ) (names : List (List ℕ)) (register_number : List ℕ → Option ℕ) (x : Execution) → IsArch a → FindsRegisters a register_name register_number → HasTest a es mode → IsNumbering es number → AreNamed es number names → IsAsked a register_name es mode number names register_number x → x ≡ intended es mode number
 one_asked a register_name es mode number names register_number x laws finds t n named w =
-    one_outcome_law es mode number (cycle_program a es mode number) x t.resolved (served_if_valued es mode (record { edges = es; mode = mode }) t.valued) n
-    (makes (cycle_codes a es mode number) es mode number x (are_codes a es mode number laws t.resolved t.of_arch) w.candidate)
-    (asked_outcome a register_name es mode number names register_number x laws finds t n named w)
+    one_outcome_law es mode number (cycle_program a es mode number) x t.code.resolved (served_if_valued es mode (record { edges = es; mode = mode }) t.valued) n
+    (makes (cycle_codes a es mode number) es mode number x (are_codes a es mode number laws t.code.resolved t.code.of_arch) w.candidate)
+    (asked_outcome a register_name es mode number names register_number x laws finds t.code n named w)
 
-pub intended_asked : (a : Puts) (register_name : ℕ → List ℕ) (es : List Edge) (mode : ObsMode) (number : ℕ → ℕ) (names : List (List ℕ)) (register_number : List ℕ → Option ℕ) → IsArch a → FindsRegisters a register_name register_number → HasTest a es mode → IsNumbering es number → AreNamed es number names → IsAsked a register_name es mode number names register_number (intended es mode number)
+pub intended_asked : (a : Puts) (register_name : ℕ → List ℕ) (es : List Edge) (mode : ObsMode) (number : ℕ → ℕ) (names : List (List ℕ)) (register_number : List ℕ → Option ℕ) → IsArch a → FindsRegisters a register_name register_number → HasCode a es mode → IsNumbering es number → AreNamed es number names → IsAsked a register_name es mode number names register_number (intended es mode number)
 intended_asked a register_name es mode number names register_number laws finds t n named =
     outcome_asked a register_name es mode number names register_number (intended es mode number) laws finds t n named
     (an_outcome_law es mode number (cycle_program a es mode number) t.resolved n
@@ -87,11 +87,11 @@ intended_asked a register_name es mode number names register_number laws finds t
     (intended_ends (cycle_codes a es mode number) es mode number (are_codes a es mode number laws t.resolved t.of_arch) t.resolved n))
 
 -- the names of a test that is the same as a cycle's but for the numbers of places
-renumbered_names : (a : Puts) (register_name : ℕ → List ℕ) (es : List Edge) (mode : ObsMode) (test : TestSeen) (number : ℕ → ℕ) → IsRenumbered (test_of a register_name es mode) test number → AreNamed es number test.places
+pub renumbered_names : (a : Puts) (register_name : ℕ → List ℕ) (es : List Edge) (mode : ObsMode) (test : TestSeen) (number : ℕ → ℕ) → IsRenumbered (test_of a register_name es mode) test number → AreNamed es number test.places
 renumbered_names a register_name es mode test number e l h = e.names l (location_name l) (letter_at (move_count es) l h)
 
 -- its numbers are a numbering
-renumbered_numbers : (a : Puts) (register_name : ℕ → List ℕ) (es : List Edge) (mode : ObsMode) (test : TestSeen) (number : ℕ → ℕ) → HasTest a es mode → IsRenumbered (test_of a register_name es mode) test number → IsNumbering es number
+pub renumbered_numbers : (a : Puts) (register_name : ℕ → List ℕ) (es : List Edge) (mode : ObsMode) (test : TestSeen) (number : ℕ → ℕ) → HasCode a es mode → IsRenumbered (test_of a register_name es mode) test number → IsNumbering es number
 renumbered_numbers a register_name es mode test number t e = record {
   below = λ l h. omega (arith, slice_get_within test.places (number l) (location_name l) (named l h), e.count, length-letters (move_count es));
   injective = λ l m h k same.
@@ -107,7 +107,7 @@ renumbered_numbers a register_name es mode test number t e = record {
     few = locations_few es t.resolved
 
 -- its program is that of the cycle's test, under these numbers
-renumbered_program : (a : Puts) (register_name : ℕ → List ℕ) (es : List Edge) (mode : ObsMode) (test : TestSeen) (number : ℕ → ℕ) → IsRenumbered (test_of a register_name es mode) test number → cycle_program a es mode number ≡ test_program test
+pub renumbered_program : (a : Puts) (register_name : ℕ → List ℕ) (es : List Edge) (mode : ObsMode) (test : TestSeen) (number : ℕ → ℕ) → IsRenumbered (test_of a register_name es mode) test number → cycle_program a es mode number ≡ test_program test
 renumbered_program a register_name es mode test number e =
     let c : move_count es ≡ length test.places = sym (length-letters (move_count es)) ∙ sym e.count in
     λ i. record { places = c i; threads = map thread_from (sym e.threads i) }
@@ -136,26 +136,26 @@ renumbered_force_law a register_name register_number es mode test number laws fi
       subst (λ (p : Program). AllStand es p x) (renumbered_program a register_name es mode test number e)
       (edges_stand a register_name es mode number test.places register_number x laws finds t n named ((renumbered_asks a register_name register_number es mode test number x e).0 w));
   only = λ x w. one_asked a register_name es mode number test.places register_number x laws finds t n named ((renumbered_asks a register_name register_number es mode test number x e).0 w);
-  exists = (renumbered_asks a register_name register_number es mode test number (intended es mode number) e).1 (intended_asked a register_name es mode number test.places register_number laws finds t n named);
+  exists = (renumbered_asks a register_name register_number es mode test number (intended es mode number) e).1 (intended_asked a register_name es mode number test.places register_number laws finds t.code n named);
 }
   where
     named : AreNamed es number test.places
     named = renumbered_names a register_name es mode test number e
 
     n : IsNumbering es number
-    n = renumbered_numbers a register_name es mode test number t e
+    n = renumbered_numbers a register_name es mode test number t.code e
 
 pub tests_ask_law : TestsAsk
 tests_ask_law a register_name register_number es mode test number x laws finds t e = (
-  λ w. subst (λ (p : Program). IsOutcome es mode number p x) p (asked_outcome a register_name es mode number test.places register_number x laws finds t n named ((renumbered_asks a register_name register_number es mode test number x e).0 w)),
-  λ o. (renumbered_asks a register_name register_number es mode test number x e).1 (outcome_asked a register_name es mode number test.places register_number x laws finds t n named (subst (λ (p : Program). IsOutcome es mode number p x) (sym p) o)),
+  λ w. subst (λ (p : Program). IsOutcome es mode number p x) p (asked_outcome a register_name es mode number test.places register_number x laws finds t.code n named ((renumbered_asks a register_name register_number es mode test number x e).0 w)),
+  λ o. (renumbered_asks a register_name register_number es mode test number x e).1 (outcome_asked a register_name es mode number test.places register_number x laws finds t.code n named (subst (λ (p : Program). IsOutcome es mode number p x) (sym p) o)),
 )
   where
     named : AreNamed es number test.places
     named = renumbered_names a register_name es mode test number e
 
     n : IsNumbering es number
-    n = renumbered_numbers a register_name es mode test number t e
+    n = renumbered_numbers a register_name es mode test number t.code e
 
     p : cycle_program a es mode number ≡ test_program test
     p = renumbered_program a register_name es mode test number e

@@ -23,7 +23,7 @@ use Rattle.communication.proofs.Lists.{got_map, image_of, map_same, map-map}
 use Rattle.test_laws.specs.Steps.{event_step, thread_steps, observing, observer_steps, cycle_steps, numbers_read}
 use Rattle.test_laws.specs.TestOf.{plain}
 use Rattle.test_laws.specs.Programs.{program_of}
-use Rattle.test_laws.specs.Headline.{HasTest}
+use Rattle.test_laws.specs.Headline.{HasCode}
 use Rattle.test_laws.proofs.StepsFit.{steps_fit}
 use Rattle.test_laws.proofs.ThreadRuns.{AreCodesOf}
 
@@ -83,7 +83,7 @@ are_codes a es mode number laws r o = record {
 }
 
 -- the registers of a thread's loads are the architecture's
-pub loads_below : (a : Puts) (es : List Edge) (mode : ObsMode) (k : ℕ) (steps : List Step) → IsArch a → HasTest a es mode → slice_get (cycle_steps es mode plain) k ≡ Some steps → AllBelow a.registers (compiled a steps).loads
+pub loads_below : (a : Puts) (es : List Edge) (mode : ObsMode) (k : ℕ) (steps : List Step) → IsArch a → HasCode a es mode → slice_get (cycle_steps es mode plain) k ≡ Some steps → AllBelow a.registers (compiled a steps).loads
 loads_below a es mode k steps laws t g =
     (is_formed a laws steps (steps_fit es mode plain a.name k steps t.resolved t.of_arch g).fit (t.room k steps g)).loads
 

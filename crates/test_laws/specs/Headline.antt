@@ -20,13 +20,17 @@ use Rattle.test_laws.specs.TestOf.{TestSeen, plain, test_of}
 use Rattle.test_laws.specs.Programs.{test_program}
 use Rattle.test_laws.specs.FinalStates.{IsAskedFor}
 
--- a cycle has a test on an architecture: its edges are the architecture's, the mode gives it values and the observers that
--- it needs, and no thread needs more registers than there are
-pub record HasTest (a : Puts) (es : List Edge) (mode : ObsMode) : Type 0 where
+-- the test of a cycle has code on an architecture: the cycle's edges are the architecture's, and no thread needs more
+-- registers than there are
+pub record HasCode (a : Puts) (es : List Edge) (mode : ObsMode) : Type 0 where
   pub resolved : IsResolved es
   pub of_arch : list_all (λ e. is_of_arch e a.name) es ≡ true
-  pub valued : valuation_of es mode ≡ Ok (record { edges = es; mode = mode })
   pub room : (thread : ℕ) (steps : List Step) → slice_get (cycle_steps es mode plain) thread ≡ Some steps → a.need (shape_of steps) ≤ a.registers
+
+-- a cycle has a test on an architecture: it has code there, and the mode gives it values and the observers that it needs
+pub record HasTest (a : Puts) (es : List Edge) (mode : ObsMode) : Type 0 where
+  pub code : HasCode a es mode
+  pub valued : valuation_of es mode ≡ Ok (record { edges = es; mode = mode })
 
 -- each register of an architecture is found by its name
 abbrev pub FindsRegisters : Puts → (ℕ → List ℕ) → (List ℕ → Option ℕ) → Type 0

@@ -27,10 +27,12 @@ made_forces : (a : Puts) (w : Writing) → IsArch a → WritesBack a w → (es :
     MakesValued a (name_in w.registers) es mode (test_view test) result → MadeForces (number_in w.registers) es mode test result
 made_forces a w laws back es mode test (Ok _) resolved of_arch valued made =
     let forced = tests_force_law a (name_in w.registers) (number_in w.registers) es mode laws (registers_found a w back) (record {
-      resolved = resolved;
-      of_arch = of_arch;
+      code = record {
+        resolved = resolved;
+        of_arch = of_arch;
+        room = λ thread steps got. room_left a (cycle_steps es mode plain) thread steps (uncrowded a es mode made.0) got;
+      };
       valued = valued;
-      room = λ thread steps got. room_left a (cycle_steps es mode plain) thread steps (uncrowded a es mode made.0) got;
     }) in
     subst (λ (seen : TestSeen). Forces seen (number_in w.registers) es mode plain) (sym made.1) forced
 made_forces a w laws back es mode test (Err refusal) resolved of_arch valued made = tt

@@ -59,10 +59,12 @@ accepted_has_test a cycle mode is_cycle h =
     of_resolution (Ok es) e h of_arch =
         let parts = neither (unobserved_need mode es) (crowded_thread a es mode) h in
         subst (λ us. HasTest a us mode) (sym (resolved_turned cycle es e).1) (record {
-          resolved = resolution_resolved cycle es is_cycle e;
-          of_arch = turned_of_arch a cycle es of_arch e;
+          code = record {
+            resolved = resolution_resolved cycle es is_cycle e;
+            of_arch = turned_of_arch a cycle es of_arch e;
+            room = λ thread steps got. room_left a (cycle_steps es mode plain) thread steps (uncrowded a es mode parts.1) got;
+          };
           valued = served es mode parts.0;
-          room = λ thread steps got. room_left a (cycle_steps es mode plain) thread steps (uncrowded a es mode parts.1) got;
         })
 
 -- where all edges are of the architecture, a cycle that a call made the test of has a test

@@ -1,0 +1,5 @@
+pub mod States
+pub mod Carried
+pub mod Breaking
+pub mod Laws
+pub mod Printed
