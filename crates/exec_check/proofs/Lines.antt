@@ -1,0 +1,49 @@
+-- The lines of a verdict, sent one after another.
+use Rattle.std.proofs.Common.{◌≡◌, ◌≤◌, ◌<◌, ℕ, ◌+◌, ◌-◌, Bool, true, false, List, [], ◌∷◌, ◌++◌, length, get_or, take, drop, Ok, Err, refl, sym, subst, arith, append_assoc}
+use Rattle.std.specs.Prelude.{codes, Result}
+use Rattle.std.specs.Result.{IsErrAnd}
+use Rattle.std.specs.Fmt.{decimal}
+use Rattle.std.proofs.lemmas.List.{take_all}
+use Rattle.diy_io.specs.declared.errors.Failed.{Failed}
+use Rattle.diy_io.specs.Page.{Sends}
+use Rattle.diy_io.specs.PageLaws.{sends_then, sends_stopped, sent_nothing}
+use Rattle.diy_io.specs.Wrote.{SinkSeen}
+use Rattle.relax_edges.specs.declared.edge.Edge.{Edge}
+use Rattle.relax_edges.specs.Words.{word_of}
+use Rattle.exec_check.specs.Verdicts.{answer_word, answer_line, edge_line, edge_lines, judged_lines}
+
+-- a line by its pieces
+pub answer_line_is : (word shown : List ℕ) (answer : Bool) → shown ≡ answer_word answer → word ++ codes " " ++ shown ++ codes "\n" ≡ answer_line word answer
+unfolding answer_line
+answer_line_is word shown answer e = rw e refl
+
+pub edge_line_is : (digits word shown : List ℕ) (i : ℕ) (edge : Edge) (stands : Bool) → digits ≡ decimal i → word ≡ word_of edge → shown ≡ answer_word stands
+    → codes "edge " ++ digits ++ codes " " ++ word ++ codes " " ++ shown ++ codes "\n" ≡ edge_line i edge stands
+unfolding edge_line
+edge_line_is digits word shown i edge stands e f h = rw (e, f, h) refl
+
+-- there are no edges
+pub edges_none : (a : SinkSeen) (held : List ℕ) (i : ℕ) (edges : List (Edge × Bool)) → length edges < 1 → Sends a held a held (edge_lines i edges) (Ok tt)
+edges_none a held i [] h = record { ok = sent_nothing a held; failed = tt }
+edges_none a held i (j ∷ edges) h = absurd (omega arith)
+
+-- the first line is sent, and then the others
+pub edges_sent : (a b c : SinkSeen) (held mid kept : List ℕ) (i : ℕ) (edges : List (Edge × Bool)) (d : Edge × Bool) (u : Unit {0}) (result : Result (Unit {0}) Failed)
+    → 1 ≤ length edges → Sends a held b mid (edge_line i (get_or edges 0 d).0 (get_or edges 0 d).1) (Ok u)
+    → Sends b mid c kept (edge_lines (i + 1) (take (length edges - 1) (drop 1 edges))) result → Sends a held c kept (edge_lines i edges) result
+edges_sent a b c held mid kept i [] d u result h first rest = absurd (omega arith)
+edges_sent a b c held mid kept i (j ∷ edges) d u result h first rest =
+    let left : take (length (j ∷ edges) - 1) edges ≡ edges = take_all (length (j ∷ edges) - 1) edges (omega arith) in
+    sends_then a b c held mid kept (edge_line i j.0 j.1) (edge_lines (i + 1) edges) u result first
+    (subst (λ l. Sends b mid c kept (edge_lines (i + 1) l) result) left rest)
+
+-- it is sent in part
+pub edges_stopped : (Q : Failed → Type 0) (a b : SinkSeen) (held mid kept : List ℕ) (i : ℕ) (edges : List (Edge × Bool)) (d : Edge × Bool) (e : Failed) (result : Result (Unit {0}) Failed)
+    → 1 ≤ length edges → Sends a held b mid (edge_line i (get_or edges 0 d).0 (get_or edges 0 d).1) (Err e) → IsErrAnd result Q → Sends a held b kept (edge_lines i edges) result
+edges_stopped Q a b held mid kept i [] d e result h first is_err = absurd (omega arith)
+edges_stopped Q a b held mid kept i (j ∷ edges) d e result h first is_err = sends_stopped Q a b held mid kept (edge_line i j.0 j.1) (edge_lines (i + 1) edges) e result first is_err
+
+-- the lines of a cycle's edges
+pub some_lines : (edges : List (Edge × Bool)) → 0 < length edges → edge_lines 0 edges ≡ judged_lines edges
+some_lines [] h = absurd (omega arith)
+some_lines (j ∷ edges) h = refl
