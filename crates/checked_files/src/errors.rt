@@ -49,10 +49,7 @@ pub(crate) enum CheckFault {
     /// The shelf failed.
     Device,
     /// It is wrong: the line, and the fault.
-    Wrong {
-        line: u64,
-        kind: CheckedKind,
-    },
+    Wrong { line: u64, kind: CheckedKind },
     /// There is no memory.
     NoMemory,
 }
