@@ -1,5 +1,5 @@
 -- The lines of a verdict, sent one after another.
-use Rattle.std.proofs.Common.{◌≡◌, ◌≤◌, ◌<◌, ℕ, ◌+◌, ◌-◌, Bool, true, false, List, [], ◌∷◌, ◌++◌, length, get_or, take, drop, Ok, Err, refl, sym, subst, arith, append_assoc}
+use Rattle.std.proofs.Common.{◌≡◌, ◌≤◌, ◌<◌, ℕ, ◌+◌, ◌-◌, Bool, true, false, List, [], ◌∷◌, ◌++◌, length, get_or, take, drop, Ok, Err, refl, subst, arith}
 use Rattle.std.specs.Prelude.{codes, Result}
 use Rattle.std.specs.Result.{IsErrAnd}
 use Rattle.std.specs.Fmt.{decimal}
@@ -10,7 +10,8 @@ use Rattle.diy_io.specs.PageLaws.{sends_then, sends_stopped, sent_nothing}
 use Rattle.diy_io.specs.Wrote.{SinkSeen}
 use Rattle.relax_edges.specs.declared.edge.Edge.{Edge}
 use Rattle.relax_edges.specs.Words.{word_of}
-use Rattle.exec_check.specs.Verdicts.{answer_word, answer_line, edge_line, edge_lines, judged_lines}
+use Rattle.exec_check.specs.declared.verdict.Verdict.{Verdict}
+use Rattle.exec_check.specs.Verdicts.{answer_word, answer_line, edge_line, edge_lines, judged_lines, further_lines}
 
 -- a line by its pieces
 pub answer_line_is : (word shown : List ℕ) (answer : Bool) → shown ≡ answer_word answer → word ++ codes " " ++ shown ++ codes "\n" ≡ answer_line word answer
@@ -47,3 +48,17 @@ edges_stopped Q a b held mid kept i (j ∷ edges) d e result h first is_err = se
 pub some_lines : (edges : List (Edge × Bool)) → 0 < length edges → edge_lines 0 edges ≡ judged_lines edges
 some_lines [] h = absurd (omega arith)
 some_lines (j ∷ edges) h = refl
+
+-- the lines after the first: there are none where the execution is no candidate
+pub further_none : (a : SinkSeen) (held : List ℕ) (v : Verdict) (b : Bool) → b ≡ false → Sends a held a held (further_lines b v) (Ok tt)
+further_none a held v true e = cc e
+further_none a held v false e = record { ok = sent_nothing a held; failed = tt }
+
+pub further_is : (v : Verdict) (b : Bool) → b ≡ true
+    → answer_line (codes "coherent") v.coherent ++ (answer_line (codes "condition") v.condition ++ judged_lines v.edges.items) ≡ further_lines b v
+further_is v true e = refl
+further_is v false e = cc e
+
+-- what was sent from an empty page
+pub sends_of : (a b : SinkSeen) (held kept text : List ℕ) (result : Result (Unit {0}) Failed) → held ≡ [] → Sends a held b kept text result → Sends a [] b kept text result
+sends_of a b held kept text result e h = subst (λ p. Sends a p b kept text result) e h

@@ -22,11 +22,7 @@ use std::alloc::Global;
 /// and which edges stand in it of the cycle that the test quotes. The text has the form that
 /// `execution_text::read_execution` reads. One that is no execution is answered with its first faulty line,
 /// and the leftmost fault in it.
-pub fn check<A: Arch>(
-    alloc: Global,
-    test: &ReadTest<A>,
-    text: &[u8],
-) -> Result<Verdict, CheckError>
+pub fn check<A: Arch>(alloc: Global, test: &ReadTest<A>, text: &[u8]) -> Result<Verdict, CheckError>
     ensures { Checks A.NAME (number_in A.writing.registers) test.now text.now result }
 {
     match read_execution(alloc, test.threads(), test.places(), text) {

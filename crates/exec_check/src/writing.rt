@@ -42,11 +42,7 @@ fn send_further<O: Sink>(verdict: &Verdict, page: &mut Page, out: &mut O) -> Res
 }
 
 /// Sends the lines of the edges of a cycle, or that there is no cycle.
-fn send_judged<O: Sink>(
-    edges: &[(Edge, bool)],
-    page: &mut Page,
-    out: &mut O,
-) -> Result<(), Failed>
+fn send_judged<O: Sink>(edges: &[(Edge, bool)], page: &mut Page, out: &mut O) -> Result<(), Failed>
     requires { length edges.now ≤ MAX_EDGES }
     ensures { Sends (O.seen out.old) page.old (O.seen out.new) page.new (judged_lines edges.now) result }
 {
@@ -96,7 +92,7 @@ fn send_edge<O: Sink>(
 
 /// Sends a line of a word and an answer.
 fn send_answer<O: Sink>(
-    word: &[u8],
+    word: &'static [u8],
     answer: bool,
     page: &mut Page,
     out: &mut O,

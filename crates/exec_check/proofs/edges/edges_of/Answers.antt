@@ -1,0 +1,10 @@
+use Rattle.std.proofs.Common.{◌≡◌, Some, slice_get, subst}
+use Rattle.litmus_text.specs.Programs.{program_read}
+use Rattle.exec_check.proofs.Judging.{one_judged}
+use Rattle.exec_check.proofs.edges.edges_of.Goals as goal
+
+pub loop-i-preserved : goal.loop-i-preserved
+loop-i-preserved g c =
+    let found = subst (λ l. slice_get l c.loop-i.i ≡ Some c.edge.result) c.cycle-cycle.ensures.value c.edge.ensures in
+    one_judged c.args.resolved.now (program_read c.args.test.now) c.args.exec.now c.loop-i.i c.loop-i.judged.items c.push.new.self.items c.edge.result c.in_ok-stands.stands
+    c.loop-i.invariant found c.in_ok-stands.ensures c.push.ensures.items

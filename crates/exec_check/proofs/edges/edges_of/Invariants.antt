@@ -1,0 +1,7 @@
+use Rattle.litmus_text.specs.Programs.{program_read}
+use Rattle.exec_check.proofs.Judging.{AreJudgedTo}
+use Rattle.exec_check.proofs.edges.edges_of.Given as goal
+
+-- the edges so far are judged
+abbrev pub invariant-loop-i : goal.invariant-loop-i
+invariant-loop-i g l = AreJudgedTo l.resolved (program_read l.test) l.exec l.i l.judged.items

@@ -1,0 +1,11 @@
+use Rattle.std.proofs.Common.{◌∙◌}
+use Rattle.diy_io.specs.PageLaws.{sends_same}
+use Rattle.exec_check.proofs.Lines.{edge_line_is}
+use Rattle.exec_check.proofs.writing.send_edge.Goals as goal
+
+pub returns : goal.returns
+returns g c =
+    sends_same _ _ _ _ _ _ c.send_pieces.result c.send_pieces.ensures
+    (edge_line_is c.as_bytes-digits.result.now c.as_bytes-word.result.now c.as_bytes-answer.result.now c.args.number c.args.edge c.args.stands
+    (c.as_bytes-digits.ensures.value ∙ c.format.ensures.text) (c.as_bytes-word.ensures.value ∙ c.as_str.ensures.value ∙ c.word.ensures.word)
+    (c.as_bytes-answer.ensures.value ∙ c.answer_word.ensures))

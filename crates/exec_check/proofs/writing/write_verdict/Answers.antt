@@ -1,0 +1,6 @@
+use Rattle.diy_io.specs.PageLaws.{sent_wrote}
+use Rattle.exec_check.proofs.Lines.{sends_of}
+use Rattle.exec_check.proofs.writing.write_verdict.Goals as goal
+
+pub returns : goal.returns
+returns g c = sent_wrote _ _ _ _ _ c.flush.result (sends_of _ _ _ _ _ _ c.new-page.ensures c.in_ok-send_verdict.ensures).ok c.flush.ensures.wrote
