@@ -2,7 +2,7 @@ use Rattle.std.proofs.Common.{subst, Ok}
 use Rattle.diy_words.specs.declared.request.Request.{Request}
 use Rattle.diy_words.specs.Given.{Gives}
 use Rattle.diy_words.specs.Requests.{asked_of}
-use Rattle.diy_tools.proofs.Running.{name_answered}
+use Rattle.diy_tools.proofs.Running.{check_answered, name_answered}
 use Rattle.diy_tools.proofs.tools.answer.Goals as goal
 
 pub returns-in-Ok-Name-clause-answers : goal.returns-in-Ok-Name-clause-answers
@@ -12,3 +12,12 @@ returns-in-Ok-Name-clause-answers g c =
     (g.I.Source.seen c.norm.new.input)
     (g.O.Sink.seen c.args.out.now) (g.O.Sink.seen c.norm.new.out)
     (subst (λ (r : Request). Gives (Ok r) (asked_of c.args.words.now)) c.in-Ok-Name.field-0-is c.in-Ok-Name.ensures.given) c.norm.ensures.answers
+
+pub returns-in-Ok-Check-clause-answers : goal.returns-in-Ok-Check-clause-answers
+returns-in-Ok-Check-clause-answers g c =
+    check_answered c.args.words.now c.in-Ok-Check.request c.check.result
+    (g.I.Source.seen c.args.input.now)
+    (g.H.Shelf.seen c.args.shelf.now)
+    (g.H.Shelf.seen c.check.new.shelf)
+    (g.O.Sink.seen c.args.out.now) (g.O.Sink.seen c.check.new.out)
+    (subst (λ (r : Request). Gives (Ok r) (asked_of c.args.words.now)) c.in-Ok-Check.field-0-is c.in-Ok-Check.ensures.given) c.check.ensures.answers
