@@ -1,5 +1,5 @@
 -- A walk that passes over cycles that have no test.
-use Rattle.std.proofs.Common.{◌≡◌, Option, Some, None, List, inl, inr}
+use Rattle.std.proofs.Common.{Option, Some, None, List, inl, inr}
 use Rattle.relax_edges.specs.declared.edge.Edge.{Edge}
 use Rattle.walk_laws.specs.Order.{Follows}
 use Rattle.walk_laws.proofs.Ordering.{follows_transitive, follows_or_same}

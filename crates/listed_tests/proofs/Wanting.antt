@@ -99,9 +99,9 @@ sought_parts : (arch : ArchName) (threads : ℕ) (accesses : Option ℕ) (u : Li
     → (may_lead arch threads u ≡ true) × (nat_le 2 (external_count u) ≡ true) × (has_few_accesses accesses u ≡ true)
 unfolding is_sought
 sought_parts arch threads accesses u h =
-    let p = and_parts (may_lead arch threads u) (nat_le 2 (external_count u) && has_few_accesses accesses u) h in
-    let q = and_parts (nat_le 2 (external_count u)) (has_few_accesses accesses u) p.1 in
-    (p.0, q.0, q.1)
+    let p = and_parts (nat_le 2 (external_count u)) (may_lead arch threads u && has_few_accesses accesses u) h in
+    let q = and_parts (may_lead arch threads u) (has_few_accesses accesses u) p.1 in
+    (q.0, p.0, q.1)
 
 -- no such cycle begins with edges with which none may
 pub refused_leads_none : (arch : ArchName) (threads : ℕ) (accesses : Option ℕ) (u r : List Edge) → may_lead arch threads u ≡ false → is_sought arch threads accesses (u ++ r) ≡ true → ⊥
@@ -120,9 +120,10 @@ unfolding is_sought may_lead
 sought_if_wanted puts mode threads accesses u h =
     let few = wanted_few puts mode threads accesses u h in
     let none = wanted_has_test puts mode threads accesses u h in
-    and_from (list_all (λ e. is_of_arch e puts.name) u && has_few_threads threads u) (nat_le 2 (external_count u) && has_few_accesses accesses u)
-    (and_from (list_all (λ e. is_of_arch e puts.name) u) (has_few_threads threads u) (tested_of_arch puts mode u none) few.0)
-    (and_from (nat_le 2 (external_count u)) (has_few_accesses accesses u) (tested_two puts mode u none) few.1)
+    and_from (nat_le 2 (external_count u)) ((list_all (λ e. is_of_arch e puts.name) u && has_few_threads threads u) && has_few_accesses accesses u)
+    (tested_two puts mode u none)
+    (and_from (list_all (λ e. is_of_arch e puts.name) u && has_few_threads threads u) (has_few_accesses accesses u)
+    (and_from (list_all (λ e. is_of_arch e puts.name) u) (has_few_threads threads u) (tested_of_arch puts mode u none) few.0) few.1)
 
 wanted_if_sought : (puts : Puts) (mode : ObsMode) (threads : ℕ) (accesses : Option ℕ) (u : List Edge) → is_sought puts.name threads accesses u ≡ true → refusal_of puts u mode ≡ None
     → is_wanted puts mode threads accesses u ≡ true

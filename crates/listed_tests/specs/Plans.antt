@@ -37,9 +37,9 @@ is_wanted puts mode threads accesses cycle =
 unfoldable pub may_lead : ArchName → ℕ → List Edge → Bool
 may_lead arch threads edges = list_all (λ edge. is_of_arch edge arch) edges && has_few_threads threads edges
 
--- a cycle is wanted if it has a test: such a cycle may begin with its edges, it has two threads or more, and few accesses in each
+-- a cycle is wanted if it has a test: it has two threads or more, such a cycle may begin with its edges, and it has few accesses in each thread
 unfoldable pub is_sought : ArchName → ℕ → Option ℕ → List Edge → Bool
-is_sought arch threads accesses cycle = may_lead arch threads cycle && (nat_le 2 (external_count cycle) && has_few_accesses accesses cycle)
+is_sought arch threads accesses cycle = nat_le 2 (external_count cycle) && (may_lead arch threads cycle && has_few_accesses accesses cycle)
 
 -- those of some cycles that have a test
 abbrev pub HaveTests : Puts → ObsMode → (List Edge → Type 0) → List Edge → Type 0

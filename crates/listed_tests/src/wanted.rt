@@ -42,14 +42,14 @@ impl Wanted<'_> {
         }
     }
 
-    /// Whether a cycle is wanted if it has a test: its edges are of the architecture and lead to two
-    /// threads or more, but to no more than are asked for, and each has no more accesses.
+    /// Whether a cycle is wanted if it has a test: its edges lead to two threads or more, but to no more
+    /// than are asked for, each has no more accesses, and the edges are of the architecture.
     #[tactic(auto, using(crate::proofs::Wanting::two_are_some), unfolding(crate::specs::Plans::is_sought))]
     pub(crate) fn seeks<A: Arch>(&self, cycle: &Cycle) -> bool
         ensures { result ≡ is_sought A.puts.name self.now.threads self.now.accesses cycle.now }
     {
-        self.may_lead::<A>(cycle.edges())
-            && has_two_threads(cycle.edges())
+        has_two_threads(cycle.edges())
+            && self.may_lead::<A>(cycle.edges())
             && has_few_accesses(cycle.edges(), self.accesses)
     }
 }

@@ -1,4 +1,4 @@
-use Rattle.std.proofs.Common.{◌≡◌, ◌<◌, ◌≤◌, Some, None, refl, ap, arith}
+use Rattle.std.proofs.Common.{◌≡◌, ◌<◌, Some, None, refl, ap, arith}
 use Rattle.listing_laws.specs.Counting.{later}
 use Rattle.listing_laws.specs.Listing.{IsAnswer}
 use Rattle.test_maker.specs.Refusals.{refusal_of}

@@ -1,4 +1,4 @@
-use Rattle.std.proofs.Common.{◌<◌, ◌≤◌, ◌∙◌, length, refl, rules}
+use Rattle.std.proofs.Common.{◌<◌, ◌≤◌, length, refl, rules}
 use Rattle.listing_laws.specs.Search.{IsCandidate, IsExtended, IsRaised, LeadsNowhere}
 use Rattle.listing_laws.proofs.Counts.{raised_falls, extended_falls}
 use Rattle.listing_laws.proofs.Candidates.{raised_listed, extended_listed}
