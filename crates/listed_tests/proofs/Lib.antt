@@ -5,6 +5,7 @@ pub mod Going
 pub mod GivenLaws
 pub mod Walks
 pub mod Passing
+pub mod PassingOver
 pub mod Texts
 pub mod Wanting
 pub mod RunLaws

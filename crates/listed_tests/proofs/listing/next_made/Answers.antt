@@ -1,33 +1,22 @@
-use Rattle.std.proofs.Common.{◌≡◌, ◌<◌, Some, None, refl, ap, arith}
-use Rattle.listing_laws.specs.Counting.{later}
-use Rattle.listing_laws.specs.Listing.{IsAnswer}
-use Rattle.test_maker.specs.Refusals.{refusal_of}
-use Rattle.cycle_enum.specs.Walking.{Lists}
-use Rattle.listed_tests.specs.Plans.{HaveTests}
-use Rattle.listed_tests.proofs.Passing.{passes_first, passes_more, passed_to, passed_all}
-use Rattle.listed_tests.proofs.Walks.{answers_as, went_on, went_to}
+use Rattle.std.proofs.Common.{◌≡◌, ap}
+use Rattle.listed_tests.proofs.PassingOver.{passes_none, passes_one, passes_to, passes_all, fewer}
+use Rattle.listed_tests.proofs.Walks.{went_on, went_to}
 use Rattle.listed_tests.proofs.listing.next_made.Goals as goal
 
 pub loop-cycle-init : goal.loop-cycle-init
-loop-cycle-init g c = record {
-  passes = passes_first (HaveTests g.A.Arch.puts c.args.mode (Lists g.P.Fn.post c.args.walk.now)) c.args.walk.now.last;
-  walk = refl;
-  falls = omega arith;
-}
+loop-cycle-init g c = passes_none g.P.Fn.post g.A.Arch.puts c.args.mode c.args.walk.now
 
 pub next-requires : goal.next-requires
 next-requires g c =
-    let keep : c.loop-cycle.walk.keep ≡ c.args.walk.now.keep = ap (λ w. w.keep) c.loop-cycle.invariant.walk in
-    let fit : c.loop-cycle.walk.fit ≡ c.args.walk.now.fit = ap (λ w. w.fit) c.loop-cycle.invariant.walk in
-    let take : c.loop-cycle.walk.take ≡ c.args.walk.now.take = ap (λ w. w.take) c.loop-cycle.invariant.walk in
+    let same = c.loop-cycle.invariant.walk in
+    let keep : c.loop-cycle.walk.keep ≡ c.args.walk.now.keep = ap (λ w. w.keep) same in
+    let fit : c.loop-cycle.walk.fit ≡ c.args.walk.now.fit = ap (λ w. w.fit) same in
+    let take : c.loop-cycle.walk.take ≡ c.args.walk.now.take = ap (λ w. w.take) same in
     record { knows = rw (keep, fit, take) c.requires.knows }
 
 pub returns-then-make_test-clause-next : goal.returns-then-make_test-clause-next
 returns-then-make_test-clause-next g c =
-    let is : IsAnswer (Lists g.P.Fn.post c.args.walk.now) c.loop-cycle.walk.last (Some c.in-Some.cycle) =
-    answers_as g.P.Fn.post c.args.walk.now c.loop-cycle.walk c.loop-cycle.walk.last (Some c.in-Some.cycle) c.loop-cycle.invariant.walk c.in-Some.ensures.next in
-    passed_to (Lists g.P.Fn.post c.args.walk.now) (λ u. refusal_of g.A.Arch.puts u c.args.mode ≡ None) c.args.walk.now.last c.loop-cycle.walk.last c.in-Some.cycle
-    c.loop-cycle.invariant.passes is (c.make_test.ensures.made c.if-make_test.true)
+    passes_to g.P.Fn.post g.A.Arch.puts c.args.mode c.args.walk.now c.loop-cycle.walk c.loop-cycle.invariant c.in-Some.cycle c.in-Some.ensures.next (c.make_test.ensures.made c.if-make_test.true)
 
 pub returns-then-make_test-clause-some : goal.returns-then-make_test-clause-some
 returns-then-make_test-clause-some g c =
@@ -35,28 +24,16 @@ returns-then-make_test-clause-some g c =
 
 pub returns-then-make_test-clause-falls : goal.returns-then-make_test-clause-falls
 returns-then-make_test-clause-falls g c =
-    let size : c.loop-cycle.walk.limits.size ≡ c.args.walk.now.limits.size = ap (λ w. w.limits.size) c.loop-cycle.invariant.walk in
-    let less : later c.args.walk.now.limits.size (Some c.in-Some.cycle) < later c.args.walk.now.limits.size c.loop-cycle.walk.last = rw size at c.in-Some.ensures.falls in
-    omega (arith, less, c.loop-cycle.invariant.falls)
+    fewer g.P.Fn.post g.A.Arch.puts c.args.mode c.args.walk.now c.loop-cycle.walk c.loop-cycle.invariant c.in-Some.cycle c.in-Some.ensures.falls
 
 pub loop-cycle-preserved : goal.loop-cycle-preserved
 loop-cycle-preserved g c =
-    let is : IsAnswer (Lists g.P.Fn.post c.args.walk.now) c.loop-cycle.walk.last (Some c.in-Some.cycle) =
-    answers_as g.P.Fn.post c.args.walk.now c.loop-cycle.walk c.loop-cycle.walk.last (Some c.in-Some.cycle) c.loop-cycle.invariant.walk c.in-Some.ensures.next in
-    let on = c.in-Some.ensures.some in
-    let size : c.loop-cycle.walk.limits.size ≡ c.args.walk.now.limits.size = ap (λ w. w.limits.size) c.loop-cycle.invariant.walk in
-    let less : later c.args.walk.now.limits.size (Some c.in-Some.cycle) < later c.args.walk.now.limits.size c.loop-cycle.walk.last = rw size at c.in-Some.ensures.falls in
-    record {
-      passes = rw (ap (λ w. w.last) on) (passes_more (Lists g.P.Fn.post c.args.walk.now) (λ u. refusal_of g.A.Arch.puts u c.args.mode ≡ None) c.args.walk.now.last c.loop-cycle.walk.last c.in-Some.cycle
-          c.loop-cycle.invariant.passes is (c.make_test.ensures.refused c.if-make_test.false));
-      walk = went_on c.args.walk.now c.loop-cycle.walk c.next.new.self c.in-Some.cycle c.loop-cycle.invariant.walk on;
-      falls = rw (ap (λ w. w.last) on) (omega (arith, less, c.loop-cycle.invariant.falls));
-    }
+    passes_one g.P.Fn.post g.A.Arch.puts c.args.mode c.args.walk.now c.loop-cycle.walk c.loop-cycle.invariant c.next.new.self c.in-Some.cycle c.in-Some.ensures.some
+    c.in-Some.ensures.next c.in-Some.ensures.falls (c.make_test.ensures.refused c.if-make_test.false)
 
 pub returns-clause-next : goal.returns-clause-next
 returns-clause-next g c =
-    passed_all (Lists g.P.Fn.post c.args.walk.now) (λ u. refusal_of g.A.Arch.puts u c.args.mode ≡ None) c.args.walk.now.last c.loop-cycle.walk.last c.loop-cycle.invariant.passes
-    (answers_as g.P.Fn.post c.args.walk.now c.loop-cycle.walk c.loop-cycle.walk.last None c.loop-cycle.invariant.walk c.in_default.ensures.next)
+    passes_all g.P.Fn.post g.A.Arch.puts c.args.mode c.args.walk.now c.loop-cycle.walk c.loop-cycle.invariant c.in_default.ensures.next
 
 pub returns-then-make_test-clause-same : goal.returns-then-make_test-clause-same
 returns-then-make_test-clause-same g c =
