@@ -4,4 +4,4 @@
 mod valued;
 
 pub use value_laws::{NeedsObserver, arc_laws};
-pub use valued::{Valued, value};
+pub use valued::{Valued, value, value_unobserved};

@@ -1,4 +1,5 @@
 ghost use Rattle.std.specs.Prelude.{◌≡◌, ◌+◌, ◌<◌, ◌≤◌, ◌==◌, ◌&&◌, length, Some};
+ghost use Rattle.relax_edges.specs.declared.kinds.ObsMode.TheVariants.{Avoid};
 ghost use Rattle.resolution_laws.specs.Resolution.{move_count, IsResolved};
 ghost use Rattle.value_laws.specs.Values.{value_of, write_count, write_at, is_write_at, is_observed, valuation_of};
 ghost use Rattle.coherence_values.specs.Arc.{LeadsOn, seen_of, writes_before, values_of, all_seen};
@@ -96,6 +97,20 @@ pub fn value(resolved: &Resolved, mode: ObsMode) -> Result<Valued<'_>, NeedsObse
         values: walk.values,
         arcs: walk.arcs,
     })
+}
+
+/// Gives each event its value where no location is to have an observer: as `value` does in the mode
+/// `Avoid`, but where a write needs an observer too.
+pub fn value_unobserved(resolved: &Resolved) -> Valued<'_>
+    ensures { result ≡ record { edges = resolved.now; mode = Avoid } }
+{
+    let walk = walked(resolved.cycle().edges());
+    Valued {
+        resolved,
+        mode: ObsMode::Avoid,
+        values: walk.values,
+        arcs: walk.arcs,
+    }
 }
 
 /// The values of all events, and the arcs of all locations.

@@ -22,8 +22,8 @@ use Rattle.diy_io.specs.Taken.{SourceSeen}
 use Rattle.diy_io.specs.Wrote.{SinkSeen, WroteAll, WrotePart}
 use Rattle.diy_words.specs.declared.usage.Usage.{Usage}
 use Rattle.diy_words.specs.declared.usage.UsageKind.TheVariants.{UnknownName}
-use Rattle.diy_words.specs.Requests.{Asked, TestAsked, ListAsked, Sought, asked_of}
-use Rattle.diy_words.specs.Requests.{AsksTest, AsksName, AsksList, AsksFamilies, AsksSum, AsksCross, AsksDemo, AsksCheck, OfEdges, OfName, OfLines, CrossAsked, DemoAsked, CheckAsked}
+use Rattle.diy_words.specs.Requests.{Asked, TestAsked, WhyAsked, ListAsked, Sought, asked_of}
+use Rattle.diy_words.specs.Requests.{AsksTest, AsksWhy, AsksName, AsksList, AsksFamilies, AsksSum, AsksCross, AsksDemo, AsksCheck, OfEdges, OfName, OfLines, CrossAsked, DemoAsked, CheckAsked}
 use Rattle.listed_tests.specs.declared.ending.ListingEnd.{ListingEnd}
 use Rattle.listed_tests.specs.declared.ending.ListingEnd.TheVariants as listings
 use Rattle.listed_tests.specs.Ends.{StopsAtTest, StopsAtAll}
@@ -40,7 +40,9 @@ use Rattle.diy_tools.specs.Devices.{Devices, Seen, devices}
 use Rattle.diy_tools.specs.Refused.{refused_list}
 use Rattle.diy_tools.specs.Statuses.{norm_status, classify_status, listing_status}
 use Rattle.diy_tools.specs.Printing.{AnswersEdges, Prints}
-use Rattle.diy_tools.specs.TestAnswers.{asked_text, test_refused}
+use Rattle.diy_tools.specs.TestAnswers.{asked_text, test_name, test_refused}
+use Rattle.diy_tools.specs.Machines.{machine_of}
+use Rattle.diy_tools.specs.WhyAnswers.{AnswersRuns, WritesRuns, unshown}
 use Rattle.diy_tools.specs.NameAnswers.{AnswersName, AnswersSought}
 use Rattle.diy_tools.specs.FamilyAnswers.{AnswersClassify, EndsFamilies, files_status}
 use Rattle.diy_tools.specs.ListAnswers.{EndsAsked, plan_asked}
@@ -108,6 +110,24 @@ module _ (old new : Devices) where
       by_print (λ s. CausesAsked words (Ok (AsksTest asked)) s old new) (asked_text asked) status old.out new.out h
       (λ wrote. (e, record { input = input; shelf = shelf; out = wrote }))
       (λ wrote. (wrote.fault, (e, record { input = input; shelf = shelf; out = wrote })))
+
+  -- two executions are shown, as far as the devices take them
+  runs_caused : (words : List (List ℕ)) (asked : WhyAsked) (status : Status) → unshown asked ≡ None → new.input ≡ old.input
+      → WritesRuns (machine_of asked.arch) asked.folder (test_name asked.name asked.edges) asked.edges status old.shelf new.shelf old.out new.out
+      → CausesAsked words (Ok (AsksWhy asked)) status old new
+  runs_caused words asked statuses.Done none input h = (none, record { input = input; both = h })
+  runs_caused words asked (statuses.WriteFault Out) none input h = (h.written.1.fault, (none, record { input = input; both = h }))
+  runs_caused words asked (statuses.WriteFault Shelf) none input h = (h.written.0.part.faulted.fault, (none, record { input = input; both = h }))
+  runs_caused words asked status none input h = absurd h.written
+
+  why_caused : (words : List (List ℕ)) (asked : WhyAsked) (refused : Option Refusal) (status : Status) → unshown asked ≡ refused → new.input ≡ old.input
+      → AnswersRuns (machine_of asked.arch) asked.folder (test_name asked.name asked.edges) refused asked.edges status old.shelf new.shelf old.out new.out
+      → CausesAsked words (Ok (AsksWhy asked)) status old new
+  why_caused words asked (Some refusal) status e input h =
+      of_status words (Ok (AsksWhy asked)) status (statuses.Refused refusal) h.0 (e, same_devices old new input h.2 h.1)
+  why_caused words asked None status e input (inl none) =
+      of_status words (Ok (AsksWhy asked)) status statuses.NoMemory none.0 (tt, record { out = none.2; files = ap (λ (s : ShelfSeen). s.files) none.1 })
+  why_caused words asked None status e input (inr h) = runs_caused words asked status e input h
 
   edges_caused : (words : List (List ℕ)) (arch : ArchName) (edges : List Edge) (refused : Option Refusal) (status : Status) → refused_list arch edges ≡ refused
       → new.input ≡ old.input → new.shelf ≡ old.shelf
@@ -300,6 +320,7 @@ module _ (old new : Devices) where
       → AnswersAsked words asked status old new → CausesAsked words asked status old new
   asked_caused words (Err usage) status h = of_status words (Err usage) status (statuses.Usage usage.word usage.kind) h.0 ((refl, refl), h.1)
   asked_caused words (Ok (AsksTest asked)) status h = test_caused words asked (test_refused asked) status refl h.input h.shelf h.out
+  asked_caused words (Ok (AsksWhy asked)) status h = why_caused words asked (unshown asked) status refl h.input h.both
   asked_caused words (Ok (AsksName asked)) status h = sought_caused words asked.arch asked.cycle status h.shelf h.both
   asked_caused words (Ok (AsksList asked)) status h = list_caused words asked h.both.end status h.input h.both.status_is h.both.ends
   asked_caused words (Ok (AsksCross asked)) status h = cross_caused words asked status h.input h.both

@@ -36,7 +36,7 @@ use Rattle.diy_io.specs.Taken.{SourceSeen}
 use Rattle.diy_io.specs.Wrote.{SinkSeen}
 use Rattle.diy_words.specs.declared.usage.Usage.{Usage}
 use Rattle.diy_words.specs.Requests.{Asked, ListAsked, Sought, asked_of}
-use Rattle.diy_words.specs.Requests.{AsksTest, AsksName, AsksList, AsksFamilies, AsksSum, AsksCross, AsksDemo, AsksCheck, OfEdges, OfName, OfLines, CrossAsked, DemoAsked, CheckAsked}
+use Rattle.diy_words.specs.Requests.{AsksTest, AsksWhy, WhyAsked, AsksName, AsksList, AsksFamilies, AsksSum, AsksCross, AsksDemo, AsksCheck, OfEdges, OfName, OfLines, CrossAsked, DemoAsked, CheckAsked}
 use Rattle.listed_tests.specs.declared.ending.ListingEnd.{ListingEnd}
 use Rattle.listed_tests.specs.declared.ending.ListingEnd.TheVariants as listings
 use Rattle.log_sum.specs.declared.errors.LogError.{LogError}
@@ -54,7 +54,8 @@ use Rattle.diy_tools.specs.Devices.{Devices, Seen, devices}
 use Rattle.diy_tools.specs.Refused.{refused_list}
 use Rattle.diy_tools.specs.Statuses.{norm_status, classify_status, listing_status}
 use Rattle.diy_tools.specs.Printing.{AnswersEdges, Prints}
-use Rattle.diy_tools.specs.TestAnswers.{asked_text, test_refused}
+use Rattle.diy_tools.specs.TestAnswers.{asked_text, test_name, test_refused}
+use Rattle.diy_tools.specs.WhyAnswers.{AnswersRuns, WritesRuns, unshown}
 use Rattle.diy_tools.specs.FamilyAnswers.{AnswersClassify, files_status, read_on}
 use Rattle.diy_tools.specs.NameAnswers.{AnswersName, AnswersSought}
 use Rattle.diy_tools.specs.ListAnswers.{EndsAsked}
@@ -145,6 +146,21 @@ crossed_done : (asked : CrossAsked) (end : ListingEnd) (status : Status) (old ne
 crossed_done asked listings.Done status old new none e h = inl e
 crossed_done asked listings.OutFault status old new none e h = absurd (none.out h.1.fault)
 crossed_done asked listings.ShelfFault status old new none e h = absurd (none.shelf (crossing_failed asked old.shelf new.shelf old.out new.out h))
+
+-- two executions are shown where nothing fails
+runs_done : (asked : WhyAsked) (status : Status) (old new : Devices) → NoFaults old new
+    → WritesRuns (machine_of asked.arch) asked.folder (test_name asked.name asked.edges) asked.edges status old.shelf new.shelf old.out new.out → IsDone (Ok (AsksWhy asked)) status
+runs_done asked statuses.Done old new none h = inl refl
+runs_done asked (statuses.WriteFault Out) old new none h = absurd (none.out h.written.1.fault)
+runs_done asked (statuses.WriteFault Shelf) old new none h = absurd (none.shelf h.written.0.part.faulted.fault)
+runs_done asked status old new none h = absurd h.written
+
+why_done : (asked : WhyAsked) (refused : Option Refusal) (status : Status) (old new : Devices) → NoFaults old new → refused ≡ None
+    → AnswersRuns (machine_of asked.arch) asked.folder (test_name asked.name asked.edges) refused asked.edges status old.shelf new.shelf old.out new.out
+    → IsDone (Ok (AsksWhy asked)) status
+why_done asked (Some refusal) status old new none e h = cc e
+why_done asked None status old new none e (inl wants) = inr (wants.0, tt)
+why_done asked None status old new none e (inr h) = runs_done asked status old new none h
 
 cross_done : (asked : CrossAsked) (status : Status) (old new : Devices) → NoFaults old new
     → AnswersCross asked status old.shelf new.shelf old.out new.out → IsDone (Ok (AsksCross asked)) status
@@ -393,6 +409,7 @@ told_done words status old new before after end (Some files) told right none non
 asked_done : (words : List (List ℕ)) (asked : Result Asked Usage) (status : Status) (old new : Devices)
     → AnswersAsked words asked status old new → CanBeDone words asked old → NoFaults old new → IsDone asked status
 asked_done words (Err usage) status old new h can none = absurd can
+asked_done words (Ok (AsksWhy asked)) status old new h can none = why_done asked (unshown asked) status old new none can h.both
 asked_done words (Ok (AsksTest asked)) status old new h can none =
     edges_done (Ok (AsksTest asked)) (test_refused asked) (asked_text asked) status old.out new.out none.out can h.out
 asked_done words (Ok (AsksName asked)) status old new h can none =

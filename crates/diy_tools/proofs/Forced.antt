@@ -1,7 +1,7 @@
 -- Where a test is printed, its bytes force the cycle.
-use Rattle.std.proofs.Common.{◌≡◌, ℕ, Bool, true, false, cond, not, nat_lt, nat_le, List, [], ◌∷◌, ◌++◌, length, Option, Some, None, refl, sym, ap, subst, arith, Ok, Err, ◌∙◌}
+use Rattle.std.proofs.Common.{◌≡◌, ℕ, Bool, true, false, cond, not, nat_lt, nat_le, List, [], ◌∷◌, ◌++◌, length, Option, Some, None, refl, sym, ap, subst, arith, inl, inr, Ok, Err, ◌∙◌}
 use Rattle.std.specs.Option.{option_or}
-use Rattle.std.specs.Prelude.{IfSome, Result, ◌&&◌, if◌then◌else◌}
+use Rattle.std.specs.Prelude.{IfSome, Result, ◌⊎◌, ◌&&◌, if◌then◌else◌}
 use Rattle.std.specs.List.{list_all, position_from}
 use Rattle.std.proofs.lemmas.Bool.{and_parts, ltb-false}
 use Rattle.std.proofs.lemmas.Bool.Decides.{nat_tests}
@@ -37,7 +37,7 @@ use Rattle.litmus_text.specs.Printable.{IsTestName}
 use Rattle.litmus_text.proofs.CutBack.{weaker}
 use Rattle.diy_words.specs.declared.usage.Usage.{Usage}
 use Rattle.diy_words.specs.Names.{is_name, is_name_byte}
-use Rattle.diy_words.specs.Requests.{Asked, TestAsked, ListAsked, AsksTest, AsksName, AsksList, AsksFamilies, AsksSum, AsksCross, AsksDemo, AsksCheck, CrossAsked, asked_of}
+use Rattle.diy_words.specs.Requests.{Asked, TestAsked, ListAsked, AsksTest, AsksWhy, WhyAsked, AsksName, AsksList, AsksFamilies, AsksSum, AsksCross, AsksDemo, AsksCheck, CrossAsked, asked_of}
 use Rattle.cycle_names.specs.Names.{name_of}
 use Rattle.diy_words.proofs.RequestForm.{asked_form}
 use Rattle.test_maker.specs.declared.refusal.MakeRefusal.{MakeRefusal}
@@ -49,6 +49,8 @@ use Rattle.printed_tests.proofs.Printed.{printed_force}
 use Rattle.diy_tools.specs.declared.status.Refusal.{Refusal}
 use Rattle.diy_tools.specs.declared.status.Refusal.TheVariants as refusals
 use Rattle.diy_tools.specs.declared.status.Status.{Status}
+use Rattle.diy_tools.specs.declared.status.Status.TheVariants.{NoMemory}
+use Rattle.diy_tools.specs.WhyAnswers.{AnswersRuns, AnswersWhy, WritesRuns}
 use Rattle.diy_tools.specs.Machines.{Machine, machine_of}
 use Rattle.diy_tools.specs.Refused.{refused_list, refused_of, refused_of_arch, refused_composing, refused_making}
 use Rattle.diy_tools.specs.Printing.{AnswersEdges}
@@ -193,8 +195,18 @@ asked_force words status old new h = of_asked (asked_of words) refl h
           text_forces asked.arch asked.mode (name_of cycle) cycle (cycle_named cycle has.cycle) has.cycle has.has_test;
     }
 
+    of_why : (asked : WhyAsked) → AnswersWhy asked status old.shelf new.shelf old.out new.out → HeadlineAsked (Ok (AsksWhy asked)) status old new
+    of_why asked h none = unrefused
+        (subst (λ (refused : Option Refusal). AnswersRuns (machine_of asked.arch) asked.folder (test_name asked.name asked.edges) refused asked.edges status old.shelf new.shelf old.out new.out) none h)
+      where
+        unrefused : AnswersRuns (machine_of asked.arch) asked.folder (test_name asked.name asked.edges) None asked.edges status old.shelf new.shelf old.out new.out
+            → (status ≡ NoMemory) ⊎ WritesRuns (machine_of asked.arch) asked.folder (test_name asked.name asked.edges) asked.edges status old.shelf new.shelf old.out new.out
+        unrefused (inl no) = inl no.0
+        unrefused (inr writes) = inr writes
+
     of_asked : (asked : Result Asked Usage) → asked_of words ≡ asked → AnswersAsked words asked status old new → HeadlineAsked asked status old new
     of_asked (Err usage) e h = tt
+    of_asked (Ok (AsksWhy asked)) e h = of_why asked h.both
     of_asked (Ok (AsksName asked)) e h = tt
     of_asked (Ok (AsksList asked)) e h = of_list asked h.both
     of_asked (Ok (AsksCross asked)) e h = of_cross asked h.both

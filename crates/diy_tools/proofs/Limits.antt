@@ -24,7 +24,7 @@ use Rattle.diy_io.specs.Taken.{SourceSeen}
 use Rattle.diy_io.specs.Wrote.{SinkSeen}
 use Rattle.diy_words.specs.declared.usage.Usage.{Usage}
 use Rattle.diy_words.specs.Requests.{Asked, ListAsked, Sought, asked_of}
-use Rattle.diy_words.specs.Requests.{AsksTest, AsksName, AsksList, AsksFamilies, AsksSum, AsksCross, AsksDemo, AsksCheck, CrossAsked, CheckAsked, OfEdges, OfName, OfLines}
+use Rattle.diy_words.specs.Requests.{AsksTest, AsksWhy, WhyAsked, AsksName, AsksList, AsksFamilies, AsksSum, AsksCross, AsksDemo, AsksCheck, CrossAsked, CheckAsked, OfEdges, OfName, OfLines}
 use Rattle.listed_tests.specs.declared.ending.ListingEnd.{ListingEnd}
 use Rattle.listed_tests.specs.declared.ending.ListingEnd.TheVariants as listings
 use Rattle.listed_tests.specs.Ends.{StopsAtTest, StopsAtAll}
@@ -97,6 +97,20 @@ cross_opens : (asked : CrossAsked) (status : Status) (old new : ShelfSeen) (out 
     → AnswersCross asked status old new out after → new.opened ≡ old.opened
 cross_opens asked status old new out after (inl none) = ap (λ (s : ShelfSeen). s.opened) none.1
 cross_opens asked status old new out after (inr made) = crossing_opens asked made.end old new out after made.ends
+
+-- nor where two executions are shown
+runs_open : (m : Machine) (folder : Option (List ℕ)) (name : List ℕ) (edges : List Edge) (status : Status) (old new : ShelfSeen) (before after : SinkSeen)
+    → WritesRuns m folder name edges status old new before after → new.opened ≡ old.opened
+runs_open m folder name edges statuses.Done old new before after h = h.written.0.counts.opened
+runs_open m folder name edges (statuses.WriteFault Out) old new before after h = h.written.0.counts.opened
+runs_open m folder name edges (statuses.WriteFault Shelf) old new before after h = h.written.0.part.counts.opened
+runs_open m folder name edges status old new before after h = absurd h.written
+
+why_opens : (m : Machine) (folder : Option (List ℕ)) (name : List ℕ) (refused : Option Refusal) (edges : List Edge) (status : Status) (old new : ShelfSeen) (before after : SinkSeen)
+    → AnswersRuns m folder name refused edges status old new before after → new.opened ≡ old.opened
+why_opens m folder name (Some refusal) edges status old new before after h = ap (λ (s : ShelfSeen). s.opened) h.1
+why_opens m folder name None edges status old new before after (inl none) = ap (λ (s : ShelfSeen). s.opened) none.1
+why_opens m folder name None edges status old new before after (inr h) = runs_open m folder name edges status old new before after h
 
 module _ (old new : Devices) (much : TookTooMuch old new) where
   neither : InputWithin old.input new.input → IsWithin old.shelf new.shelf → ⊥
@@ -199,6 +213,10 @@ module _ (old new : Devices) (much : TookTooMuch old new) where
       (same_shelf old.shelf new.shelf (ap (λ (d : Devices). d.shelf.opened) h.1)))
   asked_limit words (Ok (AsksTest asked)) status h =
       absurd (neither (same_input old.input new.input h.input) (same_shelf old.shelf new.shelf (ap (λ (s : ShelfSeen). s.opened) h.shelf)))
+  asked_limit words (Ok (AsksWhy asked)) status h =
+      absurd (neither (same_input old.input new.input h.input)
+      (same_shelf old.shelf new.shelf
+      (why_opens (machine_of asked.arch) asked.folder (test_name asked.name asked.edges) (unshown asked) asked.edges status old.shelf new.shelf old.out new.out h.both)))
   asked_limit words (Ok (AsksName asked)) status h =
       sought_limit (Ok (AsksName asked)) asked.arch asked.cycle status (same_shelf old.shelf new.shelf (ap (λ (s : ShelfSeen). s.opened) h.shelf)) h.both
   asked_limit words (Ok (AsksList asked)) status h =

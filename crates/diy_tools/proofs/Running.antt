@@ -26,7 +26,7 @@ use Rattle.diy_tools.specs.SumAnswers.{AnswersSum}
 use Rattle.test_maker.specs.CycleText.{cycle_text}
 use Rattle.diy_words.specs.declared.request.Sought.{Sought}
 use Rattle.diy_words.specs.declared.request.Sought.TheVariants as sought
-use Rattle.diy_words.specs.Requests.{Asked, ListAsked, AsksTest, AsksName, AsksList, AsksSum, AsksCross, AsksDemo, AsksCheck, CheckAsked, OfEdges, OfName, OfLines, asked_of}
+use Rattle.diy_words.specs.Requests.{Asked, ListAsked, AsksTest, AsksWhy, WhyAsked, AsksName, AsksList, AsksSum, AsksCross, AsksDemo, AsksCheck, CheckAsked, OfEdges, OfName, OfLines, asked_of}
 use Rattle.diy_words.specs.Requests as words
 use Rattle.diy_words.specs.Given.{IsSought, Gives, list_kept}
 use Rattle.diy_words.specs.declared.usage.Usage.{Usage}
@@ -47,14 +47,19 @@ use Rattle.diy_tools.specs.declared.status.Refusal.{Refusal}
 use Rattle.diy_tools.specs.declared.status.Refusal.TheVariants as refusals
 use Rattle.test_maker.specs.Made as made
 use Rattle.diy_tools.specs.Machines.{Machine, machine_of}
-use Rattle.diy_tools.specs.Refused.{refused_list, refused_of, refused_of_arch, refused_composing, refused_making, making_refusal, composing_refusal}
+use Rattle.diy_tools.specs.Refused.{refused_list, refused_of, refused_of_arch, refused_composing, refused_making, refused_showing, making_refusal, composing_refusal, showing_refusal}
 use Rattle.diy_tools.specs.Report.{RefusesLocation}
 use Rattle.diy_tools.specs.Printing.{AnswersEdges, Prints}
 use Rattle.diy_tools.specs.TestAnswers.{test_name}
 use Rattle.diy_tools.specs.NameAnswers.{AnswersName, AnswersSought}
 use Rattle.diy_tools.specs.ListAnswers.{AnswersList}
 use Rattle.diy_tools.specs.Answers.{Answers, AnswersAsked}
-use Rattle.diy_tools.specs.Kept.{AnswersKept, refused_kept, refused_edges, edges_kept, name_kept, MakesCycle}
+use Rattle.diy_tools.specs.Kept.{AnswersKept, refused_kept, refused_edges, refused_why, edges_kept, folder_kept, name_kept, named_kept, MakesCycle}
+use Rattle.diy_tools.specs.WhyAnswers.{AnswersRuns, AnswersWhy}
+use Rattle.diy_words.specs.declared.request.Why.{Why}
+use Rattle.two_runs.specs.declared.errors.WhyRefusal.{WhyRefusal}
+use Rattle.two_runs.specs.declared.errors.WhyRefusal.TheVariants as showing
+use Rattle.two_runs.specs.Shown.{why_refused}
 
 by_test : {G : Type 0} (b : Bool) → (b ≡ true → G) → (b ≡ false → G) → G
 by_test true t f = t refl
@@ -266,3 +271,48 @@ check_answered words request status input old new before after given h = of_aske
     of_asked : (asked : Result Asked Usage) → Gives (Ok (requests.Check request)) asked → AnswersAsked words asked status (devices (input, before, old)) (devices (input, after, new))
     of_asked (Ok (AsksCheck asked)) g = checks asked g
     of_asked asked g = absurd g
+
+-- what is answered of a request to show two executions
+runs_kept : (m : Machine) (folder name : Option (List ℕ)) (list : EdgeList) (es : List Edge) (status : Status) (old new : ShelfSeen) (before after : SinkSeen)
+    → IsKeptSo list es
+    → AnswersRuns m folder (test_name name (edges_kept list)) (refused_why m list) (edges_kept list) status old new before after
+    → AnswersRuns m folder (test_name name es) (option_or (refused_list m.puts.name es) (refused_showing (why_refused m.puts es))) es status old new before after
+runs_kept m folder name (Whole list) es status old new before after k h =
+    subst (λ us. AnswersRuns m folder (test_name name us) (option_or (refused_list m.puts.name us) (refused_showing (why_refused m.puts us))) us status old new before after)
+    (k.same (λ e. cc e)) h
+runs_kept m folder name TooLong es status old new before after k h =
+    subst (λ r. AnswersRuns m folder (test_name name es) (option_or r (refused_showing (why_refused m.puts es))) es status old new before after) (k.refused m.puts.name) h
+
+-- what is answered on an architecture is answered on the one with its name
+pub runs_on : (arch a : ArchName) (request : Why) (status : Status) (old new : ShelfSeen) (before after : SinkSeen) → arch ≡ a
+    → AnswersRuns (machine_of a) (folder_kept request) (named_kept request) (refused_why (machine_of a) request.edges) (edges_kept request.edges) status old new before after
+    → AnswersRuns (machine_of arch) (folder_kept request) (named_kept request) (refused_why (machine_of arch) request.edges) (edges_kept request.edges) status old new before after
+runs_on arch a request status old new before after same h =
+    subst (λ (n : ArchName). AnswersRuns (machine_of n) (folder_kept request) (named_kept request) (refused_why (machine_of n) request.edges) (edges_kept request.edges) status old new before after) (sym same) h
+
+pub why_answered : (words : List (List ℕ)) (request : Why) (status : Status) (input : SourceSeen) (old new : ShelfSeen) (before after : SinkSeen)
+    → Gives (Ok (requests.Why request)) (asked_of words)
+    → AnswersRuns (machine_of request.arch) (folder_kept request) (named_kept request) (refused_why (machine_of request.arch) request.edges) (edges_kept request.edges) status old new before after
+    → Answers words status (input, before, old) (input, after, new)
+why_answered words request status input old new before after given h = of_asked (asked_of words) given
+  where
+    of_why : (asked : WhyAsked) → (request.arch ≡ asked.arch) → name_kept request.name ≡ asked.name → request.edges ≡ kept asked.edges → folder_kept request ≡ asked.folder
+        → AnswersWhy asked status old new before after
+    of_why asked p q k f =
+        runs_kept (machine_of asked.arch) asked.folder asked.name (kept asked.edges) asked.edges status old new before after (kept_so asked.edges)
+        (subst (λ o. AnswersRuns (machine_of asked.arch) o (test_name asked.name (edges_kept (kept asked.edges))) (refused_why (machine_of asked.arch) (kept asked.edges)) (edges_kept (kept asked.edges)) status old new before after) f
+        (subst (λ l. AnswersRuns (machine_of asked.arch) (folder_kept request) (test_name asked.name (edges_kept l)) (refused_why (machine_of asked.arch) l) (edges_kept l) status old new before after) k
+        (subst (λ o. AnswersRuns (machine_of asked.arch) (folder_kept request) (test_name o (edges_kept request.edges)) (refused_why (machine_of asked.arch) request.edges) (edges_kept request.edges) status old new before after) q
+        (subst (λ (a : ArchName). AnswersRuns (machine_of a) (folder_kept request) (named_kept request) (refused_why (machine_of a) request.edges) (edges_kept request.edges) status old new before after) p h))))
+
+    of_asked : (asked : Result Asked Usage) → Gives (Ok (requests.Why request)) asked → AnswersAsked words asked status (devices (input, before, old)) (devices (input, after, new))
+    of_asked (Ok (AsksWhy asked)) g = record { input = refl; both = of_why asked g.0 g.1 g.2 g.3 }
+    of_asked asked g = absurd g
+
+-- a refusal to show two executions names no location
+pub showing_located : (refusal : WhyRefusal) → RefusesLocation (showing_refusal refusal)
+showing_located (showing.NotOfArch at) = tt
+showing_located showing.TooFewThreads = tt
+showing_located showing.CoherenceOnly = tt
+showing_located showing.NothingToShow = tt
+showing_located (showing.TooManyRegisters thread) = tt

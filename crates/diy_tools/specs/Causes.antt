@@ -21,7 +21,7 @@ use Rattle.diy_io.specs.Wrote.{SinkSeen, WroteAll, WrotePart}
 use Rattle.diy_words.specs.declared.usage.Usage.{Usage}
 use Rattle.diy_words.specs.declared.usage.UsageKind.{UsageKind}
 use Rattle.diy_words.specs.declared.usage.UsageKind.TheVariants.{UnknownName}
-use Rattle.diy_words.specs.Requests.{Asked, Sought, AsksTest, AsksName, AsksList, AsksFamilies, AsksSum, AsksCross, AsksDemo, AsksCheck, OfEdges, OfName, OfLines, asked_of}
+use Rattle.diy_words.specs.Requests.{Asked, Sought, WhyAsked, AsksTest, AsksWhy, AsksName, AsksList, AsksFamilies, AsksSum, AsksCross, AsksDemo, AsksCheck, OfEdges, OfName, OfLines, asked_of}
 use Rattle.listed_tests.specs.declared.ending.ListingEnd.TheVariants as listings
 use Rattle.summed_logs.specs.declared.sum_end.SumEnd.{SumEnd}
 use Rattle.summed_logs.specs.declared.sum_end.SumEnd.TheVariants as sums
@@ -41,7 +41,9 @@ use Rattle.diy_tools.specs.Memory.{MayWantMemory}
 use Rattle.diy_tools.specs.NameAnswers.{PrintsNamed}
 use Rattle.diy_tools.specs.Refused.{refused_list}
 use Rattle.diy_tools.specs.SumAnswers.{EndsSum}
-use Rattle.diy_tools.specs.TestAnswers.{asked_text, test_refused}
+use Rattle.diy_tools.specs.TestAnswers.{asked_text, test_name, test_refused}
+use Rattle.diy_tools.specs.Machines.{machine_of}
+use Rattle.diy_tools.specs.WhyAnswers.{WritesRuns, unshown}
 
 -- standard output is as it was, and no file changed
 pub record NothingWritten (old new : Devices) : Type 0 where
@@ -63,13 +65,14 @@ IsUsage (Err usage) word kind = (word ≡ usage.word) × (kind ≡ usage.kind)
 IsUsage (Ok (AsksName asked)) word kind = SeeksNone asked.arch asked.cycle word kind
 IsUsage _ word kind = ⊥
 
--- the first reason why the edges of norm7 are refused, or those of diyone7
+-- the first reason why the edges of norm7 are refused, or those of diyone7, with the option -why or without it
 abbrev pub sought_refused : ArchName → Sought → Option Refusal
 sought_refused arch (OfEdges edges) = refused_list arch edges
 sought_refused arch _ = None
 
 abbrev pub asked_refused : Result Asked Usage → Option Refusal
 asked_refused (Ok (AsksTest asked)) = test_refused asked
+asked_refused (Ok (AsksWhy asked)) = unshown asked
 asked_refused (Ok (AsksName asked)) = sought_refused asked.arch asked.cycle
 asked_refused _ = None
 
@@ -117,8 +120,15 @@ PassesLimit words asked (Some file) line old new =
     × (2 ^ 40 < new.shelf.taken)
     × SumStops words asked (sums.TooMuch (Some file) line) old new
 
--- diy7 or diycross7 writes files, up to where the shelf fails
+-- diyone7 has shown two executions, as far as this status says
+abbrev pub WhyStops : WhyAsked → Status → Devices → Devices → Type 0
+WhyStops asked status old new =
+    (unshown asked ≡ None)
+    × ShelfAndOut (WritesRuns (machine_of asked.arch) asked.folder (test_name asked.name asked.edges) asked.edges status) old new
+
+-- diy7, diycross7 or diyone7 with -why writes files, up to where the shelf fails
 abbrev pub ListStops : Result Asked Usage → Devices → Devices → Type 0
+ListStops (Ok (AsksWhy asked)) old new = WhyStops asked (statuses.WriteFault Shelf) old new
 ListStops (Ok (AsksList asked)) old new = ShelfAndOut (EndsAsked asked listings.ShelfFault) old new
 ListStops (Ok (AsksCross asked)) old new = ShelfAndOut (EndsCrossed asked listings.ShelfFault) old new
 ListStops _ old new = ⊥
@@ -145,6 +155,7 @@ abbrev pub Finishes : List (List ℕ) → Result Asked Usage → Devices → Dev
 Finishes words (Err usage) old new = ⊥
 Finishes words (Ok (AsksTest asked)) old new =
     (test_refused asked ≡ None) × OutAlone (λ out out'. WroteAll out out' (asked_text asked)) old new
+Finishes words (Ok (AsksWhy asked)) old new = WhyStops asked statuses.Done old new
 Finishes words (Ok (AsksName asked)) old new = InputAndOut (NamesAll asked.arch asked.cycle) old new
 Finishes words (Ok (AsksList asked)) old new = ShelfAndOut (EndsAsked asked listings.Done) old new
 Finishes words (Ok (AsksCross asked)) old new = ShelfAndOut (EndsCrossed asked listings.Done) old new
@@ -160,11 +171,12 @@ NamesPart arch (OfEdges edges) old new before after =
 NamesPart arch (OfName at name) old new before after = (new ≡ old) × PrintsNamed arch name (statuses.WriteFault Out) before after
 NamesPart arch OfLines old new before after = NormedPart arch old new before after
 
--- a prefix of what goes to standard output is written; of diy7 and diycross7 all files are
+-- a prefix of what goes to standard output is written; of diy7, diycross7 and diyone7 with -why all files are
 abbrev pub OutStops : List (List ℕ) → Result Asked Usage → Devices → Devices → Type 0
 OutStops words (Err usage) old new = ⊥
 OutStops words (Ok (AsksTest asked)) old new =
     (test_refused asked ≡ None) × OutAlone (λ out out'. WrotePart out out' (asked_text asked)) old new
+OutStops words (Ok (AsksWhy asked)) old new = WhyStops asked (statuses.WriteFault Out) old new
 OutStops words (Ok (AsksName asked)) old new = InputAndOut (NamesPart asked.arch asked.cycle) old new
 OutStops words (Ok (AsksList asked)) old new = ShelfAndOut (EndsAsked asked listings.OutFault) old new
 OutStops words (Ok (AsksCross asked)) old new = ShelfAndOut (EndsCrossed asked listings.OutFault) old new
@@ -213,10 +225,10 @@ CausesAsked words asked (statuses.ReadFault Shelf) old new =
 CausesAsked words asked (statuses.ReadFault Out) old new = ⊥
 -- standard output failed
 CausesAsked words asked (statuses.WriteFault Out) old new = Rose old.out.faults new.out.faults × OutStops words asked old new
--- the shelf failed while diy7 or diycross7 wrote a file
+-- the shelf failed while diy7, diycross7 or diyone7 with -why wrote a file
 CausesAsked words asked (statuses.WriteFault Shelf) old new = Rose old.shelf.faults new.shelf.faults × ListStops asked old new
 CausesAsked words asked (statuses.WriteFault Input) old new = ⊥
--- classify7, msum7, diycross7 or mcheck7 wants memory
+-- classify7, msum7, diycross7, mcheck7 or diyone7 with -why wants memory
 CausesAsked words asked statuses.NoMemory old new = MayWantMemory asked × NothingWritten old new
 
 abbrev pub Causes : List (List ℕ) → Status → Seen → Seen → Type 0

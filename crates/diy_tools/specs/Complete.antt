@@ -12,7 +12,7 @@ use Rattle.diy_io.specs.declared.source.TheConstants.{MAX_INPUT}
 use Rattle.diy_io.specs.Count.{Rose}
 use Rattle.diy_io.specs.Shelf.{Files}
 use Rattle.diy_words.specs.declared.usage.Usage.{Usage}
-use Rattle.diy_words.specs.Requests.{Asked, CheckAsked, Sought, AsksTest, AsksName, AsksList, AsksFamilies, AsksSum, AsksCross, AsksDemo, AsksCheck, OfEdges, OfName, OfLines, asked_of}
+use Rattle.diy_words.specs.Requests.{Asked, CheckAsked, Sought, AsksTest, AsksWhy, AsksName, AsksList, AsksFamilies, AsksSum, AsksCross, AsksDemo, AsksCheck, OfEdges, OfName, OfLines, asked_of}
 use Rattle.summed_logs.specs.Logs.{IsText, IsShort, AreRight}
 use Rattle.summed_logs.specs.SumEnds.{AreLogs}
 use Rattle.diy_tools.specs.declared.status.Status.{Status}
@@ -23,6 +23,7 @@ use Rattle.diy_tools.specs.Machines.{machine_of}
 use Rattle.diy_tools.specs.Memory.{MayWantMemory}
 use Rattle.diy_tools.specs.Refused.{refused_list}
 use Rattle.diy_tools.specs.TestAnswers.{test_refused}
+use Rattle.diy_tools.specs.WhyAnswers.{unshown}
 
 -- a text has at most 2^40 bytes, and none of its lines of cycles has a fault
 pub record IsSoundText (arch : ArchName) (text : List ℕ) : Type 0 where
@@ -81,6 +82,7 @@ CanCheck words asked old =
 abbrev pub CanBeDone : List (List ℕ) → Result Asked Usage → Devices → Type 0
 CanBeDone words (Err usage) old = ⊥
 CanBeDone words (Ok (AsksTest asked)) old = test_refused asked ≡ None
+CanBeDone words (Ok (AsksWhy asked)) old = unshown asked ≡ None
 CanBeDone words (Ok (AsksName asked)) old = CanName asked.arch asked.cycle old
 CanBeDone words (Ok (AsksList asked)) old = ⊤
 CanBeDone words (Ok (AsksCross asked)) old = ⊤

@@ -1,22 +1,24 @@
 -- The claim of the tools: for every accepted cycle the test that is printed forces the cycle, and a listing writes such
 -- tests of exactly the listed cycles, each once, in order.
 -- Source: own.
-use Rattle.std.specs.Prelude.{◌≡◌, ℕ, List, Result, Ok, None}
+use Rattle.std.specs.Prelude.{◌≡◌, ◌⊎◌, ℕ, List, Result, Ok, None}
 use Rattle.relax_edges.specs.declared.edge.Edge.{Edge}
 use Rattle.relax_edges.specs.declared.kinds.ObsMode.{ObsMode}
 use Rattle.resolution_laws.specs.Resolution.{turned}
 use Rattle.diy_io.specs.Shelf.{ShelfSeen}
 use Rattle.diy_io.specs.Wrote.{SinkSeen}
 use Rattle.diy_words.specs.declared.usage.Usage.{Usage}
-use Rattle.diy_words.specs.Requests.{Asked, ListAsked, AsksTest, AsksList, CrossAsked, AsksCross, asked_of}
+use Rattle.diy_words.specs.Requests.{Asked, ListAsked, AsksTest, AsksWhy, AsksList, CrossAsked, AsksCross, asked_of}
 use Rattle.listed_tests.specs.Plans.{IsPlanned, planned_text}
 use Rattle.printed_tests.specs.Headline.{BytesForce}
 use Rattle.diy_tools.specs.declared.status.Status.{Status}
+use Rattle.diy_tools.specs.declared.status.Status.TheVariants.{NoMemory}
 use Rattle.diy_tools.specs.Devices.{Devices, Seen, devices}
 use Rattle.diy_tools.specs.Machines.{Machine, machine_of}
 use Rattle.diy_tools.specs.Refused.{refused_of}
 use Rattle.diy_tools.specs.Printing.{Prints}
-use Rattle.diy_tools.specs.TestAnswers.{asked_text}
+use Rattle.diy_tools.specs.TestAnswers.{asked_text, test_name}
+use Rattle.diy_tools.specs.WhyAnswers.{WritesRuns, unshown}
 use Rattle.listing_laws.specs.Listing.{IsOneOf}
 use Rattle.diy_tools.specs.CrossAnswers.{AnswersCross, cycles_asked, crossed_text}
 use Rattle.diy_tools.specs.ListAnswers.{AnswersList, plan_asked}
@@ -39,11 +41,17 @@ pub record CrossesForcing (asked : CrossAsked) (status : Status) (old new : Shel
       BytesForce (machine_of asked.arch).puts.name (machine_of asked.arch).writing (crossed_text asked cycle) (turned cycle) asked.mode
 
 -- where the words ask for the test of edges that nothing refuses, it is printed and forces the cycle that they make; where
--- they ask for a listing, or for the tests of choices, it is written and each of its tests forces its cycle
+-- they ask for a listing, or for the tests of choices, it is written and each of its tests forces its cycle; where they ask why
+-- the mode avoid refuses edges, and it does because a write needs an observer, two executions of the test without observers
+-- are written that no condition tells apart, though all edges stand in the first and one doesn't in the second
 abbrev pub HeadlineAsked : Result Asked Usage → Status → Devices → Devices → Type 0
 HeadlineAsked (Ok (AsksTest asked)) status old new =
     refused_of (machine_of asked.arch).puts asked.mode asked.edges ≡ None →
     PrintsForcing (machine_of asked.arch) (asked_text asked) asked.edges asked.mode status old.out new.out
+HeadlineAsked (Ok (AsksWhy asked)) status old new =
+    unshown asked ≡ None →
+    (status ≡ NoMemory)
+    ⊎ WritesRuns (machine_of asked.arch) asked.folder (test_name asked.name asked.edges) asked.edges status old.shelf new.shelf old.out new.out
 HeadlineAsked (Ok (AsksList asked)) status old new = ListsForcing asked status old.shelf new.shelf old.out new.out
 HeadlineAsked (Ok (AsksCross asked)) status old new = CrossesForcing asked status old.shelf new.shelf old.out new.out
 HeadlineAsked _ status old new = Unit {0}

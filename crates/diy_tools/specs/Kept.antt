@@ -1,5 +1,5 @@
 -- What only private functions cite: requests as they are kept, and the parts of a test, of a listing and of a sum.
-use Rattle.std.specs.Prelude.{ℕ, ◌≡◌, List, [], Option, Some, None, Result, Ok, Err}
+use Rattle.std.specs.Prelude.{ℕ, ◌≡◌, ◌⊎◌, List, [], Option, Some, None, Result, Ok, Err}
 use Rattle.std.specs.Option.{option_map, option_or}
 use Rattle.arrayvec.specs.ArrayString.{ArrayString}
 use Rattle.relax_edges.specs.declared.edge.Edge.{Edge}
@@ -38,7 +38,12 @@ use Rattle.diy_tools.specs.FamilyAnswers.{EndsNamed, files_status}
 use Rattle.diy_tools.specs.Machines.{Machine}
 use Rattle.diy_tools.specs.NameAnswers.{AnswersLines, AnswersName}
 use Rattle.diy_tools.specs.Printing.{AnswersEdges}
-use Rattle.diy_tools.specs.Refused.{refused_list, refused_making}
+use Rattle.diy_tools.specs.Refused.{refused_list, refused_making, refused_showing}
+use Rattle.diy_tools.specs.TestAnswers.{test_name}
+use Rattle.diy_tools.specs.WhyAnswers.{WritesFiles}
+use Rattle.diy_words.specs.declared.request.Why.{Why}
+use Rattle.two_runs.specs.Shown.{why_refused}
+use Rattle.diy_tools.specs.declared.status.Status.TheVariants as statuses
 use Rattle.diy_tools.specs.SumAnswers.{sum_status}
 
 -- the edges that are kept
@@ -55,6 +60,10 @@ refused_edges arch TooLong = Some refusals.TooLong
 abbrev pub refused_kept : Machine → ObsMode → EdgeList → Option Refusal
 refused_kept m mode list = option_or (refused_edges m.puts.name list) (refused_making (refusal_of m.puts (edges_kept list) mode))
 
+-- the same, where two executions of the test are to be shown
+abbrev pub refused_why : Machine → EdgeList → Option Refusal
+refused_why m list = option_or (refused_edges m.puts.name list) (refused_showing (why_refused m.puts (edges_kept list)))
+
 -- a call gives the cycle that edges make, where nothing is refused, or the reason that is given
 abbrev pub MakesCycle : Option Refusal → List Edge → Result (List Edge) Refusal → Type 0
 MakesCycle refused edges (Ok cycle) = (refused ≡ None) × (cycle ≡ edges)
@@ -63,6 +72,18 @@ MakesCycle refused edges (Err refusal) = refused ≡ Some refusal
 -- a name as it is kept
 abbrev pub name_kept : Option ArrayString → Option (List ℕ)
 name_kept name = option_map (λ name. name.bytes) name
+
+-- the folder of a request to show two executions, and the name of the test, as they are kept
+abbrev pub folder_kept : Why → Option (List ℕ)
+folder_kept request = option_map (λ folder. folder.now) request.folder
+
+abbrev pub named_kept : Why → List ℕ
+named_kept request = test_name (name_kept request.name) (edges_kept request.edges)
+
+-- files are put on the shelf and a line is written, or there is no memory, and nothing is
+abbrev pub WritesInMemory : List (List ℕ × List ℕ) → List ℕ → Status → ShelfSeen → ShelfSeen → SinkSeen → SinkSeen → Type 0
+WritesInMemory files line status old new before after =
+    ((status ≡ statuses.NoMemory) × (new ≡ old) × (after ≡ before)) ⊎ WritesFiles files line status old new before after
 
 -- the answer for the cycles that are sought, as they are kept
 abbrev pub AnswersKept : ArchName → Sought → Status → SourceSeen → SourceSeen → SinkSeen → SinkSeen → Type 0

@@ -12,6 +12,7 @@ pub mod SumAnswers
 pub mod CrossAnswers
 pub mod DemoAnswers
 pub mod CheckAnswers
+pub mod WhyAnswers
 pub mod Answers
 pub mod Kept
 pub mod Memory

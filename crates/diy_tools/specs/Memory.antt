@@ -2,18 +2,19 @@
 -- Source: own.
 use Rattle.std.specs.Prelude.{ℕ, ◌≡◌, ⊤, List, Result, Ok}
 use Rattle.diy_words.specs.declared.usage.Usage.{Usage}
-use Rattle.diy_words.specs.Requests.{Asked, AsksFamilies, AsksSum, AsksCross, AsksCheck, asked_of}
+use Rattle.diy_words.specs.Requests.{Asked, AsksWhy, AsksFamilies, AsksSum, AsksCross, AsksCheck, asked_of}
 use Rattle.diy_tools.specs.declared.status.Status.{Status}
 use Rattle.diy_tools.specs.declared.status.Status.TheVariants.{NoMemory}
 
--- classify7, msum7, diycross7 and mcheck7 may, no other tool, and no words that make no request
+-- classify7, msum7, diycross7, mcheck7 and diyone7 with -why may, no other tool, and no words that make no request
 abbrev pub MayWantMemory : Result Asked Usage → Type 0
+MayWantMemory (Ok (AsksWhy asked)) = ⊤
 MayWantMemory (Ok (AsksFamilies asked)) = ⊤
 MayWantMemory (Ok AsksSum) = ⊤
 MayWantMemory (Ok (AsksCross asked)) = ⊤
 MayWantMemory (Ok (AsksCheck asked)) = ⊤
 MayWantMemory _ = ⊥
 
--- only classify7, msum7, diycross7 and mcheck7 answer that there is no memory
+-- only classify7, msum7, diycross7, mcheck7 and diyone7 with -why answer that there is no memory
 abbrev pub NeverWantsMemory : List (List ℕ) → Status → Type 0
 NeverWantsMemory words status = status ≡ NoMemory → MayWantMemory (asked_of words)

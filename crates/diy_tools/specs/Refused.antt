@@ -15,6 +15,8 @@ use Rattle.arch_trait.specs.Threads.{Puts}
 use Rattle.test_maker.specs.declared.refusal.MakeRefusal.{MakeRefusal}
 use Rattle.test_maker.specs.declared.refusal.MakeRefusal.TheVariants as making
 use Rattle.test_maker.specs.Refusals.{refusal_of}
+use Rattle.two_runs.specs.declared.errors.WhyRefusal.{WhyRefusal}
+use Rattle.two_runs.specs.declared.errors.WhyRefusal.TheVariants as showing
 use Rattle.diy_tools.specs.declared.status.Refusal.{Refusal}
 use Rattle.diy_tools.specs.declared.status.Refusal.TheVariants as refusals
 
@@ -36,6 +38,19 @@ making_refusal (making.TooManyRegisters thread) = refusals.TooManyRegisters thre
 abbrev pub refused_making : Option MakeRefusal → Option Refusal
 refused_making (Some reason) = Some (making_refusal reason)
 refused_making None = None
+
+-- what showing two executions of its test refuses
+abbrev pub showing_refusal : WhyRefusal → Refusal
+showing_refusal (showing.NotOfArch at) = refusals.NotOfArch at
+showing_refusal showing.TooFewThreads = refusals.TooFewThreads
+showing_refusal showing.CoherenceOnly = refusals.CoherenceOnly
+showing_refusal showing.NothingToShow = refusals.NothingToShow
+showing_refusal (showing.TooManyRegisters thread) = refusals.TooManyRegisters thread
+
+-- the same of a cycle, if anything is refused
+abbrev pub refused_showing : Option WhyRefusal → Option Refusal
+refused_showing (Some reason) = Some (showing_refusal reason)
+refused_showing None = None
 
 -- what composing refuses, if anything
 abbrev pub refused_composing : Result (List Edge) CycleError → Option Refusal

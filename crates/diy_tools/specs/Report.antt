@@ -46,6 +46,7 @@ refusal_text refusals.CoherenceOnly = codes "CoherenceOnly"
 refusal_text (refusals.NeedsObserver location event) =
     codes "NeedsObserver " ++ location_name location ++ codes " " ++ decimal event
 refusal_text (refusals.TooManyRegisters thread) = codes "TooManyRegisters " ++ decimal thread
+refusal_text refusals.NothingToShow = codes "NothingToShow"
 
 -- the name of what is wrong with words
 abbrev pub usage_text : UsageKind → List ℕ
@@ -65,10 +66,12 @@ usage_text usages.TooManyRelaxes = codes "TooManyRelaxes"
 usage_text usages.UnknownName = codes "UnknownName"
 usage_text usages.BadAfter = codes "BadAfter"
 usage_text usages.StrayWord = codes "StrayWord"
+usage_text usages.ExcludedOption = codes "ExcludedOption"
 usage_text usages.MissingArch = codes "MissingArch"
 usage_text usages.MissingEdges = codes "MissingEdges"
 usage_text usages.MissingNumber = codes "MissingNumber"
 usage_text usages.MissingFile = codes "MissingFile"
+usage_text usages.MissingWhy = codes "MissingWhy"
 usage_text usages.TooManyChoices = codes "TooManyChoices"
 
 -- the name of what is wrong with a line of cycles, and with a line of a log

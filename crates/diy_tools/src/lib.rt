@@ -13,6 +13,7 @@ mod status;
 mod sums;
 mod testing;
 mod tools;
+mod why;
 
 pub use status::{Device, Refusal, Status, TextKind};
 pub use tools::run;

@@ -115,10 +115,12 @@ fn usage_name(kind: UsageKind) -> &'static [u8]
         UsageKind::UnknownName => b"UnknownName",
         UsageKind::BadAfter => b"BadAfter",
         UsageKind::StrayWord => b"StrayWord",
+        UsageKind::ExcludedOption => b"ExcludedOption",
         UsageKind::MissingArch => b"MissingArch",
         UsageKind::MissingEdges => b"MissingEdges",
         UsageKind::MissingNumber => b"MissingNumber",
         UsageKind::MissingFile => b"MissingFile",
+        UsageKind::MissingWhy => b"MissingWhy",
         UsageKind::TooManyChoices => b"TooManyChoices",
     }
 }
@@ -246,6 +248,7 @@ fn send_refusal<E: Sink>(refusal: Refusal, page: &mut Page, err: &mut E) -> Resu
         Refusal::CoherenceOnly => refuse(b"CoherenceOnly", page, err),
         Refusal::NeedsObserver { location, event } => refuse_unobserved(location, event, page, err),
         Refusal::TooManyRegisters { thread } => refuse_at(b"TooManyRegisters ", thread, page, err),
+        Refusal::NothingToShow => refuse(b"NothingToShow", page, err),
     }
 }
 

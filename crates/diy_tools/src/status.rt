@@ -1,6 +1,6 @@
 ghost use Rattle.std.specs.Prelude.{◌≡◌};
 ghost use Rattle.diy_tools.specs.Report.{exit_of};
-ghost use Rattle.diy_tools.specs.Refused.{composing_refusal, making_refusal};
+ghost use Rattle.diy_tools.specs.Refused.{composing_refusal, making_refusal, showing_refusal};
 
 use cycle_lines::LineKind;
 use diy_words::UsageKind;
@@ -9,6 +9,7 @@ use execution_text::ExecKind;
 use litmus_text::TestKind;
 use log_sum::LogKind;
 use test_maker::MakeRefusal;
+use two_runs::WhyRefusal;
 
 /// How a call of `run` ended.
 #[derive(Clone, Copy, Debug, PartialEq, Eq)]
@@ -95,6 +96,8 @@ pub enum Refusal {
     NeedsObserver { location: u8, event: u8 },
     /// Thread `thread`, the first such, needs more registers than the architecture has.
     TooManyRegisters { thread: u8 },
+    /// No write needs an observer, so that there is nothing to show.
+    NothingToShow,
 }
 
 impl Status {
@@ -141,6 +144,20 @@ impl From<MakeRefusal> for Refusal {
                 Refusal::NeedsObserver { location, event }
             }
             MakeRefusal::TooManyRegisters { thread } => Refusal::TooManyRegisters { thread },
+        }
+    }
+}
+
+impl From<WhyRefusal> for Refusal {
+    fn from(refusal: WhyRefusal) -> Refusal
+        ensures { result ≡ showing_refusal refusal }
+    {
+        match refusal {
+            WhyRefusal::NotOfArch { at } => Refusal::NotOfArch { at },
+            WhyRefusal::TooFewThreads => Refusal::TooFewThreads,
+            WhyRefusal::CoherenceOnly => Refusal::CoherenceOnly,
+            WhyRefusal::NothingToShow => Refusal::NothingToShow,
+            WhyRefusal::TooManyRegisters { thread } => Refusal::TooManyRegisters { thread },
         }
     }
 }

@@ -18,13 +18,15 @@ use crate::report::report;
 use crate::status::Status;
 use crate::sums::sum;
 use crate::testing::diyone;
+use crate::why::why;
 use diy_io::{Shelf, Sink, Source, Words};
 use diy_words::{Request, read_request};
 use std::alloc::Global;
 
 /// Does what the words ask for: it prints the test of a cycle to `out`, or the names of cycles, or
 /// the sum of logs, or how long some tests are, or what is said of an execution of a test, or writes
-/// the tests of a listing, or of choices, to the shelf.
+/// the tests of a listing, or of choices, to the shelf, or two executions of a test that show why an
+/// observer is needed.
 ///
 /// Where the words make no request, or the edges are refused, no device changes but `err`. What each
 /// tool reads of `input` and of the shelf, what it writes to `out` and to the shelf, and what stands
@@ -78,6 +80,7 @@ fn answer<I: Source, O: Sink, H: Shelf>(
             kind: usage.kind,
         },
         Ok(Request::Test(request)) => diyone(&request, out),
+        Ok(Request::Why(request)) => why(alloc, &request, shelf, out),
         Ok(Request::Name(request)) => norm(&request, input, out),
         Ok(Request::List(request)) => list(request, shelf, out),
         Ok(Request::Families(arch)) => families(alloc, words, arch, input, shelf, out),

@@ -1,4 +1,5 @@
 pub mod Shelves
+pub mod FilesPut
 pub mod Lines
 pub mod Behind
 pub mod Going

@@ -14,10 +14,14 @@ last_number = 2 ^ 128 - 1
 abbrev pub number_of : ℕ → ℕ
 number_of n = min n last_number
 
--- the file of a test by its number and its name: the name where that has at most 200 bytes, else `long` and the number
+-- what the files of a test are called but for their ending, by its number and its name: the name where that has at most 200
+-- bytes, else `long` and the number
+unfoldable pub stem_named : ℕ → List ℕ → List ℕ
+stem_named number name = if nat_le (length name) 200 then name else codes "long" ++ decimal (number_of number)
+
+-- the file of a test by its number and its name
 unfoldable pub file_named : ℕ → List ℕ → List ℕ
-file_named number name =
-    if nat_le (length name) 200 then name ++ codes ".litmus" else codes "long" ++ decimal (number_of number) ++ codes ".litmus"
+file_named number name = stem_named number name ++ codes ".litmus"
 
 -- the file of the test of a cycle by its number
 abbrev pub file_of : ℕ → List Edge → List ℕ

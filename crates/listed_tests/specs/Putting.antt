@@ -2,7 +2,12 @@
 -- Source: own.
 use Rattle.std.specs.Prelude.{◌≡◌, ◌⊎◌, ℕ, List, [], ◌∷◌, ◌++◌}
 use Rattle.std.specs.Option.{option_map}
+use Rattle.listed_tests.specs.declared.putting.File.{File}
 use Rattle.diy_io.specs.Shelf.{Files, ShelfSeen, Idle, Writing, with_file, CountsStay, Faulted}
+
+-- a file that is to be put, by its path and its bytes
+abbrev pub file_put : File → List ℕ × List ℕ
+file_put file = (file.path.bytes, file.bytes.now)
 
 -- files with these put to them, one after another, each by its path and its bytes
 abbrev pub with_files : List (List ℕ × List ℕ) → Files → Files

@@ -1,15 +1,38 @@
-ghost use Rattle.std.specs.Prelude.{◌≡◌, ◌≤◌, [], ◌∷◌, length, OnOk, OnErr};
+ghost use Rattle.std.specs.Prelude.{◌≡◌, ◌≤◌, [], ◌∷◌, length, map, OnOk, OnErr};
 ghost use Rattle.std.specs.List.{All};
 ghost use Rattle.diy_io.specs.Shelf.{Idle};
 ghost use Rattle.litmus_text.specs.KeptCells.{HoldsTable};
 ghost use Rattle.litmus_text.specs.Tests.{IsPrintable, test_seen};
 ghost use Rattle.litmus_text.specs.TestText.{test_text};
 ghost use Rattle.litmus_text.specs.declared.limits.TheConstants.{MAX_NAME};
-ghost use Rattle.listed_tests.specs.Putting.{Put, PutPart};
+ghost use Rattle.listed_tests.specs.Given.{PutUpTo};
+ghost use Rattle.listed_tests.specs.Putting.{Put, PutPart, file_put};
 
+use crate::files::Path;
 use arch_trait::Arch;
 use diy_io::{Failed, Page, SPILL, Shelf};
 use litmus_text::{KeptTable, Test, TextPart, put_header, put_part};
+
+/// A file that is to be put on a shelf.
+#[derive(Debug, Drop)]
+pub struct File<'a> {
+    /// Its name, with its folder.
+    pub path: Path,
+    pub bytes: &'a [u8],
+}
+
+/// Puts files on the shelf, one after another. Where the shelf fails, those before one are whole, and that
+/// one is as it was or has a prefix of its bytes.
+pub fn put_files<H: Shelf>(files: &[File], shelf: &mut H) -> Result<(), Failed>
+    requires { (H.seen shelf.old).mode ≡ Idle }
+    ensures ok { OnOk result (Put (H.seen shelf.old) (H.seen shelf.new) (map file_put files.now)) }
+    ensures failed { OnErr result (PutUpTo (H.seen shelf.old) (H.seen shelf.new) (map file_put files.now)) }
+{
+    for file in files {
+        put_file(file.path.as_str(), file.bytes, shelf)?;
+    }
+    Ok(())
+}
 
 /// Puts a file on the shelf. Where the shelf fails, the file is as it was, or has a front of the
 /// bytes.

@@ -10,19 +10,19 @@ use Rattle.relax_edges.specs.declared.edge.Edge.{Edge}
 use Rattle.relax_edges.specs.EdgeTable.{is_of_arch}
 use Rattle.resolution_laws.specs.declared.errors.ResolveError.{ResolveError}
 use Rattle.resolution_laws.specs.declared.errors.ResolveError.TheVariants as resolving
-use Rattle.resolution_laws.specs.Resolution.{resolution_of, turned}
+use Rattle.resolution_laws.specs.Resolution.{IsResolved, resolution_of, turned}
 use Rattle.resolution_laws.proofs.Turning.{resolution_resolved}
 use Rattle.value_laws.specs.declared.needs.NeedsObserver.{NeedsObserver}
 use Rattle.value_laws.specs.Values.{observer_need, valuation_of}
 use Rattle.value_laws.proofs.Entries.{avoid_allowed}
 use Rattle.arch_trait.specs.Threads.{Puts}
-use Rattle.test_laws.specs.Headline.{HasTest}
+use Rattle.test_laws.specs.Headline.{HasCode, HasTest}
 use Rattle.test_laws.specs.Steps.{cycle_steps}
 use Rattle.test_laws.specs.TestOf.{TestSeen, plain}
 use Rattle.test_laws.proofs.Headline.{room_left}
 use Rattle.test_maker.specs.declared.refusal.MakeRefusal.{MakeRefusal}
 use Rattle.test_maker.specs.declared.refusal.MakeRefusal.TheVariants as refusals
-use Rattle.test_maker.specs.Made.{AreOfArch, MakesOfArch}
+use Rattle.test_maker.specs.Made.{AreOfArch, MakesOfArch, MakesValued}
 use Rattle.test_maker.specs.Refusals.{or_else, foreign_edge, unobserved_need, crowded_thread, resolved_refusal, refusal_of}
 use Rattle.test_maker.proofs.OfArch.{none_foreign, resolved_turned, turned_of_arch}
 use Rattle.test_maker.proofs.Printing.{uncrowded}
@@ -48,6 +48,20 @@ served es modes.Avoid h = avoid_allowed es (none_needed (observer_need es) h)
     none_needed None e = refl
     none_needed (Some need) e = cc
 
+-- where no thread needs too many registers
+pub uncrowded_has_code : (a : Puts) (es : List Edge) (mode : ObsMode) → IsResolved es → AreOfArch a es → crowded_thread a es mode ≡ None → HasCode a es mode
+uncrowded_has_code a es mode resolved of_arch none = record {
+  resolved = resolved;
+  of_arch = of_arch;
+  room = λ thread steps got. room_left a (cycle_steps es mode plain) thread steps (uncrowded a es mode none) got;
+}
+
+-- a cycle whose threads a call made
+pub made_has_code : (a : Puts) (register_name : ℕ → List ℕ) (es : List Edge) (mode : ObsMode) (test : TestSeen) (result : Result (Unit {0}) MakeRefusal) →
+    IsResolved es → AreOfArch a es → MakesValued a register_name es mode test result → OnOk result (HasCode a es mode)
+made_has_code a register_name es mode test (Ok _) resolved of_arch made = uncrowded_has_code a es mode resolved of_arch made.0
+made_has_code a register_name es mode test (Err refusal) resolved of_arch made = tt
+
 pub accepted_has_test : (a : Puts) (cycle : List Edge) (mode : ObsMode) → IsCycle cycle → refusal_of a cycle mode ≡ None → HasTest a (turned cycle) mode
 accepted_has_test a cycle mode is_cycle h =
     let parts = neither (foreign_edge a.name cycle) (resolved_refusal a (resolution_of cycle) mode) h in
@@ -59,11 +73,7 @@ accepted_has_test a cycle mode is_cycle h =
     of_resolution (Ok es) e h of_arch =
         let parts = neither (unobserved_need mode es) (crowded_thread a es mode) h in
         subst (λ us. HasTest a us mode) (sym (resolved_turned cycle es e).1) (record {
-          code = record {
-            resolved = resolution_resolved cycle es is_cycle e;
-            of_arch = turned_of_arch a cycle es of_arch e;
-            room = λ thread steps got. room_left a (cycle_steps es mode plain) thread steps (uncrowded a es mode parts.1) got;
-          };
+          code = uncrowded_has_code a es mode (resolution_resolved cycle es is_cycle e) (turned_of_arch a cycle es of_arch e) parts.1;
           valued = served es mode parts.0;
         })
 

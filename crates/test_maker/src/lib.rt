@@ -3,11 +3,13 @@
 
 mod acceptance;
 mod condition;
+mod law;
 mod maker;
 mod refusal;
 mod steps;
 mod threads;
 
 pub use acceptance::accepted;
-pub use maker::{make, make_into};
+pub use law::resolved_edges;
+pub use maker::{first_foreign, make, make_into, make_unobserved};
 pub use refusal::MakeRefusal;

@@ -4,7 +4,8 @@ ghost use Rattle.relax_edges.specs.EdgeTable.{is_of_arch};
 ghost use Rattle.resolution_laws.specs.Resolution.{turned};
 ghost use Rattle.arch_trait.specs.Names.{number_in};
 ghost use Rattle.arch_trait.specs.Writing.{name_in};
-ghost use Rattle.test_laws.specs.Headline.{HasTest};
+ghost use Rattle.relax_edges.specs.declared.kinds.ObsMode.TheVariants.{Avoid};
+ghost use Rattle.test_laws.specs.Headline.{HasCode, HasTest};
 ghost use Rattle.test_maker.specs.Made.{Makes, MakesOfArch, MakesResolved, MakesTest, MakesValued, AreOfArch, MadeCanPrint, MadeForces, TestCanPrint, TestForces, NamesLocation, test_view};
 
 use crate::condition::put_last_terms;
@@ -12,7 +13,7 @@ use crate::refusal::MakeRefusal;
 use crate::threads::put_threads;
 use arch_trait::Arch;
 use arrayvec::ArrayVec;
-use coherence_values::{NeedsObserver, Valued, value};
+use coherence_values::{NeedsObserver, Valued, value, value_unobserved};
 use cycle_resolve::{ResolveError, Resolved, resolve};
 use edge_algebra::Cycle;
 use litmus_text::Test;
@@ -48,8 +49,22 @@ pub fn make_into<A: Arch>(cycle: &Cycle, mode: ObsMode, test: &mut Test) -> Resu
     }
 }
 
+/// Makes `test` the test of a cycle without observers: the one of the mode avoid, though that may refuse
+/// the cycle for a write that needs an observer. The cycle's edges are of the architecture. The answer is
+/// `TooManyRegisters` where a thread needs more registers than there are; then nothing is known of `test`.
+pub fn make_unobserved<A: Arch>(resolved: &Resolved, test: &mut Test) -> Result<(), MakeRefusal>
+    requires { AreOfArch A.puts resolved.now }
+    ensures made { MakesValued A.puts (name_in A.writing.registers) resolved.now Avoid (test_view test.new) result }
+    ensures printable { MadeCanPrint A.puts A.REGISTERS test.new result }
+    ensures has_code { OnOk result (HasCode A.puts resolved.now Avoid) }
+{
+    let _edges = resolved.cycle();
+    let valued = value_unobserved(resolved);
+    make_valued::<A>(&valued, test)
+}
+
 /// The place of the first edge that isn't of the architecture.
-pub(crate) fn first_foreign<A: Arch>(edges: &[Edge]) -> Option<u8>
+pub fn first_foreign<A: Arch>(edges: &[Edge]) -> Option<u8>
     requires { length edges.now ≤ MAX_EDGES }
     ensures { result ≡ position_from (λ e. not (is_of_arch e A.puts.name)) 0 edges.now }
 {

@@ -1,0 +1,74 @@
+-- What diyone7 answers with the option -why.
+-- Source: own.
+use Rattle.std.specs.Prelude.{◌≡◌, ◌⊎◌, ℕ, List, [], ◌∷◌, ◌++◌, codes, Option, Some, None}
+use Rattle.std.specs.Option.{option_or}
+use Rattle.relax_edges.specs.declared.kinds.ObsMode.TheVariants.{Avoid}
+use Rattle.relax_edges.specs.declared.edge.Edge.{Edge}
+use Rattle.resolution_laws.specs.Resolution.{turned}
+use Rattle.value_laws.specs.Values.{observer_need}
+use Rattle.diy_io.specs.Shelf.{ShelfSeen}
+use Rattle.diy_io.specs.Wrote.{SinkSeen, WroteAll, WrotePart}
+use Rattle.diy_words.specs.Requests.{WhyAsked}
+use Rattle.execution_text.specs.Written.{text_of_execution}
+use Rattle.listed_tests.specs.Files.{path_of, stem_named}
+use Rattle.listed_tests.specs.Given.{PutUpTo}
+use Rattle.listed_tests.specs.Putting.{Put}
+use Rattle.litmus_text.specs.TestReading.{TestRead}
+use Rattle.program_meaning.specs.Executions.{Execution}
+use Rattle.test_maker.specs.CycleText.{cycle_text}
+use Rattle.two_runs.specs.Shown.{AreRunsFor, why_refused}
+use Rattle.diy_tools.specs.declared.status.Status.{Status}
+use Rattle.diy_tools.specs.declared.status.Status.TheVariants as statuses
+use Rattle.diy_tools.specs.declared.status.Refusal.{Refusal}
+use Rattle.diy_tools.specs.declared.status.Device.TheVariants.{Out, Shelf}
+use Rattle.diy_tools.specs.Machines.{Machine, machine_of}
+use Rattle.diy_tools.specs.Refused.{refused_list, refused_showing}
+use Rattle.diy_tools.specs.TestAnswers.{test_name}
+
+-- the path of a file of a test, by its ending
+abbrev pub why_path : Option (List ℕ) → List ℕ → List ℕ → List ℕ
+why_path folder name ending = path_of folder (stem_named 0 name ++ ending)
+
+-- the three files: the text of the test without observers, and those of the two executions
+abbrev pub why_files : Option (List ℕ) → List ℕ → List ℕ → List ℕ → List ℕ → List (List ℕ × List ℕ)
+why_files folder name text one two =
+    (why_path folder name (codes ".litmus"), text) ∷ (why_path folder name (codes ".one"), one) ∷ (why_path folder name (codes ".two"), two) ∷ []
+
+-- the line on what is written
+abbrev pub why_line : List ℕ → List ℕ
+why_line name = codes "Two executions of " ++ name ++ codes "\n"
+
+-- files are put on the shelf, and then a line is written: both whole; or a prefix of the line, where standard output failed; or the
+-- files up to one, where the shelf failed
+abbrev pub WritesFiles : List (List ℕ × List ℕ) → List ℕ → Status → ShelfSeen → ShelfSeen → SinkSeen → SinkSeen → Type 0
+WritesFiles files line statuses.Done old new before after = Put old new files × WroteAll before after line
+WritesFiles files line (statuses.WriteFault Out) old new before after = Put old new files × WrotePart before after line
+WritesFiles files line (statuses.WriteFault Shelf) old new before after = PutUpTo old new files × (after ≡ before)
+WritesFiles files line _ old new before after = ⊥
+
+-- What is written of a cycle: the text of its test without observers, and two executions of what that is read as, which no
+-- condition on the final state tells apart, though in one all edges stand and in the other one doesn't.
+pub record WritesRuns (m : Machine) (folder : Option (List ℕ)) (name : List ℕ) (cycle : List Edge) (status : Status) (old new : ShelfSeen) (before after : SinkSeen) : Type 0 where
+  pub test : TestRead
+  pub one : Execution
+  pub two : Execution
+  pub runs : AreRunsFor m.puts m.writing name (turned cycle) (observer_need (turned cycle)) (cycle_text m.puts m.writing Avoid name cycle) test one two
+  pub written : WritesFiles
+      (why_files folder name (cycle_text m.puts m.writing Avoid name cycle) (text_of_execution test.places one) (text_of_execution test.places two))
+      (why_line name) status old new before after
+
+-- the edges are refused, and nothing is written; or there is no memory, and nothing is; or that is written
+abbrev pub AnswersRuns : Machine → Option (List ℕ) → List ℕ → Option Refusal → List Edge → Status → ShelfSeen → ShelfSeen → SinkSeen → SinkSeen → Type 0
+AnswersRuns m folder name (Some refusal) edges status old new before after = (status ≡ statuses.Refused refusal) × (new ≡ old) × (after ≡ before)
+AnswersRuns m folder name None edges status old new before after =
+    ((status ≡ statuses.NoMemory) × (new ≡ old) × (after ≡ before)) ⊎ WritesRuns m folder name edges status old new before after
+
+-- the first reason why nothing is shown of the edges that words name
+abbrev pub unshown : WhyAsked → Option Refusal
+unshown asked =
+    let a = (machine_of asked.arch).puts in
+    option_or (refused_list a.name asked.edges) (refused_showing (why_refused a asked.edges))
+
+-- the answer for what words ask for
+abbrev pub AnswersWhy : WhyAsked → Status → ShelfSeen → ShelfSeen → SinkSeen → SinkSeen → Type 0
+AnswersWhy asked = AnswersRuns (machine_of asked.arch) asked.folder (test_name asked.name asked.edges) (unshown asked) asked.edges

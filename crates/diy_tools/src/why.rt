@@ -1,0 +1,182 @@
+ghost use Rattle.std.specs.Prelude.{◌≡◌, ◌≤◌, length, map};
+ghost use Rattle.std.specs.Option.{ForSome, option_map};
+ghost use Rattle.diy_io.specs.Shelf.{Idle};
+ghost use Rattle.diy_words.specs.Given.{HasForm};
+ghost use Rattle.diy_words.specs.declared.request.Request.TheVariants as requests;
+ghost use Rattle.diy_io.specs.Wrote.{Wrote};
+ghost use Rattle.execution_text.specs.Written.{text_of_execution};
+ghost use Rattle.listed_tests.specs.Putting.{file_put};
+ghost use Rattle.litmus_text.specs.Printable.{IsTestName};
+ghost use Rattle.two_runs.specs.Shown.{why_refused};
+ghost use Rattle.diy_tools.specs.Kept.{WritesInMemory, edges_kept, folder_kept, named_kept, refused_why};
+ghost use Rattle.diy_tools.specs.Machines.{machine, machine_of};
+ghost use Rattle.diy_tools.specs.Refused.{refused_showing};
+ghost use Rattle.diy_tools.specs.Report.{NamesLocation};
+ghost use Rattle.diy_tools.specs.WhyAnswers.{AnswersRuns, WritesFiles, why_files, why_line};
+
+use crate::edges::cycle_of_edges;
+use crate::status::{Device, Refusal, Status};
+use arch_aarch64::A64;
+use arch_power::Power;
+use arch_riscv::Riscv;
+use arch_trait::Arch;
+use arch_x86::X86;
+use cycle_names::name_of;
+use diy_io::{Failed, NoMemory, Page, Shelf, Sink};
+use diy_words::{TestName, Why};
+use edge_algebra::Cycle;
+use execution_text::write_execution;
+use listed_tests::{File, MAX_FOLDER, put_files, test_path};
+use relax_edges::ArchName;
+use std::alloc::Global;
+use two_runs::{TwoRuns, WhyError, two_runs};
+
+/// Writes the test of a cycle without observers, and two executions of it that no condition on the final
+/// state tells apart.
+pub(crate) fn why<H: Shelf, O: Sink>(
+    alloc: Global,
+    request: &Why,
+    shelf: &mut H,
+    out: &mut O,
+) -> Status
+    requires idle { (H.seen shelf.old).mode ≡ Idle }
+    requires form { HasForm (requests.Why request.now) }
+    ensures answers { AnswersRuns (machine_of request.now.arch) (folder_kept request.now) (named_kept request.now) (refused_why (machine_of request.now.arch) request.now.edges) (edges_kept request.now.edges) result (H.seen shelf.old) (H.seen shelf.new) (O.seen out.old) (O.seen out.new) }
+    ensures location { NamesLocation result }
+{
+    match request.arch {
+        ArchName::X86 => why_on::<X86, H, O>(alloc, request, shelf, out),
+        ArchName::PPC => why_on::<Power, H, O>(alloc, request, shelf, out),
+        ArchName::AArch64 => why_on::<A64, H, O>(alloc, request, shelf, out),
+        ArchName::RISCV => why_on::<Riscv, H, O>(alloc, request, shelf, out),
+    }
+}
+
+/// The same on an architecture.
+#[inline(never)]
+fn why_on<A: Arch, H: Shelf, O: Sink>(
+    alloc: Global,
+    request: &Why,
+    shelf: &mut H,
+    out: &mut O,
+) -> Status
+    requires idle { (H.seen shelf.old).mode ≡ Idle }
+    requires form { HasForm (requests.Why request.now) }
+    ensures answers { AnswersRuns (machine A.puts A.writing) (folder_kept request.now) (named_kept request.now) (refused_why (machine A.puts A.writing) request.now.edges) (edges_kept request.now.edges) result (H.seen shelf.old) (H.seen shelf.new) (O.seen out.old) (O.seen out.new) }
+    ensures location { NamesLocation result }
+{
+    let cycle = match cycle_of_edges(&request.edges, A::NAME) {
+        Ok(cycle) => cycle,
+        Err(refusal) => return Status::Refused(refusal),
+    };
+    match &request.name {
+        Some(name) => why_named::<A, H, O>(
+            alloc,
+            &cycle,
+            name.as_str(),
+            request.folder,
+            shelf,
+            out,
+        ),
+        None => {
+            let mut name = TestName::new();
+            name_of(&cycle, &mut name);
+            why_named::<A, H, O>(
+                alloc,
+                &cycle,
+                name.as_str(),
+                request.folder,
+                shelf,
+                out,
+            )
+        }
+    }
+}
+
+/// The same of a cycle, under a name.
+fn why_named<A: Arch, H: Shelf, O: Sink>(
+    alloc: Global,
+    cycle: &Cycle,
+    name: &str,
+    folder: Option<&str>,
+    shelf: &mut H,
+    out: &mut O,
+) -> Status
+    requires idle { (H.seen shelf.old).mode ≡ Idle }
+    requires named { IsTestName name.now }
+    requires folder { ForSome folder (λ folder. length folder.now ≤ MAX_FOLDER) }
+    ensures answers { AnswersRuns (machine A.puts A.writing) (option_map (λ folder. folder.now) folder.entry) name.now (refused_showing (why_refused A.puts cycle.now)) cycle.now result (H.seen shelf.old) (H.seen shelf.new) (O.seen out.old) (O.seen out.new) }
+    ensures location { NamesLocation result }
+{
+    match two_runs::<A>(alloc, cycle, name) {
+        Ok(runs) => write_runs::<A, H, O>(alloc, &runs, name, folder, shelf, out),
+        Err(WhyError::Refused(refusal)) => Status::Refused(Refusal::from(refusal)),
+        Err(WhyError::NoMemory) => Status::NoMemory,
+    }
+}
+
+/// Writes a test and two executions of it.
+fn write_runs<A: Arch, H: Shelf, O: Sink>(
+    alloc: Global,
+    runs: &TwoRuns<A>,
+    name: &str,
+    folder: Option<&str>,
+    shelf: &mut H,
+    out: &mut O,
+) -> Status
+    requires idle { (H.seen shelf.old).mode ≡ Idle }
+    requires one { length runs.now.test.places ≡ length runs.now.one.orders }
+    requires two { length runs.now.test.places ≡ length runs.now.two.orders }
+    requires folder { ForSome folder (λ folder. length folder.now ≤ MAX_FOLDER) }
+    ensures written { WritesInMemory (why_files (option_map (λ folder. folder.now) folder.entry) name.now runs.now.text.items (text_of_execution runs.now.test.places runs.now.one) (text_of_execution runs.now.test.places runs.now.two)) (why_line name.now) result (H.seen shelf.old) (H.seen shelf.new) (O.seen out.old) (O.seen out.new) }
+    ensures location { NamesLocation result }
+{
+    let places = runs.test.places();
+    let one = match write_execution(alloc, &runs.one, places) {
+        Ok(text) => text,
+        Err(NoMemory) => return Status::NoMemory,
+    };
+    let two = match write_execution(alloc, &runs.two, places) {
+        Ok(text) => text,
+        Err(NoMemory) => return Status::NoMemory,
+    };
+    let files = [
+        File {
+            path: test_path(folder, 0, name, ".litmus"),
+            bytes: runs.text.as_slice(),
+        },
+        File {
+            path: test_path(folder, 0, name, ".one"),
+            bytes: one.as_slice(),
+        },
+        File {
+            path: test_path(folder, 0, name, ".two"),
+            bytes: two.as_slice(),
+        },
+    ];
+    put_runs(&files, name, shelf, out)
+}
+
+/// Puts files on the shelf, and then writes the line on them.
+fn put_runs<H: Shelf, O: Sink>(files: &[File], name: &str, shelf: &mut H, out: &mut O) -> Status
+    requires idle { (H.seen shelf.old).mode ≡ Idle }
+    ensures written { WritesFiles (map file_put files.now) (why_line name.now) result (H.seen shelf.old) (H.seen shelf.new) (O.seen out.old) (O.seen out.new) }
+    ensures location { NamesLocation result }
+{
+    match put_files(files, shelf) {
+        Ok(()) => {}
+        Err(Failed) => return Status::WriteFault { of: Device::Shelf },
+    }
+    match write_line(name, out) {
+        Ok(()) => Status::Done,
+        Err(Failed) => Status::WriteFault { of: Device::Out },
+    }
+}
+
+fn write_line<O: Sink>(name: &str, out: &mut O) -> Result<(), Failed>
+    ensures { Wrote (O.seen out.old) (O.seen out.new) (why_line name.now) result }
+{
+    let mut page = Page::new();
+    page.send_pieces(&[b"Two executions of ", name.as_bytes(), b"\n"], out)?;
+    page.flush(out)
+}

@@ -1,0 +1,42 @@
+-- How the two executions are made: for the clauses of private functions.
+-- Source: own.
+use Rattle.std.specs.Prelude.{ℕ, ◌+◌, List, [], ◌++◌, map, Option, Some, None, slice_get, slice_set, unwrap_or}
+use Rattle.std.specs.List.{filter_map}
+use Rattle.relax_edges.specs.declared.edge.Edge.{Edge}
+use Rattle.list_laws.specs.Numbers.{upto}
+use Rattle.resolution_laws.specs.Resolution.{external_count, move_count}
+use Rattle.value_laws.specs.Values.{write_count}
+use Rattle.arch_trait.specs.Names.{location_name}
+use Rattle.litmus_text.specs.Placing.{place_in}
+use Rattle.program_meaning.specs.declared.WriteAt.{WriteAt}
+use Rattle.program_meaning.specs.Executions.{Execution}
+use Rattle.program_meaning.specs.Intended.{event_read, location_numbered, reads_in, write_of}
+use Rattle.communication.specs.Exchange.{exchanged_value}
+
+-- the numbers of the locations' places, where places have these names
+abbrev pub numbers_by : List (List ℕ) → ℕ → ℕ
+numbers_by places location = place_in places (location_name location)
+
+-- lists, of which number k has these elements more, at its end
+abbrev pub appended : {X : Type 0} → List (List X) → ℕ → List X → List (List X)
+appended lists k xs = slice_set lists k (unwrap_or (slice_get lists k) [] ++ xs)
+
+-- what the reads of the cycle's threads read
+abbrev pub cycle_reads : List Edge → List (List (ℕ × Option WriteAt))
+cycle_reads es = map (λ thread. map (event_read es) (reads_in es thread)) (upto (external_count es))
+
+-- the value whose write stands where the write of a value would, if a write and the one before it are exchanged, or none are
+abbrev pub value_there : List Edge → Option ℕ → ℕ → ℕ → ℕ
+value_there es None location v = v
+value_there es (Some event) location v = exchanged_value es event location v
+
+-- the writes of a location in that order
+unfoldable pub order_of : List Edge → Option ℕ → ℕ → List WriteAt
+order_of es moved location = filter_map (λ k. write_of es location (value_there es moved location (k + 1))) (upto (write_count es location))
+
+-- the execution with these orders
+abbrev pub run_by : List Edge → Option ℕ → (ℕ → ℕ) → Execution
+run_by es moved number = record {
+  reads = cycle_reads es;
+  orders = map (λ place. order_of es moved (location_numbered es number place)) (upto (move_count es));
+}

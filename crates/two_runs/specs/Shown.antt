@@ -1,0 +1,112 @@
+-- What is shown of a cycle that the mode avoid refuses because a write needs an observer: the text of its test without
+-- observers, and two executions of what that is read as.
+-- Source: own.
+use Rattle.std.specs.Prelude.{◌≡◌, ℕ, not, List, Option, Some, None, Result, Ok, Err}
+use Rattle.std.specs.List.{position_from}
+use Rattle.std.specs.Option.{option_map, option_or}
+use Rattle.relax_edges.specs.declared.kinds.ArchName.{ArchName}
+use Rattle.relax_edges.specs.declared.kinds.ObsMode.TheVariants.{Avoid}
+use Rattle.relax_edges.specs.declared.edge.Edge.{Edge}
+use Rattle.relax_edges.specs.EdgeTable.{is_of_arch}
+use Rattle.resolution_laws.specs.declared.errors.ResolveError.{ResolveError}
+use Rattle.resolution_laws.specs.declared.errors.ResolveError.TheVariants as resolving
+use Rattle.resolution_laws.specs.Resolution.{event_before, resolution_of, turned}
+use Rattle.value_laws.specs.declared.needs.NeedsObserver.{NeedsObserver}
+use Rattle.value_laws.specs.Values.{observer_need}
+use Rattle.arch_trait.specs.Names.{number_in}
+use Rattle.arch_trait.specs.Threads.{Puts}
+use Rattle.arch_trait.specs.Writing.{Writing}
+use Rattle.litmus_text.specs.TestReading.{TestRead, test_read}
+use Rattle.litmus_text.specs.TestText.{test_text}
+use Rattle.program_meaning.specs.Executions.{Execution}
+use Rattle.program_meaning.specs.Intended.{intended}
+use Rattle.communication.specs.Exchange.{exchanged}
+use Rattle.test_laws.specs.Headline.{HasCode}
+use Rattle.test_laws.specs.Steps.{cycle_steps}
+use Rattle.test_laws.specs.TestOf.{plain}
+use Rattle.test_maker.specs.Refusals.{is_crowded}
+use Rattle.printed_tests.specs.Headline.{shown_test}
+use Rattle.printed_tests.specs.Readings.{program_read, place_of}
+use Rattle.exchange_laws.specs.Undecided.{NoneTells}
+use Rattle.two_runs.specs.declared.errors.WhyError.{WhyError}
+use Rattle.two_runs.specs.declared.errors.WhyError.TheVariants as errors
+use Rattle.two_runs.specs.declared.errors.WhyRefusal.{WhyRefusal}
+use Rattle.two_runs.specs.declared.errors.WhyRefusal.TheVariants as refusals
+use Rattle.two_runs.specs.declared.shown.TwoRuns.{TwoRuns}
+
+-- the first thread of a cycle that needs more registers than the architecture has, its observers not counted
+abbrev pub crowded : Puts → List Edge → Option WhyRefusal
+crowded a es = option_map (λ thread. refusals.TooManyRegisters thread) (position_from (is_crowded a) 0 (cycle_steps es Avoid plain))
+
+-- why nothing is shown of a cycle in which no write needs an observer, or one does
+abbrev pub needless : Puts → List Edge → Option NeedsObserver → Option WhyRefusal
+needless a es None = Some refusals.NothingToShow
+needless a es (Some need) = crowded a es
+
+-- why nothing is shown of a cycle that has this resolution, or none
+abbrev pub unshown : Puts → Result (List Edge) ResolveError → Option WhyRefusal
+unshown a (Err resolving.TooFewThreads) = Some refusals.TooFewThreads
+unshown a (Err resolving.CoherenceOnly) = Some refusals.CoherenceOnly
+unshown a (Ok es) = needless a es (observer_need es)
+
+-- an edge isn't of the architecture: the first such
+abbrev pub foreign : ArchName → List Edge → Option WhyRefusal
+foreign arch cycle = option_map (λ at. refusals.NotOfArch at) (position_from (λ edge. not (is_of_arch edge arch)) 0 cycle)
+
+-- the first reason why nothing is shown of a cycle
+abbrev pub why_refused : Puts → List Edge → Option WhyRefusal
+why_refused a cycle = option_or (foreign a.name cycle) (unshown a (resolution_of cycle))
+
+-- The text is that of the test without observers of the cycle, whose resolution is `es`, and is read as the test. The first
+-- execution is the intended one; in the second the write that needs an observer and the one before it are exchanged; and no
+-- condition on the final state tells them apart, though the edge into that write stands in the first alone.
+pub record AreRuns (a : Puts) (w : Writing) (name : List ℕ) (es : List Edge) (need : NeedsObserver) (text : List ℕ) (test : TestRead) (one two : Execution) : Type 0 where
+  pub text_is : text ≡ test_text a.name w name (shown_test a w es Avoid)
+  pub reads : test_read a.name w text ≡ Ok test
+  pub first : one ≡ intended es Avoid (place_of test)
+  pub second : two ≡ exchanged es (place_of test) need.event
+  pub none_tells : NoneTells (program_read test) test.places (number_in w.registers) es (event_before es need.event) one two
+
+-- the text of the test without observers is given, which has code on the architecture; or the first thread that needs too many
+-- registers; or there is no memory, of which nothing is said
+abbrev pub GivesText : Puts → Writing → List ℕ → List Edge → Result Vec WhyError → Type 0
+GivesText a w name es (Ok text) = (crowded a es ≡ None) × HasCode a es Avoid × (text.items ≡ test_text a.name w name (shown_test a w es Avoid))
+GivesText a w name es (Err errors.NoMemory) = Unit {0}
+GivesText a w name es (Err (errors.Refused refusal)) = crowded a es ≡ Some refusal
+
+-- that is shown, or there is the first reason against it, or there is no memory, of which nothing is said: of a resolved
+-- cycle in which this write needs an observer
+abbrev pub ShowsNeed : {A : Type 0} → Puts → Writing → List ℕ → List Edge → NeedsObserver → Result (TwoRuns A) WhyError → Type 0
+ShowsNeed a w name es need (Ok runs) = (crowded a es ≡ None) × AreRuns a w name es need runs.text.items runs.test runs.one runs.two
+ShowsNeed a w name es need (Err errors.NoMemory) = Unit {0}
+ShowsNeed a w name es need (Err (errors.Refused refusal)) = crowded a es ≡ Some refusal
+
+-- the same of a resolved cycle that has this need of an observer, or none
+pub record AreRunsFor (a : Puts) (w : Writing) (name : List ℕ) (es : List Edge) (needed : Option NeedsObserver) (text : List ℕ) (test : TestRead) (one two : Execution) : Type 0 where
+  pub need : NeedsObserver
+  pub needs : needed ≡ Some need
+  pub runs : AreRuns a w name es need text test one two
+
+abbrev pub ShowsResolved : {A : Type 0} → Puts → Writing → List ℕ → List Edge → Option NeedsObserver → Result (TwoRuns A) WhyError → Type 0
+ShowsResolved a w name es needed (Ok runs) = (needless a es needed ≡ None) × AreRunsFor a w name es needed runs.text.items runs.test runs.one runs.two
+ShowsResolved a w name es needed (Err errors.NoMemory) = Unit {0}
+ShowsResolved a w name es needed (Err (errors.Refused refusal)) = needless a es needed ≡ Some refusal
+
+-- the same of a cycle by its resolution, if it has one
+pub record AreRunsIn (a : Puts) (w : Writing) (name : List ℕ) (resolution : Result (List Edge) ResolveError) (text : List ℕ) (test : TestRead) (one two : Execution) : Type 0 where
+  pub es : List Edge
+  pub resolved : resolution ≡ Ok es
+  pub runs : AreRunsFor a w name es (observer_need es) text test one two
+
+abbrev pub ShowsResolution : {A : Type 0} → Puts → Writing → List ℕ → Result (List Edge) ResolveError → Result (TwoRuns A) WhyError → Type 0
+ShowsResolution a w name resolution (Ok runs) = (unshown a resolution ≡ None) × AreRunsIn a w name resolution runs.text.items runs.test runs.one runs.two
+ShowsResolution a w name resolution (Err errors.NoMemory) = Unit {0}
+ShowsResolution a w name resolution (Err (errors.Refused refusal)) = unshown a resolution ≡ Some refusal
+
+-- a call shows a cycle: the text of its test without observers and the two executions; or it gives the first reason why
+-- nothing is shown; or there is no memory, of which nothing is said
+abbrev pub Shows : {A : Type 0} → Puts → Writing → List ℕ → List Edge → Result (TwoRuns A) WhyError → Type 0
+Shows a w name cycle (Ok runs) =
+    (why_refused a cycle ≡ None) × AreRunsFor a w name (turned cycle) (observer_need (turned cycle)) runs.text.items runs.test runs.one runs.two
+Shows a w name cycle (Err errors.NoMemory) = Unit {0}
+Shows a w name cycle (Err (errors.Refused refusal)) = why_refused a cycle ≡ Some refusal

@@ -1,0 +1,13 @@
+//! Two executions of a cycle's test without observers that no condition on the final state tells apart.
+#![tactic(auto)]
+
+mod errors;
+mod orders;
+mod places;
+mod reads;
+mod run;
+mod shown;
+mod text;
+
+pub use errors::{WhyError, WhyRefusal};
+pub use shown::{TwoRuns, two_runs};

@@ -1,0 +1,54 @@
+ghost use Rattle.std.specs.Prelude.{◌≡◌, ◌≤◌, ◌<◌, length, map, OnOk};
+ghost use Rattle.resolution_laws.specs.Resolution.{external_count};
+ghost use Rattle.value_laws.specs.Values.{write_count};
+ghost use Rattle.exec_meaning.specs.Kept.{empty_lists};
+ghost use Rattle.program_meaning.specs.Intended.{event_read, reads_in, write_of};
+ghost use Rattle.two_runs.specs.Runs.{appended, cycle_reads};
+
+use coherence_values::Valued;
+use diy_io::NoMemory;
+use exec_meaning::Execution;
+use program_meaning::WriteAt;
+use relax_edges::Dir;
+
+/// Adds what the reads of the cycle's threads read: each the write of its value, or the initial value.
+pub(crate) fn add_reads(valued: &Valued, exec: &mut Execution) -> Result<(), NoMemory>
+    requires { exec.old.reads ≡ empty_lists (external_count valued.now.edges) }
+    ensures { OnOk result (exec.new ≡ record exec.old { reads = cycle_reads valued.now.edges }) }
+{
+    for thread in 0..valued.resolved().threads() {
+        add_thread(valued, thread, exec)?;
+    }
+    Ok(())
+}
+
+fn add_thread(valued: &Valued, thread: u8, exec: &mut Execution) -> Result<(), NoMemory>
+    requires { thread < length exec.old.reads }
+    ensures { OnOk result (exec.new ≡ record exec.old { reads = appended exec.old.reads thread (map (event_read valued.now.edges) (reads_in valued.now.edges thread)) }) }
+{
+    let resolved = valued.resolved();
+    for i in 0..resolved.cycle().len() {
+        let event = resolved.event(i);
+        if event.thread == thread && event.dir == Dir::R {
+            let value = valued.value_of(i);
+            let from = write_of(valued, event.location, value);
+            exec.add_read(thread, u32::from(value), from)?;
+        }
+    }
+    Ok(())
+}
+
+/// The write of a location that has a value, none for the value 0, which is the initial one.
+pub(crate) fn write_of(valued: &Valued, location: u8, value: u8) -> Option<WriteAt>
+    requires { value ≤ write_count valued.now.edges location }
+    ensures { result ≡ write_of valued.now.edges location value }
+{
+    if value == 0 {
+        return None;
+    }
+    let event = valued.resolved().event(valued.write_at(location, value - 1));
+    Some(WriteAt {
+        thread: event.thread,
+        access: event.slot,
+    })
+}

@@ -1,0 +1,118 @@
+ghost use Rattle.std.specs.Prelude.{◌≡◌, Ok, Some};
+ghost use Rattle.resolution_laws.specs.Resolution.{resolution_of};
+ghost use Rattle.value_laws.specs.Values.{observer_need};
+ghost use Rattle.litmus_text.specs.Printable.{IsTestName};
+ghost use Rattle.test_maker.specs.Made.{AreOfArch};
+ghost use Rattle.two_runs.specs.Shown.{Shows, ShowsNeed, ShowsResolution, ShowsResolved};
+
+use crate::errors::{WhyError, WhyRefusal};
+use crate::run::run_of;
+use crate::text::text_unobserved;
+use arch_trait::Arch;
+use coherence_values::{NeedsObserver, value, value_unobserved};
+use cycle_resolve::{ResolveError, Resolved, resolve};
+use diy_io::NoMemory;
+use edge_algebra::Cycle;
+use exchange_laws::printed_undecided;
+use exec_meaning::Execution;
+use litmus_text::{ReadError, ReadTest, read_test};
+use relax_edges::ObsMode;
+use std::alloc::Global;
+use test_maker::{first_foreign, resolved_edges};
+
+/// A test without observers, and two executions of it that no condition on the final state tells apart.
+#[derive(Drop)]
+pub struct TwoRuns<A> {
+    /// The text of the test.
+    pub text: Vec<u8>,
+    /// What that text is read as. Both executions number the places as it does.
+    pub test: ReadTest<A>,
+    /// The intended execution, in which all edges of the cycle stand.
+    pub one: Execution,
+    /// The same, but with the write that needs an observer exchanged with the write before it in the
+    /// coherence order: the edge into that write doesn't stand.
+    pub two: Execution,
+}
+
+/// Why the mode avoid refuses a cycle because a write needs an observer: the text of the cycle's test
+/// without observers under a name, and two executions of what that text is read as. Both are candidate
+/// executions, are coherent per location and have one final state, so that each condition on it that
+/// is met by the first is met by the second; all edges stand in the first, and the edge into the write
+/// doesn't in the second. The write is the one that the mode refuses: of the lowest location that needs
+/// an observer, the first one in coherence order that needs it.
+///
+/// Refusals come in the order of `WhyRefusal`, each exactly where it holds and none before it does; there
+/// may be no memory at any time.
+pub fn two_runs<A: Arch>(
+    alloc: Global,
+    cycle: &Cycle,
+    name: &str,
+) -> Result<TwoRuns<A>, WhyError>
+    requires named { IsTestName name.now }
+    ensures { Shows A.puts A.writing name.now cycle.now result }
+{
+    match first_foreign::<A>(cycle.edges()) {
+        Some(at) => Err(WhyError::Refused(WhyRefusal::NotOfArch { at })),
+        None => runs_of_arch(alloc, cycle, name),
+    }
+}
+
+fn runs_of_arch<A: Arch>(
+    alloc: Global,
+    cycle: &Cycle,
+    name: &str,
+) -> Result<TwoRuns<A>, WhyError>
+    requires of_arch { (es : List Edge) → resolution_of cycle.now ≡ Ok es → AreOfArch A.puts es }
+    requires named { IsTestName name.now }
+    ensures { ShowsResolution A.puts A.writing name.now (resolution_of cycle.now) result }
+{
+    match resolve(cycle) {
+        Err(ResolveError::TooFewThreads) => Err(WhyError::Refused(WhyRefusal::TooFewThreads)),
+        Err(ResolveError::CoherenceOnly) => Err(WhyError::Refused(WhyRefusal::CoherenceOnly)),
+        Ok(resolved) => runs_of_resolved(alloc, &resolved, name),
+    }
+}
+
+fn runs_of_resolved<A: Arch>(
+    alloc: Global,
+    resolved: &Resolved,
+    name: &str,
+) -> Result<TwoRuns<A>, WhyError>
+    requires of_arch { AreOfArch A.puts resolved.now }
+    requires named { IsTestName name.now }
+    ensures { ShowsResolved A.puts A.writing name.now resolved.now (observer_need resolved.now) result }
+{
+    match value(resolved, ObsMode::Avoid) {
+        Ok(_) => Err(WhyError::Refused(WhyRefusal::NothingToShow)),
+        Err(need) => runs_of_need(alloc, resolved, need, name),
+    }
+}
+
+fn runs_of_need<A: Arch>(
+    alloc: Global,
+    resolved: &Resolved,
+    need: NeedsObserver,
+    name: &str,
+) -> Result<TwoRuns<A>, WhyError>
+    requires of_arch { AreOfArch A.puts resolved.now }
+    requires needs { observer_need resolved.now ≡ Some need }
+    requires named { IsTestName name.now }
+    ensures { ShowsNeed A.puts A.writing name.now resolved.now need result }
+{
+    printed_undecided::<A>();
+    let text = text_unobserved::<A>(alloc, resolved, name)?;
+    let test = match read_test::<A>(alloc, text.as_slice()) {
+        Ok(test) => test,
+        Err(ReadError::NoMemory) => return Err(WhyError::NoMemory),
+        Err(ReadError::Text(_)) => unreachable!(),
+    };
+    let valued = value_unobserved(resolved);
+    let one = run_of(alloc, &valued, test.places(), None)?;
+    let two = run_of(alloc, &valued, test.places(), Some(need.event))?;
+    Ok(TwoRuns {
+        text,
+        test,
+        one,
+        two,
+    })
+}
