@@ -21,8 +21,8 @@ use Rattle.diy_words.specs.declared.options.OptionName.{OptionName}
 use Rattle.diy_words.specs.Parts.{Alone, Valued, Unvalued, Waits, parts_from, parts_of, option_named, tool_named}
 use Rattle.diy_words.specs.declared.options.Tool.{Tool}
 use Rattle.diy_words.specs.declared.options.Tool.TheVariants as tools
-use Rattle.diy_words.specs.Requests.{Said, SaysArch, SaysName, SaysMode, SaysFrom, SaysEdges, SaysRelaxes, SaysSize, SaysExact, SaysThreads, SaysAfter, SaysFolder, SaysLog, SaysPlace, SaysCount, SaysTest, SaysExecution, NameAsked, ListAsked, DemoAsked, CheckAsked, Asked, AsksTest, AsksName, AsksList, AsksFamilies, AsksSum, AsksCross, AsksDemo, AsksCheck, OfEdges, OfName, OfLines, said_by, saying, operands_in, taken_by, said_first, said_all, or_later, last_given, first_given, arch_in, name_in, mode_in, from_in, operand_in, edges_in, relaxes_in, size_in, is_exact, threads_in, after_in, folder_in, places_in, count_in, test_in, execution_in, given_or, mode_or_accept, list_with, families_with, cross_with, places_given, choice_count, edges_given, asks, asked_with, named_with, asked_of, asked_for, tool_asked, files_given, SaysAccesses, accesses_in}
-use Rattle.diy_words.specs.Given.{Held, absorbed, all_absorbed, saying_from, finished, named, Kept, keeps, KeepsTest, KeepsName, KeepsList, KeepsFamilies, KeepsSum, KeepsCross, KeepsDemo, KeepsCheck, CrossHeld, crossed, classified, held_at_end, tool_held, shown, shown_request, nothing_held, AskedHeld, NameHeld, SoughtHeld, HeldEdges, HeldName, HeldLines, sought_held, Gives, IsKept, IsSought}
+use Rattle.diy_words.specs.Requests.{Said, SaysArch, SaysName, SaysMode, SaysFrom, SaysEdges, SaysRelaxes, SaysSize, SaysExact, SaysWhy, SaysThreads, SaysAfter, SaysFolder, SaysLog, SaysPlace, SaysCount, SaysTest, SaysExecution, NameAsked, ListAsked, DemoAsked, CheckAsked, Asked, AsksTest, AsksWhy, AsksName, AsksList, AsksFamilies, AsksSum, AsksCross, AsksDemo, AsksCheck, OfEdges, OfName, OfLines, Before, nothing_before, before_next, said_by, saying, said_first, said_all, or_later, last_given, first_given, arch_in, name_in, mode_in, from_in, operand_in, edges_in, relaxes_in, size_in, is_exact, is_why, threads_in, after_in, folder_in, places_in, count_in, test_in, execution_in, given_or, mode_or_accept, list_with, families_with, cross_with, places_given, choice_count, edges_given, asks, asked_with, why_with, why_asked, test_asked, diyone_asked, named_with, asked_of, asked_for, tool_asked, files_given, SaysAccesses, accesses_in}
+use Rattle.diy_words.specs.Given.{Held, heard, absorbed, all_absorbed, saying_from, finished, explained, named, Kept, keeps, KeepsTest, KeepsWhy, KeepsName, KeepsList, KeepsFamilies, KeepsSum, KeepsCross, KeepsDemo, KeepsCheck, CrossHeld, crossed, classified, held_at_end, test_held, why_held, diyone_held, tool_held, shown, shown_request, nothing_held, AskedHeld, WhyHeld, NameHeld, SoughtHeld, HeldEdges, HeldName, HeldLines, sought_held, Gives, IsKept, IsSought}
 use Rattle.diy_words.specs.Requests as req
 
 drop_get : {X : Type 0} (xs : List X) (i : ℕ) (x : X) → slice_get xs i ≡ Some x → drop i xs ≡ x ∷ drop (i + 1) xs
@@ -39,30 +39,30 @@ option_parts : (tool : Tool) (word : List ℕ) (at : ℕ) (rest : List (List ℕ
 option_parts tool word at rest option e = rw e
 
 -- a word that stands alone and what the words after it say
-pub alone_first : (tool : Tool) (taken : ℕ) (words : List (List ℕ)) (at : ℕ) (word : List ℕ) →
+pub alone_first : (tool : Tool) (before : Before) (words : List (List ℕ)) (at : ℕ) (word : List ℕ) →
     slice_get words at ≡ Some word → option_named tool word ≡ None →
-    saying_from tool taken words at ≡ said_by tool taken (Alone at word) ∷ saying_from tool (taken + taken_by (said_by tool taken (Alone at word))) words (at + 1)
-alone_first tool taken words at word got plain =
-    ap (λ rest. saying tool taken (parts_of tool at rest)) (drop_get words at word got) ∙ ap (saying tool taken) (alone_parts tool word at (drop (at + 1) words) None plain refl)
+    saying_from tool before words at ≡ said_by tool before (Alone at word) ∷ saying_from tool (before_next before (said_by tool before (Alone at word))) words (at + 1)
+alone_first tool before words at word got plain =
+    ap (λ rest. saying tool before (parts_of tool at rest)) (drop_get words at word got) ∙ ap (saying tool before) (alone_parts tool word at (drop (at + 1) words) None plain refl)
 
 -- an option with its value and what the words after them say
-pub value_first : (tool : Tool) (taken : ℕ) (words : List (List ℕ)) (at : ℕ) (word value : List ℕ) (option : OptionName) →
+pub value_first : (tool : Tool) (before : Before) (words : List (List ℕ)) (at : ℕ) (word value : List ℕ) (option : OptionName) →
     slice_get words at ≡ Some word → option_named tool word ≡ Some option → slice_get words (at + 1) ≡ Some value →
-    saying_from tool taken words at ≡ said_by tool taken (Valued option at value) ∷ saying_from tool (taken + taken_by (said_by tool taken (Valued option at value))) words (at + 2)
-value_first tool taken words at word value option got named valued =
-    ap (λ rest. saying tool taken (parts_of tool at rest)) (drop_get words at word got) ∙
-    ap (saying tool taken) (option_parts tool word at (drop (at + 1) words) option named) ∙
-    ap (λ rest. saying tool taken (parts_from tool (Waits option at) (at + 1) rest)) (drop_get words (at + 1) value valued) ∙
+    saying_from tool before words at ≡ said_by tool before (Valued option at value) ∷ saying_from tool (before_next before (said_by tool before (Valued option at value))) words (at + 2)
+value_first tool before words at word value option got named valued =
+    ap (λ rest. saying tool before (parts_of tool at rest)) (drop_get words at word got) ∙
+    ap (saying tool before) (option_parts tool word at (drop (at + 1) words) option named) ∙
+    ap (λ rest. saying tool before (parts_from tool (Waits option at) (at + 1) rest)) (drop_get words (at + 1) value valued) ∙
     (let e : at + 1 + 1 ≡ at + 2 = omega arith in rw e)
 
 -- an option that is the last word
-pub unvalued_last : (tool : Tool) (taken : ℕ) (words : List (List ℕ)) (at : ℕ) (word : List ℕ) (option : OptionName) →
+pub unvalued_last : (tool : Tool) (before : Before) (words : List (List ℕ)) (at : ℕ) (word : List ℕ) (option : OptionName) →
     slice_get words at ≡ Some word → option_named tool word ≡ Some option → at + 1 ≡ length words →
-    saying_from tool taken words at ≡ said_by tool taken (Unvalued option at) ∷ []
-unvalued_last tool taken words at word option got named last =
-    ap (λ rest. saying tool taken (parts_of tool at rest)) (drop_get words at word got) ∙
-    ap (saying tool taken) (option_parts tool word at (drop (at + 1) words) option named) ∙
-    ap (λ rest. saying tool taken (parts_from tool (Waits option at) (at + 1) rest)) (drop_all (at + 1) words (omega arith))
+    saying_from tool before words at ≡ said_by tool before (Unvalued option at) ∷ []
+unvalued_last tool before words at word option got named last =
+    ap (λ rest. saying tool before (parts_of tool at rest)) (drop_get words at word got) ∙
+    ap (saying tool before) (option_parts tool word at (drop (at + 1) words) option named) ∙
+    ap (λ rest. saying tool before (parts_from tool (Waits option at) (at + 1) rest)) (drop_all (at + 1) words (omega arith))
 
 fault_stays : (usage : Usage) (rest : List (Result Said Usage)) → all_absorbed (Err usage) rest ≡ Err usage
 fault_stays usage [] = refl
@@ -73,7 +73,14 @@ pub faulty : (old : Held) (usage : Usage) (said : Result Said Usage) (here rest 
     here ≡ said ∷ rest → Err usage ≡ absorbed old said → Err usage ≡ all_absorbed (Ok old) here
 faulty old usage said here rest e h = sym (fault_stays usage rest) ∙ ap (λ r. all_absorbed r rest) h ∙ ap (all_absorbed (Ok old)) (sym e)
 
--- how many operands of a limited number words are
+-- how many operands of a limited number a word is
+abbrev operands_in : Said → ℕ
+operands_in (SaysCount _) = 1
+operands_in (SaysTest _) = 1
+operands_in (SaysExecution _) = 1
+operands_in _ = 0
+
+-- how many such operands words are
 abbrev operands_given : List Said → ℕ
 operands_given [] = 0
 operands_given (said ∷ rest) = operands_in said + operands_given rest
@@ -83,7 +90,7 @@ abbrev held_after : Held → List Said → Held
 held_after h said = record {
   arch = or_later h.arch (last_given arch_in said);
   name = or_later h.name (last_given name_in said);
-  mode = given_or h.mode (last_given mode_in said);
+  mode = or_later h.mode (last_given mode_in said);
   from = or_later h.from (last_given from_in said);
   operand = option_or h.operand (first_given operand_in said);
   edges = added h.edges (edges_given said);
@@ -99,6 +106,7 @@ held_after h said = record {
   test = or_later h.test (last_given test_in said);
   execution = or_later h.execution (last_given execution_in said);
   taken = h.taken + operands_given said;
+  why = h.why || list_any is_why said;
 }
 
 later_twice : {X : Type 0} (a b c : Option X) → or_later (or_later a b) c ≡ or_later a (or_later b c)
@@ -114,7 +122,7 @@ abbrev held_with : Held → Said → Held
 held_with h said = record {
   arch = or_later h.arch (arch_in said);
   name = or_later h.name (name_in said);
-  mode = given_or h.mode (mode_in said);
+  mode = or_later h.mode (mode_in said);
   from = or_later h.from (from_in said);
   operand = option_or h.operand (operand_in said);
   edges = added h.edges (edges_in said);
@@ -130,6 +138,7 @@ held_with h said = record {
   test = or_later h.test (test_in said);
   execution = or_later h.execution (execution_in said);
   taken = h.taken + operands_in said;
+  why = h.why || is_why said;
 }
 
 or_none : {X : Type 0} (a : Option X) → option_or a None ≡ a
@@ -156,35 +165,37 @@ exact_twice true b c = refl
 exact_twice false b c = refl
 
 absorbed_one : (h : Held) (said : Said) → absorbed h (Ok said) ≡ Ok (held_with h said)
-absorbed_one h SaysExact = rw (or_none h.operand, or_true h.exact, none_more h.taken) refl
-absorbed_one h (SaysEdges at edges) = rw (or_false h.exact, none_more h.taken) refl
-absorbed_one h (SaysCount count) = rw (or_none h.operand, or_false h.exact) refl
-absorbed_one h (SaysTest at) = rw (or_none h.operand, or_false h.exact) refl
-absorbed_one h (SaysExecution at) = rw (or_none h.operand, or_false h.exact) refl
-absorbed_one h said = rw (or_none h.operand, or_false h.exact, none_more h.taken) refl
+absorbed_one h SaysExact = rw (or_none h.operand, or_true h.exact, or_false h.why, none_more h.taken) refl
+absorbed_one h SaysWhy = rw (or_none h.operand, or_false h.exact, or_true h.why, none_more h.taken) refl
+absorbed_one h (SaysEdges at edges) = rw (or_false h.exact, or_false h.why, none_more h.taken) refl
+absorbed_one h (SaysCount count) = rw (or_none h.operand, or_false h.exact, or_false h.why) refl
+absorbed_one h (SaysTest at) = rw (or_none h.operand, or_false h.exact, or_false h.why) refl
+absorbed_one h (SaysExecution at) = rw (or_none h.operand, or_false h.exact, or_false h.why) refl
+absorbed_one h said = rw (or_none h.operand, or_false h.exact, or_false h.why, none_more h.taken) refl
 
 ok_is : {X : Type 0} (x y : X) → (let left : Result X Usage = Ok x in left) ≡ Ok y → x ≡ y
 ok_is x y e = cc e
 
--- operands are counted as they are taken
-taken_more : (old new : Held) (said : Result Said Usage) → Ok new ≡ absorbed old said → old.taken + taken_by said ≡ new.taken
-taken_more old new (Err usage) e = cc e
-taken_more old new (Ok said) e = let same : new ≡ held_with old said = ok_is _ _ (e ∙ absorbed_one old said) in ap (λ (h : Held). h.taken) (sym same)
+-- what bears on a later word's fault is held as words are taken in
+heard_more : (old new : Held) (said : Result Said Usage) → Ok new ≡ absorbed old said → before_next (heard old) said ≡ heard new
+heard_more old new (Err usage) e = cc e
+heard_more old new (Ok (SaysMode mode)) e = ap heard (sym (ok_is _ _ e))
+heard_more old new (Ok said) e = ap heard (sym (ok_is _ _ e))
 
 -- the next part was taken in
 pub taken : (tool : Tool) (words : List (List ℕ)) (at next : ℕ) (old new : Held) (said : Result Said Usage) →
-    saying_from tool old.taken words at ≡ said ∷ saying_from tool (old.taken + taken_by said) words next →
+    saying_from tool (heard old) words at ≡ said ∷ saying_from tool (before_next (heard old) said) words next →
     Ok new ≡ absorbed old said → held_at_end tool words next new ≡ held_at_end tool words at old
 taken tool words at next old new said e h =
-    ap (λ n. all_absorbed (Ok new) (saying_from tool n words next)) (sym (taken_more old new said h)) ∙
-    ap (λ r. all_absorbed r (saying_from tool (old.taken + taken_by said) words next)) h ∙
+    ap (λ before. all_absorbed (Ok new) (saying_from tool before words next)) (sym (heard_more old new said h)) ∙
+    ap (λ r. all_absorbed r (saying_from tool (before_next (heard old) said) words next)) h ∙
     ap (all_absorbed (Ok old)) (sym e)
 
 held_one : (h : Held) (said : Said) (rest : List Said) → held_after (held_with h said) rest ≡ held_after h (said ∷ rest)
 held_one h said rest =
     let arch = later_twice h.arch (arch_in said) (last_given arch_in rest) in
     let name = later_twice h.name (name_in said) (last_given name_in rest) in
-    let mode = or_given_twice h.mode (mode_in said) (last_given mode_in rest) in
+    let mode = later_twice h.mode (mode_in said) (last_given mode_in rest) in
     let from = later_twice h.from (from_in said) (last_given from_in rest) in
     let operand = or_twice h.operand (operand_in said) (first_given operand_in rest) in
     let edges = added_more h.edges (edges_in said) (edges_given rest) in
@@ -200,7 +211,8 @@ held_one h said rest =
     let test = later_twice h.test (test_in said) (last_given test_in rest) in
     let execution = later_twice h.execution (execution_in said) (last_given execution_in rest) in
     let total : h.taken + operands_in said + operands_given rest ≡ h.taken + (operands_in said + operands_given rest) = omega arith in
-    cc (arch, name, mode, from, operand, edges, relaxes, size, exact, threads, accesses, after, folder, choices, count, test, execution, total)
+    let why = exact_twice h.why (is_why said) (list_any is_why rest) in
+    cc (arch, name, mode, from, operand, edges, relaxes, size, exact, threads, accesses, after, folder, choices, count, test, execution, total, why)
 
 abbrev held_or_fault : Held → Result (List Said) Usage → Result Held Usage
 held_or_fault h (Ok said) = Ok (held_after h said)
@@ -213,7 +225,7 @@ after_first h one said (Ok list) same = ap Ok (same list)
 after_first h one said (Err usage) same = refl
 
 all_held : (h : Held) (said : List (Result Said Usage)) → all_absorbed (Ok h) said ≡ held_or_fault h (said_all said)
-all_held h [] = rw (or_none h.operand, or_false h.exact, none_more h.taken) refl
+all_held h [] = rw (or_none h.operand, or_false h.exact, or_false h.why, none_more h.taken) refl
 all_held h (Err usage ∷ rest) = fault_stays usage rest
 all_held h (Ok said ∷ rest) =
     ap (λ r. all_absorbed r rest) (absorbed_one h said) ∙ all_held (held_with h said) rest ∙ after_first h (held_with h said) said (said_all rest) (held_one h said)
@@ -248,13 +260,31 @@ kept_name (requests.Name request) held asked h a s =
     (sym (ap (λ (n : NameHeld). n.arch) same) ∙ a, held_sought request.cycle asked.cycle (subst (λ (n : NameHeld). IsHeld n.cycle asked.cycle) same s))
 kept_name request held asked h a s = cc h
 
-gives_test : (count : ℕ) (request : Result Request Usage) (arch : Option ArchName) (name : Option (List ℕ)) (mode : ObsMode) (edges : List Edge) →
-    shown request ≡ keeps KeepsTest (finished count arch name mode (added (kept []) edges)) → Gives request (asks AsksTest (asked_with count arch name mode edges))
-gives_test count (Ok request) None name mode edges h = cc h
-gives_test count (Err usage) None name mode edges h = cc h
-gives_test count (Ok request) (Some arch) name mode edges h =
-    let k = kept_test request arch name mode (edges) (ok_is _ _ h) in k
-gives_test count (Err usage) (Some arch) name mode edges h = cc h
+kept_why : (request : Request) (arch : ArchName) (name : Option (List ℕ)) (edges : List Edge) (folder : Option (List ℕ)) →
+    shown_request request ≡ KeepsWhy (record { arch = arch; name = name; edges = added (kept []) edges; folder = folder }) →
+    IsKept request (AsksWhy (record { arch = arch; name = name; edges = edges; folder = folder }))
+kept_why (requests.Why request) arch name edges folder h =
+    let f = fields _ _ h in (f.0, f.1, f.2 ∙ added_whole [] edges (lit≤ tt), f.3)
+  where
+    fields : (a b : WhyHeld) → KeepsWhy a ≡ KeepsWhy b → (a.arch ≡ b.arch) × (a.name ≡ b.name) × (a.edges ≡ b.edges) × (a.folder ≡ b.folder)
+    fields a b e = let same : a ≡ b = cc e in (ap (λ (o : WhyHeld). o.arch) same, ap (λ (o : WhyHeld). o.name) same, ap (λ (o : WhyHeld). o.edges) same, ap (λ (o : WhyHeld). o.folder) same)
+kept_why request arch name edges folder h = cc h
+
+gives_test : (count : ℕ) (request : Result Request Usage) (arch : Option ArchName) (name : Option (List ℕ)) (mode : ObsMode) (edges : List Edge) (folder : Option (List ℕ)) →
+    shown request ≡ keeps KeepsTest (finished count arch name mode (added (kept []) edges) folder) → Gives request (asks AsksTest (asked_with count arch name mode edges folder))
+gives_test count (Ok request) None name mode edges folder h = cc h
+gives_test count (Err usage) None name mode edges folder h = cc h
+gives_test count (Ok request) (Some arch) name mode edges (Some folder) h = cc h
+gives_test count (Err usage) (Some arch) name mode edges (Some folder) h = cc h
+gives_test count (Ok request) (Some arch) name mode edges None h = kept_test request arch name mode edges (ok_is _ _ h)
+gives_test count (Err usage) (Some arch) name mode edges None h = cc h
+
+gives_why : (count : ℕ) (request : Result Request Usage) (arch : Option ArchName) (name : Option (List ℕ)) (edges : List Edge) (folder : Option (List ℕ)) →
+    shown request ≡ keeps KeepsWhy (explained count arch name (added (kept []) edges) folder) → Gives request (asks AsksWhy (why_with count arch name edges folder))
+gives_why count (Ok request) None name edges folder h = cc h
+gives_why count (Err usage) None name edges folder h = cc h
+gives_why count (Ok request) (Some arch) name edges folder h = kept_why request arch name edges folder (ok_is _ _ h)
+gives_why count (Err usage) (Some arch) name edges folder h = cc h
 
 gives_name : (count : ℕ) (request : Result Request Usage) (arch : Option ArchName) (from : Option (ℕ × List ℕ)) (operand : Option ℕ) (edges : List Edge) →
     shown request ≡ keeps KeepsName (named count arch from operand (added (kept []) edges)) → Gives request (asks AsksName (named_with count arch from operand edges))
@@ -343,19 +373,37 @@ later_none : {X : Type 0} (a : Option X) → or_later None a ≡ a
 later_none None = refl
 later_none (Some x) = refl
 
+-- a request of diyone7 from what is held, with `-why` or without
+gives_diyone : (count : ℕ) (request : Result Request Usage) (said : List Said) → shown request ≡ diyone_held count (held_after nothing_held said) →
+    Gives request (diyone_asked count said)
+gives_diyone count request said h = of_test (list_any is_why said) h
+  where
+    of_test : (b : Bool) → shown request ≡ (if b then keeps KeepsWhy (why_held count (held_after nothing_held said)) else keeps KeepsTest (test_held count (held_after nothing_held said))) →
+        Gives request (if b then asks AsksWhy (why_asked count said) else asks AsksTest (test_asked count said))
+    of_test true h =
+        gives_why count request _ _ (edges_given said) _
+        (rw (sym (later_none (last_given arch_in said)), sym (later_none (last_given name_in said)), sym (later_none (last_given folder_in said))) h)
+    of_test false h =
+        gives_test count request _ _ _ (edges_given said) _
+        (rw (
+          sym (later_none (last_given arch_in said)),
+          sym (later_none (last_given name_in said)),
+          sym (later_none (last_given mode_in said)),
+          sym (later_none (last_given folder_in said)),
+        ) h)
+
 -- a request from what is held is the request of the definition, as it is kept
 gives_held : (tool : Tool) (count : ℕ) (request : Result Request Usage) (said : Result (List Said) Usage) →
     shown request ≡ tool_held tool count (held_or_fault nothing_held said) → Gives request (tool_asked tool count said)
 gives_held tool count request (Err usage) h = gives_fault request usage h
-gives_held tools.DiyOne count request (Ok said) h =
-    gives_test count request _ _ _ (edges_given said)
-    (rw (sym (later_none (last_given arch_in said)), sym (later_none (last_given name_in said))) h)
+gives_held tools.DiyOne count request (Ok said) h = gives_diyone count request said h
 gives_held tools.Diy count request (Ok said) h =
     gives_kept KeepsList AsksList kept_list request _
     (rw (
       sym (later_none (last_given arch_in said)),
       sym (later_none (last_given relaxes_in said)),
       sym (later_none (last_given accesses_in said)),
+      sym (later_none (last_given mode_in said)),
       sym (later_none (last_given after_in said)),
       sym (later_none (last_given folder_in said)),
     ) h)
@@ -367,7 +415,7 @@ gives_held tools.Classify count request (Ok said) h =
 gives_held tools.Msum count request (Ok said) h = gives_sum request h
 gives_held tools.Cross count request (Ok said) h =
     gives_cross count request _ _ _ (places_given said)
-    (rw (sym (later_none (last_given arch_in said)), sym (later_none (last_given folder_in said))) h)
+    (rw (sym (later_none (last_given arch_in said)), sym (later_none (last_given mode_in said)), sym (later_none (last_given folder_in said))) h)
 gives_held tools.Demo count request (Ok said) h =
     gives_kept KeepsDemo AsksDemo kept_demo request _ (rw (sym (later_none (last_given arch_in said)), sym (later_none (last_given count_in said))) h)
 gives_held tools.Check count request (Ok said) h =
@@ -386,5 +434,5 @@ gives_named [] word tool request got named h = cc got
 gives_named (first ∷ words) word tool request got named h =
     let same : first ≡ word = cc got in
     let e : tool_named first ≡ Some tool = ap (λ w. tool_named w) same ∙ named in
-    rw e (gives_held tool (length (first ∷ words)) request (said_all (saying tool 0 (parts_of tool 1 words)))
-    (h ∙ ap (tool_held tool (length (first ∷ words))) (all_held nothing_held (saying tool 0 (parts_of tool 1 words)))))
+    rw e (gives_held tool (length (first ∷ words)) request (said_all (saying tool nothing_before (parts_of tool 1 words)))
+    (h ∙ ap (tool_held tool (length (first ∷ words))) (all_held nothing_held (saying tool nothing_before (parts_of tool 1 words)))))

@@ -1,4 +1,5 @@
 pub mod Judged
+pub mod BeforeLaws
 pub mod RequestForm
 pub mod NumberLaws
 pub mod AfterLaws

@@ -1,7 +1,7 @@
 -- Where words ask for something of diycross7, each word that is neither an option nor its value spells the relaxations of a place.
 use Rattle.std.proofs.Common.{◌≡◌, ◌<◌, ◌≤◌, ◌+◌, ⊎_elim, drop, get_or, ℕ, Bool, true, false, List, [], ◌∷◌, ◌++◌, length, Option, Some, None, Result, Ok, Err, append_assoc, append-nil, refl, sym, ap, ◌∙◌, subst, arith, slice_get, nat_lt, nat_le}
 use Rattle.std.specs.Prelude.{◌&&◌, if◌then◌else◌, IsOk}
-use Rattle.std.specs.List.{AllByRecursion}
+use Rattle.std.specs.List.{AllByRecursion, list_any}
 use Rattle.std.proofs.lemmas.Bool.{cases_lt}
 use Rattle.std.proofs.lemmas.List.{drop_all}
 use Rattle.std.proofs.lemmas.Option.{slice_get-get_or}
@@ -21,12 +21,13 @@ use Rattle.diy_words.specs.declared.options.Tool.{Tool}
 use Rattle.diy_words.specs.declared.options.Tool.TheVariants as tools
 use Rattle.diy_words.specs.declared.request.TheConstants.{MAX_CHOICES, MAX_FOLDER}
 use Rattle.diy_words.specs.declared.usage.Usage.{Usage}
-use Rattle.diy_words.specs.declared.usage.UsageKind.TheVariants.{UnknownOption, BadName, BadFolder, TooManyChoices}
+use Rattle.diy_words.specs.declared.usage.UsageKind.TheVariants.{UnknownOption, BadName, BadFolder, ExcludedOption, TooManyChoices}
 use Rattle.diy_words.specs.Given.{saying_from}
 use Rattle.diy_words.specs.Names.{is_name}
 use Rattle.diy_words.specs.Numbers.{number_to}
-use Rattle.diy_words.specs.Parts.{Part, Alone, Valued, Unvalued, parts_of, tool_named, option_named, arch_named, mode_named}
-use Rattle.diy_words.specs.Requests.{Said, SaysName, SaysFolder, Asked, AsksTest, AsksName, AsksList, AsksFamilies, AsksCross, AsksDemo, AsksCheck, fault, place_said, arch_said, mode_said, relaxes_said, size_said, threads_said, cycle_said, after_said, begins_option, taken_by, said_by, saying, said_first, said_all, places_in, places_given, files_given, choice_count, asks, cross_with, families_with, demo_with, check_asked, diyone_asked, diy_asked, norm_asked, mode_or_accept, last_given, arch_in, mode_in, folder_in, count_in, tool_asked, asked_for, asked_of, IsCrossing, places_of, accesses_said}
+use Rattle.diy_words.specs.Parts.{Alone, Valued, Unvalued, parts_of, tool_named, option_named, arch_named, mode_named}
+use Rattle.diy_words.specs.Requests.{Said, SaysName, SaysFolder, Asked, AsksTest, AsksWhy, AsksName, AsksList, AsksFamilies, AsksCross, AsksDemo, AsksCheck, fault, place_said, arch_said, mode_said, relaxes_said, size_said, threads_said, cycle_said, after_said, begins_option, nothing_before, before_next, said_by, saying, said_first, said_all, places_in, places_given, files_given, choice_count, asks, cross_with, families_with, demo_with, check_asked, why_asked, test_asked, diyone_asked, diy_asked, norm_asked, mode_or_accept, last_given, arch_in, mode_in, folder_in, count_in, is_why, tool_asked, asked_for, asked_of, IsCrossing, places_of, accesses_said}
+use Rattle.diy_words.proofs.BeforeLaws.{IsSilent, IsUncounted, uncounted}
 use Rattle.diy_words.proofs.Judged.{alone_first, value_first, unvalued_last}
 
 -- the relaxations of the places among what words say
@@ -40,7 +41,7 @@ places_said (said ∷ rest) = places_by said ++ places_said rest
 
 -- the words of diycross7 from a place on: none is faulty, and which relaxations they are
 abbrev pub from_place : List (List ℕ) → ℕ → List (Result Said Usage)
-from_place words at = saying_from tools.Cross 0 words at
+from_place words at = saying_from tools.Cross nothing_before words at
 
 abbrev pub AreFaultless : List (List ℕ) → ℕ → Type 0
 AreFaultless words at = AllByRecursion IsOk (from_place words at)
@@ -49,11 +50,17 @@ abbrev pub places_from : List (List ℕ) → ℕ → List (List (List Edge))
 places_from words at = places_said (from_place words at)
 
 -- no word of diycross7 is an operand of a limited number
-uncounted : (parts : List Part) (a b : ℕ) → saying tools.Cross a parts ≡ saying tools.Cross b parts
-uncounted [] a b = refl
-uncounted (Alone at text ∷ parts) a b = ap (λ rest. said_by tools.Cross a (Alone at text) ∷ rest) (uncounted parts (a + taken_by (said_by tools.Cross a (Alone at text))) (b + taken_by (said_by tools.Cross b (Alone at text))))
-uncounted (Valued option at value ∷ parts) a b = ap (λ rest. said_by tools.Cross a (Valued option at value) ∷ rest) (uncounted parts (a + taken_by (said_by tools.Cross a (Valued option at value))) (b + taken_by (said_by tools.Cross b (Valued option at value))))
-uncounted (Unvalued option at ∷ parts) a b = ap (λ rest. said_by tools.Cross a (Unvalued option at) ∷ rest) (uncounted parts (a + taken_by (said_by tools.Cross a (Unvalued option at))) (b + taken_by (said_by tools.Cross b (Unvalued option at))))
+same_said : IsUncounted tools.Cross
+same_said a b (Alone at text) h = refl
+same_said a b (Valued opts.Obs at value) h = ap (λ why. if why then fault at ExcludedOption else mode_said (at + 1) (mode_named value)) h
+same_said a b (Valued option at value) h = refl
+same_said a b (Unvalued option at) h = refl
+
+-- and none is `-why`, so that the words after one say what they say alone
+said_after : (said : Result Said Usage) (words : List (List ℕ)) (at : ℕ) → IsSilent said
+    → saying_from tools.Cross (before_next nothing_before said) words at ≡ from_place words at
+said_after said words at silent =
+    uncounted tools.Cross same_said (parts_of tools.Cross at (drop at words)) (before_next nothing_before said) nothing_before (silent nothing_before)
 
 -- a word that spells relaxations, before others
 pub record PlaceFirst (words : List (List ℕ)) (at : ℕ) (text : List ℕ) : Type 0 where
@@ -63,8 +70,15 @@ pub record PlaceFirst (words : List (List ℕ)) (at : ℕ) (text : List ℕ) : T
 
 pub place_first : (words : List (List ℕ)) (at : ℕ) (text : List ℕ) → slice_get words at ≡ Some text → option_named tools.Cross text ≡ None → AreFaultless words at → PlaceFirst words at text
 place_first words at text got plain fit =
-    of_test (begins_option text) (relaxes_of text) refl (alone_first tools.Cross 0 words at text got plain ∙ ap (λ rest. said_by tools.Cross 0 (Alone at text) ∷ rest) (uncounted (parts_of tools.Cross (at + 1) (drop (at + 1) words)) (0 + taken_by (said_by tools.Cross 0 (Alone at text))) 0))
+    of_test (begins_option text) (relaxes_of text) refl (alone_first tools.Cross nothing_before words at text got plain ∙
+    ap (λ rest. said_by tools.Cross nothing_before (Alone at text) ∷ rest)
+    (said_after (said_by tools.Cross nothing_before (Alone at text)) words (at + 1) (alone_silent (begins_option text) (relaxes_of text))))
   where
+    alone_silent : (b : Bool) (read : Result (List (List Edge)) RelaxError) → IsSilent (if b then fault at UnknownOption else place_said at read)
+    alone_silent true read = λ before. refl
+    alone_silent false (Ok relaxes) = λ before. refl
+    alone_silent false (Err error) = λ before. refl
+
     of_test : (b : Bool) (read : Result (List (List Edge)) RelaxError) → relaxes_of text ≡ read → from_place words at ≡ (if b then fault at UnknownOption else place_said at read) ∷ from_place words (at + 1) → PlaceFirst words at text
     of_test true read r e = let k = rw e at fit in cc k.0
     of_test false (Err error) r e = let k = rw e at fit in cc k.0
@@ -76,58 +90,63 @@ place_first words at text got plain fit =
           first = λ relaxes given. ap places_said e ∙ (let same : own ≡ relaxes = cc in ap (λ x. x ∷ places_from words (at + 1)) same);
         }
 
-arch_none : (at : ℕ) (arch : Option ArchName) → places_by (arch_said at arch) ≡ []
-arch_none at None = refl
-arch_none at (Some arch) = refl
+-- something said that is neither relaxations of a place nor `-why`
+record IsOther (said : Result Said Usage) : Type 0 where
+  none : places_by said ≡ []
+  silent : IsSilent said
 
-name_none : (at : ℕ) (text : List ℕ) (b : Bool) → places_by (if b then Ok (SaysName text) else fault at BadName) ≡ []
-name_none at text true = refl
-name_none at text false = refl
+arch_other : (at : ℕ) (arch : Option ArchName) → IsOther (arch_said at arch)
+arch_other at None = record { none = refl; silent = λ before. refl }
+arch_other at (Some arch) = record { none = refl; silent = λ before. refl }
 
-mode_none : (at : ℕ) (mode : Option ObsMode) → places_by (mode_said at mode) ≡ []
-mode_none at None = refl
-mode_none at (Some mode) = refl
+name_other : (at : ℕ) (text : List ℕ) (b : Bool) → IsOther (if b then Ok (SaysName text) else fault at BadName)
+name_other at text true = record { none = refl; silent = λ before. refl }
+name_other at text false = record { none = refl; silent = λ before. refl }
 
-relaxes_none : (at : ℕ) (relaxes : Result (List (List Edge)) RelaxError) → places_by (relaxes_said at relaxes) ≡ []
-relaxes_none at (Ok relaxes) = refl
-relaxes_none at (Err error) = refl
+mode_other : (at : ℕ) (mode : Option ObsMode) → IsOther (mode_said at mode)
+mode_other at None = record { none = refl; silent = λ before. refl }
+mode_other at (Some mode) = record { none = refl; silent = λ before. refl }
 
-size_none : (at : ℕ) (size : Option ℕ) → places_by (size_said at size) ≡ []
-size_none at None = refl
-size_none at (Some size) = refl
+relaxes_other : (at : ℕ) (relaxes : Result (List (List Edge)) RelaxError) → IsOther (relaxes_said at relaxes)
+relaxes_other at (Ok relaxes) = record { none = refl; silent = λ before. refl }
+relaxes_other at (Err error) = record { none = refl; silent = λ before. refl }
 
-threads_none : (at : ℕ) (threads : Option ℕ) → places_by (threads_said at threads) ≡ []
-threads_none at None = refl
-threads_none at (Some threads) = refl
+size_other : (at : ℕ) (size : Option ℕ) → IsOther (size_said at size)
+size_other at None = record { none = refl; silent = λ before. refl }
+size_other at (Some size) = record { none = refl; silent = λ before. refl }
 
-accesses_none : (at : ℕ) (accesses : Option ℕ) → places_by (accesses_said at accesses) ≡ []
-accesses_none at None = refl
-accesses_none at (Some accesses) = refl
+threads_other : (at : ℕ) (threads : Option ℕ) → IsOther (threads_said at threads)
+threads_other at None = record { none = refl; silent = λ before. refl }
+threads_other at (Some threads) = record { none = refl; silent = λ before. refl }
 
-cycle_none : (at : ℕ) (cycle : Result (List Edge) CycleError) → places_by (cycle_said at cycle) ≡ []
-cycle_none at (Ok cycle) = refl
-cycle_none at (Err error) = refl
+accesses_other : (at : ℕ) (accesses : Option ℕ) → IsOther (accesses_said at accesses)
+accesses_other at None = record { none = refl; silent = λ before. refl }
+accesses_other at (Some accesses) = record { none = refl; silent = λ before. refl }
 
-after_none : (at : ℕ) (edges : Option (List Edge)) → places_by (after_said at edges) ≡ []
-after_none at None = refl
-after_none at (Some edges) = cycle_none at (composed edges)
+cycle_other : (at : ℕ) (cycle : Result (List Edge) CycleError) → IsOther (cycle_said at cycle)
+cycle_other at (Ok cycle) = record { none = refl; silent = λ before. refl }
+cycle_other at (Err error) = record { none = refl; silent = λ before. refl }
 
-folder_none : (at : ℕ) (text : List ℕ) (b : Bool) → places_by (if b then Ok (SaysFolder text) else fault at BadFolder) ≡ []
-folder_none at text true = refl
-folder_none at text false = refl
+after_other : (at : ℕ) (edges : Option (List Edge)) → IsOther (after_said at edges)
+after_other at None = record { none = refl; silent = λ before. refl }
+after_other at (Some edges) = cycle_other at (composed edges)
+
+folder_other : (at : ℕ) (text : List ℕ) (b : Bool) → IsOther (if b then Ok (SaysFolder text) else fault at BadFolder)
+folder_other at text true = record { none = refl; silent = λ before. refl }
+folder_other at text false = record { none = refl; silent = λ before. refl }
 
 -- an option gives no relaxations of a place
-value_none : (option : OptionName) (at : ℕ) (value : List ℕ) → places_by (said_by tools.Cross 0 (Valued option at value)) ≡ []
-value_none opts.Arch at value = arch_none (at + 1) (arch_named value)
-value_none opts.Name at value = name_none (at + 1) value (is_name value)
-value_none opts.Obs at value = mode_none (at + 1) (mode_named value)
-value_none opts.From at value = refl
-value_none opts.Edges at value = relaxes_none (at + 1) (relaxes_of value)
-value_none opts.Size at value = size_none (at + 1) (number_to MAX_EDGES value)
-value_none opts.Nprocs at value = threads_none (at + 1) (number_to MAX_EDGES value)
-value_none opts.Accesses at value = accesses_none (at + 1) (number_to MAX_EDGES value)
-value_none opts.After at value = after_none (at + 1) (edges_of BlanksAndCommas value)
-value_none opts.Folder at value = folder_none (at + 1) value (nat_lt 0 (length value) && nat_le (length value) MAX_FOLDER)
+value_other : (option : OptionName) (at : ℕ) (value : List ℕ) → IsOther (said_by tools.Cross nothing_before (Valued option at value))
+value_other opts.Arch at value = arch_other (at + 1) (arch_named value)
+value_other opts.Name at value = name_other (at + 1) value (is_name value)
+value_other opts.Obs at value = mode_other (at + 1) (mode_named value)
+value_other opts.From at value = record { none = refl; silent = λ before. refl }
+value_other opts.Edges at value = relaxes_other (at + 1) (relaxes_of value)
+value_other opts.Size at value = size_other (at + 1) (number_to MAX_EDGES value)
+value_other opts.Nprocs at value = threads_other (at + 1) (number_to MAX_EDGES value)
+value_other opts.Accesses at value = accesses_other (at + 1) (number_to MAX_EDGES value)
+value_other opts.After at value = after_other (at + 1) (edges_of BlanksAndCommas value)
+value_other opts.Folder at value = folder_other (at + 1) value (nat_lt 0 (length value) && nat_le (length value) MAX_FOLDER)
 
 -- an option with its value, before others
 pub record OptionFirst (words : List (List ℕ)) (at : ℕ) : Type 0 where
@@ -140,14 +159,16 @@ option_first words at text option within got named fit = ⊎_elim of_more of_las
   where
     of_value : (value : List ℕ) → at + 1 < length words → slice_get words (at + 1) ≡ Some value → OptionFirst words at
     of_value value more valued =
-        let e : from_place words at ≡ said_by tools.Cross 0 (Valued option at value) ∷ from_place words (at + 2) =
-        value_first tools.Cross 0 words at text value option got named valued ∙
-        ap (λ rest. said_by tools.Cross 0 (Valued option at value) ∷ rest) (uncounted (parts_of tools.Cross (at + 2) (drop (at + 2) words)) (0 + taken_by (said_by tools.Cross 0 (Valued option at value))) 0) in
+        let other : IsOther (said_by tools.Cross nothing_before (Valued option at value)) = value_other option at value in
+        let e : from_place words at ≡ said_by tools.Cross nothing_before (Valued option at value) ∷ from_place words (at + 2) =
+        value_first tools.Cross nothing_before words at text value option got named valued ∙
+        ap (λ rest. said_by tools.Cross nothing_before (Valued option at value) ∷ rest)
+        (said_after (said_by tools.Cross nothing_before (Valued option at value)) words (at + 2) other.silent) in
         let k = subst (AllByRecursion IsOk) e fit in
         record {
           valued = more;
           faultless = k.1;
-          first = ap places_said e ∙ ap (λ none. none ++ places_from words (at + 2)) (value_none option at value);
+          first = ap places_said e ∙ ap (λ none. none ++ places_from words (at + 2)) other.none;
         }
 
     of_more : at + 1 < length words → OptionFirst words at
@@ -155,7 +176,7 @@ option_first words at text option within got named fit = ⊎_elim of_more of_las
 
     of_last : length words ≤ at + 1 → OptionFirst words at
     of_last last =
-        let k = subst (AllByRecursion IsOk) (unvalued_last tools.Cross 0 words at text option got named (omega arith)) fit in cc k.0
+        let k = subst (AllByRecursion IsOk) (unvalued_last tools.Cross nothing_before words at text option got named (omega arith)) fit in cc k.0
 
 other_tool : {X : Type 0} (request : X → Asked) (asked : Result X Usage) → ((x : X) → IsCrossing (Ok (request x)) → ⊥) → IsCrossing (asks request asked) → ⊥
 other_tool request (Ok x) apart h = apart x h
@@ -188,9 +209,16 @@ crossed count (Some arch) mode folder places h = of_test (nat_lt MAX_CHOICES (ch
     of_test true h = absurd h
     of_test false h = refl
 
+no_diyone : (count : ℕ) (said : List Said) → IsCrossing (diyone_asked count said) → ⊥
+no_diyone count said h = of_test (list_any is_why said) h
+  where
+    of_test : (b : Bool) → IsCrossing (if b then asks AsksWhy (why_asked count said) else asks AsksTest (test_asked count said)) → ⊥
+    of_test true h = other_tool AsksWhy (why_asked count said) (λ x k. k) h
+    of_test false h = other_tool AsksTest (test_asked count said) (λ x k. k) h
+
 no_cross : (tool : Tool) (count : ℕ) (said : Result (List Said) Usage) → (tool ≡ tools.Cross → ⊥) → IsCrossing (tool_asked tool count said) → ⊥
 no_cross tool count (Err usage) other h = h
-no_cross tools.DiyOne count (Ok said) other h = other_tool AsksTest (diyone_asked count said) (λ x k. k) h
+no_cross tools.DiyOne count (Ok said) other h = no_diyone count said h
 no_cross tools.Diy count (Ok said) other h = other_tool AsksList (diy_asked count said) (λ x k. k) h
 no_cross tools.Cross count (Ok said) other h = other refl
 no_cross tools.Norm count (Ok said) other h = other_tool AsksName (norm_asked count said) (λ x k. k) h
@@ -201,19 +229,19 @@ no_cross tools.Check count (Ok said) other h = other_tool AsksCheck (check_asked
 
 -- the words of diycross7 after the tool's name, and what they ask for
 record CrossAsks (words : List (List ℕ)) (asked : Result Asked Usage) : Type 0 where
-  faultless : AllByRecursion IsOk (saying tools.Cross 0 (parts_of tools.Cross 1 words))
-  first : places_said (saying tools.Cross 0 (parts_of tools.Cross 1 words)) ≡ places_of asked
+  faultless : AllByRecursion IsOk (saying tools.Cross nothing_before (parts_of tools.Cross 1 words))
+  first : places_said (saying tools.Cross nothing_before (parts_of tools.Cross 1 words)) ≡ places_of asked
 
 cross_asks : (found : Option Tool) (count : ℕ) (words : List (List ℕ)) → IsCrossing (asked_for found count words) → CrossAsks words (asked_for found count words)
 cross_asks None count words h = absurd h
-cross_asks (Some tools.Cross) count words h = of_said (said_all (saying tools.Cross 0 (parts_of tools.Cross 1 words))) refl h
+cross_asks (Some tools.Cross) count words h = of_said (said_all (saying tools.Cross nothing_before (parts_of tools.Cross 1 words))) refl h
   where
-    of_said : (said : Result (List Said) Usage) → said_all (saying tools.Cross 0 (parts_of tools.Cross 1 words)) ≡ said → IsCrossing (tool_asked tools.Cross count said) → CrossAsks words (tool_asked tools.Cross count said)
+    of_said : (said : Result (List Said) Usage) → said_all (saying tools.Cross nothing_before (parts_of tools.Cross 1 words)) ≡ said → IsCrossing (tool_asked tools.Cross count said) → CrossAsks words (tool_asked tools.Cross count said)
     of_said (Err usage) e h = absurd h
     of_said (Ok said) e h =
-        let all : AllSaid (saying tools.Cross 0 (parts_of tools.Cross 1 words)) said = all_said (saying tools.Cross 0 (parts_of tools.Cross 1 words)) said e in
+        let all : AllSaid (saying tools.Cross nothing_before (parts_of tools.Cross 1 words)) said = all_said (saying tools.Cross nothing_before (parts_of tools.Cross 1 words)) said e in
         record { faultless = all.faultless; first = all.places ∙ crossed count (last_given arch_in said) (mode_or_accept (last_given mode_in said)) (last_given folder_in said) (places_given said) h }
-cross_asks (Some tool) count words h = absurd (no_cross tool count (said_all (saying tool 0 (parts_of tool 1 words))) (λ e. cc e) h)
+cross_asks (Some tool) count words h = absurd (no_cross tool count (said_all (saying tool nothing_before (parts_of tool 1 words))) (λ e. cc e) h)
 
 -- the words of diycross7 begin so
 pub record CrossWords (words : List (List ℕ)) : Type 0 where
@@ -228,7 +256,7 @@ cross_words (first ∷ words) h =
 
 -- no word is left at the end
 pub none_left : (words : List (List ℕ)) (at : ℕ) → length words ≤ at → places_from words at ≡ []
-none_left words at h = ap (λ rest. places_said (saying tools.Cross 0 (parts_of tools.Cross at rest))) (drop_all at words h)
+none_left words at h = ap (λ rest. places_said (saying tools.Cross nothing_before (parts_of tools.Cross at rest))) (drop_all at words h)
 
 -- the lists of the operands before a place are read, and no word from there on is faulty
 pub record PlacesRead (words : List (List ℕ)) (at : ℕ) (places : List (List (List Edge))) : Type 0 where

@@ -1,4 +1,4 @@
--- What a request has of its own form: the name of a test, the size and the folder of a listing, and the files of mcheck7.
+-- What a request has of its own form: the name of a test, the size of a listing, a folder, and the files of mcheck7.
 use Rattle.std.proofs.Common.{◌≡◌, ◌≤◌, ◌<◌, ◌+◌, ℕ, ap, arith, lit≤, nat_lt, nat_le, Bool, true, false, List, [], ◌∷◌, Option, Some, None, Result, Ok, Err, refl, sym, subst, length}
 use Rattle.std.specs.Prelude.{if◌then◌else◌, IfOk, IfSome, ◌&&◌, ◌==◌, codes}
 use Rattle.std.specs.Str.{bytes_eq}
@@ -23,7 +23,7 @@ use Rattle.relax_edges.specs.declared.kinds.ObsMode.{ObsMode}
 use Rattle.diy_words.specs.declared.request.Request.{Request}
 use Rattle.diy_words.specs.declared.request.Request.TheVariants as requests
 use Rattle.diy_words.specs.declared.usage.Usage.{Usage}
-use Rattle.diy_words.specs.declared.usage.UsageKind.TheVariants.{UnknownOption, BadName, BadFolder, StrayWord, TooManyChoices}
+use Rattle.diy_words.specs.declared.usage.UsageKind.TheVariants.{UnknownOption, BadName, BadFolder, StrayWord, ExcludedOption, TooManyChoices}
 use Rattle.diy_words.specs.declared.options.Tool.{Tool}
 use Rattle.diy_words.specs.declared.options.Tool.TheVariants as tools
 use Rattle.diy_words.specs.declared.options.OptionName.{OptionName}
@@ -31,7 +31,7 @@ use Rattle.diy_words.specs.declared.options.OptionName.TheVariants as opts
 use Rattle.diy_words.specs.Names.{is_name}
 use Rattle.diy_words.specs.Edges.{operand_edges}
 use Rattle.diy_words.specs.Parts.{Part, Alone, Valued, Unvalued, Waiting, Ready, Waits, waiting_at, alone_before, parts_from, parts_of, option_named, tool_named, arch_named, mode_named}
-use Rattle.diy_words.specs.Requests.{Said, SaysName, SaysSize, SaysExact, SaysFolder, SaysCount, SaysTest, SaysExecution, Asked, AsksTest, AsksName, AsksList, AsksFamilies, AsksCross, AsksDemo, AsksCheck, NameAsked, ListAsked, FamiliesAsked, CheckAsked, fault, dashed_said, operand_said, relaxes_said, size_said, threads_said, after_said, cycle_said, size_in, given_or, list_with, families_with, cross_with, demo_with, check_with, choice_count, places_given, files_given, place_said, count_said, count_in, test_in, execution_in, saying, taken_by, said_by, said_first, said_all, arch_said, mode_said, edges_said, begins_option, or_later, last_given, arch_in, name_in, mode_in, relaxes_in, is_exact, threads_in, after_in, folder_in, mode_or_accept, edges_given, asks, asked_with, asked_for, norm_asked, tool_asked, asked_of, accesses_said, accesses_in}
+use Rattle.diy_words.specs.Requests.{Said, SaysName, SaysSize, SaysExact, SaysWhy, SaysFolder, SaysCount, SaysTest, SaysExecution, Asked, AsksTest, AsksWhy, AsksName, AsksList, AsksFamilies, AsksCross, AsksDemo, AsksCheck, NameAsked, ListAsked, FamiliesAsked, CheckAsked, fault, dashed_said, operand_said, relaxes_said, size_said, threads_said, after_said, cycle_said, size_in, given_or, list_with, families_with, cross_with, demo_with, check_with, choice_count, places_given, files_given, place_said, count_said, count_in, test_in, execution_in, Before, nothing_before, before_next, saying, said_by, said_first, said_all, arch_said, mode_said, edges_said, begins_option, or_later, last_given, arch_in, name_in, mode_in, relaxes_in, is_exact, is_why, threads_in, after_in, folder_in, mode_or_accept, edges_given, asks, asked_with, why_with, why_asked, test_asked, diyone_asked, asked_for, norm_asked, tool_asked, asked_of, accesses_said, accesses_in}
 use Rattle.arrayvec.specs.ArrayString.{ArrayString}
 use Rattle.diy_words.specs.Given.{Gives, HasForm, WithinWords, list_kept}
 use Rattle.diy_words.specs.Numbers.{is_number, number_to}
@@ -67,15 +67,20 @@ dashed_form : (count at : ℕ) (b : Bool) → SaysForm count (if b then Ok SaysE
 dashed_form count at true = tt
 dashed_form count at false = tt
 
-alone_dashed : (count : ℕ) (tool : Tool) (at : ℕ) (text : List ℕ) → SaysForm count (dashed_said tool at text)
-alone_dashed count tools.DiyOne at text = tt
-alone_dashed count tools.Diy at text = dashed_form count at (bytes_eq text (codes "-exact"))
-alone_dashed count tools.Norm at text = tt
-alone_dashed count tools.Classify at text = tt
-alone_dashed count tools.Msum at text = tt
-alone_dashed count tools.Cross at text = tt
-alone_dashed count tools.Demo at text = tt
-alone_dashed count tools.Check at text = tt
+why_form : (count at : ℕ) (b c : Bool) → SaysForm count (if b then if c then fault at ExcludedOption else Ok SaysWhy else fault at UnknownOption)
+why_form count at true true = tt
+why_form count at true false = tt
+why_form count at false c = tt
+
+alone_dashed : (count : ℕ) (tool : Tool) (before : Before) (at : ℕ) (text : List ℕ) → SaysForm count (dashed_said tool before at text)
+alone_dashed count tools.DiyOne before at text = why_form count at (bytes_eq text (codes "-why")) before.obs
+alone_dashed count tools.Diy before at text = dashed_form count at (bytes_eq text (codes "-exact"))
+alone_dashed count tools.Norm before at text = tt
+alone_dashed count tools.Classify before at text = tt
+alone_dashed count tools.Msum before at text = tt
+alone_dashed count tools.Cross before at text = tt
+alone_dashed count tools.Demo before at text = tt
+alone_dashed count tools.Check before at text = tt
 
 place_form : (count at : ℕ) (relaxes : Result (List (List Edge)) RelaxError) → SaysForm count (place_said at relaxes)
 place_form count at (Ok relaxes) = tt
@@ -114,10 +119,14 @@ alone_operand count tools.Msum taken at text h = tt
 alone_operand count tools.Demo taken at text h = demo_said count at text (taken == 0)
 alone_operand count tools.Check taken at text h = check_said count at (taken == 0) (taken == 1) h
 
-alone_form : (count : ℕ) (tool : Tool) (taken at : ℕ) (text : List ℕ) (b : Bool) → at < count
-    → SaysForm count (if b then dashed_said tool at text else operand_said tool taken at text)
-alone_form count tool taken at text true h = alone_dashed count tool at text
-alone_form count tool taken at text false h = alone_operand count tool taken at text h
+alone_form : (count : ℕ) (tool : Tool) (before : Before) (at : ℕ) (text : List ℕ) (b : Bool) → at < count
+    → SaysForm count (if b then dashed_said tool before at text else operand_said tool before.taken at text)
+alone_form count tool before at text true h = alone_dashed count tool before at text
+alone_form count tool before at text false h = alone_operand count tool before.taken at text h
+
+obs_form : (count at : ℕ) (mode : Option ObsMode) (b : Bool) → SaysForm count (if b then fault at ExcludedOption else mode_said (at + 1) mode)
+obs_form count at mode true = tt
+obs_form count at mode false = mode_form count (at + 1) mode
 
 relaxes_form : (count at : ℕ) (relaxes : Result (List (List Edge)) RelaxError) → SaysForm count (relaxes_said at relaxes)
 relaxes_form count at (Ok relaxes) = tt
@@ -170,19 +179,19 @@ parts_among count tool Ready at (word ∷ words) h =
     of_found (Some option) rest = rest (Waits option at)
     of_found None rest = (omega (arith, h), rest Ready)
 
-said_form : (count : ℕ) (tool : Tool) (taken : ℕ) (part : Part) → IsAmong count part → SaysForm count (said_by tool taken part)
-said_form count tool taken (Alone at text) h = alone_form count tool taken at text (begins_option text) h
-said_form count tool taken (Valued opts.Arch at value) h = arch_form count _ (arch_named value)
-said_form count tool taken (Valued opts.Name at value) h = name_form count _ value (is_name value) refl
-said_form count tool taken (Valued opts.Obs at value) h = mode_form count _ (mode_named value)
-said_form count tool taken (Valued opts.From at value) h = tt
-said_form count tool taken (Valued opts.Edges at value) h = relaxes_form count _ (relaxes_of value)
-said_form count tool taken (Valued opts.Size at value) h = size_form count _ (number_to MAX_EDGES value) (λ n e. (number_form MAX_EDGES value n e).1)
-said_form count tool taken (Valued opts.Nprocs at value) h = threads_form count _ (number_to MAX_EDGES value)
-said_form count tool taken (Valued opts.Accesses at value) h = accesses_form count _ (number_to MAX_EDGES value)
-said_form count tool taken (Valued opts.After at value) h = after_form count _ (edges_of BlanksAndCommas value)
-said_form count tool taken (Valued opts.Folder at value) h = folder_form count _ value (nat_lt 0 (length value)) (nat_le (length value) MAX_FOLDER) refl
-said_form count tool taken (Unvalued option at) h = tt
+said_form : (count : ℕ) (tool : Tool) (before : Before) (part : Part) → IsAmong count part → SaysForm count (said_by tool before part)
+said_form count tool before (Alone at text) h = alone_form count tool before at text (begins_option text) h
+said_form count tool before (Valued opts.Arch at value) h = arch_form count _ (arch_named value)
+said_form count tool before (Valued opts.Name at value) h = name_form count _ value (is_name value) refl
+said_form count tool before (Valued opts.Obs at value) h = obs_form count at (mode_named value) before.why
+said_form count tool before (Valued opts.From at value) h = tt
+said_form count tool before (Valued opts.Edges at value) h = relaxes_form count _ (relaxes_of value)
+said_form count tool before (Valued opts.Size at value) h = size_form count _ (number_to MAX_EDGES value) (λ n e. (number_form MAX_EDGES value n e).1)
+said_form count tool before (Valued opts.Nprocs at value) h = threads_form count _ (number_to MAX_EDGES value)
+said_form count tool before (Valued opts.Accesses at value) h = accesses_form count _ (number_to MAX_EDGES value)
+said_form count tool before (Valued opts.After at value) h = after_form count _ (edges_of BlanksAndCommas value)
+said_form count tool before (Valued opts.Folder at value) h = folder_form count _ value (nat_lt 0 (length value)) (nat_le (length value) MAX_FOLDER) refl
+said_form count tool before (Unvalued option at) h = tt
 
 -- so have all that words say, where none is faulty
 abbrev AllForm : ℕ → Result (List Said) Usage → Type 0
@@ -198,10 +207,10 @@ said_all_form count [] h = tt
 said_all_form count (Ok said ∷ rest) h = first_form count said (said_all rest) h.0 (said_all_form count rest h.1)
 said_all_form count (Err usage ∷ rest) h = tt
 
-parts_form : (count : ℕ) (tool : Tool) (taken : ℕ) (parts : List Part) → AllByRecursion (IsAmong count) parts → AllByRecursion (SaysForm count) (saying tool taken parts)
-parts_form count tool taken [] h = tt
-parts_form count tool taken (part ∷ parts) h =
-    (said_form count tool taken part h.0, parts_form count tool (taken + taken_by (said_by tool taken part)) parts h.1)
+parts_form : (count : ℕ) (tool : Tool) (before : Before) (parts : List Part) → AllByRecursion (IsAmong count) parts → AllByRecursion (SaysForm count) (saying tool before parts)
+parts_form count tool before [] h = tt
+parts_form count tool before (part ∷ parts) h =
+    (said_form count tool before part h.0, parts_form count tool (before_next before (said_by tool before part)) parts h.1)
 
 -- and the last of each thing among them
 given_fit : {X : Type 0} (count : ℕ) (P : X → Type 0) (given : Said → Option X) → ((said : Said) → IsFit count said → IfSome (given said) P)
@@ -244,10 +253,11 @@ size_few : (size : Option ℕ) → IfSome size (λ size. size ≤ MAX_EDGES) →
 size_few None h = lit≤ tt
 size_few (Some size) h = h
 
--- the name of a test that words ask for has its form, and so have the size and the folder of a listing, the folder of
--- diycross7 and the number of demo; the files of mcheck7 are words among so many
+-- the name of a test that words ask for has its form, and so have the size and the folder of a listing, the folders of diyone7
+-- and diycross7 and the number of demo; the files of mcheck7 are words among so many
 abbrev pub IsNamedSo : ℕ → Asked → Type 0
 IsNamedSo count (AsksTest asked) = IfSome asked.name (λ name. is_name name ≡ true)
+IsNamedSo count (AsksWhy asked) = IfSome asked.name (λ name. is_name name ≡ true) × IfSome asked.folder (λ folder. length folder ≤ MAX_FOLDER)
 IsNamedSo count (AsksList asked) = (asked.size ≤ MAX_EDGES) × IfSome asked.folder (λ folder. length folder ≤ MAX_FOLDER)
 IsNamedSo count (AsksCross asked) = IfSome asked.folder (λ folder. length folder ≤ MAX_FOLDER)
 IsNamedSo count (AsksDemo asked) = (1 ≤ asked.count) × (asked.count ≤ MAX_TESTS)
@@ -258,10 +268,16 @@ abbrev AskedSo : ℕ → Result Asked Usage → Type 0
 AskedSo count (Ok asked) = IsNamedSo count asked
 AskedSo count (Err usage) = Unit {0}
 
-test_form : (count : ℕ) (arch : Option ArchName) (name : Option (List ℕ)) (mode : ObsMode) (edges : List Edge) → IfSome name (λ name. is_name name ≡ true)
-    → AskedSo count (asks AsksTest (asked_with count arch name mode edges))
-test_form count None name mode edges h = tt
-test_form count (Some arch) name mode edges h = h
+test_form : (count : ℕ) (arch : Option ArchName) (name : Option (List ℕ)) (mode : ObsMode) (edges : List Edge) (folder : Option (List ℕ)) → IfSome name (λ name. is_name name ≡ true)
+    → AskedSo count (asks AsksTest (asked_with count arch name mode edges folder))
+test_form count None name mode edges folder h = tt
+test_form count (Some arch) name mode edges (Some folder) h = tt
+test_form count (Some arch) name mode edges None h = h
+
+explained_form : (count : ℕ) (arch : Option ArchName) (name : Option (List ℕ)) (edges : List Edge) (folder : Option (List ℕ)) → IfSome name (λ name. is_name name ≡ true)
+    → IfSome folder (λ folder. length folder ≤ MAX_FOLDER) → AskedSo count (asks AsksWhy (why_with count arch name edges folder))
+explained_form count None name edges folder h k = tt
+explained_form count (Some arch) name edges folder h k = (h, k)
 
 norm_form : (count : ℕ) (asked : Result NameAsked Usage) → AskedSo count (asks AsksName asked)
 norm_form count (Ok asked) = tt
@@ -298,11 +314,20 @@ check_form count (Some arch) (Some test) (Some execution) h k = (h, k)
 check_form count (Some arch) (Some test) None h k = tt
 check_form count (Some arch) None execution h k = tt
 
+diyone_form : (count : ℕ) (said : List Said) → AllByRecursion (IsFit count) said → AskedSo count (diyone_asked count said)
+diyone_form count said h = of_test (list_any is_why said)
+  where
+    named : IfSome (last_given name_in said) (λ name. is_name name ≡ true)
+    named = given_fit count (λ name. is_name name ≡ true) name_in (name_fit count) said h
+
+    of_test : (b : Bool) → AskedSo count (if b then asks AsksWhy (why_asked count said) else asks AsksTest (test_asked count said))
+    of_test true = explained_form count (last_given arch_in said) (last_given name_in said) (edges_given said) (last_given folder_in said) named (given_folder count said h)
+    of_test false =
+        test_form count (last_given arch_in said) (last_given name_in said) (mode_or_accept (last_given mode_in said)) (edges_given said) (last_given folder_in said) named
+
 tool_form : (tool : Tool) (count : ℕ) (said : Result (List Said) Usage) → AllForm count said → AskedSo count (tool_asked tool count said)
 tool_form tool count (Err usage) h = tt
-tool_form tools.DiyOne count (Ok said) h =
-    test_form count (last_given arch_in said) (last_given name_in said) (mode_or_accept (last_given mode_in said)) (edges_given said)
-    (given_fit count (λ name. is_name name ≡ true) name_in (name_fit count) said h)
+tool_form tools.DiyOne count (Ok said) h = diyone_form count said h
 tool_form tools.Diy count (Ok said) h =
     list_form count (last_given arch_in said) (last_given relaxes_in said) _ (list_any is_exact said) (given_or 4 (last_given threads_in said)) (last_given accesses_in said) (mode_or_accept (last_given mode_in said)) (last_given after_in said) (last_given folder_in said)
     (size_few (last_given size_in said) (given_fit count (λ size. size ≤ MAX_EDGES) size_in (size_fit count) said h)) (given_folder count said h)
@@ -321,7 +346,7 @@ found_form : (found : Option Tool) (count : ℕ) (words : List (List ℕ)) → 1
 found_form None count words h = tt
 found_form (Some tool) count words h =
     tool_form tool count _
-    (said_all_form count (saying tool 0 (parts_of tool 1 words)) (parts_form count tool 0 (parts_of tool 1 words) (parts_among count tool Ready 1 words h)))
+    (said_all_form count (saying tool nothing_before (parts_of tool 1 words)) (parts_form count tool nothing_before (parts_of tool 1 words) (parts_among count tool Ready 1 words h)))
 
 words_form : (words : List (List ℕ)) → AskedSo (length words) (asked_of words)
 words_form [] = tt
@@ -350,6 +375,10 @@ request_form words result h = of_asked result (asked_of words) (words_form words
 
     of_asked : (result : Result Request Usage) (asked : Result Asked Usage) → AskedSo (length words) asked → Gives result asked → IfOk result HasForm
     of_asked (Ok (requests.Test request)) (Ok (AsksTest asked)) e h = named_so request.name (subst (λ (name : Option (List ℕ)). IfSome name (λ name. is_name name ≡ true)) (sym h.1) e)
+    of_asked (Ok (requests.Why request)) (Ok (AsksWhy asked)) e h = (
+      named_so request.name (subst (λ (name : Option (List ℕ)). IfSome name (λ name. is_name name ≡ true)) (sym h.1) e.0),
+      folder_so request.folder (subst (λ (f : Option (List ℕ)). IfSome f (λ folder. length folder ≤ MAX_FOLDER)) (sym h.3) e.1),
+    )
     of_asked (Ok (requests.List request)) (Ok (AsksList asked)) e h = listed_so request asked h e
     of_asked (Ok (requests.Cross request)) (Ok (AsksCross asked)) e h = folder_so request.folder (subst (λ (f : Option (List ℕ)). IfSome f (λ folder. length folder ≤ MAX_FOLDER)) (sym h.2) e)
     of_asked (Ok (requests.Demo request)) (Ok (AsksDemo asked)) e h = subst (λ n. (1 ≤ n) × (n ≤ MAX_TESTS)) (sym h.1) e
@@ -358,6 +387,7 @@ request_form words result h = of_asked result (asked_of words) (words_form words
     of_asked (Ok requests.Sum) asked e h = tt
     of_asked (Ok (requests.Check request)) asked e h = tt
     of_asked (Ok (requests.Test request)) asked e h = absurd h
+    of_asked (Ok (requests.Why request)) asked e h = absurd h
     of_asked (Ok (requests.List request)) asked e h = absurd h
     of_asked (Ok (requests.Cross request)) asked e h = absurd h
     of_asked (Ok (requests.Demo request)) asked e h = absurd h

@@ -1,9 +1,8 @@
 -- What words have said so far, as it is held while they are read.
-use Rattle.std.specs.Prelude.{ℕ, ◌+◌, ◌*◌, ◌≡◌, ◌<◌, ◌≤◌, Bool, true, false, nat_lt, min, if◌then◌else◌, IfSome, List, [], ◌∷◌, length, drop, slice_get, Option, Some, None, Result, Ok, Err}
+use Rattle.std.specs.Prelude.{ℕ, ◌+◌, ◌*◌, ◌≡◌, ◌<◌, ◌≤◌, Bool, true, false, nat_lt, min, if◌then◌else◌, IfSome, List, [], ◌∷◌, length, drop, slice_get, Option, Some, None, is_some, Result, Ok, Err}
 use Rattle.std.specs.Option.{option_map, option_or, ForSome}
 use Rattle.relax_edges.specs.declared.kinds.ArchName.{ArchName}
 use Rattle.relax_edges.specs.declared.kinds.ObsMode.{ObsMode}
-use Rattle.relax_edges.specs.declared.kinds.ObsMode.TheVariants.{Accept}
 use Rattle.relax_edges.specs.declared.TheConstants.{MAX_EDGES}
 use Rattle.relax_edges.specs.declared.edge.Edge.{Edge}
 use Rattle.edge_lists.specs.declared.list.EdgeList.{EdgeList}
@@ -24,18 +23,18 @@ use Rattle.diy_words.specs.declared.options.Tool.TheVariants as tools
 use Rattle.diy_words.specs.Names.{is_name}
 use Rattle.diy_words.specs.declared.said.Said.{Said}
 use Rattle.diy_words.specs.declared.usage.Usage.{Usage}
-use Rattle.diy_words.specs.declared.usage.UsageKind.TheVariants.{MissingArch, StrayWord, TooManyChoices}
+use Rattle.diy_words.specs.declared.usage.UsageKind.TheVariants.{MissingArch, MissingWhy, StrayWord, TooManyChoices}
 use Rattle.diy_words.specs.Parts.{parts_of, option_named}
-use Rattle.diy_words.specs.Requests.{Asked, AsksTest, AsksName, AsksList, AsksFamilies, AsksSum, AsksCross, AsksDemo, AsksCheck, ListAsked, DemoAsked, CheckAsked, OfEdges, OfName, OfLines, SaysArch, SaysName, SaysMode, SaysFrom, SaysEdges, SaysRelaxes, SaysSize, SaysExact, SaysThreads, SaysAfter, SaysFolder, SaysLog, SaysFile, SaysTest, SaysExecution, SaysPlace, SaysCount, said_by, saying, list_with, demo_with, check_with, SaysAccesses}
+use Rattle.diy_words.specs.Requests.{Asked, AsksTest, AsksWhy, AsksName, AsksList, AsksFamilies, AsksSum, AsksCross, AsksDemo, AsksCheck, ListAsked, DemoAsked, CheckAsked, OfEdges, OfName, OfLines, SaysArch, SaysName, SaysMode, SaysFrom, SaysEdges, SaysRelaxes, SaysSize, SaysExact, SaysWhy, SaysThreads, SaysAfter, SaysFolder, SaysLog, SaysFile, SaysTest, SaysExecution, SaysPlace, SaysCount, Before, before_next, said_by, saying, mode_or_accept, list_with, demo_with, check_with, SaysAccesses}
 use Rattle.diy_words.specs.Requests as req
 
 -- what is held: the last of each thing that was given, where the last value of `-from` and the first operand of edges
 -- stand, and the edges; in how many ways a relaxation can be chosen for each place, and how many tests demo makes; where the
--- files of mcheck7 stand; and how many operands were taken, of those whose number is limited
+-- files of mcheck7 stand; how many operands were taken, of those whose number is limited; and whether `-why` stood
 pub record Held : Type 0 where
   pub arch : Option ArchName
   pub name : Option (List ℕ)
-  pub mode : ObsMode
+  pub mode : Option ObsMode
   pub from : Option (ℕ × List ℕ)
   pub operand : Option ℕ
   pub edges : EdgeList
@@ -51,6 +50,7 @@ pub record Held : Type 0 where
   pub test : Option ℕ
   pub execution : Option ℕ
   pub taken : ℕ
+  pub why : Bool
 
 -- what the code holds
 abbrev pub held : Said → Held
@@ -73,6 +73,7 @@ held said = record {
   test = said.test;
   execution = said.execution;
   taken = said.taken;
+  why = said.why;
 }
 
 -- nothing yet
@@ -80,7 +81,7 @@ abbrev pub nothing_held : Held
 nothing_held = record {
   arch = None;
   name = None;
-  mode = Accept;
+  mode = None;
   from = None;
   operand = None;
   edges = kept [];
@@ -96,7 +97,12 @@ nothing_held = record {
   test = None;
   execution = None;
   taken = 0;
+  why = false;
 }
+
+-- what is held of that which bears on a later word's fault
+abbrev pub heard : Held → Before
+heard h = record { taken = h.taken; obs = is_some h.mode; why = h.why }
 
 -- in how many ways relaxations are chosen with those of one place more: no number of ways above the limit is told from another
 abbrev pub more_choices : ℕ → ℕ → ℕ
@@ -106,12 +112,13 @@ more_choices choices relaxes = min (choices * relaxes) (MAX_CHOICES + 1)
 abbrev pub absorbed : Held → Result req.Said Usage → Result Held Usage
 absorbed h (Ok (SaysArch arch)) = Ok (record h { arch = Some arch })
 absorbed h (Ok (SaysName name)) = Ok (record h { name = Some name })
-absorbed h (Ok (SaysMode mode)) = Ok (record h { mode = mode })
+absorbed h (Ok (SaysMode mode)) = Ok (record h { mode = Some mode })
 absorbed h (Ok (SaysFrom at name)) = Ok (record h { from = Some (at, name) })
 absorbed h (Ok (SaysEdges at edges)) = Ok (record h { operand = option_or h.operand (Some at); edges = added h.edges edges })
 absorbed h (Ok (SaysRelaxes relaxes)) = Ok (record h { relaxes = Some relaxes })
 absorbed h (Ok (SaysSize size)) = Ok (record h { size = size })
 absorbed h (Ok SaysExact) = Ok (record h { exact = true })
+absorbed h (Ok SaysWhy) = Ok (record h { why = true })
 absorbed h (Ok (SaysThreads threads)) = Ok (record h { threads = threads })
 absorbed h (Ok (SaysAccesses accesses)) = Ok (record h { accesses = Some accesses })
 absorbed h (Ok (SaysAfter cycle)) = Ok (record h { after = Some cycle })
@@ -135,13 +142,13 @@ all_absorbed h [] = h
 all_absorbed (Ok h) (said ∷ rest) = all_absorbed (absorbed h said) rest
 all_absorbed (Err usage) (said ∷ rest) = all_absorbed (Err usage) rest
 
--- what the words from a place on say, where so many operands were taken before
-abbrev pub saying_from : Tool → ℕ → List (List ℕ) → ℕ → List (Result req.Said Usage)
-saying_from tool taken words at = saying tool taken (parts_of tool at (drop at words))
+-- what the words from a place on say, where the words before said so much
+abbrev pub saying_from : Tool → Before → List (List ℕ) → ℕ → List (Result req.Said Usage)
+saying_from tool before words at = saying tool before (parts_of tool at (drop at words))
 
 -- what is held after all words, from what is held before those from a place on
 abbrev pub held_at_end : Tool → List (List ℕ) → ℕ → Held → Result Held Usage
-held_at_end tool words at h = all_absorbed (Ok h) (saying_from tool h.taken words at)
+held_at_end tool words at h = all_absorbed (Ok h) (saying_from tool (heard h) words at)
 
 -- the cycle that is sought, as it is kept
 abbrev pub IsSought : Sought → req.Sought → Type 0
@@ -172,6 +179,9 @@ check_kept request = record { arch = request.arch; test = request.test; executio
 abbrev pub IsKept : Request → Asked → Type 0
 IsKept (requests.Test request) (AsksTest asked) =
     (request.arch ≡ asked.arch) × (option_map (λ name. name.bytes) request.name ≡ asked.name) × (request.mode ≡ asked.mode) × (request.edges ≡ kept asked.edges)
+IsKept (requests.Why request) (AsksWhy asked) =
+    (request.arch ≡ asked.arch) × (option_map (λ name. name.bytes) request.name ≡ asked.name) × (request.edges ≡ kept asked.edges)
+    × (option_map (λ folder. folder.now) request.folder ≡ asked.folder)
 IsKept (requests.Name request) (AsksName asked) = (request.arch ≡ asked.arch) × IsSought request.cycle asked.cycle
 IsKept (requests.List request) (AsksList asked) = list_kept request ≡ asked
 IsKept (requests.Families arch) (AsksFamilies asked) = arch ≡ asked.arch
@@ -190,9 +200,12 @@ Gives (Err usage) (Ok asked) = ⊥
 Gives (Err usage) (Err fault) = usage ≡ fault
 
 -- the name of a test that is asked for, if one is given, has its form; the cycles of a listing have at most as many edges as
--- there may be, and so have the bytes of its folder, and of that of diycross7; demo makes a test at least, and at most so many
+-- there may be, and so have the bytes of its folder, and of those of diyone7 and diycross7; demo makes a test at least, and at
+-- most so many
 abbrev pub HasForm : Request → Type 0
 HasForm (requests.Test request) = IfSome request.name (λ name. is_name name.bytes ≡ true)
+HasForm (requests.Why request) =
+    IfSome request.name (λ name. is_name name.bytes ≡ true) × ForSome request.folder (λ folder. length folder.now ≤ MAX_FOLDER)
 HasForm (requests.List request) = (request.limits.size ≤ MAX_EDGES) × ForSome request.folder (λ folder. length folder.now ≤ MAX_FOLDER)
 HasForm (requests.Cross request) = ForSome request.folder (λ folder. length folder.now ≤ MAX_FOLDER)
 HasForm (requests.Demo request) = (1 ≤ request.count) × (request.count ≤ MAX_TESTS)
@@ -210,16 +223,28 @@ Steps tool words at old new (Ok next) =
     (at < next) × (held_at_end tool words next new ≡ held_at_end tool words at old)
 Steps tool words at old new (Err usage) = Err usage ≡ held_at_end tool words at old
 
--- the request of diyone7 as it is kept, from what is held at the end
+-- the request of diyone7 for a test as it is kept, from what is held at the end
 pub record AskedHeld : Type 0 where
   pub arch : ArchName
   pub name : Option (List ℕ)
   pub mode : ObsMode
   pub edges : EdgeList
 
-abbrev pub finished : ℕ → Option ArchName → Option (List ℕ) → ObsMode → EdgeList → Result AskedHeld Usage
-finished count None name _ _ = Err (record { word = count; kind = MissingArch })
-finished count (Some arch) name mode edges = Ok (record { arch = arch; name = name; mode = mode; edges = edges })
+abbrev pub finished : ℕ → Option ArchName → Option (List ℕ) → ObsMode → EdgeList → Option (List ℕ) → Result AskedHeld Usage
+finished count None name mode edges folder = Err (record { word = count; kind = MissingArch })
+finished count (Some arch) name mode edges (Some folder) = Err (record { word = count; kind = MissingWhy })
+finished count (Some arch) name mode edges None = Ok (record { arch = arch; name = name; mode = mode; edges = edges })
+
+-- the request of diyone7 with `-why` as it is kept, from what is held at the end
+pub record WhyHeld : Type 0 where
+  pub arch : ArchName
+  pub name : Option (List ℕ)
+  pub edges : EdgeList
+  pub folder : Option (List ℕ)
+
+abbrev pub explained : ℕ → Option ArchName → Option (List ℕ) → EdgeList → Option (List ℕ) → Result WhyHeld Usage
+explained count None name edges folder = Err (record { word = count; kind = MissingArch })
+explained count (Some arch) name edges folder = Ok (record { arch = arch; name = name; edges = edges; folder = folder })
 
 -- the request of norm7 as it is kept, from what is held at the end
 pub data SoughtHeld : Type 0 where
@@ -263,6 +288,7 @@ classified count (Some arch) = Ok arch
 -- a request as it is kept
 pub data Kept : Type 0 where
   KeepsTest : AskedHeld → Kept
+  KeepsWhy : WhyHeld → Kept
   KeepsName : NameHeld → Kept
   KeepsList : ListAsked → Kept
   KeepsFamilies : ArchName → Kept
@@ -277,16 +303,22 @@ keeps request (Err usage) = Err usage
 
 -- the requests of diyone7, norm7, diy7, diycross7, demo and mcheck7 from what is held
 abbrev pub test_held : ℕ → Held → Result AskedHeld Usage
-test_held count h = finished count h.arch h.name h.mode h.edges
+test_held count h = finished count h.arch h.name (mode_or_accept h.mode) h.edges h.folder
+
+abbrev pub why_held : ℕ → Held → Result WhyHeld Usage
+why_held count h = explained count h.arch h.name h.edges h.folder
+
+abbrev pub diyone_held : ℕ → Held → Result Kept Usage
+diyone_held count h = if h.why then keeps KeepsWhy (why_held count h) else keeps KeepsTest (test_held count h)
 
 abbrev pub name_held : ℕ → Held → Result NameHeld Usage
 name_held count h = named count h.arch h.from h.operand h.edges
 
 abbrev pub list_held : ℕ → Held → Result ListAsked Usage
-list_held count h = list_with count h.arch h.relaxes h.size h.exact h.threads h.accesses h.mode h.after h.folder
+list_held count h = list_with count h.arch h.relaxes h.size h.exact h.threads h.accesses (mode_or_accept h.mode) h.after h.folder
 
 abbrev pub cross_held : ℕ → Held → Result CrossHeld Usage
-cross_held count h = crossed count h.arch h.mode h.folder h.choices
+cross_held count h = crossed count h.arch (mode_or_accept h.mode) h.folder h.choices
 
 abbrev pub demo_held : ℕ → Held → Result DemoAsked Usage
 demo_held count h = demo_with count h.arch h.count
@@ -297,7 +329,7 @@ check_held count h = check_with count h.arch h.test h.execution
 -- the request of a tool from what is held after all words
 abbrev pub tool_held : Tool → ℕ → Result Held Usage → Result Kept Usage
 tool_held tool count (Err usage) = Err usage
-tool_held tools.DiyOne count (Ok h) = keeps KeepsTest (test_held count h)
+tool_held tools.DiyOne count (Ok h) = diyone_held count h
 tool_held tools.Diy count (Ok h) = keeps KeepsList (list_held count h)
 tool_held tools.Norm count (Ok h) = keeps KeepsName (name_held count h)
 tool_held tools.Classify count (Ok h) = keeps KeepsFamilies (classified count h.arch)
@@ -310,6 +342,13 @@ tool_held tools.Check count (Ok h) = keeps KeepsCheck (check_held count h)
 abbrev pub shown_request : Request → Kept
 shown_request (requests.Test request) =
     KeepsTest (record { arch = request.arch; name = option_map (λ name. name.bytes) request.name; mode = request.mode; edges = request.edges })
+shown_request (requests.Why request) =
+    KeepsWhy (record {
+      arch = request.arch;
+      name = option_map (λ name. name.bytes) request.name;
+      edges = request.edges;
+      folder = option_map (λ folder. folder.now) request.folder;
+    })
 shown_request (requests.Name request) = KeepsName (record { arch = request.arch; cycle = sought_held request.cycle })
 shown_request (requests.List request) = KeepsList (list_kept request)
 shown_request (requests.Families arch) = KeepsFamilies arch

@@ -23,7 +23,7 @@ tool_named = named ((codes "diyone7", tools.DiyOne) ∷ (codes "diy7", tools.Diy
 
 -- the options of a tool that take a value, by their names
 abbrev pub options_of : Tool → List (List ℕ × OptionName)
-options_of tools.DiyOne = (codes "-arch", opts.Arch) ∷ (codes "-name", opts.Name) ∷ (codes "-obs", opts.Obs) ∷ []
+options_of tools.DiyOne = (codes "-arch", opts.Arch) ∷ (codes "-name", opts.Name) ∷ (codes "-obs", opts.Obs) ∷ (codes "-o", opts.Folder) ∷ []
 options_of tools.Diy =
     (codes "-arch", opts.Arch) ∷ (codes "-edges", opts.Edges) ∷ (codes "-size", opts.Size) ∷ (codes "-nprocs", opts.Nprocs)
     ∷ (codes "-accesses", opts.Accesses) ∷ (codes "-obs", opts.Obs) ∷ (codes "-after", opts.After) ∷ (codes "-o", opts.Folder) ∷ []

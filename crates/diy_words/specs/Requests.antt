@@ -1,7 +1,7 @@
 -- The request that words make, or the first fault among them. Words are judged from left to right, an option with its
 -- value; then all of them. Source: own, after the command lines of the diy tools.
 use Rattle.std.specs.Prelude.{ℕ, ◌+◌, ◌*◌, ◌==◌, ◌&&◌, Bool, true, false, nat_lt, nat_le, if◌then◌else◌, List, [], ◌∷◌, ◌++◌, length, Option, Some, None, Result, Ok, Err, codes}
-use Rattle.std.specs.Option.{option_or}
+use Rattle.std.specs.Option.{option_or, unwrap_or}
 use Rattle.std.specs.List.{list_any}
 use Rattle.std.specs.Str.{bytes_eq}
 use Rattle.relax_edges.specs.declared.TheConstants.{MAX_EDGES}
@@ -19,7 +19,7 @@ use Rattle.relax_edges.specs.declared.kinds.ObsMode.TheVariants.{Accept}
 use Rattle.relax_edges.specs.declared.edge.Edge.{Edge}
 use Rattle.diy_words.specs.declared.usage.Usage.{Usage}
 use Rattle.diy_words.specs.declared.usage.UsageKind.{UsageKind}
-use Rattle.diy_words.specs.declared.usage.UsageKind.TheVariants.{UnknownTool, UnknownOption, MissingValue, BadNumber, UnknownArch, BadMode, BadName, BadFolder, UnknownEdge, BadBracket, RelaxTooLong, DoesNotJoin, TooManyRelaxes, BadAfter, StrayWord, MissingArch, MissingEdges, MissingNumber, MissingFile, TooManyChoices}
+use Rattle.diy_words.specs.declared.usage.UsageKind.TheVariants.{UnknownTool, UnknownOption, MissingValue, BadNumber, UnknownArch, BadMode, BadName, BadFolder, UnknownEdge, BadBracket, RelaxTooLong, DoesNotJoin, TooManyRelaxes, BadAfter, StrayWord, ExcludedOption, MissingArch, MissingEdges, MissingNumber, MissingFile, MissingWhy, TooManyChoices}
 use Rattle.diy_words.specs.declared.request.TheConstants.{MAX_FOLDER, MAX_CHOICES, MAX_TESTS}
 use Rattle.diy_words.specs.declared.options.Tool.{Tool}
 use Rattle.diy_words.specs.declared.options.Tool.TheVariants as tools
@@ -41,6 +41,7 @@ pub data Said : Type 0 where
   SaysRelaxes : List (List Edge) → Said
   SaysSize : ℕ → Said
   SaysExact : Said
+  SaysWhy : Said
   SaysThreads : ℕ → Said
   SaysAccesses : ℕ → Said
   SaysAfter : List Edge → Said
@@ -52,12 +53,20 @@ pub data Said : Type 0 where
   SaysPlace : List (List Edge) → Said
   SaysCount : ℕ → Said
 
--- what diyone7 is asked for: a test, under a name that is given or that of its cycle
+-- what diyone7 is asked for without `-why`: a test, under a name that is given or that of its cycle
 pub record TestAsked : Type 0 where
   pub arch : ArchName
   pub name : Option (List ℕ)
   pub mode : ObsMode
   pub edges : List Edge
+
+-- what diyone7 is asked for with `-why`: why a cycle needs an observer, shown by a test and two executions of it, each in a file,
+-- under a name that is given or that of the cycle; the mode is `avoid`
+pub record WhyAsked : Type 0 where
+  pub arch : ArchName
+  pub name : Option (List ℕ)
+  pub edges : List Edge
+  pub folder : Option (List ℕ)
 
 -- of which cycles norm7 is asked for the names: of the one that edges make, of the one that has a name, the word at a place,
 -- or of those that the lines of the input hold
@@ -109,11 +118,12 @@ pub record CheckAsked : Type 0 where
   pub test : ℕ
   pub execution : ℕ
 
--- what words ask for: a test; the names of cycles; the tests of a listing; the names of cycles by their families; the sum of
--- the logs that the words behind the first name, or of the input where there is none; the tests of the choices of relaxations;
--- some number of tests; what is so of an execution
+-- what words ask for: a test; why a cycle needs an observer; the names of cycles; the tests of a listing; the names of cycles by
+-- their families; the sum of the logs that the words behind the first name, or of the input where there is none; the tests of the
+-- choices of relaxations; some number of tests; what is so of an execution
 pub data Asked : Type 0 where
   AsksTest : TestAsked → Asked
+  AsksWhy : WhyAsked → Asked
   AsksName : NameAsked → Asked
   AsksList : ListAsked → Asked
   AsksFamilies : FamiliesAsked → Asked
@@ -121,6 +131,27 @@ pub data Asked : Type 0 where
   AsksCross : CrossAsked → Asked
   AsksDemo : DemoAsked → Asked
   AsksCheck : CheckAsked → Asked
+
+-- what the words before a word said that bears on its fault: how many operands were taken, of those whose number is limited,
+-- and whether `-obs` and whether `-why` stood
+pub record Before : Type 0 where
+  pub taken : ℕ
+  pub obs : Bool
+  pub why : Bool
+
+-- nothing is said before the first word
+abbrev pub nothing_before : Before
+nothing_before = record { taken = 0; obs = false; why = false }
+
+-- what the words before the next word said, where the last of them says this: the number of demo and the files of mcheck7 are
+-- the operands whose number is limited
+abbrev pub before_next : Before → Result Said Usage → Before
+before_next before (Ok (SaysMode _)) = record before { obs = true }
+before_next before (Ok SaysWhy) = record before { why = true }
+before_next before (Ok (SaysCount _)) = record before { taken = before.taken + 1 }
+before_next before (Ok (SaysTest _)) = record before { taken = before.taken + 1 }
+before_next before (Ok (SaysExecution _)) = record before { taken = before.taken + 1 }
+before_next before _ = before
 
 -- a fault at a word
 abbrev pub fault : ℕ → UsageKind → Result Said Usage
@@ -139,6 +170,14 @@ name_said at text = if is_name text then Ok (SaysName text) else fault at BadNam
 abbrev pub mode_said : ℕ → Option ObsMode → Result Said Usage
 mode_said at (Some mode) = Ok (SaysMode mode)
 mode_said at None = fault at BadMode
+
+-- `-obs` at its place with its value: after `-why` it is excluded, whatever its value
+abbrev pub obs_said : Before → ℕ → List ℕ → Result Said Usage
+obs_said before at value = if before.why then fault at ExcludedOption else mode_said (at + 1) (mode_named value)
+
+-- `-why` at its place: after `-obs` it is excluded
+abbrev pub why_said : Before → ℕ → Result Said Usage
+why_said before at = if before.obs then fault at ExcludedOption else Ok SaysWhy
 
 -- the edges of an operand, at its place
 abbrev pub edges_said : ℕ → Option (List Edge) → Result Said Usage
@@ -201,9 +240,10 @@ begins_option [] = false
 begins_option (byte ∷ _) = byte == 45
 
 -- a word that begins with `-` and stands alone, at its place
-abbrev pub dashed_said : Tool → ℕ → List ℕ → Result Said Usage
-dashed_said tools.Diy at text = if bytes_eq text (codes "-exact") then Ok SaysExact else fault at UnknownOption
-dashed_said _ at text = fault at UnknownOption
+abbrev pub dashed_said : Tool → Before → ℕ → List ℕ → Result Said Usage
+dashed_said tools.DiyOne before at text = if bytes_eq text (codes "-why") then why_said before at else fault at UnknownOption
+dashed_said tools.Diy before at text = if bytes_eq text (codes "-exact") then Ok SaysExact else fault at UnknownOption
+dashed_said _ before at text = fault at UnknownOption
 
 -- a file that is an operand of mcheck7, at its place, where so many were taken before: the first is that of the test, the
 -- second that of the execution, and a third is stray
@@ -221,37 +261,25 @@ operand_said tools.Msum _ at text = Ok SaysLog
 operand_said tools.Demo taken at text = if taken == 0 then count_said at (number_to MAX_TESTS text) else fault at StrayWord
 operand_said tools.Check taken at text = checked_said taken at
 
--- what a word says, an option with its value, or what is wrong with it; `taken` is how many operands were taken before, of
--- those whose number is limited
-abbrev pub said_by : Tool → ℕ → Part → Result Said Usage
-said_by tool taken (Alone at text) = if begins_option text then dashed_said tool at text else operand_said tool taken at text
-said_by tool taken (Valued opts.Arch at value) = arch_said (at + 1) (arch_named value)
-said_by tool taken (Valued opts.Name at value) = name_said (at + 1) value
-said_by tool taken (Valued opts.Obs at value) = mode_said (at + 1) (mode_named value)
-said_by tool taken (Valued opts.From at value) = Ok (SaysFrom (at + 1) value)
-said_by tool taken (Valued opts.Edges at value) = relaxes_said (at + 1) (relaxes_of value)
-said_by tool taken (Valued opts.Size at value) = size_said (at + 1) (number_to MAX_EDGES value)
-said_by tool taken (Valued opts.Nprocs at value) = threads_said (at + 1) (number_to MAX_EDGES value)
-said_by tool taken (Valued opts.Accesses at value) = accesses_said (at + 1) (number_to MAX_EDGES value)
-said_by tool taken (Valued opts.After at value) = after_said (at + 1) (edges_of BlanksAndCommas value)
-said_by tool taken (Valued opts.Folder at value) = folder_said (at + 1) value
-said_by tool taken (Unvalued _ at) = fault at MissingValue
-
--- how many operands of a limited number a word is: one where it is the number of demo or a file of mcheck7
-abbrev pub operands_in : Said → ℕ
-operands_in (SaysCount _) = 1
-operands_in (SaysTest _) = 1
-operands_in (SaysExecution _) = 1
-operands_in _ = 0
-
-abbrev pub taken_by : Result Said Usage → ℕ
-taken_by (Ok said) = operands_in said
-taken_by (Err _) = 0
+-- what a word says, an option with its value, or what is wrong with it, where the words before it said so much
+abbrev pub said_by : Tool → Before → Part → Result Said Usage
+said_by tool before (Alone at text) = if begins_option text then dashed_said tool before at text else operand_said tool before.taken at text
+said_by tool before (Valued opts.Arch at value) = arch_said (at + 1) (arch_named value)
+said_by tool before (Valued opts.Name at value) = name_said (at + 1) value
+said_by tool before (Valued opts.Obs at value) = obs_said before at value
+said_by tool before (Valued opts.From at value) = Ok (SaysFrom (at + 1) value)
+said_by tool before (Valued opts.Edges at value) = relaxes_said (at + 1) (relaxes_of value)
+said_by tool before (Valued opts.Size at value) = size_said (at + 1) (number_to MAX_EDGES value)
+said_by tool before (Valued opts.Nprocs at value) = threads_said (at + 1) (number_to MAX_EDGES value)
+said_by tool before (Valued opts.Accesses at value) = accesses_said (at + 1) (number_to MAX_EDGES value)
+said_by tool before (Valued opts.After at value) = after_said (at + 1) (edges_of BlanksAndCommas value)
+said_by tool before (Valued opts.Folder at value) = folder_said (at + 1) value
+said_by tool before (Unvalued _ at) = fault at MissingValue
 
 -- what the parts of the words say, one after another
-abbrev pub saying : Tool → ℕ → List Part → List (Result Said Usage)
-saying tool taken [] = []
-saying tool taken (part ∷ parts) = said_by tool taken part ∷ saying tool (taken + taken_by (said_by tool taken part)) parts
+abbrev pub saying : Tool → Before → List Part → List (Result Said Usage)
+saying tool before [] = []
+saying tool before (part ∷ parts) = said_by tool before part ∷ saying tool (before_next before (said_by tool before part)) parts
 
 -- something said before the rest, where the rest has no fault
 abbrev pub said_first : Said → Result (List Said) Usage → Result (List Said) Usage
@@ -319,6 +347,11 @@ abbrev pub folder_in : Said → Option (List ℕ)
 folder_in (SaysFolder folder) = Some folder
 folder_in _ = None
 
+-- whether `-why` stands
+abbrev pub is_why : Said → Bool
+is_why SaysWhy = true
+is_why _ = false
+
 -- how many tests demo makes
 abbrev pub count_in : Said → Option ℕ
 count_in (SaysCount count) = Some count
@@ -385,12 +418,18 @@ given_or other None = other
 
 -- the mode that was given, or else `accept`
 abbrev pub mode_or_accept : Option ObsMode → ObsMode
-mode_or_accept mode = given_or Accept mode
+mode_or_accept mode = unwrap_or mode Accept
 
--- the request of diyone7 from what was given; `count` is the number of words
-abbrev pub asked_with : ℕ → Option ArchName → Option (List ℕ) → ObsMode → List Edge → Result TestAsked Usage
-asked_with count None name mode edges = Err (record { word = count; kind = MissingArch })
-asked_with count (Some arch) name mode edges = Ok (record { arch = arch; name = name; mode = mode; edges = edges })
+-- the request of diyone7 without `-why` from what was given: a folder is a fault; `count` is the number of words
+abbrev pub asked_with : ℕ → Option ArchName → Option (List ℕ) → ObsMode → List Edge → Option (List ℕ) → Result TestAsked Usage
+asked_with count None name mode edges folder = Err (record { word = count; kind = MissingArch })
+asked_with count (Some arch) name mode edges (Some folder) = Err (record { word = count; kind = MissingWhy })
+asked_with count (Some arch) name mode edges None = Ok (record { arch = arch; name = name; mode = mode; edges = edges })
+
+-- the request of diyone7 with `-why` from what was given
+abbrev pub why_with : ℕ → Option ArchName → Option (List ℕ) → List Edge → Option (List ℕ) → Result WhyAsked Usage
+why_with count None name edges folder = Err (record { word = count; kind = MissingArch })
+why_with count (Some arch) name edges folder = Ok (record { arch = arch; name = name; edges = edges; folder = folder })
 
 -- the request of norm7 from what was given: `-from` or operands, and not both, or else the lines of the input
 abbrev pub named_with : ℕ → Option ArchName → Option (ℕ × List ℕ) → Option ℕ → List Edge → Result NameAsked Usage
@@ -437,10 +476,19 @@ abbrev pub asks : {X : Type 0} → (X → Asked) → Result X Usage → Result A
 asks request (Ok asked) = Ok (request asked)
 asks request (Err usage) = Err usage
 
--- the request of diyone7 from what its words say
-abbrev pub diyone_asked : ℕ → List Said → Result TestAsked Usage
-diyone_asked count said =
+-- what diyone7 is asked for without `-why`, from what its words say
+abbrev pub test_asked : ℕ → List Said → Result TestAsked Usage
+test_asked count said =
     asked_with count (last_given arch_in said) (last_given name_in said) (mode_or_accept (last_given mode_in said)) (edges_given said)
+    (last_given folder_in said)
+
+-- and with `-why`
+abbrev pub why_asked : ℕ → List Said → Result WhyAsked Usage
+why_asked count said = why_with count (last_given arch_in said) (last_given name_in said) (edges_given said) (last_given folder_in said)
+
+-- the request of diyone7 from what its words say
+abbrev pub diyone_asked : ℕ → List Said → Result Asked Usage
+diyone_asked count said = if list_any is_why said then asks AsksWhy (why_asked count said) else asks AsksTest (test_asked count said)
 
 -- the request of norm7 from what its words say
 abbrev pub norm_asked : ℕ → List Said → Result NameAsked Usage
@@ -467,7 +515,7 @@ check_asked count said = check_with count (last_given arch_in said) (last_given 
 -- the request of a tool from what its words say, where no word is faulty
 abbrev pub tool_asked : Tool → ℕ → Result (List Said) Usage → Result Asked Usage
 tool_asked tool count (Err usage) = Err usage
-tool_asked tools.DiyOne count (Ok said) = asks AsksTest (diyone_asked count said)
+tool_asked tools.DiyOne count (Ok said) = diyone_asked count said
 tool_asked tools.Diy count (Ok said) = asks AsksList (diy_asked count said)
 tool_asked tools.Norm count (Ok said) = asks AsksName (norm_asked count said)
 tool_asked tools.Classify count (Ok said) = asks AsksFamilies (families_with count (last_given arch_in said) (files_given said))
@@ -479,7 +527,7 @@ tool_asked tools.Check count (Ok said) = asks AsksCheck (check_asked count said)
 -- the request of a tool from its words but the first
 abbrev pub asked_for : Option Tool → ℕ → List (List ℕ) → Result Asked Usage
 asked_for None count words = Err (record { word = 0; kind = UnknownTool })
-asked_for (Some tool) count words = tool_asked tool count (said_all (saying tool 0 (parts_of tool 1 words)))
+asked_for (Some tool) count words = tool_asked tool count (said_all (saying tool nothing_before (parts_of tool 1 words)))
 
 -- the request that words make: the first names the tool
 abbrev pub asked_of : List (List ℕ) → Result Asked Usage

@@ -70,6 +70,7 @@ fn diyone_option(text: &str) -> Option<OptionName>
         "-arch" => Some(OptionName::Arch),
         "-name" => Some(OptionName::Name),
         "-obs" => Some(OptionName::Obs),
+        "-o" => Some(OptionName::Folder),
         _ => None,
     }
 }

@@ -1,13 +1,14 @@
 ghost use Rattle.std.specs.Prelude.{◌≡◌, ◌<◌, ◌+◌, ◌^◌, length, IfOk, Ok};
 ghost use Rattle.diy_words.specs.declared.usage.UsageKind.TheVariants.{MissingArch};
 ghost use Rattle.diy_words.specs.Requests.{asked_of};
-ghost use Rattle.diy_words.specs.Given.{Gives, HasForm, WithinWords, Steps, IsPlain, IsOption, held, saying_from, shown, keeps, KeepsTest, KeepsName, KeepsList, KeepsFamilies, KeepsCross, KeepsDemo, KeepsCheck, tool_held, test_held, name_held, list_held, cross_held, demo_held, check_held, classified, held_at_end, nothing_held};
+ghost use Rattle.diy_words.specs.Given.{Gives, HasForm, WithinWords, Steps, IsPlain, IsOption, held, saying_from, shown, keeps, KeepsTest, KeepsWhy, KeepsName, KeepsList, KeepsFamilies, KeepsCross, KeepsDemo, KeepsCheck, tool_held, diyone_held, test_held, why_held, name_held, list_held, cross_held, demo_held, check_held, classified, held_at_end, nothing_held};
 
 use crate::options::{OptionName, Tool, option_named, tool_named};
-use crate::request::{Check, Cross, Demo, Diy, DiyOne, MAX_CHOICES, Norm, Request, Sought};
+use crate::request::{Check, Cross, Demo, Diy, DiyOne, MAX_CHOICES, Norm, Request, Sought, Why};
 use crate::said::{Said, unvalued};
 use crate::usage::{Usage, UsageKind};
 use diy_io::Words;
+use relax_edges::ObsMode;
 
 /// The request that the words make, or the first fault among them: words are judged from left to
 /// right, an option with its value, and then all of them.
@@ -15,8 +16,8 @@ pub fn read_request(words: &Words) -> Result<Request<'_>, Usage>
     ensures given { Gives result (asked_of words.now) }
 
     // The name of a test has its form; the cycles of a listing have at most `MAX_EDGES` edges, its
-    // folder and that of diycross7 have at most `MAX_FOLDER` bytes, and demo makes 1 to `MAX_TESTS`
-    // tests.
+    // folder and those of diyone7 and diycross7 have at most `MAX_FOLDER` bytes, and demo makes 1 to
+    // `MAX_TESTS` tests.
     ensures form { IfOk result HasForm }
 
     // The files of mcheck7 are places of words.
@@ -103,7 +104,7 @@ fn finish(tool: Tool, count: usize, said: Said<'_>) -> Result<Request<'_>, Usage
     ensures { shown result ≡ tool_held tool count (Ok (held said.entry)) }
 {
     match tool {
-        Tool::DiyOne => finish_test(count, said),
+        Tool::DiyOne => finish_diyone(count, said),
         Tool::Diy => finish_list(count, said),
         Tool::Norm => finish_name(count, said),
         Tool::Classify => finish_families(count, said),
@@ -114,16 +115,46 @@ fn finish(tool: Tool, count: usize, said: Said<'_>) -> Result<Request<'_>, Usage
     }
 }
 
+fn finish_diyone(count: usize, said: Said<'_>) -> Result<Request<'_>, Usage>
+    ensures { shown result ≡ diyone_held count (held said.entry) }
+{
+    if said.why {
+        finish_why(count, said)
+    } else {
+        finish_test(count, said)
+    }
+}
+
+fn finish_why(count: usize, said: Said<'_>) -> Result<Request<'_>, Usage>
+    ensures { shown result ≡ keeps KeepsWhy (why_held count (held said.entry)) }
+{
+    let Some(arch) = said.arch else {
+        return Err(missing_arch(count));
+    };
+    Ok(Request::Why(Why {
+        arch,
+        name: said.name,
+        edges: said.edges,
+        folder: said.folder,
+    }))
+}
+
 fn finish_test(count: usize, said: Said<'_>) -> Result<Request<'_>, Usage>
     ensures { shown result ≡ keeps KeepsTest (test_held count (held said.entry)) }
 {
     let Some(arch) = said.arch else {
         return Err(missing_arch(count));
     };
+    if said.folder.is_some() {
+        return Err(Usage {
+            word: count,
+            kind: UsageKind::MissingWhy,
+        });
+    }
     Ok(Request::Test(DiyOne {
         arch,
         name: said.name,
-        mode: said.mode,
+        mode: said.mode.unwrap_or(ObsMode::Accept),
         edges: said.edges,
     }))
 }
@@ -149,6 +180,7 @@ fn finish_list(count: usize, said: Said<'_>) -> Result<Request<'_>, Usage>
         test: _,
         execution: _,
         taken: _,
+        why: _,
     } = said;
     let Some(arch) = arch else {
         return Err(missing_arch(count));
@@ -165,7 +197,7 @@ fn finish_list(count: usize, said: Said<'_>) -> Result<Request<'_>, Usage>
         limits,
         threads,
         accesses,
-        mode,
+        mode: mode.unwrap_or(ObsMode::Accept),
         after,
         folder,
     }))
@@ -194,7 +226,7 @@ fn finish_cross(count: usize, said: Said<'_>) -> Result<Request<'_>, Usage>
     }
     Ok(Request::Cross(Cross {
         arch,
-        mode: said.mode,
+        mode: said.mode.unwrap_or(ObsMode::Accept),
         folder: said.folder,
     }))
 }

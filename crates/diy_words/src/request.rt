@@ -22,8 +22,10 @@ pub type TestName = ArrayString<MAX_NAME>;
 /// What words ask for.
 #[derive(Drop)]
 pub enum Request<'a> {
-    /// A test, of diyone7.
+    /// A test, of diyone7 without `-why`.
     Test(DiyOne),
+    /// Why a cycle needs an observer, of diyone7 with `-why`.
+    Why(Why<'a>),
     /// The names of cycles, of norm7.
     Name(Norm<'a>),
     /// The tests of a listing, of diy7.
@@ -72,7 +74,7 @@ pub struct Source<'a> {
     pub name: &'a str,
 }
 
-/// What diyone7 is asked for.
+/// What diyone7 is asked for without `-why`.
 #[derive(Drop)]
 pub struct DiyOne {
     /// The architecture of the test.
@@ -83,6 +85,20 @@ pub struct DiyOne {
     pub mode: ObsMode,
     /// The edges of its cycle, as given.
     pub edges: EdgeList,
+}
+
+/// What diyone7 is asked for with `-why`: why a cycle needs an observer, shown by a test and two
+/// executions of it, each in a file. The mode is `avoid`.
+#[derive(Drop)]
+pub struct Why<'a> {
+    /// The architecture of the test.
+    pub arch: ArchName,
+    /// The name of the test and of its files, where one is given; else they have that of the cycle.
+    pub name: Option<TestName>,
+    /// The edges of the cycle, as given.
+    pub edges: EdgeList,
+    /// The folder of the files, if one is given.
+    pub folder: Option<&'a str>,
 }
 
 /// What diy7 is asked for.

@@ -1,4 +1,4 @@
-ghost use Rattle.std.specs.Prelude.{◌≡◌, ◌<◌, ◌≤◌, ◌+◌, ◌^◌, ℕ, Err};
+ghost use Rattle.std.specs.Prelude.{◌≡◌, ◌<◌, ◌≤◌, ◌+◌, ◌^◌, Err};
 ghost use Rattle.relax_edges.specs.Relaxations.{relaxes_of};
 ghost use Rattle.relax_edges.specs.declared.TheConstants.{MAX_EDGES};
 ghost use Rattle.edge_lists.specs.declared.read.Separators.TheVariants.{BlanksAndCommas};
@@ -8,8 +8,9 @@ ghost use Rattle.diy_words.specs.Edges.{operand_edges};
 ghost use Rattle.diy_words.specs.Given.{cycle_kept, more_choices};
 ghost use Rattle.diy_words.specs.Numbers.{number_to};
 ghost use Rattle.diy_words.specs.declared.options.Tool.TheVariants as tools;
+ghost use Rattle.diy_words.specs.declared.usage.UsageKind.TheVariants.{ExcludedOption};
 ghost use Rattle.diy_words.specs.Parts.{Part, Alone, Valued, Unvalued, arch_named, mode_named};
-ghost use Rattle.diy_words.specs.Requests.{said_by, arch_said, name_said, mode_said, edges_said, relaxes_said, relax_usage, size_said, threads_said, accesses_said, after_said, cycle_said, folder_said, place_said, count_said, checked_said, dashed_said, operand_said, begins_option};
+ghost use Rattle.diy_words.specs.Requests.{Before, said_by, arch_said, name_said, mode_said, obs_said, why_said, edges_said, relaxes_said, relax_usage, size_said, threads_said, accesses_said, after_said, cycle_said, folder_said, place_said, count_said, checked_said, dashed_said, operand_said, begins_option};
 
 use crate::name::name_of;
 use crate::number::number_to;
@@ -26,7 +27,8 @@ use relax_edges::{ArchName, Edge, MAX_EDGES, ObsMode, RelaxKind, Relaxes, read_r
 pub struct Said<'a> {
     pub arch: Option<ArchName>,
     pub name: Option<TestName>,
-    pub mode: ObsMode,
+    /// The value of `-obs`.
+    pub mode: Option<ObsMode>,
     /// The value of `-from`.
     pub from: Option<Source<'a>>,
     /// Where the first operand of edges stands.
@@ -49,10 +51,12 @@ pub struct Said<'a> {
     pub execution: Option<usize>,
     /// How many operands were taken, of demo or of mcheck7.
     pub taken: u8,
+    /// Whether `-why` stood.
+    pub why: bool,
 }
 
 impl<'a> Said<'a> {
-    ghost use Rattle.diy_words.specs.Given.{held, nothing_held, absorbed, left_by};
+    ghost use Rattle.diy_words.specs.Given.{held, heard, nothing_held, absorbed, left_by};
 
     pub fn new() -> Said<'a>
         ensures { held result ≡ nothing_held }
@@ -60,7 +64,7 @@ impl<'a> Said<'a> {
         Said {
             arch: None,
             name: None,
-            mode: ObsMode::Accept,
+            mode: None,
             from: None,
             operand: None,
             edges: EdgeList::new(),
@@ -78,6 +82,7 @@ impl<'a> Said<'a> {
             test: None,
             execution: None,
             taken: 0,
+            why: false,
         }
     }
 
@@ -90,13 +95,13 @@ impl<'a> Said<'a> {
         value: &'a str,
     ) -> Result<(), Usage>
         requires { at + 1 < 2 ^ 64 }
-        ensures { left_by result (held self.new) ≡ absorbed (held self.old) (said_by tool self.old.taken (Valued option at value.now)) }
+        ensures { left_by result (held self.new) ≡ absorbed (held self.old) (said_by tool (heard (held self.old)) (Valued option at value.now)) }
     {
         let _tool = tool;
         match option {
             OptionName::Arch => self.take_arch(at + 1, value),
             OptionName::Name => self.take_name(at + 1, value),
-            OptionName::Obs => self.take_mode(at + 1, value),
+            OptionName::Obs => self.take_obs(at, value),
             OptionName::From => {
                 self.from = Some(Source {
                     word: at + 1,
@@ -143,12 +148,23 @@ impl<'a> Said<'a> {
         }
     }
 
+    /// Takes in `-obs` at place `at` with its value, where `-why` doesn't stand before it.
+    fn take_obs(&mut self, at: usize, value: &str) -> Result<(), Usage>
+        requires { at + 1 < 2 ^ 64 }
+        ensures { left_by result (held self.new) ≡ absorbed (held self.old) (obs_said (heard (held self.old)) at value.now) }
+    {
+        if self.why {
+            return Err(excluded_option(at));
+        }
+        self.take_mode(at + 1, value)
+    }
+
     fn take_mode(&mut self, at: usize, value: &str) -> Result<(), Usage>
         ensures { left_by result (held self.new) ≡ absorbed (held self.old) (mode_said at (mode_named value.now)) }
     {
         match mode_named(value) {
             Some(mode) => {
-                self.mode = mode;
+                self.mode = Some(mode);
                 Ok(())
             }
             None => Err(Usage {
@@ -256,7 +272,7 @@ impl<'a> Said<'a> {
 
     /// Takes in a word of a tool at place `at` that stands alone.
     pub fn take_alone(&mut self, tool: Tool, at: usize, text: &str) -> Result<(), Usage>
-        ensures { left_by result (held self.new) ≡ absorbed (held self.old) (said_by tool self.old.taken (Alone at text.now)) }
+        ensures { left_by result (held self.new) ≡ absorbed (held self.old) (said_by tool (heard (held self.old)) (Alone at text.now)) }
     {
         if begins_option(text.as_bytes()) {
             self.take_dashed(tool, at, text)
@@ -267,9 +283,10 @@ impl<'a> Said<'a> {
 
     /// Takes in a word that begins with `-`.
     fn take_dashed(&mut self, tool: Tool, at: usize, text: &str) -> Result<(), Usage>
-        ensures { left_by result (held self.new) ≡ absorbed (held self.old) (dashed_said tool at text.now) }
+        ensures { left_by result (held self.new) ≡ absorbed (held self.old) (dashed_said tool (heard (held self.old)) at text.now) }
     {
         match tool {
+            Tool::DiyOne if text == "-why" => self.take_why(at),
             Tool::Diy if text == "-exact" => {
                 self.limits.exact = true;
                 Ok(())
@@ -279,6 +296,17 @@ impl<'a> Said<'a> {
                 kind: UsageKind::UnknownOption,
             }),
         }
+    }
+
+    /// Takes in `-why`, where `-obs` doesn't stand before it.
+    fn take_why(&mut self, at: usize) -> Result<(), Usage>
+        ensures { left_by result (held self.new) ≡ absorbed (held self.old) (why_said (heard (held self.old)) at) }
+    {
+        if self.mode.is_some() {
+            return Err(excluded_option(at));
+        }
+        self.why = true;
+        Ok(())
     }
 
     fn take_operand(&mut self, tool: Tool, at: usize, text: &str) -> Result<(), Usage>
@@ -402,9 +430,19 @@ fn cycle_of(list: &EdgeList) -> Option<Cycle>
     }
 }
 
+/// What is wrong with an option at place `at` that stands after one that excludes it.
+fn excluded_option(at: usize) -> Usage
+    ensures { result ≡ record { word = at; kind = ExcludedOption } }
+{
+    Usage {
+        word: at,
+        kind: UsageKind::ExcludedOption,
+    }
+}
+
 /// What is wrong with an option at place `at` that is the last word.
 pub fn unvalued(tool: Tool, option: OptionName, at: usize) -> Usage
-    ensures { (taken : ℕ) → said_by tool taken (Unvalued option at) ≡ Err result }
+    ensures { (before : Before) → said_by tool before (Unvalued option at) ≡ Err result }
 {
     let _ = (tool, option);
     Usage {

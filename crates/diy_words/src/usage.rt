@@ -41,6 +41,8 @@ pub enum UsageKind {
     BadAfter,
     /// An operand stands where the tool takes none, or no other, or beside `-from`.
     StrayWord,
+    /// One of `-obs` and `-why` stands after the other.
+    ExcludedOption,
     /// The tool needs `-arch`, and it isn't there.
     MissingArch,
     /// The tool needs `-edges`, and it isn't there.
@@ -49,6 +51,8 @@ pub enum UsageKind {
     MissingNumber,
     /// The tool needs two files, and one of them isn't there.
     MissingFile,
+    /// `-o` of diyone7 needs `-why`, and it isn't there.
+    MissingWhy,
     /// There are more than 65,536 ways to choose a relaxation for each place.
     TooManyChoices,
 }
