@@ -43,7 +43,11 @@ use Rattle.diy_tools.specs.NameAnswers.{AnswersSought}
 use Rattle.diy_tools.specs.ListAnswers.{EndsAsked, plan_asked}
 use Rattle.diy_tools.specs.CrossAnswers.{AnswersCross, EndsCrossed}
 use Rattle.diy_tools.specs.SumAnswers.{EndsInput, EndsSum, sum_status}
-use Rattle.diy_tools.specs.Machines.{machine_of}
+use Rattle.diy_tools.specs.Machines.{Machine, machine_of}
+use Rattle.diy_tools.specs.declared.status.Refusal.{Refusal}
+use Rattle.diy_tools.specs.declared.status.Device.TheVariants.{Out, Shelf}
+use Rattle.diy_tools.specs.TestAnswers.{test_name}
+use Rattle.diy_tools.specs.WhyAnswers.{AnswersRuns, WritesRuns, unshown}
 use Rattle.diy_tools.specs.CheckAnswers.{EndsCheck, checked_kind, check_status}
 use Rattle.diy_tools.specs.Answers.{Answers, AnswersAsked}
 use Rattle.diy_tools.proofs.Opened.{IsWithin, files_within, failed_within}

@@ -7,6 +7,7 @@ mod places;
 mod reads;
 mod run;
 mod shown;
+mod sink;
 mod text;
 
 pub use errors::{WhyError, WhyRefusal};

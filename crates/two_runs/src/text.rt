@@ -1,16 +1,16 @@
-ghost use Rattle.std.specs.Prelude.{◌≡◌, ◌≤◌, length, IfOk};
+ghost use Rattle.std.specs.Prelude.{◌≡◌, length, IfOk};
 ghost use Rattle.std.specs.List.{All};
 ghost use Rattle.litmus_text.specs.Tests.{IsPrintable, test_seen};
 ghost use Rattle.litmus_text.specs.TestText.{test_text};
-ghost use Rattle.litmus_text.specs.declared.limits.TheConstants.{MAX_NAME};
 ghost use Rattle.test_maker.specs.Made.{AreOfArch};
 ghost use Rattle.two_runs.specs.Shown.{GivesText};
 
 use crate::errors::{WhyError, WhyRefusal};
+use crate::sink::TextSink;
 use arch_trait::Arch;
 use cycle_resolve::Resolved;
-use diy_io::{NoMemory, Page, SPILL};
-use litmus_text::{KeptTable, Test, TextPart, put_header, put_part};
+use diy_io::{Failed, NoMemory};
+use litmus_text::{Test, print_test};
 use std::alloc::Global;
 use test_maker::{MakeRefusal, make_unobserved};
 
@@ -20,8 +20,7 @@ pub(crate) fn text_unobserved<A: Arch>(
     resolved: &Resolved,
     name: &str,
 ) -> Result<Vec<u8>, WhyError>
-    requires of_arch { AreOfArch A.puts resolved.now }
-    requires named { length name.now ≤ MAX_NAME }
+    requires { AreOfArch A.puts resolved.now }
     ensures { GivesText A.puts A.writing name.now resolved.now result }
 {
     let mut test = Test::new();
@@ -39,23 +38,12 @@ pub(crate) fn text_unobserved<A: Arch>(
 
 /// The text of a test under a name.
 fn text_of<A: Arch>(alloc: Global, test: &Test, name: &str) -> Result<Vec<u8>, NoMemory>
-    requires printable { All (λ code. IsPrintable A.puts.has A.REGISTERS (length test.now.places) code) test.now.threads.items }
-    requires named { length name.now ≤ MAX_NAME }
+    requires { All (λ code. IsPrintable A.puts.has A.REGISTERS (length test.now.places) code) test.now.threads.items }
     ensures { IfOk result (λ text. text.items ≡ test_text A.NAME A.writing name.now (test_seen test.now)) }
 {
-    let mut table = KeptTable::new();
-    table.keep::<A>(test);
-    let mut text = Vec::new(alloc);
-    let mut page = Page::new();
-    put_header::<A>(name, &mut page);
-    let mut next = Some(TextPart::Edges);
-    while let Some(part) = next {
-        if page.as_slice().len() >= SPILL {
-            text.extend_from_slice(page.as_slice())?;
-            page.clear();
-        }
-        next = put_part::<A>(part, test, &table, &mut page);
+    let mut sink = TextSink::new(alloc);
+    match print_test::<A, TextSink>(test, name, &mut sink) {
+        Ok(()) => Ok(sink.bytes),
+        Err(Failed) => Err(NoMemory),
     }
-    text.extend_from_slice(page.as_slice())?;
-    Ok(text)
 }
