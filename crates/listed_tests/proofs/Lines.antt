@@ -6,7 +6,7 @@ use Rattle.std.specs.Prelude.{codes}
 use Rattle.std.specs.Fmt.{decimal}
 use Rattle.std.specs.List.{enumerate_from, flat_map}
 use Rattle.relax_edges.specs.declared.edge.Edge.{Edge}
-use Rattle.listed_tests.specs.Files.{number_of, file_named, file_of, path_of, file_lines, test_files, count_line}
+use Rattle.listed_tests.specs.Files.{number_of, file_named, stem_named, file_of, path_of, file_lines, test_files, count_line}
 
 pub length_more : (us : List (List Edge)) (u : List Edge) → length (us ++ u ∷ []) ≡ length us + 1
 length_more us u = omega (arith, length-append us (u ∷ []))
@@ -61,7 +61,7 @@ counted_next m n h = omega arith
 
 -- a file goes by the number as it is counted
 pub file_counted : (m n : ℕ) (name : List ℕ) → number_of m ≡ number_of n → file_named m name ≡ file_named n name
-unfolding file_named
+unfolding file_named stem_named
 file_counted m n name h = rw h refl
 
 pub lines_counted : (m n : ℕ) (us : List (List Edge)) → number_of m ≡ number_of n → file_lines m us ≡ file_lines n us
