@@ -37,8 +37,8 @@ no_blank word h i d k = graphic_inked (get_or word i d) (AllPass-from_list_all i
 word_kept : (word : List ℕ) (pieces : List (List ℕ)) → IsWord word → filter (λ w. not (is_nil w)) (word ∷ pieces) ≡ word ∷ filter (λ w. not (is_nil w)) pieces
 word_kept word pieces w = rw w.some refl
 
--- the words of a line
-pub words_back : (word : List ℕ) (others : List (List ℕ)) → IsWord word → AllByRecursion IsWord others → words (word ++ further others) ≡ word ∷ others
+-- a line has the words of which it is made
+words_back : (word : List ℕ) (others : List (List ℕ)) → IsWord word → AllByRecursion IsWord others → words (word ++ further others) ≡ word ∷ others
 unfolding words
 words_back word [] w h =
     ap words (append-nil word)
@@ -54,17 +54,17 @@ further_printed [] h = refl
 further_printed (word ∷ others) h =
     all_both is_printed (codes " " ++ word) (further others) (weaker is_graphic is_printed graphic_printed word h.0.bytes) (further_printed others h.1)
 
--- the bytes of a line
+-- a line of words has bytes of lines alone
 pub line_printed : (word : List ℕ) (others : List (List ℕ)) → IsWord word → AllByRecursion IsWord others → list_all is_printed (line_of (word ∷ others)) ≡ true
 line_printed word others w h = all_both is_printed word (further others) (weaker is_graphic is_printed graphic_printed word w.bytes) (further_printed others h)
 
--- what words name that were written of things
-pub named_back : {X : Type 0} (bad : ExecKind) (name : List ℕ → Option X) (word : X → List ℕ) (xs : List X) → AllByRecursion (λ x. name (word x) ≡ Some x) xs
+-- words that were written of things name these
+named_back : {X : Type 0} (bad : ExecKind) (name : List ℕ → Option X) (word : X → List ℕ) (xs : List X) → AllByRecursion (λ x. name (word x) ≡ Some x) xs
     → all_named bad name (map word xs) ≡ Ok xs
 named_back bad name word [] h = refl
 named_back bad name word (x ∷ xs) h = rw (h.0, named_back bad name word xs h.1) refl
 
--- what a line tells that was written of things under a head
+-- a line that was written of things after a head tells these
 pub line_back : {X : Type 0} (bad_head bad : ExecKind) (name : List ℕ → Option X) (word : X → List ℕ) (head : List ℕ) (xs : List X) → IsWord head → AllByRecursion IsWord (map word xs)
     → AllByRecursion (λ x. name (word x) ≡ Some x) xs → line_told bad_head bad name head (words (line_of (head ∷ map word xs))) ≡ Ok xs
 unfolding line_told
@@ -82,7 +82,7 @@ keeps_end (byte ∷ []) h = let parts = both (is_printed byte) true h in rw (no_
 keeps_end (byte ∷ next ∷ line) h =
     let parts = both (is_printed byte) (list_all is_printed (next ∷ line)) h in ap (λ rest. byte ∷ rest) (keeps_end (next ∷ line) parts.1)
 
--- the lines of a text
+-- a text has the lines of which it is made
 pub lines_back : (lines : List (List ℕ)) → AllByRecursion (λ line. list_all is_printed line ≡ true) lines → lines_of (flat_map ended lines) ≡ lines
 lines_back [] h = refl
 lines_back (line ∷ lines) h =

@@ -53,18 +53,20 @@ digits_graphic n h = weaker is_ascii_digit is_graphic digit_graphic (decimal n) 
 number_back : (bound n : ℕ) → n < bound → n < 2 ^ 32 → number_below bound (decimal n) ≡ Some n
 number_back bound n h k = ap (option_and_then (kept_below bound)) (number_of-decimal n k) ∙ rw (lt-ltb n bound h) refl
 
--- the word of an access, cut at its point
+-- the word for an access is cut at its point
 access_cut : (threads : ℕ) (w : WriteAt) → AccessFits threads w → threads ≤ MAX_TEXT → cut_at 46 (access_word w) ≡ Some (decimal w.thread, decimal w.access)
 unfolding access_word
 access_cut threads w f h =
     cut_back 46 (decimal w.thread) (decimal w.access) (without_class is_ascii_digit 46 (decimal w.thread) refl (digits_are w.thread (omega (arith, f.0, h))))
 
+-- an access is named by its word
 pub access_back : (threads : ℕ) → threads ≤ MAX_TEXT → (w : WriteAt) → AccessFits threads w → access_named threads (access_word w) ≡ Some w
 unfolding access_named
 access_back threads h w f =
     ap (access_in threads) (access_cut threads w f h)
     ∙ rw (number_back threads w.thread f.0 (omega (arith, f.0, h)), number_back MAX_ACCESSES w.access f.1 (omega (arith, f.1))) refl
 
+-- what is written of an access is a word
 pub access_is_word : (threads : ℕ) → threads ≤ MAX_TEXT → (w : WriteAt) → AccessFits threads w → IsWord (access_word w)
 unfolding access_word
 access_is_word threads h w f = record {
@@ -82,6 +84,7 @@ no_initial threads w f h =
     absurd (cc))
     (λ e. e)
 
+-- what a read reads is named by its word
 source_back : (threads : ℕ) → threads ≤ MAX_TEXT → (source : Option WriteAt) → SourceFits threads source → source_named threads (source_word source) ≡ Some source
 unfolding source_named source_word
 source_back threads h None f = refl
@@ -92,12 +95,14 @@ unfolding source_word
 source_graphic threads h None f = refl
 source_graphic threads h (Some w) f = (access_is_word threads h w f).bytes
 
+-- a read is named by its word
 pub read_back : (threads : ℕ) → threads ≤ MAX_TEXT → (r : ℕ × Option WriteAt) → ReadFits threads r → read_named threads (read_word r) ≡ Some r
 unfolding read_named read_word
 read_back threads h r f =
     ap (read_in threads) (cut_back 64 (decimal r.0) (source_word r.1) (without_class is_ascii_digit 64 (decimal r.0) refl (digits_are r.0 f.0)))
     ∙ rw (number_of-decimal r.0 f.0, source_back threads h r.1 f.1) refl
 
+-- what is written of a read is a word
 pub read_is_word : (threads : ℕ) → threads ≤ MAX_TEXT → (r : ℕ × Option WriteAt) → ReadFits threads r → IsWord (read_word r)
 unfolding read_word
 read_is_word threads h r f = record {
@@ -105,7 +110,7 @@ read_is_word threads h r f = record {
   bytes = all_both is_graphic (decimal r.0) (codes "@" ++ source_word r.1) (digits_graphic r.0 f.0) (source_graphic threads h r.1 f.1);
 }
 
--- the heads of lines
+-- the head of a thread's line is a word, and that of a place's
 pub thread_is_word : (thread : ℕ) → thread < 2 ^ 32 → IsWord (thread_head thread)
 thread_is_word thread h = record {
   some = refl;
