@@ -2,3 +2,8 @@ pub mod FirstLines
 pub mod Telling
 pub mod Growing
 pub mod Whole
+pub mod Appending
+mod WrittenRows
+pub mod WordsBack
+pub mod LinesBack
+pub mod ExecutionBack

@@ -157,7 +157,8 @@ pub record AllRead (threads : ℕ) (places lines : List (List ℕ)) (y : Executi
   pub write_lists : length orders ≡ length places
   pub y_is : record { reads = reads; orders = orders } ≡ y
 
-read_as : (threads : ℕ) (places lines left last : List (List ℕ)) (reads : List (List (ℕ × Option WriteAt))) (orders : List (List WriteAt))
+-- what lines tell, by what those of the threads and those of the places do
+pub read_as : (threads : ℕ) (places lines left last : List (List ℕ)) (reads : List (List (ℕ × Option WriteAt))) (orders : List (List WriteAt))
     → threads_told threads lines ≡ Ok (reads, left) → places_told threads places left ≡ Ok (orders, last) → lines_read threads places lines ≡ execution_of (threads + length places + 1) reads (orders, last)
 unfolding lines_read
 read_as threads places lines left last reads orders e f = rw (e, f) refl

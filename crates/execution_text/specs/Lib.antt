@@ -1,2 +1,4 @@
 pub mod ExecutionText
 pub mod Steps
+pub mod Written
+pub mod ReadBack

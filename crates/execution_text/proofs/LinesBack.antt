@@ -1,0 +1,97 @@
+-- A line that is written has the words of which it is made, and tells what these name; the lines of a text that is written are
+-- those of which it is made.
+use Rattle.std.proofs.Common.{◌≡◌, ◌==◌, ◌≤◌, ℕ, List, [], ◌∷◌, ◌++◌, map, length, get_or, true, false, refl, ap, ◌∙◌, arith, append_assoc, length-append}
+use Rattle.std.specs.Prelude.{Bool, not, ◌&&◌, nat_le, nat_lt, codes, Option, Some, Ok}
+use Rattle.std.specs.List.{All, AllByRecursion, list_all, filter, flat_map, slice_split}
+use Rattle.std.proofs.lemmas.Bool.Decides.{nat_tests}
+use Rattle.std.proofs.lemmas.List.{append-nil}
+use Rattle.std.proofs.lemmas.List.Splits.{slice_split_at, slice_split_none}
+use Rattle.std.proofs.lemmas.List.Sums.{AllPass-from_list_all}
+use Rattle.text_laws.specs.Runs.{is_blank}
+use Rattle.litmus_text.specs.Cuts.{is_nil, words}
+use Rattle.litmus_text.specs.Lines.{without_return}
+use Rattle.litmus_text.specs.TestText.{ended}
+use Rattle.litmus_text.specs.Views.{CutParts}
+use Rattle.litmus_text.proofs.CutBack.{all_both, both, bytes_same, weaker, without_class}
+use Rattle.execution_text.specs.declared.errors.ExecKind.{ExecKind}
+use Rattle.execution_text.specs.ExecutionText.{all_named, line_told, lines_of}
+use Rattle.execution_text.specs.Written.{line_of}
+use Rattle.execution_text.proofs.Appending.{further}
+use Rattle.execution_text.proofs.FirstLines.{line_cut}
+use Rattle.execution_text.proofs.WordsBack.{IsWord, is_graphic}
+
+-- a byte of a line: a blank or a graphic character
+abbrev pub is_printed : ℕ → Bool
+is_printed byte = nat_le 32 byte && nat_lt byte 127
+
+graphic_printed : (byte : ℕ) → is_graphic byte ≡ true → is_printed byte ≡ true
+graphic_printed byte h = grind (arith, nat_tests)
+
+graphic_inked : (byte : ℕ) → is_graphic byte ≡ true → is_blank byte ≡ false
+graphic_inked byte h = grind (arith, nat_tests)
+
+no_blank : (word : List ℕ) → list_all is_graphic word ≡ true → All (λ byte. is_blank byte ≡ false) word
+no_blank word h i d k = graphic_inked (get_or word i d) (AllPass-from_list_all is_graphic word h i d k)
+
+-- a piece that is a word is kept
+word_kept : (word : List ℕ) (pieces : List (List ℕ)) → IsWord word → filter (λ w. not (is_nil w)) (word ∷ pieces) ≡ word ∷ filter (λ w. not (is_nil w)) pieces
+word_kept word pieces w = rw w.some refl
+
+-- a line has the words of which it is made
+words_back : (word : List ℕ) (others : List (List ℕ)) → IsWord word → AllByRecursion IsWord others → words (word ++ further others) ≡ word ∷ others
+unfolding words
+words_back word [] w h =
+    ap words (append-nil word)
+    ∙ ap (λ pieces. filter (λ p. not (is_nil p)) pieces) (slice_split_none is_blank word (no_blank word w.bytes))
+    ∙ word_kept word [] w
+words_back word (next ∷ others) w h =
+    ap (λ pieces. filter (λ p. not (is_nil p)) pieces) (slice_split_at is_blank word 32 (next ++ further others) (no_blank word w.bytes) refl)
+    ∙ word_kept word (slice_split is_blank (next ++ further others)) w
+    ∙ ap (λ rest. word ∷ rest) (words_back next others h.0 h.1)
+
+further_printed : (others : List (List ℕ)) → AllByRecursion IsWord others → list_all is_printed (further others) ≡ true
+further_printed [] h = refl
+further_printed (word ∷ others) h =
+    all_both is_printed (codes " " ++ word) (further others) (weaker is_graphic is_printed graphic_printed word h.0.bytes) (further_printed others h.1)
+
+-- a line of words has bytes of lines alone
+pub line_printed : (word : List ℕ) (others : List (List ℕ)) → IsWord word → AllByRecursion IsWord others → list_all is_printed (line_of (word ∷ others)) ≡ true
+line_printed word others w h = all_both is_printed word (further others) (weaker is_graphic is_printed graphic_printed word w.bytes) (further_printed others h)
+
+-- words that were written of things name these
+named_back : {X : Type 0} (bad : ExecKind) (name : List ℕ → Option X) (word : X → List ℕ) (xs : List X) → AllByRecursion (λ x. name (word x) ≡ Some x) xs
+    → all_named bad name (map word xs) ≡ Ok xs
+named_back bad name word [] h = refl
+named_back bad name word (x ∷ xs) h = rw (h.0, named_back bad name word xs h.1) refl
+
+-- a line that was written of things after a head tells these
+pub line_back : {X : Type 0} (bad_head bad : ExecKind) (name : List ℕ → Option X) (word : X → List ℕ) (head : List ℕ) (xs : List X) → IsWord head → AllByRecursion IsWord (map word xs)
+    → AllByRecursion (λ x. name (word x) ≡ Some x) xs → line_told bad_head bad name head (words (line_of (head ∷ map word xs))) ≡ Ok xs
+unfolding line_told
+line_back bad_head bad name word head xs w ws h =
+    ap (line_told bad_head bad name head) (words_back head (map word xs) w ws) ∙ rw (bytes_same head) (named_back bad name word xs h)
+
+-- a line keeps its last byte
+no_return : (byte : ℕ) → is_printed byte ≡ true → (byte == 13) ≡ false
+no_return byte h = grind (arith, nat_tests)
+
+keeps_end : (line : List ℕ) → list_all is_printed line ≡ true → without_return line ≡ line
+unfolding without_return
+keeps_end [] h = refl
+keeps_end (byte ∷ []) h = let parts = both (is_printed byte) true h in rw (no_return byte parts.0) refl
+keeps_end (byte ∷ next ∷ line) h =
+    let parts = both (is_printed byte) (list_all is_printed (next ∷ line)) h in ap (λ rest. byte ∷ rest) (keeps_end (next ∷ line) parts.1)
+
+-- a text has the lines of which it is made
+pub lines_back : (lines : List (List ℕ)) → AllByRecursion (λ line. list_all is_printed line ≡ true) lines → lines_of (flat_map ended lines) ≡ lines
+lines_back [] h = refl
+lines_back (line ∷ lines) h =
+    let rest = flat_map ended lines in
+    let cut : CutParts 10 (ended line ++ rest) line rest = record { parts = append_assoc line (codes "\n") rest; first = without_class is_printed 10 line refl h.0 } in
+    line_cut (ended line ++ rest) line rest cut ∙ ap (λ first. first ∷ lines_of rest) (keeps_end line h.0) ∙ ap (λ others. line ∷ others) (lines_back lines h.1)
+
+-- there are no more lines than bytes
+pub lines_few : (lines : List (List ℕ)) → length lines ≤ length (flat_map ended lines)
+lines_few [] = omega arith
+lines_few (line ∷ lines) =
+    omega (arith, lines_few lines, length-append (ended line) (flat_map ended lines), length-append line (codes "\n"))
