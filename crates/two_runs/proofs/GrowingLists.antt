@@ -43,6 +43,11 @@ filled_more f n k h =
     ∙ sym (append_assoc (map f (upto k)) (f k ∷ []) rest)
     ∙ ap (λ ls. ls ++ rest) (sym (map-upto_more f k))
 
+pub filled_none : {X : Type 0} (f : ℕ → List X) (n : ℕ) → filled_to f n 0 ≡ empty_lists n
+filled_none f n =
+    let all : n - 0 ≡ n = omega arith in
+    ap empty_lists all
+
 pub filled_whole : {X : Type 0} (f : ℕ → List X) (n : ℕ) → filled_to f n n ≡ map f (upto n)
 filled_whole f n =
     let none : n - n ≡ zero = omega arith in

@@ -1,1 +1,5 @@
 pub mod GrowingLists
+pub mod CycleReads
+pub mod CycleOrders
+pub mod Texts
+pub mod Numbering

@@ -1,16 +1,17 @@
 -- How the two executions are made: for the clauses of private functions.
 -- Source: own.
-use Rattle.std.specs.Prelude.{ℕ, ◌+◌, List, [], ◌++◌, map, Option, Some, None, slice_get, slice_set, unwrap_or}
+use Rattle.std.specs.Prelude.{ℕ, ◌+◌, ◌==◌, ◌&&◌, Bool, List, [], ◌++◌, map, Option, Some, None, slice_get, slice_set, unwrap_or}
 use Rattle.std.specs.List.{filter_map}
 use Rattle.relax_edges.specs.declared.edge.Edge.{Edge}
 use Rattle.list_laws.specs.Numbers.{upto}
-use Rattle.resolution_laws.specs.Resolution.{external_count, move_count}
+use Rattle.resolution_laws.specs.Resolution.{external_count, move_count, thread_of}
 use Rattle.value_laws.specs.Values.{write_count}
 use Rattle.arch_trait.specs.Names.{location_name}
 use Rattle.litmus_text.specs.Placing.{place_in}
 use Rattle.program_meaning.specs.declared.WriteAt.{WriteAt}
+use Rattle.program_meaning.specs.Accesses.{is_read}
 use Rattle.program_meaning.specs.Executions.{Execution}
-use Rattle.program_meaning.specs.Intended.{event_read, location_numbered, reads_in, write_of}
+use Rattle.program_meaning.specs.Intended.{event_access, event_read, location_numbered, reads_in, write_of}
 use Rattle.communication.specs.Exchange.{exchanged_value}
 
 -- the numbers of the locations' places, where places have these names
@@ -20,6 +21,10 @@ numbers_by places location = place_in places (location_name location)
 -- lists, of which number k has these elements more, at its end
 abbrev pub appended : {X : Type 0} → List (List X) → ℕ → List X → List (List X)
 appended lists k xs = slice_set lists k (unwrap_or (slice_get lists k) [] ++ xs)
+
+-- event i is a read of a thread
+abbrev pub is_read_of : List Edge → ℕ → ℕ → Bool
+is_read_of es thread i = is_read (event_access es (λ location. location) i) && (thread_of es i == thread)
 
 -- what the reads of the cycle's threads read
 abbrev pub cycle_reads : List Edge → List (List (ℕ × Option WriteAt))

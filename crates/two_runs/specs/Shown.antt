@@ -1,9 +1,10 @@
 -- What is shown of a cycle that the mode avoid refuses because a write needs an observer: the text of its test without
 -- observers, and two executions of what that is read as.
 -- Source: own.
-use Rattle.std.specs.Prelude.{◌≡◌, ℕ, not, List, Option, Some, None, Result, Ok, Err}
+use Rattle.std.specs.Prelude.{◌≡◌, ℕ, not, List, Option, Some, None, Result, Ok, Err, Vec}
 use Rattle.std.specs.List.{position_from}
 use Rattle.std.specs.Option.{option_map, option_or}
+use Rattle.std.specs.declared.alloc.Global.{Global}
 use Rattle.relax_edges.specs.declared.kinds.ArchName.{ArchName}
 use Rattle.relax_edges.specs.declared.kinds.ObsMode.TheVariants.{Avoid}
 use Rattle.relax_edges.specs.declared.edge.Edge.{Edge}
@@ -69,7 +70,7 @@ pub record AreRuns (a : Puts) (w : Writing) (name : List ℕ) (es : List Edge) (
 
 -- the text of the test without observers is given, which has code on the architecture; or the first thread that needs too many
 -- registers; or there is no memory, of which nothing is said
-abbrev pub GivesText : Puts → Writing → List ℕ → List Edge → Result Vec WhyError → Type 0
+abbrev pub GivesText : Puts → Writing → List ℕ → List Edge → Result (Vec ℕ Global) WhyError → Type 0
 GivesText a w name es (Ok text) = (crowded a es ≡ None) × HasCode a es Avoid × (text.items ≡ test_text a.name w name (shown_test a w es Avoid))
 GivesText a w name es (Err errors.NoMemory) = Unit {0}
 GivesText a w name es (Err (errors.Refused refusal)) = crowded a es ≡ Some refusal

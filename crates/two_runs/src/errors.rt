@@ -1,3 +1,4 @@
+ghost use Rattle.std.specs.Prelude.{◌≡◌};
 ghost use Rattle.two_runs.specs.declared.errors.WhyError.TheVariants.{NoMemory as NoMemoryForRuns};
 
 use diy_io::NoMemory;

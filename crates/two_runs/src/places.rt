@@ -28,7 +28,7 @@ pub(crate) fn location_at(valued: &Valued, places: &Places, place: u8) -> u8
 
 /// The number of a name among those of places, or 0 where it isn't there.
 fn number_of(places: &Places, name: &PlaceName) -> u8
-    ensures { result ≡ place_in places.now name.bytes }
+    ensures { result ≡ place_in places.now name.now.bytes }
 {
     for number in 0..places.len() {
         if places.get(number).as_str() == name.as_str() {

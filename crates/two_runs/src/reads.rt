@@ -3,7 +3,7 @@ ghost use Rattle.resolution_laws.specs.Resolution.{external_count};
 ghost use Rattle.value_laws.specs.Values.{write_count};
 ghost use Rattle.exec_meaning.specs.Kept.{empty_lists};
 ghost use Rattle.program_meaning.specs.Intended.{event_read, reads_in, write_of};
-ghost use Rattle.two_runs.specs.Runs.{appended, cycle_reads};
+ghost use Rattle.two_runs.specs.Runs.{appended, cycle_reads, is_read_of};
 
 use coherence_values::Valued;
 use diy_io::NoMemory;
@@ -26,16 +26,26 @@ fn add_thread(valued: &Valued, thread: u8, exec: &mut Execution) -> Result<(), N
     requires { thread < length exec.old.reads }
     ensures { OnOk result (exec.new ≡ record exec.old { reads = appended exec.old.reads thread (map (event_read valued.now.edges) (reads_in valued.now.edges thread)) }) }
 {
-    let resolved = valued.resolved();
-    for i in 0..resolved.cycle().len() {
-        let event = resolved.event(i);
-        if event.thread == thread && event.dir == Dir::R {
+    for i in 0..valued.resolved().cycle().len() {
+        if is_read_of(valued, thread, i) {
             let value = valued.value_of(i);
-            let from = write_of(valued, event.location, value);
+            let from = write_of(valued, valued.resolved().event(i).location, value);
             exec.add_read(thread, u32::from(value), from)?;
         }
     }
     Ok(())
+}
+
+/// Whether an event is a read of a thread.
+fn is_read_of(valued: &Valued, thread: u8, i: u8) -> bool
+    requires { i < length valued.now.edges }
+    ensures { result ≡ is_read_of valued.now.edges thread i }
+{
+    let event = valued.resolved().event(i);
+    match event.dir {
+        Dir::R => event.thread == thread,
+        Dir::W => false,
+    }
 }
 
 /// The write of a location that has a value, none for the value 0, which is the initial one.

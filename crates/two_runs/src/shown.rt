@@ -1,4 +1,5 @@
-ghost use Rattle.std.specs.Prelude.{◌≡◌, Ok, Some};
+ghost use Rattle.std.specs.Prelude.{◌≡◌, List, Ok, Some};
+ghost use Rattle.relax_edges.specs.declared.edge.Edge.{Edge};
 ghost use Rattle.resolution_laws.specs.Resolution.{resolution_of};
 ghost use Rattle.value_laws.specs.Values.{observer_need};
 ghost use Rattle.litmus_text.specs.Printable.{IsTestName};

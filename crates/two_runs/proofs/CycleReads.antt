@@ -1,0 +1,75 @@
+-- The reads of a thread among the first events, and those of the first threads.
+use Rattle.std.proofs.Common.{◌≡◌, ℕ, ◌+◌, ◌<◌, ◌==◌, ◌&&◌, Bool, true, false, cond, List, [], ◌∷◌, ◌++◌, length, map, Option, refl, sym, ap, ◌∙◌, subst}
+use Rattle.std.specs.List.{filter}
+use Rattle.std.proofs.lemmas.List.{map-append}
+use Rattle.list_laws.specs.Numbers.{upto}
+use Rattle.list_laws.proofs.Cases.{by_test}
+use Rattle.relax_edges.specs.declared.edge.Edge.{Edge}
+use Rattle.resolution_laws.specs.Resolution.{thread_of, events_in, location_of}
+use Rattle.value_laws.specs.Values.{value_of}
+use Rattle.program_meaning.specs.declared.WriteAt.{WriteAt}
+use Rattle.program_meaning.specs.Accesses.{is_read}
+use Rattle.program_meaning.specs.Executions.{Execution}
+use Rattle.program_meaning.specs.Intended.{event_access, event_read, reads_in, write_of}
+use Rattle.exec_meaning.specs.Kept.{with_read}
+use Rattle.two_runs.specs.Runs.{appended, is_read_of}
+use Rattle.two_runs.proofs.GrowingLists.{added_appended, appended_none, filled_more, filled_to, filter_yes, filter_no}
+
+-- the reads of a thread among the first events
+abbrev pub reads_before : List Edge → ℕ → ℕ → List ℕ
+reads_before es thread n = filter (is_read_of es thread) (upto n)
+
+both_tests : (p q : ℕ → Bool) (xs : List ℕ) → filter (λ i. q i && p i) xs ≡ filter q (filter p xs)
+both_tests p q [] = refl
+both_tests p q (x ∷ xs) =
+    by_test (p x)
+    (λ one. by_test (q x)
+    (λ reads. simp (one, reads) (ap (λ ys. x ∷ ys) (both_tests p q xs)))
+    (λ none. simp (one, none) (both_tests p q xs)))
+    (λ other. by_test (q x)
+    (λ reads. simp (other, reads) (both_tests p q xs))
+    (λ none. simp (other, none) (both_tests p q xs)))
+
+-- all of them
+pub reads_all : (es : List Edge) (thread n : ℕ) → n ≡ length es → reads_before es thread n ≡ reads_in es thread
+unfolding events_in
+reads_all es thread n e =
+    ap (reads_before es thread) e
+    ∙ both_tests (λ i. thread_of es i == thread) (λ i. is_read (event_access es (λ location. location) i)) (upto (length es))
+
+-- an execution in which a thread has the reads of the first events
+abbrev pub thread_to : List Edge → Execution → ℕ → ℕ → Execution
+thread_to es old thread n = record old { reads = appended old.reads thread (map (event_read es) (reads_before es thread n)) }
+
+pub thread_begins : (es : List Edge) (old : Execution) (thread : ℕ) → old ≡ thread_to es old thread 0
+thread_begins es old thread = ap (λ reads. record old { reads = reads }) (sym (appended_none old.reads thread))
+
+-- one read more
+pub thread_more : (es : List Edge) (old x y : Execution) (thread n location value : ℕ) (from : Option WriteAt) → is_read_of es thread n ≡ true
+    → value ≡ value_of es n → location ≡ location_of es n → from ≡ write_of es location value
+    → x ≡ thread_to es old thread n → y ≡ with_read x thread (value, from) → y ≡ thread_to es old thread (n + 1)
+thread_more es old x y thread n location value from reads v l f before put =
+    let read : (value, from) ≡ event_read es n = λ i. (v i, (f ∙ (λ j. write_of es (l j) (v j))) i) in
+    let some = map (event_read es) (reads_before es thread n) in
+    put ∙ ap (λ (z : Execution). with_read z thread (value, from)) before
+    ∙ ap (λ r. with_read (thread_to es old thread n) thread r) read
+    ∙ ap (λ reads. record old { reads = reads }) (added_appended old.reads thread some (event_read es n))
+    ∙ ap (λ reads. record old { reads = appended old.reads thread reads })
+    (sym (ap (map (event_read es)) (filter_yes (is_read_of es thread) n reads) ∙ map-append (event_read es) (reads_before es thread n) (n ∷ [])))
+
+-- an event that isn't one
+pub thread_same : (es : List Edge) (old x : Execution) (thread n : ℕ) → is_read_of es thread n ≡ false
+    → x ≡ thread_to es old thread n → x ≡ thread_to es old thread (n + 1)
+thread_same es old x thread n none before =
+    before ∙ ap (λ events. record old { reads = appended old.reads thread (map (event_read es) events) }) (sym (filter_no (is_read_of es thread) n none))
+
+pub thread_whole : (es : List Edge) (old x : Execution) (thread n : ℕ) → n ≡ length es → x ≡ thread_to es old thread n
+    → x ≡ record old { reads = appended old.reads thread (map (event_read es) (reads_in es thread)) }
+thread_whole es old x thread n e before =
+    before ∙ ap (λ events. record old { reads = appended old.reads thread (map (event_read es) events) }) (reads_all es thread n e)
+
+-- one thread more has its reads
+pub threads_more : (f : ℕ → List (ℕ × Option WriteAt)) (old x y : Execution) (n k : ℕ) → k < n → x ≡ record old { reads = filled_to f n k }
+    → y ≡ record x { reads = appended x.reads k (f k) } → y ≡ record old { reads = filled_to f n (k + 1) }
+threads_more f old x y n k h before put =
+    put ∙ ap (λ (z : Execution). record z { reads = appended z.reads k (f k) }) before ∙ ap (λ reads. record old { reads = reads }) (filled_more f n k h)

@@ -1,0 +1,65 @@
+-- The number of a name among those of places, and the location whose place has a number.
+use Rattle.std.proofs.Common.{◌≡◌, ℕ, ◌+◌, ◌<◌, ◌≤◌, ◌==◌, Bool, true, false, cond, List, [], ◌∷◌, length, drop, Option, Some, None, refl, sym, ap, ◌∙◌, subst, arith}
+use Rattle.std.specs.Prelude.{slice_index_or, unwrap_or}
+use Rattle.std.specs.List.{find, position_from}
+use Rattle.std.specs.Str.{bytes_eq}
+use Rattle.std.proofs.lemmas.List.{drop_more}
+use Rattle.std.proofs.Math.Seq.{drop-length}
+use Rattle.list_laws.specs.Numbers.{upto}
+use Rattle.list_laws.proofs.Cases.{by_less}
+use Rattle.list_laws.proofs.Finds.{find_upto_first, find_upto_none}
+use Rattle.relax_edges.specs.declared.edge.Edge.{Edge}
+use Rattle.resolution_laws.specs.Resolution.{move_count}
+use Rattle.litmus_text.specs.Placing.{or_zero, place_in}
+use Rattle.program_meaning.specs.Intended.{location_numbered}
+
+-- the number that is found from a name on
+abbrev pub found_from : List (List ℕ) → List ℕ → ℕ → ℕ
+found_from places name i = or_zero (position_from (λ x. bytes_eq x name) i (drop i places))
+
+from_one : (places : List (List ℕ)) (name x : List ℕ) (i : ℕ) → i < length places → x ≡ slice_index_or places i []
+    → position_from (λ y. bytes_eq y name) i (drop i places) ≡ cond (bytes_eq x name) (Some i) (position_from (λ y. bytes_eq y name) (i + 1) (drop (i + 1) places))
+from_one places name x i h e =
+    ap (position_from (λ y. bytes_eq y name) i) (drop_more places i [] h)
+    ∙ ap (λ z. cond (bytes_eq z name) (Some i) (position_from (λ y. bytes_eq y name) (i + 1) (drop (i + 1) places))) (sym e)
+
+-- it is the name's, or that of a later one
+pub found_here : (places : List (List ℕ)) (name x : List ℕ) (i : ℕ) → i < length places → x ≡ slice_index_or places i [] → bytes_eq x name ≡ true → found_from places name i ≡ i
+found_here places name x i h e same =
+    ap or_zero (from_one places name x i h e)
+    ∙ ap (λ b. or_zero (cond b (Some i) (position_from (λ y. bytes_eq y name) (i + 1) (drop (i + 1) places)))) same
+
+pub found_later : (places : List (List ℕ)) (name x : List ℕ) (i : ℕ) → i < length places → x ≡ slice_index_or places i [] → bytes_eq x name ≡ false
+    → found_from places name i ≡ found_from places name (i + 1)
+found_later places name x i h e other =
+    ap or_zero (from_one places name x i h e)
+    ∙ ap (λ b. or_zero (cond b (Some i) (position_from (λ y. bytes_eq y name) (i + 1) (drop (i + 1) places)))) other
+
+pub found_nowhere : (places : List (List ℕ)) (name : List ℕ) (i : ℕ) → i ≡ length places → found_from places name i ≡ 0
+found_nowhere places name i e =
+    ap (λ rest. or_zero (position_from (λ y. bytes_eq y name) i rest)) (ap (λ n. drop n places) e ∙ drop-length places)
+
+-- the first location with the number, and where there is none
+pub numbered_here : (es : List Edge) (number : ℕ → ℕ) (place location : ℕ) → location < move_count es → number location ≡ place
+    → ((j : ℕ) → j < location → (number j == place) ≡ false) → location ≡ location_numbered es number place
+unfolding location_numbered
+numbered_here es number place location h e before =
+    sym (ap (λ found. unwrap_or found 0) (find_upto_first (λ l. number l == place) (move_count es) location h (equal (number location) place e) before))
+  where
+    equal : (m n : ℕ) → m ≡ n → (m == n) ≡ true
+    equal m n e = grind (arith, e)
+
+pub numbered_nowhere : (es : List Edge) (number : ℕ → ℕ) (place n : ℕ) → move_count es ≤ n → ((j : ℕ) → j < n → (number j == place) ≡ false)
+    → 0 ≡ location_numbered es number place
+unfolding location_numbered
+numbered_nowhere es number place n h none =
+    sym (ap (λ found. unwrap_or found 0) (find_upto_none (λ l. number l == place) (move_count es) (λ j below. none j (omega arith))))
+
+-- one location more hasn't the number
+pub none_more : (number : ℕ → ℕ) (place n : ℕ) → ((j : ℕ) → j < n → (number j == place) ≡ false) → (number n ≡ place → ⊥) → (j : ℕ) → j < n + 1 → (number j == place) ≡ false
+none_more number place n none other j below =
+    by_less j n (λ before. none j before)
+    (λ last. let same : j ≡ n = omega arith in subst (λ k. (number k == place) ≡ false) (sym same) (apart (number n) place other))
+  where
+    apart : (m k : ℕ) → (m ≡ k → ⊥) → (m == k) ≡ false
+    apart m k e = grind (arith, e)

@@ -1,0 +1,7 @@
+use Rattle.std.proofs.Common.{◌≡◌}
+use Rattle.two_runs.proofs.CycleOrders.{place_to}
+use Rattle.two_runs.proofs.orders.add_order.Given as goal
+
+-- the place has its first writes
+abbrev pub invariant-loop-k : goal.invariant-loop-k
+invariant-loop-k l = l.exec ≡ place_to l.valued.edges l.moved l.location l.fn.exec l.place l.k

@@ -1,0 +1,11 @@
+use Rattle.std.proofs.Common.{◌≡◌}
+use Rattle.resolution_laws.specs.Resolution.{move_count}
+use Rattle.program_meaning.specs.Intended.{location_numbered}
+use Rattle.two_runs.specs.Runs.{numbers_by, order_of}
+use Rattle.two_runs.proofs.GrowingLists.{filled_to}
+use Rattle.two_runs.proofs.orders.add_orders.Given as goal
+
+-- the first places have their writes
+abbrev pub invariant-loop-place : goal.invariant-loop-place
+invariant-loop-place l =
+    l.exec ≡ record l.fn.exec { orders = filled_to (λ place. order_of l.valued.edges l.moved (location_numbered l.valued.edges (numbers_by l.places) place)) (move_count l.valued.edges) l.place }

@@ -1,0 +1,8 @@
+use Rattle.std.proofs.Common.{◌≡◌}
+use Rattle.litmus_text.specs.Placing.{place_in}
+use Rattle.two_runs.proofs.Numbering.{found_from}
+use Rattle.two_runs.proofs.places.number_of.Given as goal
+
+-- the name is none of the first ones
+abbrev pub invariant-loop-number : goal.invariant-loop-number
+invariant-loop-number l = found_from l.places l.name.bytes l.number ≡ place_in l.places l.name.bytes

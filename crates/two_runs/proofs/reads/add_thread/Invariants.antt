@@ -1,0 +1,7 @@
+use Rattle.std.proofs.Common.{◌≡◌}
+use Rattle.two_runs.proofs.CycleReads.{thread_to}
+use Rattle.two_runs.proofs.reads.add_thread.Given as goal
+
+-- the thread has the reads of its first events
+abbrev pub invariant-loop-i : goal.invariant-loop-i
+invariant-loop-i l = l.exec ≡ thread_to l.valued.edges l.fn.exec l.thread l.i

@@ -1,0 +1,7 @@
+use Rattle.std.proofs.Common.{◌≡◌, ◌-◌, length, ap, arith}
+use Rattle.value_laws.proofs.Writes.{write_of}
+use Rattle.two_runs.proofs.reads.write_of.Goals as goal
+
+pub event-event-requires : goal.event-event-requires
+event-event-requires c =
+    omega (arith, (write_of c.args.valued.now.edges c.args.location (c.args.value - 1) c.write_at.result c.write_at.ensures).below, ap length c.resolved.ensures)
