@@ -1,1 +1,2 @@
 pub mod GrowingLists
+pub mod Fitting
