@@ -7,3 +7,4 @@ mod WrittenRows
 pub mod WordsBack
 pub mod LinesBack
 pub mod ExecutionBack
+pub mod Short

@@ -3,3 +3,4 @@ pub mod CycleReads
 pub mod CycleOrders
 pub mod Texts
 pub mod Numbering
+pub mod Fitting
