@@ -56,7 +56,9 @@ pub(crate) fn write_of(valued: &Valued, location: u8, value: u8) -> Option<Write
     if value == 0 {
         return None;
     }
-    let event = valued.resolved().event(valued.write_at(location, value - 1));
+    let event = valued
+        .resolved()
+        .event(valued.write_at(location, value - 1));
     Some(WriteAt {
         thread: event.thread,
         access: event.slot,

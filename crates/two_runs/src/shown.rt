@@ -44,25 +44,18 @@ pub struct TwoRuns<A> {
 ///
 /// Refusals come in the order of `WhyRefusal`, each exactly where it holds and none before it does; there
 /// may be no memory at any time.
-pub fn two_runs<A: Arch>(
-    alloc: Global,
-    cycle: &Cycle,
-    name: &str,
-) -> Result<TwoRuns<A>, WhyError>
+pub fn two_runs<A: Arch>(alloc: Global, cycle: &Cycle, name: &str) -> Result<TwoRuns<A>, WhyError>
     requires named { IsTestName name.now }
     ensures { Shows A.puts A.writing name.now cycle.now result }
 {
+    resolved_edges();
     match first_foreign::<A>(cycle.edges()) {
         Some(at) => Err(WhyError::Refused(WhyRefusal::NotOfArch { at })),
         None => runs_of_arch(alloc, cycle, name),
     }
 }
 
-fn runs_of_arch<A: Arch>(
-    alloc: Global,
-    cycle: &Cycle,
-    name: &str,
-) -> Result<TwoRuns<A>, WhyError>
+fn runs_of_arch<A: Arch>(alloc: Global, cycle: &Cycle, name: &str) -> Result<TwoRuns<A>, WhyError>
     requires of_arch { (es : List Edge) → resolution_of cycle.now ≡ Ok es → AreOfArch A.puts es }
     requires named { IsTestName name.now }
     ensures { ShowsResolution A.puts A.writing name.now (resolution_of cycle.now) result }

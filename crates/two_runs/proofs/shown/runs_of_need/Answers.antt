@@ -1,20 +1,38 @@
-use Rattle.std.proofs.Common.{rules, ◌≡◌, List, Ok, Some, ℕ, ◌+◌, ◌-◌, ◌*◌, ◌<◌, ◌≤◌, length, ◌/◌, ◌%◌, Bool, true, false, nat_eq, nat_lt, [], ◌∷◌, ◌++◌, slice_index_or, slice_set, bit_and, bit_or, Fits, w8, w32, w64, Bor, MutBor}
-use Rattle.relax_edges.specs.declared.edge.Edge.{Edge}
-use Rattle.resolution_laws.specs.Resolution.{resolution_of}
-use Rattle.value_laws.specs.Values.{observer_need}
-use Rattle.litmus_text.specs.Printable.{IsTestName}
-use Rattle.test_maker.specs.Made.{AreOfArch}
-use Rattle.two_runs.specs.Shown.{Shows, ShowsNeed, ShowsResolution, ShowsResolved}
+use Rattle.std.proofs.Common.{◌≡◌, ◌<◌, ℕ, length, None, Some, sym, ap, ◌∙◌, subst}
+use Rattle.relax_edges.specs.declared.kinds.ArchName.{ArchName}
+use Rattle.value_laws.specs.Values.{Valuation}
+use Rattle.litmus_text.specs.TestReading.{test_read}
+use Rattle.two_runs.specs.Runs.{numbers_by, run_by}
+use Rattle.two_runs.proofs.ShownLaws.{are_runs, gives_fault, need_below, no_fault, undecided}
 use Rattle.two_runs.proofs.shown.runs_of_need.Goals as goal
 
--- src/shown.rt:108:36
 pub unreachable-requires : goal.unreachable-requires
-unreachable-requires g c = ?
+unreachable-requires g c =
+    let a = g.A.Arch.puts in
+    let w = g.A.Arch.writing in
+    let es = c.args.resolved.now in
+    let made = c.in_ok-text.ensures in
+    no_fault a.name w c.in_ok-text.text.items c.as_slice.result.now _ es c.args.need.event c.in-Err-Text.field-0-0 made.2 c.as_slice.ensures.value
+    (undecided a g.A.Arch.NAME w c.args.name.now es c.args.need g.met.A.Arch.same_name c.printed_undecided.ensures c.requires.named made.1 c.requires.needs)
+    (ap (λ (n : ArchName). test_read n w c.as_slice.result.now) g.met.A.Arch.same_name
+    ∙ gives_fault (λ test. test) (test_read g.A.Arch.NAME w c.as_slice.result.now) c.in-Err-Text.field-0 c.in-Err-Text.field-0-0 c.in-Err-Text.field-0-is c.in-Err-Text.ensures)
 
--- src/shown.rt:112:15
 pub run_of-requires-2 : goal.run_of-requires-2
-run_of-requires-2 g c = ?
+run_of-requires-2 g c =
+    subst (λ (v : Valuation). (x : ℕ) → Some c.args.need.event ≡ Some x → x < length v.edges) (sym c.value_unobserved-valued.ensures)
+    (λ event e. need_below c.args.resolved.now c.args.need event c.in_ok-text.ensures.1.resolved c.requires.needs e)
 
--- src/shown.rt:92:1
 pub returns : goal.returns
-returns g c = ?
+returns g c =
+    let a = g.A.Arch.puts in
+    let w = g.A.Arch.writing in
+    let es = c.args.resolved.now in
+    let made = c.in_ok-text.ensures in
+    let u = undecided a g.A.Arch.NAME w c.args.name.now es c.args.need g.met.A.Arch.same_name c.printed_undecided.ensures c.requires.named made.1 c.requires.needs in (
+      made.0,
+      are_runs a w c.args.name.now es c.args.need c.in_ok-text.text.items c.as_slice.result.now c.in-Ok.test c.in_ok-one.one c.in_ok-two.two made.2 c.as_slice.ensures.value u
+          (ap (λ (n : ArchName). test_read n w c.as_slice.result.now) g.met.A.Arch.same_name ∙ c.in-Ok.ensures)
+          (c.in_ok-one.ensures ∙ ap (λ (v : Valuation). run_by v.edges None (numbers_by c.places.result.now)) c.value_unobserved-valued.ensures ∙ ap (λ places. run_by es None (numbers_by places)) c.places.ensures)
+          (c.in_ok-two.ensures ∙ ap (λ (v : Valuation). run_by v.edges (Some c.args.need.event) (numbers_by c.places-2.result.now)) c.value_unobserved-valued.ensures
+          ∙ ap (λ places. run_by es (Some c.args.need.event) (numbers_by places)) c.places-2.ensures),
+    )

@@ -1,0 +1,123 @@
+-- What is made is what is to be shown: the two executions are the intended one and the exchanged one, and the law of refusals speaks
+-- of the test that was read.
+use Rattle.std.proofs.Common.{◌≡◌, ℕ, suc, ◌+◌, ◌<◌, Bool, false, cond, List, [], ◌∷◌, ◌++◌, length, map, Option, Some, None, Ok, Err, refl, sym, ap, ◌∙◌, subst, arith, append-nil}
+use Rattle.std.specs.Prelude.{Result}
+use Rattle.std.specs.List.{filter, filter_map}
+use Rattle.std.proofs.Math.Path.{fun_ext}
+use Rattle.list_laws.specs.Numbers.{upto}
+use Rattle.relax_edges.specs.declared.kinds.ArchName.{ArchName}
+use Rattle.relax_edges.specs.declared.kinds.ObsMode.TheVariants.{Avoid}
+use Rattle.relax_edges.specs.declared.edge.Edge.{Edge}
+use Rattle.resolution_laws.specs.Resolution.{IsResolved, event_before, move_count}
+use Rattle.value_laws.specs.declared.needs.NeedsObserver.{NeedsObserver}
+use Rattle.value_laws.specs.Values.{is_observed, observer_need, write_count}
+use Rattle.arch_trait.specs.Names.{number_in}
+use Rattle.arch_trait.specs.Threads.{Puts}
+use Rattle.arch_trait.specs.Writing.{Writing}
+use Rattle.litmus_text.specs.Printable.{IsTestName}
+use Rattle.litmus_text.specs.TestReading.{TestRead, test_read}
+use Rattle.litmus_text.specs.TestText.{test_text}
+use Rattle.litmus_text.specs.declared.errors.TextError.{TextError}
+use Rattle.litmus_text.specs.declared.errors.ReadError.{ReadError}
+use Rattle.litmus_text.specs.declared.errors.ReadError.TheVariants as errors
+use Rattle.litmus_text.specs.Gives.{GivesInMemory}
+use Rattle.program_meaning.specs.Executions.{Execution}
+use Rattle.program_meaning.specs.Intended.{intended, location_numbered, location_order, observed_locations, observer_reads, ordered_write, write_of}
+use Rattle.communication.specs.Exchange.{exchanged, exchanged_order}
+use Rattle.communication.proofs.Bridge.{resolves}
+use Rattle.communication.proofs.Needs.{refused_entry}
+use Rattle.test_laws.specs.Headline.{HasCode}
+use Rattle.printed_tests.specs.Headline.{shown_test}
+use Rattle.printed_tests.specs.Readings.{program_read, place_of}
+use Rattle.exchange_laws.specs.Undecided.{BytesUndecided, NoneTells, PrintedUndecided, Undecided}
+use Rattle.two_runs.specs.Runs.{cycle_reads, numbers_by, order_of, run_by}
+use Rattle.two_runs.specs.Shown.{AreRuns}
+
+filter_none : (p : ℕ → Bool) (xs : List ℕ) → ((x : ℕ) → p x ≡ false) → filter p xs ≡ []
+filter_none p [] h = refl
+filter_none p (x ∷ xs) h = ap (λ b. cond b (x ∷ filter p xs) (filter p xs)) (h x) ∙ filter_none p xs h
+
+-- the mode avoid has no observers
+unobserved : (es : List Edge) → observed_locations es Avoid ≡ []
+unfolding is_observed
+unobserved es = filter_none (is_observed es Avoid) (upto (move_count es)) (λ l. refl)
+
+reads_are : (es : List Edge) (number : ℕ → ℕ) → cycle_reads es ≡ (intended es Avoid number).reads
+unfolding intended
+reads_are es number = sym (ap (λ locations. cycle_reads es ++ map (observer_reads es) locations) (unobserved es) ∙ append-nil (cycle_reads es))
+
+in_order : (es : List Edge) (location : ℕ) → order_of es None location ≡ location_order es location
+unfolding order_of location_order
+in_order es location =
+    ap (λ f. filter_map f (upto (write_count es location)))
+    (fun_ext (λ (k : ℕ). let next : k + 1 ≡ suc k = omega arith in ap (write_of es location) next))
+
+-- no write is exchanged
+pub run_intended : (es : List Edge) (number : ℕ → ℕ) → run_by es None number ≡ intended es Avoid number
+unfolding intended
+run_intended es number = λ i. record {
+  reads = reads_are es number i;
+  orders = map (λ place. in_order es (location_numbered es number place) i) (upto (move_count es));
+}
+
+-- a write and the one before it are
+pub run_exchanged : (es : List Edge) (event : ℕ) (number : ℕ → ℕ) → run_by es (Some event) number ≡ exchanged es number event
+unfolding exchanged order_of exchanged_order
+run_exchanged es event number = λ i. record {
+  reads = reads_are es number i;
+  orders = map (λ place. exchanged_order es event (location_numbered es number place)) (upto (move_count es));
+}
+
+-- the event that needs an observer is one of the cycle's
+pub need_below : (es : List Edge) (need : NeedsObserver) (event : ℕ) → IsResolved es → observer_need es ≡ Some need
+    → (let left : Option ℕ = Some need.event in left) ≡ Some event → event < length es
+need_below es need event resolved needs e =
+    let same : need.event ≡ event = cc in
+    subst (λ i. i < length es) same (refused_entry es need (resolves es resolved) needs).below
+
+-- the law, by the architecture's own name
+pub undecided : (a : Puts) (arch : ArchName) (w : Writing) (name : List ℕ) (es : List Edge) (need : NeedsObserver) → a.name ≡ arch → PrintedUndecided a arch w
+    → IsTestName name → HasCode a es Avoid → observer_need es ≡ Some need → BytesUndecided a.name w (test_text a.name w name (shown_test a w es Avoid)) es need.event
+undecided a arch w name es need same law named code needs =
+    subst (λ (n : ArchName). BytesUndecided n w (test_text n w name (shown_test a w es Avoid)) es need.event) (sym same) (law name es need named code needs)
+
+-- a fault that is told is that of the text
+pub gives_fault : {X : Type 0} (view : X → TestRead) (read : Result TestRead TextError) (error : ReadError) (fault : TextError) → error ≡ errors.Text fault
+    → GivesInMemory view (Err error) read → read ≡ Err fault
+gives_fault view read error fault e gives = subst (λ (error : ReadError). GivesInMemory view (Err error) read) e gives
+
+-- a text that is read has no fault
+pub no_fault : (arch : ArchName) (w : Writing) (text bytes whole : List ℕ) (es : List Edge) (event : ℕ) (fault : TextError) → text ≡ whole → bytes ≡ text → BytesUndecided arch w whole es event
+    → test_read arch w bytes ≡ Err fault → ⊥
+no_fault arch w text bytes whole es event fault t b u e = apart u.test (sym u.reads ∙ ap (test_read arch w) (sym (b ∙ t)) ∙ e)
+  where
+    apart : (test : TestRead) → (let left : Result TestRead TextError = Ok test in left) ≡ Err fault → ⊥
+    apart test e = cc e
+
+-- what is made is to be shown
+pub are_runs : (a : Puts) (w : Writing) (name : List ℕ) (es : List Edge) (need : NeedsObserver) (text bytes : List ℕ) (test : TestRead) (one two : Execution)
+    → text ≡ test_text a.name w name (shown_test a w es Avoid) → bytes ≡ text → BytesUndecided a.name w (test_text a.name w name (shown_test a w es Avoid)) es need.event
+    → test_read a.name w bytes ≡ Ok test → one ≡ run_by es None (numbers_by test.places) → two ≡ run_by es (Some need.event) (numbers_by test.places)
+    → AreRuns a w name es need text test one two
+are_runs a w name es need text bytes test one two t b u reads first second = record {
+  text_is = t;
+  reads = ap (test_read a.name w) (sym b) ∙ reads;
+  first = one_is;
+  second = two_is;
+  none_tells =
+      subst (λ (x : Execution). NoneTells (program_read test) test.places (number_in w.registers) es (event_before es need.event) x two) (sym one_is)
+      (subst (λ (y : Execution). NoneTells (program_read test) test.places (number_in w.registers) es (event_before es need.event) (intended es Avoid (place_of test)) y) (sym two_is)
+      (subst (λ (r : TestRead). Undecided (program_read r) r.places (number_in w.registers) es (place_of r) need.event) same u.undecided));
+}
+  where
+    is_ok : (x y : TestRead) → (let left : Result TestRead TextError = Ok x in left) ≡ Ok y → x ≡ y
+    is_ok x y e = cc e
+
+    same : u.test ≡ test
+    same = is_ok u.test test (sym u.reads ∙ ap (test_read a.name w) (sym (b ∙ t)) ∙ reads)
+
+    one_is : one ≡ intended es Avoid (place_of test)
+    one_is = first ∙ run_intended es (numbers_by test.places)
+
+    two_is : two ≡ exchanged es (place_of test) need.event
+    two_is = second ∙ run_exchanged es need.event (numbers_by test.places)
