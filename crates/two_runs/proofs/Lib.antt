@@ -4,3 +4,4 @@ pub mod CycleOrders
 pub mod Texts
 pub mod Numbering
 pub mod Fitting
+pub mod ReadAgain
