@@ -71,12 +71,12 @@ places_formed a w name es test code r reads =
     ap (λ (t : TestRead). list_all is_place_name t.places) same
     ∙ names_formed (move_count es) r.table (omega (arith, locations_few es code.resolved)) r.among
 
--- a candidate execution of a reading has a list of reads for each thread, and an order for each place
+-- a candidate execution of a reading has a list of reads for each thread
 thread_lists : (test : TestRead) (run : Execution) → IsCandidate (program_read test) run → length run.reads ≡ length test.threads
 thread_lists test run c = c.execution.read_lists ∙ accesses-count (program_read test) run ∙ length-map test.threads thread_read
 
--- The text of such an execution is read as the execution, with as many threads and the places of what the text of the cycle's
--- test without observers is read as.
+-- Where the text of a cycle's test without observers is read as a test, and an execution that is made for the cycle is a candidate
+-- execution of it, the text of the execution is read, with the threads and places of that test, as the execution.
 pub read_again : (a : Puts) (w : Writing) (name : List ℕ) (es : List Edge) (moved : Option ℕ) (number : ℕ → ℕ) (test : TestRead) (run : Execution)
     → IsArch a → WritesBack a w → WritesCells a w → MakesOneAccess a → HasCode a es Avoid → IsTestName name
     → test_read a.name w (test_text a.name w name (shown_test a w es Avoid)) ≡ Ok test
