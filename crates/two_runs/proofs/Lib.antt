@@ -4,4 +4,5 @@ pub mod CycleOrders
 pub mod Texts
 pub mod Numbering
 pub mod Fitting
+pub mod ReadAgain
 pub mod ShownLaws

@@ -1,0 +1,97 @@
+-- The text of an execution that is made is read as that execution, by what the text of the test is read as.
+use Rattle.std.proofs.Common.{◌≡◌, ◌≤◌, ◌<◌, ℕ, List, [], ◌∷◌, map, length, true, refl, sym, ap, ◌∙◌, subst, arith}
+use Rattle.std.specs.Prelude.{Option, Result, Ok}
+use Rattle.std.specs.List.{AllByRecursion, list_all}
+use Rattle.std.proofs.lemmas.Bool.{and_from}
+use Rattle.std.proofs.lemmas.List.{length-map}
+use Rattle.relax_edges.specs.declared.TheConstants.{MAX_EDGES}
+use Rattle.relax_edges.specs.declared.kinds.ObsMode.TheVariants.{Avoid}
+use Rattle.relax_edges.specs.declared.edge.Edge.{Edge}
+use Rattle.list_laws.proofs.Numbers.{length-map-upto}
+use Rattle.resolution_laws.specs.Resolution.{external_count, move_count}
+use Rattle.text_laws.specs.Names.{is_place_name}
+use Rattle.arch_trait.specs.Cells.{WritesCells, MakesOneAccess}
+use Rattle.arch_trait.specs.Laws.{IsArch}
+use Rattle.arch_trait.specs.Names.{letters, location_name}
+use Rattle.arch_trait.specs.Threads.{Puts}
+use Rattle.arch_trait.specs.Writing.{Writing, WritesBack}
+use Rattle.arch_trait.proofs.Tables.{length-letters, location_new}
+use Rattle.litmus_text.specs.declared.errors.TextError.{TextError}
+use Rattle.litmus_text.specs.Mentioned.{ReadsBack, is_in}
+use Rattle.litmus_text.specs.Printable.{IsTestName}
+use Rattle.litmus_text.specs.Reread.{reread}
+use Rattle.litmus_text.specs.TestReading.{TestRead, test_read}
+use Rattle.litmus_text.specs.TestText.{test_text}
+use Rattle.litmus_text.proofs.MentionedBack.{reads_back}
+use Rattle.litmus_text.proofs.NamesBack.{numbered_in}
+use Rattle.program_meaning.specs.declared.WriteAt.{WriteAt}
+use Rattle.program_meaning.specs.Executions.{Execution}
+use Rattle.program_meaning.specs.Intended.{event_read, location_numbered, reads_in}
+use Rattle.program_meaning.specs.Programs.{IsCandidate}
+use Rattle.communication.proofs.Programs.{accesses-count}
+use Rattle.execution_text.specs.ExecutionText.{execution_read}
+use Rattle.execution_text.specs.ReadBack.{ExecutionFits}
+use Rattle.execution_text.specs.Written.{text_of_execution}
+use Rattle.execution_text.proofs.ExecutionBack.{written_reads_back}
+use Rattle.test_laws.specs.Headline.{HasCode}
+use Rattle.test_laws.proofs.PlaceNames.{letter_at, locations_few}
+use Rattle.printed_tests.specs.Headline.{shown_test}
+use Rattle.printed_tests.specs.Readings.{program_read, thread_read}
+use Rattle.printed_tests.proofs.Readable.{readable}
+use Rattle.printed_tests.proofs.Rereading.{got_is}
+use Rattle.two_runs.specs.Runs.{order_of, run_by}
+use Rattle.two_runs.proofs.Fitting.{run_fits}
+
+-- a name among those of locations has the form of a place's name
+name_formed : (n : ℕ) (name : List ℕ) → n ≤ MAX_EDGES → is_in (letters n) name ≡ true → is_place_name name ≡ true
+name_formed n name few h =
+    let found = numbered_in (letters n) name h in
+    let below : found.number < n = omega (arith, found.below, length-letters n) in
+    let is : location_name found.number ≡ name =
+    sym (got_is (letters n) found.number (location_name found.number) (letter_at n found.number below)) ∙ found.names in
+    subst (λ x. is_place_name x ≡ true) is (location_new found.number (omega (arith, below, few))).formed
+
+names_formed : (n : ℕ) (names : List (List ℕ)) → n ≤ MAX_EDGES → AllByRecursion (λ name. is_in (letters n) name ≡ true) names
+    → list_all is_place_name names ≡ true
+names_formed n [] few h = refl
+names_formed n (name ∷ names) few h =
+    and_from (is_place_name name) (list_all is_place_name names) (name_formed n name few h.0) (names_formed n names few h.1)
+
+-- a text has one reading
+one_reading : (test other : TestRead) → (let left : Result TestRead TextError = Ok test in left) ≡ Ok other → test ≡ other
+one_reading test other e = cc e
+
+-- the places of a reading of the test have names of their form
+places_formed : (a : Puts) (w : Writing) (name : List ℕ) (es : List Edge) (test : TestRead)
+    → HasCode a es Avoid → ReadsBack a.name w name (shown_test a w es Avoid)
+    → test_read a.name w (test_text a.name w name (shown_test a w es Avoid)) ≡ Ok test → list_all is_place_name test.places ≡ true
+places_formed a w name es test code r reads =
+    let again : TestRead = reread r.table name (shown_test a w es Avoid) in
+    let same : test ≡ again = one_reading test again (sym reads ∙ r.read) in
+    ap (λ (t : TestRead). list_all is_place_name t.places) same
+    ∙ names_formed (move_count es) r.table (omega (arith, locations_few es code.resolved)) r.among
+
+-- a candidate execution of a reading has a list of reads for each thread
+thread_lists : (test : TestRead) (run : Execution) → IsCandidate (program_read test) run → length run.reads ≡ length test.threads
+thread_lists test run c = c.execution.read_lists ∙ accesses-count (program_read test) run ∙ length-map test.threads thread_read
+
+-- Where the text of a cycle's test without observers is read as a test, and an execution that is made for the cycle is a candidate
+-- execution of it, the text of the execution is read, with the threads and places of that test, as the execution.
+pub read_again : (a : Puts) (w : Writing) (name : List ℕ) (es : List Edge) (moved : Option ℕ) (number : ℕ → ℕ) (test : TestRead) (run : Execution)
+    → IsArch a → WritesBack a w → WritesCells a w → MakesOneAccess a → HasCode a es Avoid → IsTestName name
+    → test_read a.name w (test_text a.name w name (shown_test a w es Avoid)) ≡ Ok test
+    → IsCandidate (program_read test) run → run ≡ run_by es moved number
+    → execution_read (length test.threads) test.places (text_of_execution test.places run) ≡ Ok run
+read_again a w name es moved number test run laws back cells one code named reads candidate is =
+    let lists : ℕ → List (ℕ × Option WriteAt) = λ thread. map (event_read es) (reads_in es thread) in
+    let orders : ℕ → List WriteAt = λ place. order_of es moved (location_numbered es number place) in
+    let threads : external_count es ≡ length test.threads =
+    sym (length-map-upto lists (external_count es)) ∙ ap (λ (x : Execution). length x.reads) (sym is) ∙ thread_lists test run candidate in
+    let many : length test.places ≡ move_count es =
+    sym candidate.execution.write_lists ∙ ap (λ (x : Execution). length x.orders) is ∙ length-map-upto orders (move_count es) in
+    let readable_test = readable a a.name w name es Avoid laws back cells one named code in
+    let again : ReadsBack a.name w name (shown_test a w es Avoid) = reads_back a a.name w name (shown_test a w es Avoid) back cells readable_test in
+    let names = places_formed a w name es test code again reads in
+    let fits = run_fits es moved number test.places code.resolved names many in
+    written_reads_back (length test.threads) test.places run
+    (subst (λ (z : ℕ × Execution). ExecutionFits z.0 test.places z.1) (λ i. (threads i, sym is i)) fits)
