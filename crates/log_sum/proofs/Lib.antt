@@ -11,6 +11,8 @@ pub mod FollowLaws
 pub mod StayLaws
 pub mod FeedLaws
 pub mod OrderLaws
+pub mod LeftLaws
+pub mod SetLaws
 pub mod EntryLaws
 pub mod SortLaws
 pub mod PrintLaws

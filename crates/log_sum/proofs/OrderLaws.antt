@@ -1,12 +1,13 @@
 -- States in byte order, in whatever order a table keeps them.
-use Rattle.std.proofs.Common.{◌≡◌, ℕ, List, [], ◌∷◌, Some, cond, refl, sym, ap, ◌∙◌, subst}
+use Rattle.std.proofs.Common.{◌≡◌, ℕ, List, [], ◌∷◌, Some, true, false, cond, refl, sym, ap, ◌∙◌, subst}
 use Rattle.std.specs.Prelude.{T}
-use Rattle.std.specs.Ordering.{nat_cmp, match_ordering, is_eq}
+use Rattle.std.specs.Ordering.{nat_cmp, match_ordering, is_eq, is_lt, ordering_reverse}
 use Rattle.std.specs.declared.cmp.Ordering.{Ordering}
 use Rattle.std.specs.declared.cmp.Ordering.TheVariants.{Less, Equal, Greater}
 use Rattle.std.specs.Cmp.{IsTotalOrder, nat_cmp_total}
 use Rattle.std.specs.Cmp.Lexicographic.{slice_cmp, lists_total}
 use Rattle.std.specs.BTreeMap.{insert_entry}
+use Rattle.std.specs.Str.{bytes_eq}
 use Rattle.std.specs.FinMap.Entries.{put, find, is_sorted, by_order, is_sorted-put, find-put, same_entries}
 use Rattle.std.proofs.lemmas.Map.Text.{is_eq-slice_cmp}
 use Rattle.std.proofs.lemmas.Slice.Eq.{bytes_eq-Decides}
@@ -23,6 +24,15 @@ order = lists_total nat_cmp_total
 
 pub is_text : (x y : List ℕ) → slice_cmp nat_cmp x y ≡ Equal → x ≡ y
 is_text x y e = (bytes_eq-Decides x y).0 (sym (is_eq-slice_cmp x y) ∙ ap is_eq e)
+
+-- a text is below another that differs from it and isn't below it
+pub apart_less : (x y : List ℕ) → is_lt (slice_cmp nat_cmp y x) ≡ false → bytes_eq x y ≡ false → slice_cmp nat_cmp x y ≡ Less
+apart_less x y h d = by_ordering (slice_cmp nat_cmp x y) refl
+  where
+    by_ordering : (o : Ordering) → slice_cmp nat_cmp x y ≡ o → slice_cmp nat_cmp x y ≡ Less
+    by_ordering Less e = e
+    by_ordering Equal e = absurd (let z : true ≡ false = sym (ap is_eq e) ∙ is_eq-slice_cmp x y ∙ d in cc)
+    by_ordering Greater e = absurd (let z : true ≡ false = sym (ap is_lt (order.antisymm y x ∙ ap ordering_reverse e)) ∙ h in cc)
 
 -- the two words for putting and finding
 put_is : (k : List ℕ) (v : Mark × ℕ) (es : List StateSummed) → put (slice_cmp nat_cmp) k v es ≡ insert_entry (slice_cmp nat_cmp) es k v

@@ -1,7 +1,7 @@
 -- A table of states whose entries were sorted.
 use Rattle.std.proofs.Common.{◌≡◌, ℕ, suc, ◌+◌, ◌<◌, List, [], ◌∷◌, None, true, false, length, refl, sym, ap, ◌∙◌, arith, subst}
 use Rattle.std.specs.Prelude.{Bool, ◌&&◌, map, option_map, T, Ok, slice_index_or}
-use Rattle.std.specs.Ordering.{nat_cmp, is_eq, is_lt, ordering_reverse}
+use Rattle.std.specs.Ordering.{nat_cmp, is_eq, is_lt}
 use Rattle.std.specs.declared.cmp.Ordering.{Ordering}
 use Rattle.std.specs.declared.cmp.Ordering.TheVariants.{Less, Equal, Greater}
 use Rattle.std.specs.Cmp.{IsEquivalence}
@@ -21,7 +21,7 @@ use Rattle.log_sum.specs.States.{form_read}
 use Rattle.log_sum.specs.Steps.{known_state}
 use Rattle.log_sum.specs.StateEntries.{sum_view, state_view, states_view, AreInOrder, AreWritten, written_as}
 use Rattle.log_sum.proofs.RunLaws.{by_test}
-use Rattle.log_sum.proofs.OrderLaws.{order, ordered_same}
+use Rattle.log_sum.proofs.OrderLaws.{order, apart_less, ordered_same}
 use Rattle.log_sum.proofs.EntryLaws.{entries_known}
 
 -- keys are compared by their bytes
@@ -105,14 +105,6 @@ below_less x y (e ∷ es) h b =
     let further = less_is (slice_cmp nat_cmp y e.0.items) (first (is_lt (slice_cmp nat_cmp y e.0.items)) (below_all (slice_cmp nat_cmp) y (map state_view es)) b) in
     both (is_lt (slice_cmp nat_cmp x e.0.items)) (below_all (slice_cmp nat_cmp) x (map state_view es)) (ap is_lt (order.trans x y e.0.items h further))
     (below_less x y es h (second (is_lt (slice_cmp nat_cmp y e.0.items)) (below_all (slice_cmp nat_cmp) y (map state_view es)) b))
-
-apart_less : (x y : List ℕ) → is_lt (slice_cmp nat_cmp y x) ≡ false → bytes_eq x y ≡ false → slice_cmp nat_cmp x y ≡ Less
-apart_less x y h d = by_ordering (slice_cmp nat_cmp x y) refl
-  where
-    by_ordering : (o : Ordering) → slice_cmp nat_cmp x y ≡ o → slice_cmp nat_cmp x y ≡ Less
-    by_ordering Less e = e
-    by_ordering Equal e = absurd (let z : true ≡ false = sym (ap is_eq e) ∙ is_eq-slice_cmp x y ∙ d in cc)
-    by_ordering Greater e = absurd (let z : true ≡ false = sym (ap is_lt (order.antisymm y x ∙ ap ordering_reverse e)) ∙ h in cc)
 
 pub sorted_entries : (es : List (Vec ℕ Global × StateSum)) → IsSortedBy (λ (x y : Vec ℕ Global). is_lt (slice_cmp nat_cmp x.items y.items)) (keys_of es) → IsDistinct (λ (x y : Vec ℕ Global). bytes_eq x.items y.items) (keys_of es) → AreInOrder es
 unfolding IsDistinct

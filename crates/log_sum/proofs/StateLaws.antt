@@ -1,17 +1,11 @@
 -- Sets of texts, as the code keeps them.
-use Rattle.std.proofs.Common.{◌≡◌, ◌==◌, ℕ, zero, suc, ◌+◌, ◌<◌, ◌≤◌, List, [], ◌∷◌, ◌++◌, Some, None, true, false, length, refl, sym, ap, ◌∙◌, arith, subst, append_assoc, append-nil}
-use Rattle.std.specs.Prelude.{Bool, ◌||◌, cond, Option, map, Result, Ok, Err, get_or, insert, take, slice_index_or, nat_lt}
-use Rattle.std.proofs.lemmas.Bool.Decides.{nat_tests}
-use Rattle.std.specs.List.{slice_split, list_any, onto_first}
-use Rattle.std.specs.Ordering.{nat_cmp}
-use Rattle.std.specs.declared.cmp.Ordering.TheVariants.{Less, Equal, Greater}
-use Rattle.std.specs.Cmp.Lexicographic.{slice_cmp}
-use Rattle.std.specs.BTreeSet.{insert_key}
+use Rattle.std.proofs.Common.{◌≡◌, ◌==◌, ℕ, zero, suc, ◌<◌, ◌≤◌, List, [], ◌∷◌, ◌++◌, Some, None, true, false, length, refl, sym, ap, ◌∙◌, arith, append_assoc, append-nil}
+use Rattle.std.specs.Prelude.{cond, Option, map, Result, Err, get_or, take, slice_index_or}
+use Rattle.std.specs.List.{slice_split, onto_first}
 use Rattle.std.proofs.lemmas.Bool.{eqb-true}
 use Rattle.log_sum.specs.Texts.{is_blank, is_nil, after_run, unblanked}
-use Rattle.log_sum.specs.States.{cut_at, before_cut, with_pieces, with_equality, sides_read, and_then, later_unblanked, state_read, state_form, later_forms, or_bad, separated, form_with, left_kept, has_left}
+use Rattle.log_sum.specs.States.{cut_at, before_cut, with_pieces, with_equality, sides_read, and_then, later_unblanked, state_read, state_form, later_forms, separated, form_with}
 use Rattle.log_sum.specs.declared.errors.LogKind.{LogKind}
-use Rattle.log_sum.specs.declared.errors.LogKind.TheVariants.{BadState}
 use Rattle.log_sum.specs.declared.errors.Fault.{Fault}
 use Rattle.log_sum.specs.declared.errors.Fault.TheVariants.{Wrong, NoMemory}
 use Rattle.log_sum.specs.Classes.{IsFault}
@@ -45,11 +39,6 @@ pieces_whole sign (byte ∷ text) h =
     by_cut : (cut_at sign text ≡ None → slice_split (λ x. x == sign) text ≡ text ∷ []) → (o : Option (List ℕ × List ℕ)) → cut_at sign text ≡ o → before_cut byte o ≡ None → onto_first byte (slice_split (λ x. x == sign) text) ≡ (byte ∷ text) ∷ []
     by_cut law None f g = ap (onto_first byte) (law f)
     by_cut law (Some further) f g = absurd (cc)
-
--- a test of what the keys show
-pub any_shown : {K : Type 0} (show : K → List ℕ) (p : List ℕ → Bool) (keys : List K) → list_any p (map show keys) ≡ list_any (λ key. p (show key)) keys
-any_shown show p [] = refl
-any_shown show p (key ∷ keys) = ap (λ b. p (show key) || b) (any_shown show p keys)
 
 -- what is read from the rest of a text into a set
 abbrev pub rest_read : List (List ℕ) → List ℕ → Option (List (List ℕ))
@@ -103,34 +92,6 @@ pub set_begins : (text : List ℕ) → rest_read [] text ≡ state_read text
 unfolding state_read
 set_begins text = refl
 
-ok_some : {A : Type 0} (o : Option A) (x : A) → or_bad o ≡ Ok x → o ≡ Some x
-ok_some None x h = absurd (cc)
-ok_some (Some y) x h = cc
-
-err_none : {A : Type 0} (o : Option A) (kind : LogKind) → or_bad o ≡ Err kind → (o ≡ None) × (kind ≡ BadState)
-err_none None kind h = (refl, cc)
-err_none (Some y) kind h = absurd (cc)
-
--- one equality more was put
-pub set_goes : (state more : List (List ℕ)) (rest next : List ℕ) (parts : List ℕ × List ℕ) → cut_at 59 rest ≡ Some parts
-    → or_bad (with_equality state (sides_read (cut_at 61 parts.0))) ≡ Ok more → next ≡ unblanked parts.1 → rest_read more next ≡ rest_read state rest
-set_goes state more rest next parts h g e =
-    ap (rest_read more) e ∙ sym (rest_goes state rest parts h ∙ ap (λ o. and_then o (λ x. rest_read x (unblanked parts.1))) (ok_some (with_equality state (sides_read (cut_at 61 parts.0))) more g))
-
--- an equality is faulty
-pub set_fails : (state : List (List ℕ)) (rest : List ℕ) (parts : List ℕ × List ℕ) (kind : LogKind) → cut_at 59 rest ≡ Some parts
-    → or_bad (with_equality state (sides_read (cut_at 61 parts.0))) ≡ Err kind → or_bad (rest_read state rest) ≡ Err kind
-set_fails state rest parts kind h g =
-    let f : (with_equality state (sides_read (cut_at 61 parts.0)) ≡ None) × (kind ≡ BadState) = err_none (with_equality state (sides_read (cut_at 61 parts.0))) kind g in
-    let e : rest_read state rest ≡ None = rest_goes state rest parts h ∙ ap (λ o. and_then o (λ x. rest_read x (unblanked parts.1))) f.0 in
-    rw (e, f.1) refl
-
-pub set_whole : (state : List (List ℕ)) (rest : List ℕ) → cut_at 59 rest ≡ None → is_nil rest ≡ true → rest_read state rest ≡ Some state
-set_whole state rest h e = rest_whole state rest h ∙ rw e refl
-
-pub set_cut_off : (state : List (List ℕ)) (rest : List ℕ) → cut_at 59 rest ≡ None → is_nil rest ≡ false → rest_read state rest ≡ None
-set_cut_off state rest h e = rest_whole state rest h ∙ rw e refl
-
 -- the form of a set with a text more at its end
 later_more : (xs : List (List ℕ)) (x : List ℕ) → later_forms (xs ++ x ∷ []) ≡ later_forms xs ++ (32 ∷ x ++ 59 ∷ [])
 later_more [] x = append-nil (32 ∷ x ++ 59 ∷ [])
@@ -166,28 +127,12 @@ pub form_goes : {A : Type 0} (show : A → List ℕ) (xs : List A) (x : A) (form
 form_goes show xs x form next e f =
     f ∙ ap (λ t. form_with t (show x)) e ∙ form_more (map show xs) (show x) ∙ ap state_form (sym (map_more show xs x))
 
--- what putting an equality answers, by its sides
-pub left_there : (state : List (List ℕ)) (sides : Option (List ℕ × List ℕ)) (left value kept : List ℕ) → Some (left, value) ≡ sides → kept ≡ left_kept left ++ 61 ∷ [] → true ≡ has_left state kept
-    → or_bad (with_equality state sides) ≡ Err BadState
-left_there state sides left value kept e f h =
-    ap (λ o. or_bad (with_equality state o)) (sym e) ∙ ap (λ k. or_bad (cond (has_left state k) None (Some (insert_key (slice_cmp nat_cmp) state (k ++ value))))) (sym f)
-    ∙ ap (λ b. or_bad (cond b None (Some (insert_key (slice_cmp nat_cmp) state (kept ++ value))))) (sym h)
-
-pub equality_put : (state more : List (List ℕ)) (sides : Option (List ℕ × List ℕ)) (left value kept : List ℕ) → Some (left, value) ≡ sides → kept ≡ left_kept left ++ 61 ∷ [] → false ≡ has_left state kept
-    → more ≡ insert_key (slice_cmp nat_cmp) state (kept ++ value) → or_bad (with_equality state sides) ≡ Ok more
-equality_put state more sides left value kept e f h g =
-    ap (λ o. or_bad (with_equality state o)) (sym e) ∙ ap (λ k. or_bad (cond (has_left state k) None (Some (insert_key (slice_cmp nat_cmp) state (k ++ value))))) (sym f)
-    ∙ ap (λ b. or_bad (cond b None (Some (insert_key (slice_cmp nat_cmp) state (kept ++ value))))) (sym h) ∙ ap Ok (sym g)
-
-no_equality : (state : List (List ℕ)) (sides : Option (List ℕ × List ℕ)) → None ≡ sides → or_bad (with_equality state sides) ≡ Err BadState
-no_equality state sides e = ap (λ o. or_bad (with_equality state o)) (sym e)
-
 -- a fault that is passed on
 pub fault_on : {Y Z : Type 0} (fault : Fault) (read : Result Y LogKind) (other : Result Z LogKind) → ((kind : LogKind) → read ≡ Err kind → other ≡ Err kind) → IsFault fault read → IsFault fault other
 fault_on (Wrong kind) read other f h = f kind h
 fault_on NoMemory read other f h = tt
 
--- where a text goes in a set
+-- a text by its place
 abbrev pub text_at : List (List ℕ) → ℕ → List ℕ
 text_at texts i = get_or texts i []
 
@@ -195,45 +140,6 @@ pub shown_at : {K : Type 0} (show : K → List ℕ) (keys : List K) (i : ℕ) (d
 shown_at show [] i d h = absurd (omega (arith, h))
 shown_at show (key ∷ keys) zero d h = refl
 shown_at show (key ∷ keys) (suc i) d h = shown_at show keys i d (omega (arith, h))
-
-pub one_further : (P : ℕ → Type 0) (i : ℕ) → ((j : ℕ) → j < i → P j) → P i → (j : ℕ) → j < i + 1 → P j
-one_further P i below here j h =
-    by_test (nat_lt j i)
-    (λ t. let l : j < i = grind (arith, nat_tests) in below j l)
-    (λ f. let e : i ≡ j = grind (arith, nat_tests) in subst P e here)
-
-pub place_here : (texts : List (List ℕ)) (text : List ℕ) (i : ℕ) → i < length texts → ((j : ℕ) → j < i → slice_cmp nat_cmp text (text_at texts j) ≡ Greater) → slice_cmp nat_cmp text (text_at texts i) ≡ Less
-    → insert_key (slice_cmp nat_cmp) texts text ≡ insert texts i text
-place_here [] text i h above below = absurd (omega (arith, h))
-place_here (x ∷ texts) text zero h above below = rw below refl
-place_here (x ∷ texts) text (suc i) h above below =
-    let further = place_here texts text i (omega (arith, h)) (λ j l. above (suc j) (omega (arith, l))) below in
-    rw (above zero (omega arith)) (ap (λ t. x ∷ t) further)
-
-pub place_there : (texts : List (List ℕ)) (text : List ℕ) (i : ℕ) → i < length texts → ((j : ℕ) → j < i → slice_cmp nat_cmp text (text_at texts j) ≡ Greater) → slice_cmp nat_cmp text (text_at texts i) ≡ Equal
-    → insert_key (slice_cmp nat_cmp) texts text ≡ texts
-place_there [] text i h above equal = absurd (omega (arith, h))
-place_there (x ∷ texts) text zero h above equal = rw equal refl
-place_there (x ∷ texts) text (suc i) h above equal =
-    let further = place_there texts text i (omega (arith, h)) (λ j l. above (suc j) (omega (arith, l))) equal in
-    rw (above zero (omega arith)) (ap (λ t. x ∷ t) further)
-
-pub place_last : (texts : List (List ℕ)) (text : List ℕ) (i : ℕ) → i ≡ length texts → ((j : ℕ) → j < i → slice_cmp nat_cmp text (text_at texts j) ≡ Greater) → insert_key (slice_cmp nat_cmp) texts text ≡ insert texts i text
-place_last [] text i h above = rw h refl
-place_last (x ∷ texts) text zero h above = absurd (omega (arith, h))
-place_last (x ∷ texts) text (suc i) h above =
-    let further = place_last texts text i (omega (arith, h)) (λ j l. above (suc j) (omega (arith, l))) in
-    rw (above zero (omega arith)) (ap (λ t. x ∷ t) further)
-
-pub insert_map : {K : Type 0} (show : K → List ℕ) (keys : List K) (i : ℕ) (key : K) → map show (insert keys i key) ≡ insert (map show keys) i (show key)
-insert_map show [] zero key = refl
-insert_map show [] (suc i) key = refl
-insert_map show (x ∷ keys) zero key = refl
-insert_map show (x ∷ keys) (suc i) key = ap (λ t. show x ∷ t) (insert_map show keys i key)
-
-pub as_many : {K : Type 0} (show : K → List ℕ) (keys : List K) → length keys ≡ length (map show keys)
-as_many show [] = refl
-as_many show (key ∷ keys) = ap suc (as_many show keys)
 
 pub take_whole : {K : Type 0} (keys : List K) (i : ℕ) → length keys ≤ i → take i keys ≡ keys
 take_whole [] zero h = refl

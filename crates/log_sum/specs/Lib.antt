@@ -3,6 +3,7 @@ pub mod Classes
 pub mod Texts
 pub mod Counts
 pub mod States
+pub mod Equalities
 pub mod Facts
 pub mod Lines
 pub mod Reading

@@ -1,23 +1,19 @@
-ghost use Rattle.std.specs.Prelude.{◌≡◌, ◌≤◌, ◌++◌, ◌∷◌, [], length, insert, option_map, OnOk, MatchOption};
-ghost use Rattle.std.specs.List.{list_any};
-ghost use Rattle.std.specs.Ordering.{nat_cmp};
-ghost use Rattle.std.specs.Cmp.Lexicographic.{slice_cmp};
-ghost use Rattle.std.specs.BTreeSet.{insert_key};
+ghost use Rattle.std.specs.Prelude.{◌≡◌, ◌++◌, ◌∷◌, [], option_map, OnOk};
+ghost use Rattle.std.specs.List.{All};
 ghost use Rattle.log_sum.specs.Classes.{GivesOr, texts_of};
-ghost use Rattle.log_sum.specs.Texts.{begins_with};
-ghost use Rattle.log_sum.specs.States.{left_kept, is_side, state_read, form_read, state_form, or_bad, with_equality, cut_at, sides_read, separated, form_with};
+ghost use Rattle.log_sum.specs.States.{left_kept, is_side, state_read, form_read, state_form, or_bad, cut_at, sides_read, separated, form_with};
+ghost use Rattle.log_sum.specs.Equalities.{HasSign, has_left_twice, left_side, same_left, with_all, with_piece};
 
 use crate::errors::{Fault, LogKind};
 use crate::texts::{Class, cut, without_blanks};
 use diy_io::NoMemory;
 use std::alloc::Global;
-use std::cmp::Ordering;
 
 /// Reads states, each into the memory of the one before: only a state that needs more takes some.
 #[derive(Drop)]
 pub(crate) struct StateReader {
     alloc: Global,
-    /// The equalities of the state, in byte order.
+    /// The equalities of the state, in byte order once all are read.
     equalities: Vec<Vec<u8>>,
     /// Texts for further equalities.
     spare: Vec<Vec<u8>>,
@@ -49,13 +45,6 @@ fn is_side(text: &[u8]) -> bool
     !text.is_empty() && Class::Inked.has_all(text)
 }
 
-/// Whether a set has an equality with this left side.
-fn has_left(state: &[Vec<u8>], left: &[u8]) -> bool
-    ensures { result ≡ list_any (λ equality. begins_with equality.items left.now) state.now }
-{
-    state.iter().any(|equality| equality.starts_with(left))
-}
-
 /// The sides of the equality in a piece.
 fn read_sides(piece: &[u8]) -> Option<(&[u8], &[u8])>
     ensures { option_map (λ sides. (sides.0.now, sides.1.now)) result ≡ sides_read (cut_at 61 piece.now) }
@@ -68,28 +57,33 @@ fn read_sides(piece: &[u8]) -> Option<(&[u8], &[u8])>
     }
 }
 
-/// Where a text that a set doesn't have goes in it.
-fn place_of(state: &[Vec<u8>], text: &[u8]) -> Option<usize>
-    ensures { MatchOption result (insert_key (slice_cmp nat_cmp) (texts_of state.now) text.now ≡ texts_of state.now) (λ i. (i ≤ length state.now) × (insert_key (slice_cmp nat_cmp) (texts_of state.now) text.now ≡ insert (texts_of state.now) i text.now)) }
+/// The left side of an equality.
+fn left_side(equality: &[u8]) -> &[u8]
+    ensures { result.now ≡ left_side equality.now }
 {
-    for i in 0..state.len() {
-        match text.cmp(state[i].as_slice()) {
-            Ordering::Less => return Some(i),
-            Ordering::Equal => return None,
-            Ordering::Greater => {}
-        }
+    match cut(b'=', equality) {
+        Some((left, _)) => left,
+        None => &[],
     }
-    Some(state.len())
 }
 
-/// Puts an equality into a set.
-fn put_text(state: &mut Vec<Vec<u8>>, text: Vec<u8>) -> Result<(), NoMemory>
-    ensures { OnOk result (texts_of state.new.items ≡ insert_key (slice_cmp nat_cmp) (texts_of state.old.items) text.items) }
+/// Whether two equalities have one left side.
+fn same_left(one: &[u8], other: &[u8]) -> bool
+    ensures { result ≡ same_left one.now other.now }
 {
-    if let Some(i) = place_of(state.as_slice(), text.as_slice()) {
-        state.insert(i, text)?;
+    left_side(one) == left_side(other)
+}
+
+/// Whether two neighbours have one left side.
+fn has_left_twice(equalities: &[Vec<u8>]) -> bool
+    ensures { result ≡ has_left_twice (texts_of equalities.now) }
+{
+    for i in 1..equalities.len() {
+        if same_left(equalities[i - 1].as_slice(), equalities[i].as_slice()) {
+            return true;
+        }
     }
-    Ok(())
+    false
 }
 
 /// Puts a blank behind a form that isn't empty.
@@ -177,21 +171,32 @@ impl StateReader {
         }
     }
 
-    /// Puts the equality of a piece to the others.
+    /// Puts the equality of a piece after the others.
     fn put_equality(&mut self, piece: &[u8]) -> Result<(), Fault>
-        ensures { GivesOr (λ _. texts_of self.new.equalities.items) result (or_bad (with_equality (texts_of self.old.equalities.items) (sides_read (cut_at 61 piece.now)))) }
+        ensures { GivesOr (λ _. texts_of self.new.equalities.items) result (with_piece (texts_of self.old.equalities.items) piece.now) }
     {
         let Some((left, value)) = read_sides(piece) else {
             return Err(Fault::Wrong(LogKind::BadState));
         };
         let mut equality = self.empty_text();
         put_left(&mut equality, left)?;
-        if has_left(self.equalities.as_slice(), equality.as_slice()) {
-            return Err(Fault::Wrong(LogKind::BadState));
-        }
         equality.extend_from_slice(value)?;
-        put_text(&mut self.equalities, equality)?;
+        self.equalities.push(equality)?;
         Ok(())
+    }
+
+    /// Puts the equalities in byte order, in which those with one left side are neighbours: their texts are the same as
+    /// far as the sign, which no left side has.
+    fn put_in_order(&mut self) -> Result<(), Fault>
+        requires { All HasSign (texts_of self.old.equalities.items) }
+        ensures { GivesOr (λ _. texts_of self.new.equalities.items) result (or_bad (with_all [] (texts_of self.old.equalities.items))) }
+    {
+        self.equalities.sort_unstable();
+        if has_left_twice(self.equalities.as_slice()) {
+            Err(Fault::Wrong(LogKind::BadState))
+        } else {
+            Ok(())
+        }
     }
 
     /// Reads the set of the equalities that a text writes.
@@ -205,7 +210,7 @@ impl StateReader {
             rest = without_blanks(behind);
         }
         if rest.is_empty() {
-            Ok(())
+            self.put_in_order()
         } else {
             Err(Fault::Wrong(LogKind::BadState))
         }

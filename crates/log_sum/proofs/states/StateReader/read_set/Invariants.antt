@@ -1,12 +1,14 @@
 use Rattle.std.proofs.Common.{◌≡◌, length}
+use Rattle.std.specs.List.{All}
 use Rattle.log_sum.specs.Classes.{texts_of}
+use Rattle.log_sum.specs.Equalities.{HasSign}
 use Rattle.log_sum.specs.States.{state_read}
-use Rattle.log_sum.proofs.StateLaws.{rest_read}
+use Rattle.log_sum.proofs.SetLaws.{collected_read}
 use Rattle.log_sum.proofs.states.StateReader.read_set.Given as goal
 
--- what is read from the rest into the set so far
+-- the equalities so far, and what is read from the rest into the set of them
 abbrev pub invariant-loop-piece : goal.invariant-loop-piece
-invariant-loop-piece l = rest_read (texts_of l.self.equalities.items) l.rest ≡ state_read l.fn.text
+invariant-loop-piece l = All HasSign (texts_of l.self.equalities.items) × (collected_read (texts_of l.self.equalities.items) l.rest ≡ state_read l.fn.text)
 
 abbrev pub decreases-loop-piece : goal.decreases-loop-piece
 decreases-loop-piece l = length l.rest

@@ -1,0 +1,51 @@
+-- The equalities of a state as they are collected, before they are put in byte order.
+-- Source: own.
+use Rattle.std.specs.Prelude.{ℕ, Bool, false, ◌||◌, cond, List, [], ◌∷◌, ◌++◌, Option, Some, None, Result, Ok, Err, IsSome}
+use Rattle.std.specs.Ordering.{nat_cmp}
+use Rattle.std.specs.Cmp.Lexicographic.{slice_cmp}
+use Rattle.std.specs.BTreeSet.{insert_key}
+use Rattle.std.specs.Str.{bytes_eq}
+use Rattle.log_sum.specs.declared.errors.LogKind.{LogKind}
+use Rattle.log_sum.specs.declared.errors.LogKind.TheVariants.{BadState}
+use Rattle.log_sum.specs.States.{cut_at, left_kept, sides_read, has_left, and_then}
+
+-- an equality as it is kept, by the sides of its piece
+abbrev pub equality_of : List ℕ × List ℕ → List ℕ
+equality_of sides = (left_kept sides.0 ++ 61 ∷ []) ++ sides.1
+
+-- equalities, and that of a piece after them
+abbrev pub and_equality : List (List ℕ) → Option (List ℕ × List ℕ) → Result (List (List ℕ)) LogKind
+and_equality equalities None = Err BadState
+and_equality equalities (Some sides) = Ok (equalities ++ equality_of sides ∷ [])
+
+abbrev pub with_piece : List (List ℕ) → List ℕ → Result (List (List ℕ)) LogKind
+with_piece equalities piece = and_equality equalities (sides_read (cut_at 61 piece))
+
+-- the left side of an equality, which ends before its first sign
+abbrev pub before_sign : Option (List ℕ × List ℕ) → List ℕ
+before_sign None = []
+before_sign (Some sides) = sides.0
+
+abbrev pub left_side : List ℕ → List ℕ
+left_side equality = before_sign (cut_at 61 equality)
+
+-- a text has the sign of an equality
+abbrev pub HasSign : List ℕ → Type 0
+HasSign text = IsSome (cut_at 61 text)
+
+-- two equalities have one left side
+abbrev pub same_left : List ℕ → List ℕ → Bool
+same_left one other = bytes_eq (left_side one) (left_side other)
+
+-- two neighbours have one left side
+abbrev pub has_left_twice : List (List ℕ) → Bool
+has_left_twice (one ∷ next ∷ rest) = same_left one next || has_left_twice (next ∷ rest)
+has_left_twice _ = false
+
+-- a set with an equality more, whose left side it doesn't have, and with several, one by one
+abbrev pub with_one : List (List ℕ) → List ℕ → Option (List (List ℕ))
+with_one state equality = cond (has_left state (left_side equality ++ 61 ∷ [])) None (Some (insert_key (slice_cmp nat_cmp) state equality))
+
+unfoldable pub with_all : List (List ℕ) → List (List ℕ) → Option (List (List ℕ))
+with_all state [] = Some state
+with_all state (equality ∷ rest) = and_then (with_one state equality) (λ more. with_all more rest)
