@@ -11,9 +11,11 @@ use Rattle.relax_edges.specs.declared.edge.Edge.{Edge}
 use Rattle.resolution_laws.specs.Resolution.{IsResolved, event_before, move_count}
 use Rattle.value_laws.specs.declared.needs.NeedsObserver.{NeedsObserver}
 use Rattle.value_laws.specs.Values.{is_observed, observer_need, write_count}
+use Rattle.arch_trait.specs.Cells.{WritesCells, MakesOneAccess}
+use Rattle.arch_trait.specs.Laws.{IsArch}
 use Rattle.arch_trait.specs.Names.{number_in}
 use Rattle.arch_trait.specs.Threads.{Puts}
-use Rattle.arch_trait.specs.Writing.{Writing}
+use Rattle.arch_trait.specs.Writing.{Writing, WritesBack}
 use Rattle.litmus_text.specs.Printable.{IsTestName}
 use Rattle.litmus_text.specs.TestReading.{TestRead, test_read}
 use Rattle.litmus_text.specs.TestText.{test_text}
@@ -32,6 +34,7 @@ use Rattle.printed_tests.specs.Readings.{program_read, place_of}
 use Rattle.exchange_laws.specs.Undecided.{BytesUndecided, NoneTells, PrintedUndecided, Undecided}
 use Rattle.two_runs.specs.Runs.{cycle_reads, numbers_by, order_of, run_by}
 use Rattle.two_runs.specs.Shown.{AreRuns}
+use Rattle.two_runs.proofs.ReadAgain.{read_again}
 
 filter_none : (p : ℕ → Bool) (xs : List ℕ) → ((x : ℕ) → p x ≡ false) → filter p xs ≡ []
 filter_none p [] h = refl
@@ -98,16 +101,16 @@ no_fault arch w text bytes whole es event fault t b u e = apart u.test (sym u.re
 pub are_runs : (a : Puts) (w : Writing) (name : List ℕ) (es : List Edge) (need : NeedsObserver) (text bytes : List ℕ) (test : TestRead) (one two : Execution)
     → text ≡ test_text a.name w name (shown_test a w es Avoid) → bytes ≡ text → BytesUndecided a.name w (test_text a.name w name (shown_test a w es Avoid)) es need.event
     → test_read a.name w bytes ≡ Ok test → one ≡ run_by es None (numbers_by test.places) → two ≡ run_by es (Some need.event) (numbers_by test.places)
+    → IsArch a → WritesBack a w → WritesCells a w → MakesOneAccess a → HasCode a es Avoid → IsTestName name
     → AreRuns a w name es need text test one two
-are_runs a w name es need text bytes test one two t b u reads first second = record {
+are_runs a w name es need text bytes test one two t b u reads first second laws back cells single code named = record {
   text_is = t;
   reads = ap (test_read a.name w) (sym b) ∙ reads;
   first = one_is;
   second = two_is;
-  none_tells =
-      subst (λ (x : Execution). NoneTells (program_read test) test.places (number_in w.registers) es (event_before es need.event) x two) (sym one_is)
-      (subst (λ (y : Execution). NoneTells (program_read test) test.places (number_in w.registers) es (event_before es need.event) (intended es Avoid (place_of test)) y) (sym two_is)
-      (subst (λ (r : TestRead). Undecided (program_read r) r.places (number_in w.registers) es (place_of r) need.event) same u.undecided));
+  none_tells = none;
+  first_reads = read_again a w name es None (numbers_by test.places) test one laws back cells single code named read none.first first;
+  second_reads = read_again a w name es (Some need.event) (numbers_by test.places) test two laws back cells single code named read none.second second;
 }
   where
     is_ok : (x y : TestRead) → (let left : Result TestRead TextError = Ok x in left) ≡ Ok y → x ≡ y
@@ -121,3 +124,12 @@ are_runs a w name es need text bytes test one two t b u reads first second = rec
 
     two_is : two ≡ exchanged es (place_of test) need.event
     two_is = second ∙ run_exchanged es need.event (numbers_by test.places)
+
+    none : NoneTells (program_read test) test.places (number_in w.registers) es (event_before es need.event) one two
+    none =
+        subst (λ (x : Execution). NoneTells (program_read test) test.places (number_in w.registers) es (event_before es need.event) x two) (sym one_is)
+        (subst (λ (y : Execution). NoneTells (program_read test) test.places (number_in w.registers) es (event_before es need.event) (intended es Avoid (place_of test)) y) (sym two_is)
+        (subst (λ (r : TestRead). Undecided (program_read r) r.places (number_in w.registers) es (place_of r) need.event) same u.undecided))
+
+    read : test_read a.name w (test_text a.name w name (shown_test a w es Avoid)) ≡ Ok test
+    read = ap (test_read a.name w) (sym (b ∙ t)) ∙ reads

@@ -1,7 +1,7 @@
 -- What is shown of a cycle that the mode avoid refuses because a write needs an observer: the text of its test without
 -- observers, and two executions of what that is read as.
 -- Source: own.
-use Rattle.std.specs.Prelude.{◌≡◌, ℕ, not, List, Option, Some, None, Result, Ok, Err, Vec}
+use Rattle.std.specs.Prelude.{◌≡◌, ℕ, not, List, length, Option, Some, None, Result, Ok, Err, Vec}
 use Rattle.std.specs.List.{position_from}
 use Rattle.std.specs.Option.{option_map, option_or}
 use Rattle.std.specs.declared.alloc.Global.{Global}
@@ -26,6 +26,8 @@ use Rattle.test_laws.specs.Headline.{HasCode}
 use Rattle.test_laws.specs.Steps.{cycle_steps}
 use Rattle.test_laws.specs.TestOf.{plain}
 use Rattle.test_maker.specs.Refusals.{is_crowded}
+use Rattle.execution_text.specs.ExecutionText.{execution_read}
+use Rattle.execution_text.specs.Written.{text_of_execution}
 use Rattle.printed_tests.specs.Headline.{shown_test}
 use Rattle.printed_tests.specs.Readings.{program_read, place_of}
 use Rattle.exchange_laws.specs.Undecided.{NoneTells}
@@ -60,13 +62,16 @@ why_refused a cycle = option_or (foreign a.name cycle) (unshown a (resolution_of
 
 -- The text is that of the test without observers of the cycle, whose resolution is `es`, and is read as the test. The first
 -- execution is the intended one; in the second the write that needs an observer and the one before it are exchanged; and no
--- condition on the final state tells them apart, though the edge into that write stands in the first alone.
+-- condition on the final state tells them apart, though the edge into that write stands in the first alone. The text of each,
+-- with the places of the test, is read as that execution.
 pub record AreRuns (a : Puts) (w : Writing) (name : List ℕ) (es : List Edge) (need : NeedsObserver) (text : List ℕ) (test : TestRead) (one two : Execution) : Type 0 where
   pub text_is : text ≡ test_text a.name w name (shown_test a w es Avoid)
   pub reads : test_read a.name w text ≡ Ok test
   pub first : one ≡ intended es Avoid (place_of test)
   pub second : two ≡ exchanged es (place_of test) need.event
   pub none_tells : NoneTells (program_read test) test.places (number_in w.registers) es (event_before es need.event) one two
+  pub first_reads : execution_read (length test.threads) test.places (text_of_execution test.places one) ≡ Ok one
+  pub second_reads : execution_read (length test.threads) test.places (text_of_execution test.places two) ≡ Ok two
 
 -- the text of the test without observers is given, which has code on the architecture; or the first thread that needs too many
 -- registers; or there is no memory, of which nothing is said

@@ -1,10 +1,6 @@
-use Rattle.std.proofs.Common.{◌≡◌, ◌<◌, sym, ◌∙◌, ap, arith, length, subst, None}
+use Rattle.std.proofs.Common.{◌≡◌, sym, ◌∙◌, arith, None}
 use Rattle.value_laws.specs.Values.{write_count}
-use Rattle.program_meaning.specs.Executions.{Execution}
 use Rattle.program_meaning.specs.Intended.{write_of}
-use Rattle.std.specs.List.{filter_map}
-use Rattle.list_laws.specs.Numbers.{upto}
-use Rattle.two_runs.proofs.GrowingLists.{appended_length}
 use Rattle.two_runs.proofs.CycleOrders.{place_begins, place_inside, place_more, place_same, place_whole}
 use Rattle.two_runs.proofs.orders.add_order.Goals as goal
 use Rattle.two_runs.proofs.orders.add_order.Goals.{in-Some+in_ok-add_write, in_default}

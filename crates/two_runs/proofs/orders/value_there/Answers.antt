@@ -1,8 +1,7 @@
-use Rattle.std.proofs.Common.{◌≡◌, ◌≤◌, sym, ◌∙◌, ap, arith, length, subst}
-use Rattle.relax_edges.specs.declared.TheConstants.{MAX_EDGES}
+use Rattle.std.proofs.Common.{◌≡◌, ◌≤◌, sym, ◌∙◌, ap, arith, subst}
 use Rattle.resolution_laws.specs.declared.event.Event.{Event}
 use Rattle.resolution_laws.specs.Resolution.{IsResolved, location_of}
-use Rattle.value_laws.specs.Values.{value_of, write_count}
+use Rattle.value_laws.specs.Values.{write_count}
 use Rattle.value_laws.proofs.Along.{value_most, write_count_most}
 use Rattle.two_runs.proofs.CycleOrders.{swapped_most}
 use Rattle.two_runs.proofs.orders.value_there.Goals as goal

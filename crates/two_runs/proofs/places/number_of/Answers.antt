@@ -1,4 +1,4 @@
-use Rattle.std.proofs.Common.{◌≡◌, ◌∙◌, sym, ap, refl, true, false, length, arith}
+use Rattle.std.proofs.Common.{◌≡◌, ◌∙◌, sym, true, false, arith}
 use Rattle.std.specs.Str.{bytes_eq}
 use Rattle.two_runs.proofs.Numbering.{found_here, found_later, found_nowhere}
 use Rattle.two_runs.proofs.places.number_of.Goals as goal

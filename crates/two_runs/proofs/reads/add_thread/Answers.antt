@@ -1,7 +1,6 @@
-use Rattle.std.proofs.Common.{◌≡◌, sym, ◌∙◌, ap, arith, length, subst, ◌≤◌}
+use Rattle.std.proofs.Common.{◌≡◌, sym, ◌∙◌, ap, arith, length}
 use Rattle.resolution_laws.specs.declared.event.Event.{Event}
 use Rattle.resolution_laws.specs.Resolution.{location_of}
-use Rattle.value_laws.specs.Values.{write_count}
 use Rattle.value_laws.proofs.Along.{value_most}
 use Rattle.program_meaning.specs.Intended.{write_of}
 use Rattle.two_runs.proofs.CycleReads.{thread_begins, thread_more, thread_same, thread_whole}

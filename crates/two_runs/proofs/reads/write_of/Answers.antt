@@ -1,4 +1,4 @@
-use Rattle.std.proofs.Common.{◌≡◌, ◌-◌, length, ap, arith}
+use Rattle.std.proofs.Common.{◌-◌, length, ap, arith}
 use Rattle.value_laws.proofs.Writes.{write_of}
 use Rattle.two_runs.proofs.reads.write_of.Goals as goal
 

@@ -34,5 +34,6 @@ returns g c =
           (ap (λ (n : ArchName). test_read n w c.as_slice.result.now) g.met.A.Arch.same_name ∙ c.in-Ok.ensures)
           (c.in_ok-one.ensures ∙ ap (λ (v : Valuation). run_by v.edges None (numbers_by c.places.result.now)) c.value_unobserved-valued.ensures ∙ ap (λ places. run_by es None (numbers_by places)) c.places.ensures)
           (c.in_ok-two.ensures ∙ ap (λ (v : Valuation). run_by v.edges (Some c.args.need.event) (numbers_by c.places-2.result.now)) c.value_unobserved-valued.ensures
-          ∙ ap (λ places. run_by es (Some c.args.need.event) (numbers_by places)) c.places-2.ensures),
+          ∙ ap (λ places. run_by es (Some c.args.need.event) (numbers_by places)) c.places-2.ensures)
+          g.met.A.Arch.laws g.met.A.Arch.reads_back g.met.A.Arch.writes_cells g.met.A.Arch.makes_one_access made.1 c.requires.named,
     )
