@@ -1,11 +1,11 @@
 -- How the checking of an execution ends, by what each of the two files gives.
-use Rattle.std.proofs.Common.{◌≡◌, ℕ, List, [], ◌∷◌, ◌+◌, take, Some, None, refl, sym, ◌∙◌, subst, inl, inr}
-use Rattle.std.specs.Prelude.{Option, MatchOption, slice_get, Ok, Err}
-use Rattle.std.proofs.lemmas.Option.{get_or_from_slice_get}
+use Rattle.std.proofs.Common.{◌≡◌, ℕ, List, [], ◌∷◌, ◌+◌, take, refl, ◌∙◌, subst, inl, inr}
+use Rattle.std.specs.Prelude.{Ok, Err}
 use Rattle.diy_io.specs.Count.{Rose}
-use Rattle.diy_io.specs.Shelf.{Files, ShelfSeen}
-use Rattle.diy_io.specs.Wrote.{SinkSeen, WroteAll, WrotePart}
-use Rattle.file_laws.specs.Opened.{IsFile}
+use Rattle.diy_io.specs.Shelf.{ShelfSeen}
+use Rattle.diy_io.specs.Wrote.{SinkSeen}
+use Rattle.file_laws.specs.Opened.{name_at}
+use Rattle.file_laws.proofs.NameLaws.{absent_before, file_before}
 use Rattle.file_laws.proofs.OpenedLaws.{took_no_more, took_one_more}
 use Rattle.relax_edges.specs.declared.kinds.ArchName.{ArchName}
 use Rattle.arch_trait.specs.Writing.{Writing}
@@ -16,16 +16,12 @@ use Rattle.exec_check.specs.declared.verdict.Verdict.{Verdict}
 use Rattle.exec_check.specs.Verdicts.{verdict_text}
 use Rattle.test_files.specs.FilesRead.{FileFailed, FileIs}
 use Rattle.test_files.specs.TestSaid.{test_said}
+use Rattle.test_files.proofs.FileLaws.{failed_after}
 use Rattle.checked_files.specs.declared.errors.CheckedKind.TheVariants as kinds
 use Rattle.checked_files.specs.declared.errors.CheckFault.{CheckFault}
 use Rattle.checked_files.specs.declared.errors.CheckFault.TheVariants as faults
-use Rattle.checked_files.specs.declared.errors.CheckEnd.TheVariants as ends
-use Rattle.checked_files.specs.FilesChecked.{name_at, exec_told, IsTest, BothRead, ExecUnread, FilesChecked}
+use Rattle.checked_files.specs.FilesChecked.{exec_told, IsTest, BothRead, VerdictSaid, ExecUnread, FilesChecked}
 use Rattle.checked_files.specs.Steps.{TestFileTo, ExecFileTo, check_end}
-
--- the word at a place
-pub named_word : (words : List (List ℕ)) (place : ℕ) (name : List ℕ) → slice_get words place ≡ Some name → name ≡ name_at words place
-named_word words place name word = sym (get_or_from_slice_get words place name [] word)
 
 -- the file of the test isn't what is wanted
 pub test_refused : (arch : ArchName) (w : Writing) (old new : ShelfSeen) (words : List (List ℕ)) (test exec : ℕ) (a : SinkSeen) (fault : CheckFault)
@@ -42,16 +38,6 @@ test_is : (arch : ArchName) (w : Writing) (old new : ShelfSeen) (name : List ℕ
     → IsTest arch w old.files name f.text read
 test_is arch w old new name read f = record { named = f.named; is = f.is }
 
--- a file is the same where no file changed
-still_file : (old mid : Option Files) (name text : List ℕ) → mid ≡ old → IsFile mid name text → IsFile old name text
-still_file old mid name text same named = subst (λ (o : Option Files). IsFile o name text) same named
-
-still_absent : (old mid : Option Files) (m n k : ℕ) (name : List ℕ) → mid ≡ old → m ≡ n → MatchOption mid (Rose m k) (λ there. there name ≡ None)
-    → MatchOption old (Rose n k) (λ there. there name ≡ None)
-still_absent old mid m n k name files same h =
-    subst (λ (o : Option Files). MatchOption o (Rose n k) (λ there. there name ≡ None)) files
-    (subst (λ (i : ℕ). MatchOption mid (Rose i k) (λ there. there name ≡ None)) same h)
-
 -- the shelf failed at the file of the execution
 exec_failed : (arch : ArchName) (w : Writing) (old mid new : ShelfSeen) (words : List (List ℕ)) (test exec : ℕ) (read : TestRead)
     → FileIs (test_said arch w) old mid (name_at words test) read → mid.files ≡ old.files → FileFailed mid new (name_at words exec)
@@ -60,20 +46,7 @@ exec_failed arch w old mid new words test exec read f same h = record {
   text = f.text;
   read = read;
   test_is = test_is arch w old mid (name_at words test) read f;
-  took = elim h.took [
-    | inl none ↦ inl (took_no_more old mid new (f.text ∷ []) f.took none)
-    | inr some ↦ inr (
-      some.0,
-      record {
-        text = some.1.text;
-        named = still_file old.files mid.files (name_at words exec) some.1.text same some.1.named;
-        rest = some.1.rest;
-        parts = some.1.parts;
-        short = some.1.short;
-      },
-      took_one_more old mid new (f.text ∷ []) some.0 f.took some.2,
-    )
-  ];
+  took = failed_after old mid new (f.text ∷ []) (name_at words exec) same f.took h;
 }
 
 -- the file of the execution isn't what is wanted, and that of the test is
@@ -86,7 +59,7 @@ exec_refused arch w old mid new words test exec a read faults.Missing f same h =
     text = f.text;
     read = read;
     test_is = test_is arch w old mid (name_at words test) read f;
-    absent = still_absent old.files mid.files mid.faults old.faults new.faults (name_at words exec) same f.no_fault h.absent;
+    absent = absent_before old mid new (name_at words exec) same f.no_fault h.absent;
     took = took_no_more old mid new (f.text ∷ []) f.took h.took;
   }),
   refl,
@@ -105,7 +78,7 @@ exec_refused arch w old mid new words test exec a read (faults.Wrong line (kinds
     read = read;
     test_is = test_is arch w old mid (name_at words test) read f;
     told = h.text;
-    named = still_file old.files mid.files (name_at words exec) h.text same h.named;
+    named = file_before old mid (name_at words exec) h.text same h.named;
     fault = h.fault;
     took = took_one_more old mid new (f.text ∷ []) (take (MAX_TEXT + 1) h.text) f.took h.took;
   },
@@ -123,31 +96,16 @@ both_read arch w old mid new words test exec read x f same e = record {
   text = f.text;
   test_is = test_is arch w old mid (name_at words test) read f;
   told = e.text;
-  exec_is = record { named = still_file old.files mid.files (name_at words exec) e.text same e.named; tells = e.is };
+  exec_is = record { named = file_before old mid (name_at words exec) e.text same e.named; tells = e.is };
   took = took_one_more old mid new (f.text ∷ []) e.text f.took e.took;
   no_fault = e.no_fault ∙ f.no_fault;
 }
 
--- and the verdict is written
-pub verdict_written : (arch : ArchName) (w : Writing) (old mid new : ShelfSeen) (words : List (List ℕ)) (test exec : ℕ) (a b : SinkSeen) (read : TestRead)
-    (v : Verdict) → FileIs (test_said arch w) old mid (name_at words test) read → mid.files ≡ old.files
-    → ExecFileTo arch w read mid new (name_at words exec) (Ok v) → WroteAll a b (verdict_text v)
-    → FilesChecked arch w old new words test exec a b ends.Done
-verdict_written arch w old mid new words test exec a b read v f same h wrote = record {
-  judged = read;
-  x = h.x;
-  read = both_read arch w old mid new words test exec read h.x f same h.file;
-  v = v;
-  is = h.is;
-  wrote = wrote;
-}
-
--- or a prefix of it
-pub verdict_unwritten : (arch : ArchName) (w : Writing) (old mid new : ShelfSeen) (words : List (List ℕ)) (test exec : ℕ) (a b : SinkSeen) (read : TestRead)
-    (v : Verdict) → FileIs (test_said arch w) old mid (name_at words test) read → mid.files ≡ old.files
-    → ExecFileTo arch w read mid new (name_at words exec) (Ok v) → WrotePart a b (verdict_text v)
-    → FilesChecked arch w old new words test exec a b ends.OutFault
-verdict_unwritten arch w old mid new words test exec a b read v f same h wrote = record {
+-- and this is done with the text of the verdict
+pub verdict_said : (arch : ArchName) (w : Writing) (old mid new : ShelfSeen) (words : List (List ℕ)) (test exec : ℕ) (read : TestRead) (v : Verdict)
+    (done : List ℕ → Type 0) → FileIs (test_said arch w) old mid (name_at words test) read → mid.files ≡ old.files
+    → ExecFileTo arch w read mid new (name_at words exec) (Ok v) → done (verdict_text v) → VerdictSaid arch w old new words test exec done
+verdict_said arch w old mid new words test exec read v done f same h wrote = record {
   judged = read;
   x = h.x;
   read = both_read arch w old mid new words test exec read h.x f same h.file;

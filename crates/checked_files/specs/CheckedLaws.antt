@@ -5,7 +5,7 @@ use Rattle.std.specs.Prelude.{◌⊎◌, MatchOption, unwrap_or, Result, Ok, Err
 use Rattle.diy_io.specs.Count.{count_of, Rose}
 use Rattle.diy_io.specs.Shelf.{Files, ShelfSeen}
 use Rattle.diy_io.specs.Wrote.{SinkSeen}
-use Rattle.file_laws.specs.Opened.{IsFile, TookFiles}
+use Rattle.file_laws.specs.Opened.{IsFile, TookFiles, name_at}
 use Rattle.relax_edges.specs.declared.kinds.ArchName.{ArchName}
 use Rattle.arch_trait.specs.Writing.{Writing}
 use Rattle.litmus_text.specs.declared.limits.TheConstants.{MAX_TEXT}
@@ -16,13 +16,13 @@ use Rattle.execution_text.specs.declared.errors.ExecKind.TheVariants.{TooLarge}
 use Rattle.execution_text.specs.ExecutionText.{execution_read, lines_of, lines_read}
 use Rattle.test_files.specs.declared.errors.TestFileError.{TestFileError}
 use Rattle.test_files.specs.FilesRead.{Begins}
-use Rattle.test_files.specs.FewBytes.{AreFew, none_few, one_few, both_few, front_few, few_taken}
+use Rattle.test_files.specs.FewBytes.{AreFew, none_few, one_few, both_few, front_few, begun_few, few_taken}
 use Rattle.test_files.specs.FirstBytes.{JudgesFirstBytes, RefusesLong, judges_first_bytes, tests_by_first_bytes}
 use Rattle.test_files.specs.TestSaid.{test_said}
 use Rattle.checked_files.specs.declared.errors.CheckedKind.TheVariants as kinds
 use Rattle.checked_files.specs.declared.errors.CheckEnd.{CheckEnd}
 use Rattle.checked_files.specs.declared.errors.CheckEnd.TheVariants as ends
-use Rattle.checked_files.specs.FilesChecked.{name_at, exec_told, IsTest, AreRight, BothRead, TestWrong, ExecWrong, IsAbsent, TestUnread, ExecUnread, FilesChecked}
+use Rattle.checked_files.specs.FilesChecked.{exec_told, IsTest, AreRight, BothRead, TestWrong, ExecWrong, IsAbsent, TestUnread, ExecUnread, FilesChecked}
 
 abbrev too_large : ExecFault
 too_large = record { line = 1; kind = TooLarge }
@@ -41,9 +41,6 @@ test_few : (arch : ArchName) (w : Writing) (files : Option Files) (name text : L
 test_few arch w files name text test is =
     let short : length text ≤ MAX_TEXT = (tests_by_first_bytes arch w).short text test is.is in
     one_few text (omega arith)
-
-begun_few : (files : Option Files) (name bytes : List ℕ) → Begins files name bytes → AreFew (bytes ∷ [])
-begun_few files name bytes begins = let short : length bytes ≤ MAX_TEXT = begins.short in one_few bytes (omega arith)
 
 read_few : (arch : ArchName) (w : Writing) (old new : ShelfSeen) (words : List (List ℕ)) (test exec : ℕ) (judged : TestRead) (x : Execution)
     → BothRead arch w old new words test exec judged x → count_of old.opened < count_of new.opened → new.taken ≤ MAX_TEXT + 1

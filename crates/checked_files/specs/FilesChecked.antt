@@ -1,10 +1,10 @@
 -- How a call ended that checks an execution of a test, both in files, and what it did to its devices.
 -- Source: own.
-use Rattle.std.specs.Prelude.{◌≡◌, ◌⊎◌, ◌+◌, ℕ, List, [], ◌∷◌, length, take, slice_index_or, Option, Some, None, MatchOption, Result, Ok, Err}
+use Rattle.std.specs.Prelude.{◌≡◌, ◌⊎◌, ◌+◌, ℕ, List, [], ◌∷◌, length, take, Option, Some, None, MatchOption, Result, Ok, Err}
 use Rattle.diy_io.specs.Count.{Rose}
 use Rattle.diy_io.specs.Shelf.{Files, ShelfSeen}
 use Rattle.diy_io.specs.Wrote.{SinkSeen, WroteAll, WrotePart}
-use Rattle.file_laws.specs.Opened.{IsFile, TookFiles}
+use Rattle.file_laws.specs.Opened.{IsFile, TookFiles, name_at}
 use Rattle.relax_edges.specs.declared.kinds.ArchName.{ArchName}
 use Rattle.arch_trait.specs.Names.{number_in}
 use Rattle.arch_trait.specs.Writing.{Writing}
@@ -23,10 +23,6 @@ use Rattle.checked_files.specs.declared.errors.CheckedKind.{CheckedKind}
 use Rattle.checked_files.specs.declared.errors.CheckedKind.TheVariants as kinds
 use Rattle.checked_files.specs.declared.errors.CheckEnd.{CheckEnd}
 use Rattle.checked_files.specs.declared.errors.CheckEnd.TheVariants as ends
-
--- the word at a place
-abbrev pub name_at : List (List ℕ) → ℕ → List ℕ
-name_at words place = slice_index_or words place []
 
 -- what a text tells as an execution of a test, or its first fault
 abbrev pub exec_told : TestRead → List ℕ → Result Execution ExecFault
@@ -63,23 +59,14 @@ pub record BothRead (arch : ArchName) (w : Writing) (old new : ShelfSeen) (words
   pub took : TookFiles old new (text ∷ told ∷ [])
   pub no_fault : new.faults ≡ old.faults
 
--- the verdict was written
-pub record VerdictWritten (arch : ArchName) (w : Writing) (old new : ShelfSeen) (words : List (List ℕ)) (test exec : ℕ) (before after : SinkSeen) : Type 0 where
+-- both files were read, this is the verdict, and this was done with its text
+pub record VerdictSaid (arch : ArchName) (w : Writing) (old new : ShelfSeen) (words : List (List ℕ)) (test exec : ℕ) (done : List ℕ → Type 0) : Type 0 where
   pub judged : TestRead
   pub x : Execution
   pub read : BothRead arch w old new words test exec judged x
   pub v : Verdict
   pub is : IsVerdict arch (number_in w.registers) judged x v
-  pub wrote : WroteAll before after (verdict_text v)
-
--- a prefix of it was written
-pub record VerdictUnwritten (arch : ArchName) (w : Writing) (old new : ShelfSeen) (words : List (List ℕ)) (test exec : ℕ) (before after : SinkSeen) : Type 0 where
-  pub judged : TestRead
-  pub x : Execution
-  pub read : BothRead arch w old new words test exec judged x
-  pub v : Verdict
-  pub is : IsVerdict arch (number_in w.registers) judged x v
-  pub wrote : WrotePart before after (verdict_text v)
+  pub wrote : done (verdict_text v)
 
 -- the file of the test has this first fault, and all of it was taken, or its first bytes, one more than a test may have; no other was
 -- opened
@@ -140,8 +127,8 @@ pub record ShelfFailed (arch : ArchName) (w : Writing) (old new : ShelfSeen) (wo
 
 -- how the checking of the execution that the word at the place exec names ended, as one of the test that the word at test names
 abbrev pub FilesChecked : ArchName → Writing → ShelfSeen → ShelfSeen → List (List ℕ) → ℕ → ℕ → SinkSeen → SinkSeen → CheckEnd → Type 0
-FilesChecked arch w old new words test exec before after ends.Done = VerdictWritten arch w old new words test exec before after
-FilesChecked arch w old new words test exec before after ends.OutFault = VerdictUnwritten arch w old new words test exec before after
+FilesChecked arch w old new words test exec before after ends.Done = VerdictSaid arch w old new words test exec (WroteAll before after)
+FilesChecked arch w old new words test exec before after ends.OutFault = VerdictSaid arch w old new words test exec (WrotePart before after)
 FilesChecked arch w old new words test exec before after (ends.Wrong file line kind) = IsWrong arch w old new words test exec file line kind × (after ≡ before)
 FilesChecked arch w old new words test exec before after (ends.NoFile word) = IsAbsent arch w old new words test exec word × (after ≡ before)
 FilesChecked arch w old new words test exec before after ends.ShelfFault = ShelfFailed arch w old new words test exec × (after ≡ before)

@@ -1,6 +1,8 @@
 ghost use Rattle.std.specs.Prelude.{◌≡◌};
+ghost use Rattle.checked_files.specs.declared.errors.CheckFault.TheVariants.{Device};
 ghost use Rattle.checked_files.specs.Steps.{check_end, exec_fault, file_fault, test_fault, test_kind};
 
+use diy_io::Failed;
 use exec_check::CheckError;
 use execution_text::ExecKind;
 use litmus_text::TestKind;
@@ -65,22 +67,30 @@ impl CheckedKind {
     }
 }
 
-impl CheckFault {
-    /// Where a file isn't read.
-    pub(crate) fn of_file(fault: FileFault) -> CheckFault
-        ensures { result ≡ file_fault fault }
-    {
+impl From<FileFault> for CheckFault {
+    ghost from_gives = { λ fault error. error ≡ file_fault fault };
+
+    fn from(fault: FileFault) -> CheckFault {
         match fault {
             FileFault::Missing => CheckFault::Missing,
             FileFault::Failed => CheckFault::Device,
             FileFault::NoMemory => CheckFault::NoMemory,
         }
     }
+}
 
-    /// Where a text gives no test.
-    pub(crate) fn of_test(fault: NoTest) -> CheckFault
-        ensures { result ≡ test_fault fault }
-    {
+impl From<Failed> for CheckFault {
+    ghost from_gives = { λ _ error. error ≡ Device };
+
+    fn from(_failed: Failed) -> CheckFault {
+        CheckFault::Device
+    }
+}
+
+impl From<NoTest> for CheckFault {
+    ghost from_gives = { λ fault error. error ≡ test_fault fault };
+
+    fn from(fault: NoTest) -> CheckFault {
         match fault {
             NoTest::Wrong(error) => CheckFault::Wrong {
                 line: error.line,
@@ -89,11 +99,12 @@ impl CheckFault {
             NoTest::NoMemory => CheckFault::NoMemory,
         }
     }
+}
 
-    /// Where there is no verdict on a text.
-    pub(crate) fn of_exec(fault: CheckError) -> CheckFault
-        ensures { result ≡ exec_fault fault }
-    {
+impl From<CheckError> for CheckFault {
+    ghost from_gives = { λ fault error. error ≡ exec_fault fault };
+
+    fn from(fault: CheckError) -> CheckFault {
         match fault {
             CheckError::Exec { line, kind } => CheckFault::Wrong {
                 line,
@@ -102,7 +113,9 @@ impl CheckFault {
             CheckError::NoMemory => CheckFault::NoMemory,
         }
     }
+}
 
+impl CheckFault {
     /// The end where the file that a word names isn't what is wanted of it.
     pub(crate) fn end_at(self, word: usize) -> CheckEnd
         ensures { result ≡ check_end word self }

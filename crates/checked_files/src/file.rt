@@ -1,67 +1,58 @@
 ghost use Rattle.std.specs.Prelude.{◌≡◌, ◌<◌, length};
 ghost use Rattle.diy_io.specs.Shelf.{Idle};
+ghost use Rattle.file_laws.specs.Opened.{name_at};
 ghost use Rattle.checked_files.specs.Steps.{TestFileTo, ExecFileTo};
 
 use crate::errors::CheckFault;
 use arch_trait::Arch;
-use diy_io::{Failed, Shelf};
+use diy_io::{Shelf, Words};
 use exec_check::{Verdict, check};
 use litmus_text::ReadTest;
 use std::alloc::Global;
-use test_files::{read_file, test_of_text};
+use test_files::{read_named_file, test_of_text};
 
-/// The test that a file is. The file is read into `text`, in pieces as long as `piece`. A fault of its text is the
-/// answer also where the closing fails.
+/// The test that the file is which the word at a place names. The file is read into `text`, in pieces as long as
+/// `piece`. A fault of its text is the answer also where the closing fails.
 pub(crate) fn test_in_file<A: Arch, H: Shelf>(
     alloc: Global,
     shelf: &mut H,
-    name: &str,
+    words: &Words,
+    place: usize,
     piece: &mut [u8],
     text: &mut Vec<u8>,
 ) -> Result<ReadTest<A>, CheckFault>
     requires idle { (H.seen shelf.old).mode ≡ Idle }
+    requires within { place < length words.now }
     requires some { 0 < length piece.old }
     ensures mode { (H.seen shelf.new).mode ≡ Idle }
     ensures files { (H.seen shelf.new).files ≡ (H.seen shelf.old).files }
-    ensures file { TestFileTo A.NAME A.writing (H.seen shelf.old) (H.seen shelf.new) name.now result }
+    ensures file { TestFileTo A.NAME A.writing (H.seen shelf.old) (H.seen shelf.new) (name_at words.now place) result }
 {
-    let closed = match read_file(shelf, name, piece, text) {
-        Ok(closed) => closed,
-        Err(fault) => return Err(CheckFault::of_file(fault)),
-    };
-    match test_of_text::<A>(alloc, text.as_slice()) {
-        Ok(test) => match closed {
-            Ok(()) => Ok(test),
-            Err(Failed) => Err(CheckFault::Device),
-        },
-        Err(fault) => Err(CheckFault::of_test(fault)),
-    }
+    let closed = read_named_file(shelf, words, place, piece, text)?;
+    let test = test_of_text::<A>(alloc, text.as_slice())?;
+    closed?;
+    Ok(test)
 }
 
-/// The verdict on the execution of a test that a file tells, in the same way.
+/// The verdict on the execution of a test that such a file tells, in the same way.
 pub(crate) fn verdict_in_file<A: Arch, H: Shelf>(
     alloc: Global,
     test: &ReadTest<A>,
     shelf: &mut H,
-    name: &str,
+    words: &Words,
+    place: usize,
     piece: &mut [u8],
     text: &mut Vec<u8>,
 ) -> Result<Verdict, CheckFault>
     requires idle { (H.seen shelf.old).mode ≡ Idle }
+    requires within { place < length words.now }
     requires some { 0 < length piece.old }
     ensures mode { (H.seen shelf.new).mode ≡ Idle }
     ensures files { (H.seen shelf.new).files ≡ (H.seen shelf.old).files }
-    ensures file { ExecFileTo A.NAME A.writing test.now (H.seen shelf.old) (H.seen shelf.new) name.now result }
+    ensures file { ExecFileTo A.NAME A.writing test.now (H.seen shelf.old) (H.seen shelf.new) (name_at words.now place) result }
 {
-    let closed = match read_file(shelf, name, piece, text) {
-        Ok(closed) => closed,
-        Err(fault) => return Err(CheckFault::of_file(fault)),
-    };
-    match check::<A>(alloc, test, text.as_slice()) {
-        Ok(verdict) => match closed {
-            Ok(()) => Ok(verdict),
-            Err(Failed) => Err(CheckFault::Device),
-        },
-        Err(fault) => Err(CheckFault::of_exec(fault)),
-    }
+    let closed = read_named_file(shelf, words, place, piece, text)?;
+    let verdict = check::<A>(alloc, test, text.as_slice())?;
+    closed?;
+    Ok(verdict)
 }

@@ -36,13 +36,11 @@ pub fn check_files<A: Arch, H: Shelf, O: Sink>(
 {
     let mut piece = [0; PIECE];
     let mut text = Vec::new(alloc);
-    let name = words.get(test);
-    let read = match test_in_file::<A, H>(alloc, shelf, name, &mut piece, &mut text) {
+    let read = match test_in_file::<A, H>(alloc, shelf, words, test, &mut piece, &mut text) {
         Ok(read) => read,
         Err(fault) => return fault.end_at(test),
     };
-    let name = words.get(exec);
-    let verdict = match verdict_in_file(alloc, &read, shelf, name, &mut piece, &mut text) {
+    let verdict = match verdict_in_file(alloc, &read, shelf, words, exec, &mut piece, &mut text) {
         Ok(verdict) => verdict,
         Err(fault) => return fault.end_at(exec),
     };

@@ -1,16 +1,17 @@
 -- How many bytes are taken of the file that was opened last.
-use Rattle.std.proofs.Common.{◌≡◌, ◌≤◌, ◌<◌, ◌+◌, ℕ, List, [], ◌∷◌, ◌++◌, length, take, refl, arith, inl, inr}
+use Rattle.std.proofs.Common.{◌≡◌, ◌≤◌, ◌<◌, ◌+◌, ℕ, List, [], ◌∷◌, ◌++◌, take, refl, arith, inl, inr}
 use Rattle.std.specs.Prelude.{◌⊎◌, map, Ok}
 use Rattle.diy_io.specs.Count.{count_of}
 use Rattle.diy_io.specs.Shelf.{ShelfSeen}
 use Rattle.diy_io.specs.Wrote.{SinkSeen}
-use Rattle.file_laws.specs.Opened.{TookFiles}
+use Rattle.file_laws.specs.Opened.{TookFiles, name_at}
 use Rattle.relax_edges.specs.declared.edge.Edge.{Edge}
 use Rattle.litmus_text.specs.declared.limits.TheConstants.{MAX_TEXT}
-use Rattle.test_files.specs.FewBytes.{AreFew, none_few, one_few, both_few, front_few, few_taken}
+use Rattle.test_files.specs.FewBytes.{AreFew, none_few, one_few, both_few, front_few, begun_few, few_taken}
+use Rattle.test_files.specs.FilesRead.{Begins}
 use Rattle.classified_files.specs.declared.errors.FilesEnd.{FilesEnd}
 use Rattle.classified_files.specs.declared.errors.FilesEnd.TheVariants as ends
-use Rattle.classified_files.specs.FilesEnds.{Asked, said_on, SayCycles, IsBegun, FilesClassified}
+use Rattle.classified_files.specs.FilesEnds.{Asked, said_on, SayCycles, FilesClassified}
 use Rattle.classified_files.proofs.SaidLaws.{said_short}
 
 -- texts that say cycles aren't too long
@@ -37,11 +38,11 @@ classified_few asked old new words places a b (ends.NoFile word) h some more =
     few_taken old new h.0.texts h.0.took (said_few asked h.0.texts h.0.place_is.cycles h.0.place_is.read.say) more
 classified_few asked old new words places a b ends.ShelfFault h some more = of_took h.0.took
   where
-    of_took : (TookFiles old new h.0.texts ⊎ ((bytes : List ℕ) × IsBegun old.files words h.0.place bytes × TookFiles old new (h.0.texts ++ bytes ∷ []))) → new.taken ≤ MAX_TEXT + 1
+    of_took : (TookFiles old new h.0.texts ⊎ ((bytes : List ℕ) × Begins old.files (name_at words h.0.place) bytes × TookFiles old new (h.0.texts ++ bytes ∷ []))) → new.taken ≤ MAX_TEXT + 1
     of_took (inl took) = few_taken old new h.0.texts took (said_few asked h.0.texts h.0.place_is.cycles h.0.place_is.read.say) more
     of_took (inr part) =
-        let short : length part.0 ≤ MAX_TEXT = part.1.short in
         few_taken old new (h.0.texts ++ part.0 ∷ []) part.2
-        (both_few h.0.texts (part.0 ∷ []) (said_few asked h.0.texts h.0.place_is.cycles h.0.place_is.read.say) (one_few part.0 (omega arith)))
+        (both_few h.0.texts (part.0 ∷ []) (said_few asked h.0.texts h.0.place_is.cycles h.0.place_is.read.say)
+        (begun_few old.files (name_at words h.0.place) part.0 part.1))
         more
 classified_few asked old new words places a b ends.NoMemory h some more = absurd (some refl)

@@ -1,23 +1,24 @@
 -- Files that are read, one after another.
-use Rattle.std.proofs.Common.{◌≡◌, ◌≤◌, ◌<◌, ◌+◌, ℕ, zero, suc, List, [], ◌∷◌, ◌++◌, length, take, drop, get_or, Some, None, refl, sym, ap, ◌∙◌, subst, arith, inl, inr}
-use Rattle.std.specs.Prelude.{Option, MatchOption, map, slice_get, Ok, Err}
+use Rattle.std.proofs.Common.{◌≡◌, ◌≤◌, ◌<◌, ◌+◌, ℕ, zero, suc, List, [], ◌∷◌, ◌++◌, length, take, drop, get_or, refl, sym, ap, ◌∙◌, subst, arith}
+use Rattle.std.specs.Prelude.{Option, map, Ok, Err}
 use Rattle.std.proofs.lemmas.List.{take_all}
-use Rattle.std.proofs.lemmas.Option.{get_or_from_slice_get}
 use Rattle.diy_io.specs.Count.{Rose}
 use Rattle.diy_io.specs.Shelf.{Files, ShelfSeen}
 use Rattle.diy_io.specs.Wrote.{SinkSeen, Wrote}
 use Rattle.diy_io.specs.declared.errors.Failed.{Failed}
-use Rattle.file_laws.specs.Opened.{IsFile, TookFiles}
+use Rattle.file_laws.specs.Opened.{IsFile, TookFiles, name_at}
+use Rattle.file_laws.proofs.NameLaws.{absent_before, file_before}
 use Rattle.file_laws.proofs.OpenedLaws.{took_no_more, took_one_more}
 use Rattle.relax_edges.specs.declared.edge.Edge.{Edge}
 use Rattle.litmus_text.specs.declared.limits.TheConstants.{MAX_TEXT}
 use Rattle.cycle_lines.specs.Classified.{families_text}
 use Rattle.cycle_lines.specs.Tables.{Entry, Holds}
 use Rattle.test_files.specs.FilesRead.{FileIs}
+use Rattle.test_files.proofs.FileLaws.{failed_after}
 use Rattle.classified_files.specs.declared.errors.CycleFault.{CycleFault}
 use Rattle.classified_files.specs.declared.errors.CycleFault.TheVariants.{Missing, Device, Text}
 use Rattle.classified_files.specs.declared.errors.TextFault.TheVariants.{Wrong, NoMemory}
-use Rattle.classified_files.specs.FilesEnds.{Asked, said_on, name_at, AreNamed, SayCycles, ReadFiles, FilesWritten, FilesUnwritten, IsAtPlace, FilesClassified}
+use Rattle.classified_files.specs.FilesEnds.{Asked, said_on, AreNamed, SayCycles, ReadFiles, AllRead, FilesWritten, FilesUnwritten, IsAtPlace, FilesClassified}
 use Rattle.classified_files.specs.Read.{CycleTo, file_end}
 
 -- the files of the first places were read, and the names of their cycles are kept
@@ -56,23 +57,15 @@ more_said : (asked : Asked) (texts : List (List ℕ)) (cycles : List (List Edge)
 more_said asked texts cycles text cycle say says =
     map_more (said_on asked) texts text ∙ rw (say, says) (sym (map_more Ok cycles cycle))
 
-named_word : (words : List (List ℕ)) (place : ℕ) (name : List ℕ) → slice_get words place ≡ Some name → name ≡ name_at words place
-named_word words place name word = sym (get_or_from_slice_get words place name [] word)
-
-file_of : (files : Option Files) (words : List (List ℕ)) (place : ℕ) (name text : List ℕ) → slice_get words place ≡ Some name → IsFile files name text
-    → IsFile files (name_at words place) text
-file_of files words place name text word is = subst (λ (n : List ℕ). IsFile files n text) (named_word words place name word) is
-
 -- one file more
-pub one_more : (asked : Asked) (old mid new : ShelfSeen) (words : List (List ℕ)) (places : List ℕ) (place : ℕ) (name : List ℕ) (cycle : List Edge) (before after : List Entry)
-    (s : FilesSoFar asked old mid words places before) → mid.files ≡ old.files → slice_get words place ≡ Some name → FileIs (said_on asked) mid new name cycle
+pub one_more : (asked : Asked) (old mid new : ShelfSeen) (words : List (List ℕ)) (places : List ℕ) (place : ℕ) (cycle : List Edge) (before after : List Entry)
+    (s : FilesSoFar asked old mid words places before) → mid.files ≡ old.files → FileIs (said_on asked) mid new (name_at words place) cycle
     → ((cycles : List (List Edge)) → Holds before cycles → Holds after (cycles ++ cycle ∷ [])) → FilesSoFar asked old new words (places ++ place ∷ []) after
-one_more asked old mid new words places place name cycle before after s files word f put = record {
+one_more asked old mid new words places place cycle before after s files f put = record {
   texts = s.texts ++ f.text ∷ [];
   cycles = s.cycles ++ cycle ∷ [];
   read = record {
-    named = more_named old.files words places s.texts place f.text s.read.named
-        (file_of old.files words place name f.text word (subst (λ (o : Option Files). IsFile o name f.text) files f.named));
+    named = more_named old.files words places s.texts place f.text s.read.named (file_before old mid (name_at words place) f.text files f.named);
     say = more_said asked s.texts s.cycles f.text cycle s.read.say f.is;
   };
   took = took_one_more old mid new s.texts f.text s.took f.took;
@@ -111,75 +104,59 @@ at_place asked old mid words places i place families within is s = record {
   read = s.read;
 }
 
-absent_same : (old mid : Option Files) (m n k : ℕ) (name other : List ℕ) → mid ≡ old → m ≡ n → name ≡ other → MatchOption mid (Rose m k) (λ there. there name ≡ None)
-    → MatchOption old (Rose n k) (λ there. there other ≡ None)
-absent_same old mid m n k name other files same called h =
-    let P : Option Files → Type 0 = λ o. MatchOption o (Rose n k) (λ there. there other ≡ None) in
-    let Q : ℕ → Type 0 = λ i. MatchOption mid (Rose i k) (λ there. there other ≡ None) in
-    let R : List ℕ → Type 0 = λ x. MatchOption mid (Rose m k) (λ there. there x ≡ None) in
-    subst P files (subst Q same (subst R called h))
-
 -- a file gives no cycle
-pub files_refused : (asked : Asked) (old mid new : ShelfSeen) (a : SinkSeen) (words : List (List ℕ)) (places : List ℕ) (i place : ℕ) (name : List ℕ) (families : List Entry) (fault : CycleFault)
+pub files_refused : (asked : Asked) (old mid new : ShelfSeen) (a : SinkSeen) (words : List (List ℕ)) (places : List ℕ) (i place : ℕ) (families : List Entry) (fault : CycleFault)
     → i < length places → place ≡ get_or places i 0 → (s : FilesSoFar asked old mid words (take i places) families) → mid.files ≡ old.files
-    → slice_get words place ≡ Some name → CycleTo asked mid new name (Err fault) → FilesClassified asked old new words places a a (file_end place fault)
-files_refused asked old mid new a words places i place name families Missing within is s files word f = (
+    → CycleTo asked mid new (name_at words place) (Err fault) → FilesClassified asked old new words places a a (file_end place fault)
+files_refused asked old mid new a words places i place families Missing within is s files f = (
   record {
     texts = s.texts;
     place_is = at_place asked old mid words places i place families within is s;
-    absent = absent_same old.files mid.files mid.faults old.faults new.faults name (name_at words place) files s.no_fault (named_word words place name word) f.absent;
+    absent = absent_before old mid new (name_at words place) files s.no_fault f.absent;
     took = took_no_more old mid new s.texts s.took f.took;
   },
   refl,
 )
-files_refused asked old mid new a words places i place name families Device within is s files word f = (
+files_refused asked old mid new a words places i place families Device within is s files f = (
   record {
     fault = subst (λ m. Rose m new.faults) s.no_fault f.fault;
     place = place;
     texts = s.texts;
     place_is = at_place asked old mid words places i place families within is s;
-    took = elim f.took [
-      | inl none ↦ inl (took_no_more old mid new s.texts s.took none)
-      | inr some ↦ inr (
-        some.0,
-        record {
-          text = some.1.text;
-          named = file_of old.files words place name some.1.text word (subst (λ (o : Option Files). IsFile o name some.1.text) files some.1.named);
-          rest = some.1.rest;
-          parts = some.1.parts;
-          short = some.1.short;
-        },
-        took_one_more old mid new s.texts some.0 s.took some.2,
-      )
-    ];
+    took = failed_after old mid new s.texts (name_at words place) files s.took f;
   },
   refl,
 )
-files_refused asked old mid new a words places i place name families (Text (Wrong error)) within is s files word f = (
+files_refused asked old mid new a words places i place families (Text (Wrong error)) within is s files f = (
   record {
     texts = s.texts;
     place_is = at_place asked old mid words places i place families within is s;
     text = f.text;
-    named = file_of old.files words place name f.text word (subst (λ (o : Option Files). IsFile o name f.text) files f.named);
+    named = file_before old mid (name_at words place) f.text files f.named;
     fault = f.fault;
     took = took_one_more old mid new s.texts (take (MAX_TEXT + 1) f.text) s.took f.took;
   },
   refl,
 )
-files_refused asked old mid new a words places i place name families (Text NoMemory) within is s files word f = refl
+files_refused asked old mid new a words places i place families (Text NoMemory) within is s files f = refl
 
--- all files were read, and the families of their cycles are written
+-- all files were read
+all_read : (asked : Asked) (old new : ShelfSeen) (words : List (List ℕ)) (places : List ℕ) (i : ℕ) (families : List Entry) → length places ≤ i
+    → (s : FilesSoFar asked old new words (take i places) families) → AllRead asked old new words places s.cycles
+all_read asked old new words places i families all s = record {
+  texts = s.texts;
+  read = subst (λ (ps : List ℕ). ReadFiles asked old.files words ps s.texts s.cycles) (take_all i places all) s.read;
+  took = s.took;
+  no_fault = s.no_fault;
+}
+
+-- and the families of their cycles are written
 pub files_written : (asked : Asked) (old new : ShelfSeen) (words : List (List ℕ)) (places : List ℕ) (i : ℕ) (families : List Entry) (a b : SinkSeen) (u : Unit {0})
     → length places ≤ i → FilesSoFar asked old new words (take i places) families
     → ((cycles : List (List Edge)) → Holds families cycles → Wrote a b (families_text cycles) (Ok u)) → FilesWritten asked old new words places a b
 files_written asked old new words places i families a b u all s wrote = record {
   cycles = s.cycles;
-  read = record {
-    texts = s.texts;
-    read = subst (λ (ps : List ℕ). ReadFiles asked old.files words ps s.texts s.cycles) (take_all i places all) s.read;
-    took = s.took;
-    no_fault = s.no_fault;
-  };
+  read = all_read asked old new words places i families all s;
   wrote = (wrote s.cycles s.holds).ok;
 }
 
@@ -189,11 +166,6 @@ pub files_unwritten : (asked : Asked) (old new : ShelfSeen) (words : List (List 
     → ((cycles : List (List Edge)) → Holds families cycles → Wrote a b (families_text cycles) (Err e)) → FilesUnwritten asked old new words places a b
 files_unwritten asked old new words places i families a b e all s wrote = record {
   cycles = s.cycles;
-  read = record {
-    texts = s.texts;
-    read = subst (λ (ps : List ℕ). ReadFiles asked old.files words ps s.texts s.cycles) (take_all i places all) s.read;
-    took = s.took;
-    no_fault = s.no_fault;
-  };
+  read = all_read asked old new words places i families all s;
   wrote = (wrote s.cycles s.holds).failed;
 }

@@ -1,15 +1,16 @@
 -- How a call that classifies files ended, and what it did to its devices.
 -- Source: own.
-use Rattle.std.specs.Prelude.{◌≡◌, ◌≤◌, ◌⊎◌, ◌+◌, ⊤, ℕ, List, [], ◌∷◌, ◌++◌, length, take, map, slice_index_or, Option, None, MatchOption, Result, Ok, Err}
+use Rattle.std.specs.Prelude.{◌≡◌, ◌⊎◌, ◌+◌, ⊤, ℕ, List, [], ◌∷◌, ◌++◌, take, map, Option, None, MatchOption, Result, Ok, Err}
 use Rattle.diy_io.specs.Count.{Rose}
 use Rattle.diy_io.specs.Shelf.{Files, ShelfSeen}
 use Rattle.diy_io.specs.Wrote.{SinkSeen, WroteAll, WrotePart}
-use Rattle.file_laws.specs.Opened.{IsFile, TookFiles}
+use Rattle.file_laws.specs.Opened.{IsFile, TookFiles, name_at}
 use Rattle.relax_edges.specs.declared.edge.Edge.{Edge}
 use Rattle.relax_edges.specs.declared.kinds.ArchName.{ArchName}
 use Rattle.arch_trait.specs.Writing.{Writing}
 use Rattle.litmus_text.specs.declared.limits.TheConstants.{MAX_TEXT}
 use Rattle.cycle_lines.specs.Classified.{families_text}
+use Rattle.test_files.specs.FilesRead.{Begins}
 use Rattle.classified_files.specs.declared.errors.FileKind.{FileKind}
 use Rattle.classified_files.specs.declared.errors.FileError.{FileError}
 use Rattle.classified_files.specs.declared.errors.FilesEnd.{FilesEnd}
@@ -24,10 +25,6 @@ pub record Asked : Type 0 where
 -- what a text says on it
 abbrev pub said_on : Asked → List ℕ → Result (List Edge) FileError
 said_on asked text = text_said asked.arch asked.writing text
-
--- the word at a place
-abbrev pub name_at : List (List ℕ) → ℕ → List ℕ
-name_at words place = slice_index_or words place []
 
 -- the words at these places name files with these texts, in order
 abbrev pub AreNamed : Option Files → List (List ℕ) → List ℕ → List (List ℕ) → Type 0
@@ -88,21 +85,14 @@ pub record FileMissing (asked : Asked) (old new : ShelfSeen) (words : List (List
   pub absent : MatchOption old.files (Rose old.faults new.faults) (λ there. there (name_at words place) ≡ None)
   pub took : TookFiles old new texts
 
--- these are the first bytes of the file of a place, and no more than a test may have
-pub record IsBegun (files : Option Files) (words : List (List ℕ)) (place : ℕ) (bytes : List ℕ) : Type 0 where
-  pub text : List ℕ
-  pub named : IsFile files (name_at words place) text
-  pub rest : List ℕ
-  pub parts : text ≡ bytes ++ rest
-  pub short : length bytes ≤ MAX_TEXT
-
--- the shelf failed at the file of a place, after files with no fault: it wasn't opened, or some bytes were taken of it
+-- the shelf failed at the file of a place, after files with no fault: it wasn't opened, or so many bytes were taken of it as a test
+-- may have, at most
 pub record ShelfFailed (asked : Asked) (old new : ShelfSeen) (words : List (List ℕ)) (places : List ℕ) : Type 0 where
   pub fault : Rose old.faults new.faults
   pub place : ℕ
   pub texts : List (List ℕ)
   pub place_is : IsAtPlace asked old.files words places place texts
-  pub took : TookFiles old new texts ⊎ ((bytes : List ℕ) × IsBegun old.files words place bytes × TookFiles old new (texts ++ bytes ∷ []))
+  pub took : TookFiles old new texts ⊎ ((bytes : List ℕ) × Begins old.files (name_at words place) bytes × TookFiles old new (texts ++ bytes ∷ []))
 
 abbrev pub error_at : ℕ → FileKind → FileError
 error_at line kind = record { line = line; kind = kind }

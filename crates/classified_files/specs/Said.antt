@@ -5,7 +5,7 @@ use Rattle.relax_edges.specs.declared.edge.Edge.{Edge}
 use Rattle.relax_edges.specs.declared.kinds.ArchName.{ArchName}
 use Rattle.arch_trait.specs.Writing.{Writing}
 use Rattle.litmus_text.specs.TestReading.{TestRead}
-use Rattle.cycle_lines.specs.Cycles.{cycle_spelled}
+use Rattle.cycle_lines.specs.Cycles.{quoted_cycle}
 use Rattle.test_files.specs.declared.errors.TestFileError.{TestFileError}
 use Rattle.test_files.specs.declared.errors.TestFileKind.{TestFileKind}
 use Rattle.test_files.specs.declared.errors.TestFileKind.TheVariants as tests
@@ -26,12 +26,7 @@ test_error error = record { line = error.line; kind = test_kind error.kind }
 abbrev pub no_cycle : FileError
 no_cycle = record { line = 2; kind = NoCycle }
 
--- the cycle of an architecture that a quoted text spells, if there is one
-abbrev pub quoted_cycle : ArchName → Option (List ℕ) → Option (List Edge)
-quoted_cycle arch None = None
-quoted_cycle arch (Some text) = cycle_spelled arch text
-
--- that cycle, or the fault of a test that quotes none
+-- the cycle that a test quotes, or the fault of one that quotes none
 abbrev pub cycle_or_fault : Option (List Edge) → Result (List Edge) FileError
 cycle_or_fault None = Err no_cycle
 cycle_or_fault (Some cycle) = Ok cycle

@@ -1,7 +1,9 @@
 ghost use Rattle.std.specs.Prelude.{◌≡◌};
+ghost use Rattle.classified_files.specs.declared.errors.CycleFault.TheVariants.{Device, Text};
 ghost use Rattle.classified_files.specs.Read.{file_end, file_fault};
 ghost use Rattle.classified_files.specs.Said.{test_error, test_kind};
 
+use diy_io::Failed;
 use litmus_text::TestKind;
 use test_files::{FileFault, TestFileError, TestFileKind};
 
@@ -90,18 +92,35 @@ impl FileError {
     }
 }
 
-impl CycleFault {
-    /// Where a file isn't read.
-    pub(crate) fn of_file(fault: FileFault) -> CycleFault
-        ensures { result ≡ file_fault fault }
-    {
+impl From<FileFault> for CycleFault {
+    ghost from_gives = { λ fault error. error ≡ file_fault fault };
+
+    fn from(fault: FileFault) -> CycleFault {
         match fault {
             FileFault::Missing => CycleFault::Missing,
             FileFault::Failed => CycleFault::Device,
             FileFault::NoMemory => CycleFault::Text(TextFault::NoMemory),
         }
     }
+}
 
+impl From<Failed> for CycleFault {
+    ghost from_gives = { λ _ error. error ≡ Device };
+
+    fn from(_failed: Failed) -> CycleFault {
+        CycleFault::Device
+    }
+}
+
+impl From<TextFault> for CycleFault {
+    ghost from_gives = { λ fault error. error ≡ Text fault };
+
+    fn from(fault: TextFault) -> CycleFault {
+        CycleFault::Text(fault)
+    }
+}
+
+impl CycleFault {
     /// The end where the file that a word names gives no cycle.
     pub(crate) fn end_at(self, word: usize) -> FilesEnd
         ensures { result ≡ file_end word self }

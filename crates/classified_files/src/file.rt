@@ -1,39 +1,35 @@
 ghost use Rattle.std.specs.Prelude.{◌≡◌, ◌<◌, length};
 ghost use Rattle.diy_io.specs.Shelf.{Idle};
+ghost use Rattle.file_laws.specs.Opened.{name_at};
 ghost use Rattle.classified_files.specs.Read.{CycleTo};
 
 use crate::errors::CycleFault;
 use crate::said::cycle_of_text;
 use arch_trait::Arch;
-use diy_io::{Failed, Shelf};
+use diy_io::{Shelf, Words};
 use edge_algebra::Cycle;
 use std::alloc::Global;
-use test_files::read_file;
+use test_files::read_named_file;
 
-/// The cycle that the test quotes which a file is. The file is read into `text`, in pieces as long as `piece`. A
-/// fault of its text is the answer also where the closing fails.
+/// The cycle that the test quotes which the file is that the word at a place names. The file is read into `text`, in
+/// pieces as long as `piece`. A fault of its text is the answer also where the closing fails.
 pub(crate) fn cycle_of_file<A: Arch, H: Shelf>(
     alloc: Global,
     shelf: &mut H,
-    name: &str,
+    words: &Words,
+    place: usize,
     piece: &mut [u8],
     text: &mut Vec<u8>,
 ) -> Result<Cycle, CycleFault>
     requires idle { (H.seen shelf.old).mode ≡ Idle }
+    requires within { place < length words.now }
     requires some { 0 < length piece.old }
     ensures mode { (H.seen shelf.new).mode ≡ Idle }
     ensures files { (H.seen shelf.new).files ≡ (H.seen shelf.old).files }
-    ensures file { CycleTo (record { arch = A.NAME; writing = A.writing }) (H.seen shelf.old) (H.seen shelf.new) name.now result }
+    ensures file { CycleTo (record { arch = A.NAME; writing = A.writing }) (H.seen shelf.old) (H.seen shelf.new) (name_at words.now place) result }
 {
-    let closed = match read_file(shelf, name, piece, text) {
-        Ok(closed) => closed,
-        Err(fault) => return Err(CycleFault::of_file(fault)),
-    };
-    match cycle_of_text::<A>(alloc, text.as_slice()) {
-        Ok(cycle) => match closed {
-            Ok(()) => Ok(cycle),
-            Err(Failed) => Err(CycleFault::Device),
-        },
-        Err(fault) => Err(CycleFault::Text(fault)),
-    }
+    let closed = read_named_file(shelf, words, place, piece, text)?;
+    let cycle = cycle_of_text::<A>(alloc, text.as_slice())?;
+    closed?;
+    Ok(cycle)
 }

@@ -37,8 +37,7 @@ pub fn classify_files<A: Arch, H: Shelf, O: Sink>(
         return FilesEnd::NoMemory;
     };
     for place in places {
-        let name = words.get(*place);
-        match cycle_of_file::<A, H>(alloc, shelf, name, &mut piece, &mut text) {
+        match cycle_of_file::<A, H>(alloc, shelf, words, *place, &mut piece, &mut text) {
             Ok(cycle) => match families.put(&cycle) {
                 Ok(()) => {}
                 Err(NoMemory) => return FilesEnd::NoMemory,

@@ -1,13 +1,12 @@
-ghost use Rattle.std.specs.Prelude.{◌≡◌, option_map};
+ghost use Rattle.std.specs.Prelude.{◌≡◌};
 ghost use Rattle.classified_files.specs.declared.errors.TextFault.TheVariants.{Wrong};
-ghost use Rattle.classified_files.specs.Said.{quoted_cycle, cycle_or_fault, no_cycle, text_said};
+ghost use Rattle.classified_files.specs.Said.{cycle_or_fault, no_cycle, text_said};
 ghost use Rattle.classified_files.specs.Read.{SaysInMemory};
 
 use crate::errors::{FileError, FileKind, TextFault};
 use arch_trait::Arch;
-use cycle_lines::cycle_spelled;
+use cycle_lines::quoted_cycle;
 use edge_algebra::Cycle;
-use relax_edges::ArchName;
 use std::alloc::Global;
 use test_files::{NoTest, test_of_text};
 
@@ -24,16 +23,6 @@ pub(crate) fn cycle_of_text<A: Arch>(alloc: Global, text: &[u8]) -> Result<Cycle
         Ok(test) => cycle_or_fault(quoted_cycle(A::NAME, test.quoted())),
         Err(NoTest::Wrong(error)) => Err(TextFault::Wrong(FileError::of_test(error))),
         Err(NoTest::NoMemory) => Err(TextFault::NoMemory),
-    }
-}
-
-/// The cycle of an architecture that a quoted text spells, if there is one.
-fn quoted_cycle(arch: ArchName, quoted: Option<&[u8]>) -> Option<Cycle>
-    ensures { result ≡ quoted_cycle arch (option_map (λ text. text.now) quoted.entry) }
-{
-    match quoted {
-        Some(text) => cycle_spelled(arch, text),
-        None => None,
     }
 }
 

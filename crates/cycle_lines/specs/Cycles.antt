@@ -61,6 +61,11 @@ cycle_if_made (Err _) = None
 abbrev pub cycle_spelled : ArchName → List ℕ → Option (List Edge)
 cycle_spelled arch text = cycle_if_made (spelled_made arch (text_edges text))
 
+-- the cycle of an architecture that a quoted text spells, if there is one
+abbrev pub quoted_cycle : ArchName → Option (List ℕ) → Option (List Edge)
+quoted_cycle arch None = None
+quoted_cycle arch (Some text) = cycle_spelled arch text
+
 -- what a line of cycles says: its cycle, nothing where it has no byte but blanks, or the first fault that it has
 unfoldable pub line_said : ArchName → List ℕ → Result (Option (List Edge)) LineKind
 line_said arch line =

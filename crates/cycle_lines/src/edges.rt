@@ -1,7 +1,7 @@
-ghost use Rattle.std.specs.Prelude.{◌≡◌};
+ghost use Rattle.std.specs.Prelude.{◌≡◌, option_map};
 ghost use Rattle.edge_algebra.specs.Compose.{composed};
 ghost use Rattle.cycle_names.specs.Laws.{are_of_arch};
-ghost use Rattle.cycle_lines.specs.Cycles.{is_blank, text_edges, spelled_made, cycle_made, composed_or, cycle_spelled};
+ghost use Rattle.cycle_lines.specs.Cycles.{is_blank, text_edges, spelled_made, cycle_made, composed_or, cycle_spelled, quoted_cycle};
 ghost use Rattle.cycle_lines.specs.Kept.{made_kept, said_with};
 
 use crate::errors::LineKind;
@@ -37,6 +37,17 @@ pub fn cycle_spelled(arch: ArchName, text: &[u8]) -> Option<Cycle>
     match read_cycle(arch, text, &mut edges, &mut cycle) {
         Ok(()) => cycle,
         Err(_) => None,
+    }
+}
+
+/// The cycle of an architecture that a quoted text spells, as `cycle_spelled` finds it. `None` comes too
+/// where no text is quoted.
+pub fn quoted_cycle(arch: ArchName, quoted: Option<&[u8]>) -> Option<Cycle>
+    ensures { result ≡ quoted_cycle arch (option_map (λ text. text.now) quoted.entry) }
+{
+    match quoted {
+        Some(text) => cycle_spelled(arch, text),
+        None => None,
     }
 }
 

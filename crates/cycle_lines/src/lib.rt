@@ -11,7 +11,7 @@ mod reader;
 mod table;
 
 pub use classify::classify_lines;
-pub use edges::cycle_spelled;
+pub use edges::{cycle_spelled, quoted_cycle};
 pub use errors::{ClassifyError, LineKind, LinesError, NormError};
 pub use families::Families;
 pub use norm::{norm_lines, write_name_line};

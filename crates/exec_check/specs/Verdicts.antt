@@ -8,7 +8,7 @@ use Rattle.relax_edges.specs.declared.kinds.ArchName.{ArchName}
 use Rattle.relax_edges.specs.declared.edge.Edge.{Edge}
 use Rattle.relax_edges.specs.Words.{word_of}
 use Rattle.resolution_laws.specs.Resolution.{resolution_of}
-use Rattle.cycle_lines.specs.Cycles.{cycle_spelled}
+use Rattle.cycle_lines.specs.Cycles.{quoted_cycle}
 use Rattle.final_cond.specs.States.{Meets}
 use Rattle.litmus_text.specs.TestReading.{TestRead}
 use Rattle.litmus_text.specs.Programs.{program_read}
@@ -20,11 +20,6 @@ use Rattle.execution_text.specs.ExecutionText.{execution_read}
 use Rattle.exec_check.specs.declared.errors.CheckError.{CheckError}
 use Rattle.exec_check.specs.declared.errors.CheckError.TheVariants.{Exec, NoMemory}
 use Rattle.exec_check.specs.declared.verdict.Verdict.{Verdict}
-
--- the cycle of an architecture that a quoted text spells, if there is one
-abbrev pub quoted_cycle : ArchName → Option (List ℕ) → Option (List Edge)
-quoted_cycle arch None = None
-quoted_cycle arch (Some text) = cycle_spelled arch text
 
 -- the resolution of a cycle, if there is the cycle and it has one
 abbrev pub resolved_cycle : Option (List Edge) → Option (List Edge)

@@ -1,17 +1,16 @@
-ghost use Rattle.std.specs.Prelude.{◌≡◌, IfOk, option_map};
+ghost use Rattle.std.specs.Prelude.{◌≡◌, IfOk};
 ghost use Rattle.litmus_text.specs.Programs.{program_read};
 ghost use Rattle.program_meaning.specs.Programs.{IsCandidate};
-ghost use Rattle.exec_check.specs.Verdicts.{AreJudged, JudgesEdges, judged_cycle, quoted_cycle, resolved_cycle};
+ghost use Rattle.exec_check.specs.Verdicts.{AreJudged, JudgesEdges, judged_cycle, resolved_cycle};
 
 use crate::verdict::JudgedEdges;
 use arch_trait::Arch;
-use cycle_lines::cycle_spelled;
+use cycle_lines::quoted_cycle;
 use cycle_resolve::{Resolved, resolve};
 use diy_io::NoMemory;
 use edge_algebra::Cycle;
 use exec_meaning::{Execution, edge_stands};
 use litmus_text::ReadTest;
-use relax_edges::ArchName;
 use std::alloc::Global;
 
 /// Which edges of the cycle that a test quotes stand in a candidate execution of it. There are none where
@@ -27,16 +26,6 @@ pub(crate) fn edges_on<A: Arch>(
     match resolved_cycle(quoted_cycle(A::NAME, test.quoted())) {
         Some(resolved) => edges_of(alloc, test, exec, &resolved),
         None => Ok(JudgedEdges::new()),
-    }
-}
-
-/// The cycle of an architecture that a quoted text spells, if there is one.
-fn quoted_cycle(arch: ArchName, quoted: Option<&[u8]>) -> Option<Cycle>
-    ensures { result ≡ quoted_cycle arch (option_map (λ text. text.now) quoted.entry) }
-{
-    match quoted {
-        Some(text) => cycle_spelled(arch, text),
-        None => None,
     }
 }
 

@@ -1,8 +1,12 @@
 -- Files of a shelf that are opened one after another, as far as it tells and counts that.
 -- Source: own.
-use Rattle.std.specs.Prelude.{◌≡◌, ◌+◌, ℕ, List, [], ◌∷◌, length, Option, Some, IfSome}
+use Rattle.std.specs.Prelude.{◌≡◌, ◌+◌, ℕ, List, [], ◌∷◌, length, slice_index_or, Option, Some, IfSome}
 use Rattle.diy_io.specs.Count.{count_of}
 use Rattle.diy_io.specs.Shelf.{Files, ShelfSeen}
+
+-- the word at a place, which names a file
+abbrev pub name_at : List (List ℕ) → ℕ → List ℕ
+name_at words place = slice_index_or words place []
 
 -- a file of a name is there and has these bytes, where the files are told
 abbrev pub IsFile : Option Files → List ℕ → List ℕ → Type 0

@@ -1,10 +1,9 @@
 -- Files of a shelf that are summed, one after another.
 use Rattle.std.proofs.Common.{◌≡◌, ◌+◌, ℕ, List, [], ◌∷◌, ◌++◌, length, refl, sym, ap, ◌∙◌, subst, arith, Some, None, inl, inr, length-append, get_or}
-use Rattle.std.specs.Prelude.{Option, Ok, Err, IfSome, IsSome, MatchOption, All, slice_get, zero, suc}
-use Rattle.std.specs.Option.{option_and_then}
+use Rattle.std.specs.Prelude.{Option, Ok, Err, All, slice_get, zero, suc}
 use Rattle.std.proofs.lemmas.List.Elements.{All-append}
-use Rattle.diy_io.specs.Count.{count_of, next_count, Rose}
-use Rattle.diy_io.specs.Shelf.{Files, ShelfSeen, left_to_read, CountsStay, Opened, NotThere, Stopped}
+use Rattle.diy_io.specs.Count.{Rose}
+use Rattle.diy_io.specs.Shelf.{Files, ShelfSeen, Opened, NotThere, Stopped}
 use Rattle.diy_io.specs.Wrote.{SinkSeen}
 use Rattle.diy_io.specs.declared.errors.Failed.{Failed}
 use Rattle.summed_logs.specs.declared.feeding.Feeding.{Feeding}
@@ -13,9 +12,10 @@ use Rattle.summed_logs.specs.declared.feeding.ReadFault.{ReadFault}
 use Rattle.summed_logs.specs.declared.feeding.ReadFault.TheVariants.{Log, Device}
 use Rattle.summed_logs.specs.declared.files.FileFault.{FileFault}
 use Rattle.summed_logs.specs.declared.files.FileFault.TheVariants.{Missing, Read}
-use Rattle.summed_logs.specs.Logs.{IsText, IsShort, TookCount}
+use Rattle.summed_logs.specs.Logs.{IsShort}
 use Rattle.summed_logs.specs.Feeding.{Reads, LogSummed, ClosedTo, SumWrote}
 use Rattle.file_laws.specs.Opened.{IsFile}
+use Rattle.file_laws.proofs.NameLaws.{absent_before, file_before}
 use Rattle.file_laws.proofs.OpenedLaws.{opened_text, opened_took, took_nothing, took_one_more, took_no_more}
 use Rattle.summed_logs.specs.SumEnds.{AreLogs, IsBegun, IsAtWord, FilesWritten, FilesUnwritten, FilesSummed}
 use Rattle.summed_logs.specs.Files.{log_seen, FileSummed, FileTo, FilesSoFar, file_end}
@@ -116,7 +116,7 @@ one_more old mid new feeding after words first place name s files word f =
     record {
       logs = s.logs ++ f.log ∷ [];
       count = omega (arith, length-append s.logs (f.log ∷ []));
-      are = more_logs old.files words first place s.logs name f.log s.are s.count word (subst (λ o. IsFile o name f.log) files f.text) f.short;
+      are = more_logs old.files words first place s.logs name f.log s.are s.count word (file_before old mid name f.log files f.text) f.short;
       reads = f.reads;
       no_fault = f.no_fault ∙ s.no_fault;
       took = took_one_more old mid new s.logs f.log s.took f.took;
@@ -125,13 +125,6 @@ one_more old mid new feeding after words first place name s files word f =
 at_word : (old mid : ShelfSeen) (feeding : Feeding) (words : List (List ℕ)) (first place : ℕ) (name : List ℕ) (s : FilesSoFar old mid feeding words first place)
     → slice_get words place ≡ Some name → IsAtWord old.files words first place s.logs name
 at_word old mid feeding words first place name s word = record { count = s.count; are = s.are; word = word }
-
-absent_same : (old mid : Option Files) (m n k : ℕ) (name : List ℕ) → mid ≡ old → m ≡ n → MatchOption mid (Rose m k) (λ there. there name ≡ None)
-    → MatchOption old (Rose n k) (λ there. there name ≡ None)
-absent_same old mid m n k name files same h =
-    let P : Option Files → Type 0 = λ o. MatchOption o (Rose n k) (λ there. there name ≡ None) in
-    let Q : ℕ → Type 0 = λ i. MatchOption mid (Rose i k) (λ there. there name ≡ None) in
-    subst P files (subst Q same h)
 
 begun_same : (old mid : Option Files) (before : List (List ℕ)) (name bytes : List ℕ) → mid ≡ old → IsBegun mid before name bytes → IsBegun old before name bytes
 begun_same old mid before name bytes files b = subst (λ o. IsBegun o before name bytes) files b
@@ -146,7 +139,7 @@ files_refused old mid new a feeding after words first place name Missing s files
     name = name;
     place_is = at_word old mid feeding words first place name s word;
     right_before = are_right feeding s.logs s.reads;
-    absent = absent_same old.files mid.files mid.faults old.faults new.faults name files s.no_fault f.absent;
+    absent = absent_before old mid new name files s.no_fault f.absent;
     took = took_no_more old mid new s.logs s.took f.took;
   },
   refl,
@@ -172,7 +165,7 @@ files_refused old mid new a feeding after words first place name (Read (Log (Wro
     name = name;
     place_is = at_word old mid feeding words first place name s word;
     log = f.log;
-    text = subst (λ o. IsFile o name f.log) files f.text;
+    text = file_before old mid name f.log files f.text;
     bytes = f.bytes;
     is = f.is;
     took = took_one_more old mid new s.logs f.bytes s.took f.took;
@@ -185,7 +178,7 @@ files_refused old mid new a feeding after words first place name (Read (Log (Too
     name = name;
     place_is = at_word old mid feeding words first place name s word;
     log = f.log;
-    text = subst (λ o. IsFile o name f.log) files f.text;
+    text = file_before old mid name f.log files f.text;
     bytes = f.bytes;
     is = f.is;
     took = took_one_more old mid new s.logs f.bytes s.took f.took;

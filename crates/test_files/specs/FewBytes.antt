@@ -2,14 +2,15 @@
 -- may have.
 -- Source: own.
 use Rattle.std.proofs.Common.{◌≡◌, ◌≤◌, ◌<◌, ◌+◌, ℕ, List, [], ◌∷◌, ◌++◌, length, take, get_or, sym, subst, arith}
-use Rattle.std.specs.Prelude.{All}
+use Rattle.std.specs.Prelude.{All, Option}
 use Rattle.std.proofs.lemmas.List.{length-take}
 use Rattle.std.proofs.lemmas.List.Elements.{All-append}
 use Rattle.diy_io.specs.Count.{count_of}
-use Rattle.diy_io.specs.Shelf.{ShelfSeen}
+use Rattle.diy_io.specs.Shelf.{Files, ShelfSeen}
 use Rattle.file_laws.specs.Opened.{TookFiles}
 use Rattle.file_laws.proofs.OpenedLaws.{took_within}
 use Rattle.litmus_text.specs.declared.limits.TheConstants.{MAX_TEXT}
+use Rattle.test_files.specs.FilesRead.{Begins}
 
 -- each of these has at most one byte more than a test may have
 abbrev pub AreFew : List (List ℕ) → Type 0
@@ -27,6 +28,10 @@ both_few xs ys p q = All-append (λ bytes. length bytes ≤ MAX_TEXT + 1) xs ys 
 -- what is taken of a text is as few
 pub front_few : (text : List ℕ) → AreFew (take (MAX_TEXT + 1) text ∷ [])
 front_few text = one_few (take (MAX_TEXT + 1) text) (omega (arith, length-take (MAX_TEXT + 1) text))
+
+-- and so is what was taken of a file where the shelf failed
+pub begun_few : (files : Option Files) (name bytes : List ℕ) → Begins files name bytes → AreFew (bytes ∷ [])
+begun_few files name bytes begins = let short : length bytes ≤ MAX_TEXT = begins.short in one_few bytes (omega arith)
 
 -- so few are taken of the last file, where one was opened
 pub few_taken : (old new : ShelfSeen) (taken : List (List ℕ)) → TookFiles old new taken → AreFew taken → count_of old.opened < count_of new.opened

@@ -2,10 +2,11 @@
 -- was read so.
 -- Source: own.
 use Rattle.std.proofs.Common.{◌≡◌, ◌≤◌, ◌<◌, ◌+◌, ⊎_elim, ℕ, Bool, true, false, List, [], ◌∷◌, length, take, refl, sym, ap, ◌∙◌, subst, arith, inr, nat_lt, append-nil}
-use Rattle.std.specs.Prelude.{cond, Result, Ok, Err}
+use Rattle.std.specs.Prelude.{cond, OnOk, OnErr, Result, Ok, Err}
 use Rattle.std.proofs.lemmas.Bool.{cases_lt}
 use Rattle.std.proofs.lemmas.Bool.Decides.{nat_tests}
 use Rattle.std.proofs.lemmas.List.{take_all, length-take-le}
+use Rattle.diy_io.specs.Count.{Rose}
 use Rattle.diy_io.specs.Shelf.{ShelfSeen}
 use Rattle.diy_io.specs.declared.errors.Failed.{Failed}
 use Rattle.file_laws.specs.Opened.{IsFile, TookFiles}
@@ -95,42 +96,49 @@ whole_read judge j whole text x e is =
     let right : judge whole ≡ Ok x = sym (j.same whole) ∙ sym (ap judge e) ∙ is in
     e ∙ take_all (MAX_TEXT + 1) whole (omega (arith, j.short whole x right))
 
--- a file that was read and closed, and is right
-pub file_is : {X E : Type 0} (judge : List ℕ → Result X E) → JudgesFirstBytes judge → (old new : ShelfSeen) (name text : List ℕ) (u : Unit {0}) (x : X)
-    → FileRead old new name text (Ok u) → judge text ≡ Ok x → FileIs judge old new name x
-file_is judge j old new name text u x r is = record {
-  text = text;
-  named = subst (IsFile old.files name) (sym (whole_read judge j r.whole text x r.text_is is)) r.named;
-  is = is;
-  took = r.took;
-  no_fault = r.no_fault;
-}
+-- a file whose text was judged to be right, and that was closed
+pub file_is : {X E : Type 0} (judge : List ℕ → Result X E) → JudgesFirstBytes judge → (old new : ShelfSeen) (name text judged : List ℕ)
+    (closed : Result (Unit {0}) Failed) (u : Unit {0}) (x : X) → FileRead old new name text closed → closed ≡ Ok u → judged ≡ text → judge judged ≡ Ok x
+    → FileIs judge old new name x
+file_is judge j old new name text judged closed u x r shut same right =
+    let is : judge text ≡ Ok x = sym (ap judge same) ∙ right in
+    record {
+      text = text;
+      named = subst (IsFile old.files name) (sym (whole_read judge j r.whole text x r.text_is is)) r.named;
+      is = is;
+      took = r.took;
+      no_fault = subst (λ c. OnOk c (new.faults ≡ old.faults)) shut r.no_fault;
+    }
 
--- a file that is right, but whose closing failed
-pub file_unclosed : {X E : Type 0} (judge : List ℕ → Result X E) → JudgesFirstBytes judge → (old new : ShelfSeen) (name text : List ℕ) (f : Failed) (x : X)
-    → FileRead old new name text (Err f) → judge text ≡ Ok x → FileFailed old new name
-file_unclosed judge j old new name text f x r is = record {
-  fault = r.fault;
-  took =
-      inr (
-        text,
-        record {
-          text = text;
-          named = subst (IsFile old.files name) (sym (whole_read judge j r.whole text x r.text_is is)) r.named;
-          rest = [];
-          parts = sym (append-nil text);
-          short = j.short text x is;
-        },
-        r.took,
-      );
-}
+-- one that is right, but whose closing failed
+pub file_unclosed : {X E : Type 0} (judge : List ℕ → Result X E) → JudgesFirstBytes judge → (old new : ShelfSeen) (name text judged : List ℕ)
+    (closed : Result (Unit {0}) Failed) (f : Failed) (x : X) → FileRead old new name text closed → closed ≡ Err f → judged ≡ text → judge judged ≡ Ok x
+    → FileFailed old new name
+file_unclosed judge j old new name text judged closed f x r failed same right =
+    let is : judge text ≡ Ok x = sym (ap judge same) ∙ right in
+    record {
+      fault = subst (λ c. OnErr c (Rose old.faults new.faults)) failed r.fault;
+      took =
+          inr (
+            text,
+            record {
+              text = text;
+              named = subst (IsFile old.files name) (sym (whole_read judge j r.whole text x r.text_is is)) r.named;
+              rest = [];
+              parts = sym (append-nil text);
+              short = j.short text x is;
+            },
+            r.took,
+          );
+    }
 
--- a file that was read and has a fault, whether or not its closing failed
-pub file_faulty : {X E : Type 0} (judge : List ℕ → Result X E) → JudgesFirstBytes judge → (old new : ShelfSeen) (name text : List ℕ)
-    (closed : Result (Unit {0}) Failed) (error : E) → FileRead old new name text closed → judge text ≡ Err error → FileFaulty judge old new name error
-file_faulty judge j old new name text closed error r wrong = record {
+-- and one that has a fault, whether or not its closing failed
+pub file_faulty : {X E : Type 0} (judge : List ℕ → Result X E) → JudgesFirstBytes judge → (old new : ShelfSeen) (name text judged : List ℕ)
+    (closed : Result (Unit {0}) Failed) (error : E) → FileRead old new name text closed → judged ≡ text → judge judged ≡ Err error
+    → FileFaulty judge old new name error
+file_faulty judge j old new name text judged closed error r same wrong = record {
   text = r.whole;
   named = r.named;
-  fault = sym (j.same r.whole) ∙ sym (ap judge r.text_is) ∙ wrong;
+  fault = sym (j.same r.whole) ∙ sym (ap judge r.text_is) ∙ sym (ap judge same) ∙ wrong;
   took = subst (λ (t : List ℕ). TookFiles old new (t ∷ [])) r.text_is r.took;
 }

@@ -7,5 +7,5 @@ mod said;
 mod text;
 
 pub use errors::{FileFault, NoTest, TestFileError, TestFileKind};
-pub use file::read_file;
+pub use file::read_named_file;
 pub use said::test_of_text;

@@ -1,43 +1,17 @@
-use Rattle.std.proofs.Common.{◌≡◌, List, ℕ, Ok, Err, subst, sym}
-use Rattle.std.specs.Prelude.{Result}
-use Rattle.diy_io.specs.Shelf.{ShelfSeen}
-use Rattle.diy_io.specs.declared.errors.Failed.{Failed}
-use Rattle.relax_edges.specs.declared.kinds.ArchName.{ArchName}
-use Rattle.arch_trait.specs.Writing.{Writing}
-use Rattle.test_files.specs.FilesRead.{FileRead}
-use Rattle.test_files.specs.FirstBytes.{file_is, file_unclosed, tests_by_first_bytes}
-use Rattle.test_files.specs.TestSaid.{SaysInMemory, test_said}
-use Rattle.checked_files.specs.declared.errors.CheckFault.{CheckFault}
-use Rattle.checked_files.specs.Steps.{TestFileTo}
-use Rattle.checked_files.proofs.FileLaws.{test_wrong}
+use Rattle.checked_files.proofs.FileLaws.{test_found, test_unclosed, test_wrong}
 use Rattle.checked_files.proofs.file.test_in_file.Goals as goal
 
-pub returns-in-Ok-closed-clause-file : goal.returns-in-Ok-closed-clause-file
-returns-in-Ok-closed-clause-file g c =
-    let arch : ArchName = g.A.Arch.NAME in
-    let w : Writing = g.A.Arch.writing in
-    let old : ShelfSeen = g.H.Shelf.seen c.args.shelf.now in
-    let new : ShelfSeen = g.H.Shelf.seen c.read_file.new.shelf in
-    file_is (test_said arch w) (tests_by_first_bytes arch w) old new c.args.name.now c.read_file.new.text.items c.in-Ok-closed.field-0 c.in-Ok-test_of_text.test
-    (subst (λ (closed : Result (Unit {0}) Failed). FileRead old new c.args.name.now c.read_file.new.text.items closed) c.in-Ok-closed.is c.in-Ok.ensures.file)
-    (subst (λ (t : List ℕ). test_said arch w t ≡ Ok c.in-Ok-test_of_text.test) c.as_slice.ensures.value c.in-Ok-test_of_text.ensures)
+pub returns-in_err-test-clause-file : goal.returns-in_err-test-clause-file
+returns-in_err-test-clause-file g c =
+    test_wrong g.A.Arch.NAME g.A.Arch.writing _ _ _ _ _ _ c.in_err-test.field-0.0 c.from_residual-in_err-test.result c.in_ok-closed.ensures.file
+    c.as_slice.ensures.value c.in_err-test.ensures c.from_residual-in_err-test.ensures.1
 
-pub returns-in-Err-closed-clause-file : goal.returns-in-Err-closed-clause-file
-returns-in-Err-closed-clause-file g c =
-    let arch : ArchName = g.A.Arch.NAME in
-    let w : Writing = g.A.Arch.writing in
-    let old : ShelfSeen = g.H.Shelf.seen c.args.shelf.now in
-    let new : ShelfSeen = g.H.Shelf.seen c.read_file.new.shelf in
-    file_unclosed (test_said arch w) (tests_by_first_bytes arch w) old new c.args.name.now c.read_file.new.text.items c.in-Err-closed.field-0 c.in-Ok-test_of_text.test
-    (subst (λ (closed : Result (Unit {0}) Failed). FileRead old new c.args.name.now c.read_file.new.text.items closed) c.in-Err-closed.is c.in-Ok.ensures.file)
-    (subst (λ (t : List ℕ). test_said arch w t ≡ Ok c.in-Ok-test_of_text.test) c.as_slice.ensures.value c.in-Ok-test_of_text.ensures)
+pub returns-in_err-closed-2-clause-file : goal.returns-in_err-closed-2-clause-file
+returns-in_err-closed-2-clause-file g c =
+    test_unclosed g.A.Arch.NAME g.A.Arch.writing _ _ _ _ _ _ c.in_err-closed-2.field-0.0 c.in_ok-test.test c.from_residual-in_err-closed-2.result
+    c.in_ok-closed.ensures.file c.in_err-closed-2.was c.as_slice.ensures.value c.in_ok-test.ensures c.from_residual-in_err-closed-2.ensures.1
 
-pub returns-in-Err-test_of_text-clause-file : goal.returns-in-Err-test_of_text-clause-file
-returns-in-Err-test_of_text-clause-file g c =
-    let arch : ArchName = g.A.Arch.NAME in
-    let w : Writing = g.A.Arch.writing in
-    let old : ShelfSeen = g.H.Shelf.seen c.args.shelf.now in
-    let new : ShelfSeen = g.H.Shelf.seen c.read_file.new.shelf in
-    subst (λ (f : CheckFault). TestFileTo arch w old new c.args.name.now (Err f)) (sym c.of_test.ensures)
-    (test_wrong arch w old new c.args.name.now c.read_file.new.text.items c.in-Ok.closed c.in-Err-test_of_text.fault c.in-Ok.ensures.file
-    (subst (λ (t : List ℕ). SaysInMemory (Err c.in-Err-test_of_text.fault) (test_said arch w t)) c.as_slice.ensures.value c.in-Err-test_of_text.ensures))
+pub returns-clause-file : goal.returns-clause-file
+returns-clause-file g c =
+    test_found g.A.Arch.NAME g.A.Arch.writing _ _ _ _ _ _ c.in_ok-closed-2.field-0 c.in_ok-test.test c.in_ok-closed.ensures.file
+    c.in_ok-closed-2.was c.as_slice.ensures.value c.in_ok-test.ensures

@@ -1,4 +1,5 @@
-use Rattle.std.proofs.Common.{◌∙◌, get_or, sym, subst, arith, refl}
+use Rattle.std.proofs.Common.{◌∙◌, ℕ, get_or, sym, subst, arith, refl}
+use Rattle.diy_io.specs.Shelf.{ShelfSeen}
 use Rattle.diy_io.specs.Wrote.{SinkSeen}
 use Rattle.classified_files.specs.declared.errors.FilesEnd.{FilesEnd}
 use Rattle.classified_files.specs.FilesEnds.{Asked, FilesClassified}
@@ -15,22 +16,27 @@ loop-place-init g c = record {
 pub returns-in-Err-clause-classified : goal.returns-in-Err-clause-classified
 returns-in-Err-clause-classified g c =
     let asked : Asked = record { arch = g.A.Arch.NAME; writing = g.A.Arch.writing } in
+    let old : ShelfSeen = g.H.Shelf.seen c.args.shelf.now in
+    let mid : ShelfSeen = g.H.Shelf.seen c.loop-place.shelf in
+    let new : ShelfSeen = g.H.Shelf.seen c.cycle_of_file.new.shelf in
     let out : SinkSeen = g.O.Sink.seen c.args.out.now in
-    let P : FilesEnd → Type 0 = λ end.
-    FilesClassified asked (g.H.Shelf.seen c.args.shelf.now) (g.H.Shelf.seen c.cycle_of_file.new.shelf) c.args.words.now c.args.places.now out out end in
-    subst P (sym c.end_at.ensures)
-    (files_refused asked (g.H.Shelf.seen c.args.shelf.now) (g.H.Shelf.seen c.loop-place.shelf) (g.H.Shelf.seen c.cycle_of_file.new.shelf) out
-    c.args.words.now c.args.places.now c.loop-place.place-index (get_or c.args.places.now c.loop-place.place-index 0) c.get-name.result.now _ c.in-Err.fault
-    c.loop-place-test.true refl c.loop-place.invariant.so_far c.loop-place.invariant.files c.get-name.ensures c.in-Err.ensures.file)
+    let place : ℕ = get_or c.args.places.now c.loop-place.place-index 0 in
+    subst (λ (end : FilesEnd). FilesClassified asked old new c.args.words.now c.args.places.now out out end) (sym c.end_at.ensures)
+    (files_refused asked old mid new out c.args.words.now c.args.places.now c.loop-place.place-index place _ c.in-Err.fault
+    c.loop-place-test.true refl c.loop-place.invariant.so_far c.loop-place.invariant.files
+    c.in-Err.ensures.file)
 
 pub loop-place-preserved : goal.loop-place-preserved
 loop-place-preserved g c =
     let asked : Asked = record { arch = g.A.Arch.NAME; writing = g.A.Arch.writing } in
+    let mid : ShelfSeen = g.H.Shelf.seen c.loop-place.shelf in
+    let new : ShelfSeen = g.H.Shelf.seen c.cycle_of_file.new.shelf in
+    let place : ℕ = get_or c.args.places.now c.loop-place.place-index 0 in
     record {
       so_far =
-          next_so_far asked _ _ c.args.words.now c.args.places.now c.loop-place.place-index (get_or c.args.places.now c.loop-place.place-index 0) _ c.loop-place-test.true refl
-          (one_more asked _ (g.H.Shelf.seen c.loop-place.shelf) _ c.args.words.now _ (get_or c.args.places.now c.loop-place.place-index 0) c.get-name.result.now c.in-Ok-cycle_of_file.cycle _ _
-          c.loop-place.invariant.so_far c.loop-place.invariant.files c.get-name.ensures c.in-Ok-cycle_of_file.ensures.file c.in-Ok-put.ensures);
+          next_so_far asked _ new c.args.words.now c.args.places.now c.loop-place.place-index place _ c.loop-place-test.true refl
+          (one_more asked _ mid new c.args.words.now _ place c.in-Ok-cycle_of_file.cycle _ _ c.loop-place.invariant.so_far c.loop-place.invariant.files
+          c.in-Ok-cycle_of_file.ensures.file c.in-Ok-put.ensures);
       mode = c.cycle_of_file.ensures.mode;
       files = c.cycle_of_file.ensures.files ∙ c.loop-place.invariant.files;
     }

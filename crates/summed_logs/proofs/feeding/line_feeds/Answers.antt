@@ -1,4 +1,4 @@
-use Rattle.std.proofs.Common.{refl, subst, Some, None}
+use Rattle.std.proofs.Common.{refl, subst}
 use Rattle.memchr.specs.Find.{IsFirstByte, is_byte}
 use Rattle.summed_logs.proofs.FeedLaws.{counted_on, few_on, counted_all}
 use Rattle.summed_logs.proofs.feeding.line_feeds.Goals as goal
