@@ -23,7 +23,8 @@ use Rattle.cycle_lines.specs.Reading.{ReadUpTo, ReadToFault, ReadToLimit, whole_
 use Rattle.classified_files.specs.declared.errors.FileError.{FileError}
 use Rattle.classified_files.specs.declared.errors.FilesEnd.{FilesEnd}
 use Rattle.classified_files.specs.declared.errors.FilesEnd.TheVariants as classing
-use Rattle.classified_files.specs.FilesEnds.{AreNamed, FileWrong, FilesClassified, IsAtPlace, SayCycles, name_at, said_on}
+use Rattle.classified_files.specs.FilesEnds.{AreNamed, FileWrong, FilesClassified, IsAtPlace, SayCycles, said_on}
+use Rattle.file_laws.specs.Opened.{name_at}
 use Rattle.classified_files.specs.FilesEnds as classed
 use Rattle.checked_files.specs.declared.errors.CheckEnd.{CheckEnd}
 use Rattle.checked_files.specs.declared.errors.CheckEnd.TheVariants as checking
