@@ -74,17 +74,17 @@ pub record AreRuns (a : Puts) (w : Writing) (name : List ℕ) (es : List Edge) (
   pub second_reads : execution_read (length test.threads) test.places (text_of_execution test.places two) ≡ Ok two
 
 -- the text of the test without observers is given, which has code on the architecture; or the first thread that needs too many
--- registers; or there is no memory, of which nothing is said
+-- registers; or no thread does, and there is no memory
 abbrev pub GivesText : Puts → Writing → List ℕ → List Edge → Result (Vec ℕ Global) WhyError → Type 0
 GivesText a w name es (Ok text) = (crowded a es ≡ None) × HasCode a es Avoid × (text.items ≡ test_text a.name w name (shown_test a w es Avoid))
-GivesText a w name es (Err errors.NoMemory) = Unit {0}
+GivesText a w name es (Err errors.NoMemory) = crowded a es ≡ None
 GivesText a w name es (Err (errors.Refused refusal)) = crowded a es ≡ Some refusal
 
--- that is shown, or there is the first reason against it, or there is no memory, of which nothing is said: of a resolved
--- cycle in which this write needs an observer
+-- that is shown, or there is the first reason against it, or there is none, but no memory: of a resolved cycle in which this
+-- write needs an observer
 abbrev pub ShowsNeed : {A : Type 0} → Puts → Writing → List ℕ → List Edge → NeedsObserver → Result (TwoRuns A) WhyError → Type 0
 ShowsNeed a w name es need (Ok runs) = (crowded a es ≡ None) × AreRuns a w name es need runs.text.items runs.test runs.one runs.two
-ShowsNeed a w name es need (Err errors.NoMemory) = Unit {0}
+ShowsNeed a w name es need (Err errors.NoMemory) = crowded a es ≡ None
 ShowsNeed a w name es need (Err (errors.Refused refusal)) = crowded a es ≡ Some refusal
 
 -- the same of a resolved cycle that has this need of an observer, or none
@@ -95,7 +95,7 @@ pub record AreRunsFor (a : Puts) (w : Writing) (name : List ℕ) (es : List Edge
 
 abbrev pub ShowsResolved : {A : Type 0} → Puts → Writing → List ℕ → List Edge → Option NeedsObserver → Result (TwoRuns A) WhyError → Type 0
 ShowsResolved a w name es needed (Ok runs) = (needless a es needed ≡ None) × AreRunsFor a w name es needed runs.text.items runs.test runs.one runs.two
-ShowsResolved a w name es needed (Err errors.NoMemory) = Unit {0}
+ShowsResolved a w name es needed (Err errors.NoMemory) = needless a es needed ≡ None
 ShowsResolved a w name es needed (Err (errors.Refused refusal)) = needless a es needed ≡ Some refusal
 
 -- the same of a cycle by its resolution, if it has one
@@ -106,13 +106,13 @@ pub record AreRunsIn (a : Puts) (w : Writing) (name : List ℕ) (resolution : Re
 
 abbrev pub ShowsResolution : {A : Type 0} → Puts → Writing → List ℕ → Result (List Edge) ResolveError → Result (TwoRuns A) WhyError → Type 0
 ShowsResolution a w name resolution (Ok runs) = (unshown a resolution ≡ None) × AreRunsIn a w name resolution runs.text.items runs.test runs.one runs.two
-ShowsResolution a w name resolution (Err errors.NoMemory) = Unit {0}
+ShowsResolution a w name resolution (Err errors.NoMemory) = unshown a resolution ≡ None
 ShowsResolution a w name resolution (Err (errors.Refused refusal)) = unshown a resolution ≡ Some refusal
 
 -- a call shows a cycle: the text of its test without observers and the two executions; or it gives the first reason why
--- nothing is shown; or there is no memory, of which nothing is said
+-- nothing is shown; or there is no such reason, but no memory
 abbrev pub Shows : {A : Type 0} → Puts → Writing → List ℕ → List Edge → Result (TwoRuns A) WhyError → Type 0
 Shows a w name cycle (Ok runs) =
     (why_refused a cycle ≡ None) × AreRunsFor a w name (turned cycle) (observer_need (turned cycle)) runs.text.items runs.test runs.one runs.two
-Shows a w name cycle (Err errors.NoMemory) = Unit {0}
+Shows a w name cycle (Err errors.NoMemory) = why_refused a cycle ≡ None
 Shows a w name cycle (Err (errors.Refused refusal)) = why_refused a cycle ≡ Some refusal
