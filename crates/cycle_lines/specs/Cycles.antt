@@ -1,23 +1,19 @@
 -- What a line says: a cycle, nothing, or its fault.
 -- Source: own; the lines are those that norm7 and classify7 of the herdtools suite read.
-use Rattle.std.specs.Prelude.{◌≡◌, ℕ, ◌+◌, ◌==◌, nat_lt, Bool, true, ◌++◌, ◌||◌, cond, List, [], ◌∷◌, length, Option, Some, None, Result, Ok, Err, is_ok, unwrap_or}
+use Rattle.std.specs.Prelude.{◌≡◌, ℕ, ◌+◌, ◌==◌, nat_lt, Bool, true, ◌++◌, cond, List, [], ◌∷◌, length, Option, Some, None, Result, Ok, Err, is_ok, unwrap_or}
 use Rattle.std.specs.Result.{result_err}
 use Rattle.std.specs.List.{list_all, flat_map}
 use Rattle.relax_edges.specs.declared.TheConstants.{MAX_EDGES}
 use Rattle.relax_edges.specs.declared.kinds.ArchName.{ArchName}
 use Rattle.relax_edges.specs.declared.edge.Edge.{Edge}
 use Rattle.edge_lists.specs.declared.read.Separators.TheVariants.{Blanks}
-use Rattle.edge_lists.specs.Spelled.{edges_of}
+use Rattle.edge_lists.specs.Spelled.{edges_of, separates}
 use Rattle.edge_algebra.specs.declared.errors.CycleError.{CycleError}
 use Rattle.edge_algebra.specs.Compose.{composed}
 use Rattle.cycle_names.specs.Laws.{are_of_arch}
 use Rattle.cycle_lines.specs.declared.TheConstants.{MAX_LINE}
 use Rattle.cycle_lines.specs.declared.errors.LineKind.{LineKind}
 use Rattle.cycle_lines.specs.declared.errors.LineKind.TheVariants.{LineTooLong, UnknownEdge, Empty, TooLong, NotOfArch, DoesNotCompose}
-
--- a space or a tab
-abbrev pub is_blank : ℕ → Bool
-is_blank byte = (byte == 32) || (byte == 9)
 
 -- a line is too long
 abbrev pub is_too_long : List ℕ → Bool
@@ -70,7 +66,7 @@ quoted_cycle arch (Some text) = cycle_spelled arch text
 unfoldable pub line_said : ArchName → List ℕ → Result (Option (List Edge)) LineKind
 line_said arch line =
     cond (is_too_long line) (Err LineTooLong)
-    (cond (list_all is_blank line) (Ok None) (spelled_made arch (text_edges (without_label line))))
+    (cond (list_all (separates Blanks) line) (Ok None) (spelled_made arch (text_edges (without_label line))))
 
 -- the fault of a line, if it has one
 abbrev pub fault_of : ArchName → List ℕ → Option LineKind

@@ -1,7 +1,7 @@
 ghost use Rattle.std.specs.Prelude.{◌≡◌, option_map};
 ghost use Rattle.edge_algebra.specs.Compose.{composed};
 ghost use Rattle.cycle_names.specs.Laws.{are_of_arch};
-ghost use Rattle.cycle_lines.specs.Cycles.{is_blank, text_edges, spelled_made, cycle_made, composed_or, cycle_spelled, quoted_cycle};
+ghost use Rattle.cycle_lines.specs.Cycles.{text_edges, spelled_made, cycle_made, composed_or, cycle_spelled, quoted_cycle};
 ghost use Rattle.cycle_lines.specs.Kept.{made_kept, said_with};
 
 use crate::errors::LineKind;
@@ -93,11 +93,4 @@ fn compose(edges: &[Edge], place: &mut Option<Cycle>) -> Result<(), LineKind>
         }
         Err(_) => Err(LineKind::DoesNotCompose),
     }
-}
-
-/// Whether a byte is a space or a tab.
-pub(crate) fn is_blank(byte: u8) -> bool
-    ensures { result ≡ is_blank byte }
-{
-    byte == b' ' || byte == b'\t'
 }

@@ -1,15 +1,16 @@
 ghost use Rattle.std.specs.Prelude.{◌≡◌, MatchOption};
 ghost use Rattle.std.specs.List.{list_all};
+ghost use Rattle.edge_lists.specs.Spelled.{separates};
 ghost use Rattle.cycle_lines.specs.Lines.{without_return};
-ghost use Rattle.cycle_lines.specs.Cycles.{is_blank, line_said, without_label};
+ghost use Rattle.cycle_lines.specs.Cycles.{line_said, without_label};
 ghost use Rattle.cycle_lines.specs.Kept.{said_with};
 ghost use Rattle.cycle_lines.specs.Steps.{Without, CutsAt};
 
 use crate::MAX_LINE;
-use crate::edges::{is_blank, read_cycle};
+use crate::edges::read_cycle;
 use crate::errors::LineKind;
 use edge_algebra::Cycle;
-use edge_lists::EdgeList;
+use edge_lists::{EdgeList, Separators, is_blank};
 use memchr::memchr;
 use relax_edges::ArchName;
 
@@ -35,7 +36,7 @@ pub(crate) fn read_line(
 }
 
 fn are_blank(line: &[u8]) -> bool
-    ensures { result ≡ list_all is_blank line.now }
+    ensures { result ≡ list_all (separates Separators.Blanks) line.now }
 {
     line.iter().all(|byte| is_blank(*byte))
 }

@@ -74,7 +74,8 @@ fn first_blank_or_comma(bytes: &[u8]) -> Option<usize>
         .position(|byte| is_blank(*byte) || *byte == b',')
 }
 
-fn is_blank(byte: u8) -> bool
+/// Whether a byte is a space or a tab.
+pub fn is_blank(byte: u8) -> bool
     ensures { result ≡ separates Separators.Blanks byte }
 {
     byte == b' ' || byte == b'\t'
