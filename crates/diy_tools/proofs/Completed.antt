@@ -56,6 +56,8 @@ use Rattle.diy_tools.specs.Refused.{refused_list}
 use Rattle.diy_tools.specs.Statuses.{norm_status, classify_status, listing_status}
 use Rattle.diy_tools.specs.Printing.{AnswersEdges, Prints}
 use Rattle.diy_tools.specs.TestAnswers.{asked_text, test_name, test_refused}
+use Rattle.diy_tools.specs.declared.status.Status.TheVariants as statuses
+use Rattle.diy_tools.specs.declared.status.Device.TheVariants.{Out, Shelf}
 use Rattle.diy_tools.specs.WhyAnswers.{AnswersRuns, WritesRuns, unshown}
 use Rattle.diy_tools.specs.FamilyAnswers.{AnswersClassify, files_status, read_on}
 use Rattle.diy_tools.specs.NameAnswers.{AnswersName, AnswersSought}

@@ -201,7 +201,7 @@ asked_force words status old new h = of_asked (asked_of words) refl h
       where
         unrefused : AnswersRuns (machine_of asked.arch) asked.folder (test_name asked.name asked.edges) None asked.edges status old.shelf new.shelf old.out new.out
             → (status ≡ NoMemory) ⊎ WritesRuns (machine_of asked.arch) asked.folder (test_name asked.name asked.edges) asked.edges status old.shelf new.shelf old.out new.out
-        unrefused (inl no) = inl no.0
+        unrefused (inl wants) = inl wants.0
         unrefused (inr writes) = inr writes
 
     of_asked : (asked : Result Asked Usage) → asked_of words ≡ asked → AnswersAsked words asked status old new → HeadlineAsked asked status old new

@@ -1,5 +1,6 @@
 pub mod Reported
 pub mod Running
+pub mod Shows
 pub mod Forced
 pub mod Listed
 pub mod Crossed

@@ -1,15 +1,16 @@
-ghost use Rattle.std.specs.Prelude.{◌≡◌, ◌≤◌, length, map};
+ghost use Rattle.std.specs.Prelude.{◌≡◌, ◌≤◌, length};
 ghost use Rattle.std.specs.Option.{ForSome, option_map};
 ghost use Rattle.diy_io.specs.Shelf.{Idle};
 ghost use Rattle.diy_words.specs.Given.{HasForm};
 ghost use Rattle.diy_words.specs.declared.request.Request.TheVariants as requests;
+ghost use Rattle.diy_io.specs.Page.{Sends};
 ghost use Rattle.diy_io.specs.Wrote.{Wrote};
 ghost use Rattle.execution_text.specs.Written.{text_of_execution};
-ghost use Rattle.listed_tests.specs.Putting.{file_put};
 ghost use Rattle.litmus_text.specs.Printable.{IsTestName};
 ghost use Rattle.two_runs.specs.Shown.{why_refused};
 ghost use Rattle.diy_tools.specs.Kept.{WritesInMemory, edges_kept, folder_kept, named_kept, refused_why};
 ghost use Rattle.diy_tools.specs.Machines.{machine, machine_of};
+ghost use Rattle.diy_tools.specs.Printing.{Prints};
 ghost use Rattle.diy_tools.specs.Refused.{refused_showing};
 ghost use Rattle.diy_tools.specs.Report.{NamesLocation};
 ghost use Rattle.diy_tools.specs.WhyAnswers.{AnswersRuns, WritesFiles, why_files, why_line};
@@ -140,33 +141,57 @@ fn write_runs<A: Arch, H: Shelf, O: Sink>(
         Ok(text) => text,
         Err(NoMemory) => return Status::NoMemory,
     };
+    put_runs(
+        folder,
+        name,
+        runs.text.as_slice(),
+        one.as_slice(),
+        two.as_slice(),
+        shelf,
+        out,
+    )
+}
+
+/// Puts the three files on the shelf, and then writes the line on them.
+fn put_runs<'a, H: Shelf, O: Sink>(
+    folder: Option<&str>,
+    name: &str,
+    text: &'a [u8],
+    one: &'a [u8],
+    two: &'a [u8],
+    shelf: &mut H,
+    out: &mut O,
+) -> Status
+    requires idle { (H.seen shelf.old).mode ≡ Idle }
+    requires folder { ForSome folder (λ folder. length folder.now ≤ MAX_FOLDER) }
+    ensures written { WritesFiles (why_files (option_map (λ folder. folder.now) folder.entry) name.now text.now one.now two.now) (why_line name.now) result (H.seen shelf.old) (H.seen shelf.new) (O.seen out.old) (O.seen out.new) }
+    ensures location { NamesLocation result }
+{
     let files = [
         File {
             path: test_path(folder, 0, name, ".litmus"),
-            bytes: runs.text.as_slice(),
+            bytes: text,
         },
         File {
             path: test_path(folder, 0, name, ".one"),
-            bytes: one.as_slice(),
+            bytes: one,
         },
         File {
             path: test_path(folder, 0, name, ".two"),
-            bytes: two.as_slice(),
+            bytes: two,
         },
     ];
-    put_runs(&files, name, shelf, out)
+    match put_files(&files, shelf) {
+        Ok(()) => finish_line(name, out),
+        Err(Failed) => Status::WriteFault { of: Device::Shelf },
+    }
 }
 
-/// Puts files on the shelf, and then writes the line on them.
-fn put_runs<H: Shelf, O: Sink>(files: &[File], name: &str, shelf: &mut H, out: &mut O) -> Status
-    requires idle { (H.seen shelf.old).mode ≡ Idle }
-    ensures written { WritesFiles (map file_put files.now) (why_line name.now) result (H.seen shelf.old) (H.seen shelf.new) (O.seen out.old) (O.seen out.new) }
+/// Writes the line on the files.
+fn finish_line<O: Sink>(name: &str, out: &mut O) -> Status
+    ensures prints { Prints (why_line name.now) result (O.seen out.old) (O.seen out.new) }
     ensures location { NamesLocation result }
 {
-    match put_files(files, shelf) {
-        Ok(()) => {}
-        Err(Failed) => return Status::WriteFault { of: Device::Shelf },
-    }
     match write_line(name, out) {
         Ok(()) => Status::Done,
         Err(Failed) => Status::WriteFault { of: Device::Out },
@@ -177,6 +202,12 @@ fn write_line<O: Sink>(name: &str, out: &mut O) -> Result<(), Failed>
     ensures { Wrote (O.seen out.old) (O.seen out.new) (why_line name.now) result }
 {
     let mut page = Page::new();
-    page.send_pieces(&[b"Two executions of ", name.as_bytes(), b"\n"], out)?;
+    send_line(name, &mut page, out)?;
     page.flush(out)
+}
+
+fn send_line<O: Sink>(name: &str, page: &mut Page, out: &mut O) -> Result<(), Failed>
+    ensures { Sends (O.seen out.old) page.old (O.seen out.new) page.new (why_line name.now) result }
+{
+    page.send_pieces(&[b"Two executions of ", name.as_bytes(), b"\n"], out)
 }

@@ -1,0 +1,63 @@
+-- What is written of two executions, as the answers see it.
+use Rattle.std.proofs.Common.{◌≡◌, ℕ, List, [], ◌∷◌, Option, Some, None, refl, sym, ap, ◌∙◌, subst, inl, inr}
+use Rattle.std.specs.Prelude.{◌⊎◌}
+use Rattle.relax_edges.specs.declared.kinds.ObsMode.TheVariants.{Avoid}
+use Rattle.relax_edges.specs.declared.edge.Edge.{Edge}
+use Rattle.resolution_laws.specs.Resolution.{turned}
+use Rattle.value_laws.specs.Values.{observer_need}
+use Rattle.diy_io.specs.Shelf.{ShelfSeen}
+use Rattle.diy_io.specs.Wrote.{SinkSeen}
+use Rattle.execution_text.specs.Written.{text_of_execution}
+use Rattle.litmus_text.specs.TestReading.{TestRead}
+use Rattle.program_meaning.specs.Executions.{Execution}
+use Rattle.test_maker.specs.CycleText.{cycle_text}
+use Rattle.two_runs.specs.declared.errors.WhyRefusal.{WhyRefusal}
+use Rattle.two_runs.specs.Shown.{AreRunsFor, why_refused}
+use Rattle.diy_tools.specs.declared.status.Status.{Status}
+use Rattle.diy_tools.specs.declared.status.Status.TheVariants as statuses
+use Rattle.diy_tools.specs.Kept.{WritesInMemory}
+use Rattle.diy_tools.specs.Machines.{Machine}
+use Rattle.diy_tools.specs.Refused.{refused_showing, showing_refusal}
+use Rattle.diy_tools.specs.WhyAnswers.{AnswersRuns, WritesFiles, why_files, why_line}
+
+-- the text that was made is that of the cycle's test without observers
+text_is : (m : Machine) (name : List ℕ) (cycle : List Edge) (text : List ℕ) (test : TestRead) (one two : Execution)
+    → AreRunsFor m.puts m.writing name (turned cycle) (observer_need (turned cycle)) text test one two → text ≡ cycle_text m.puts m.writing Avoid name cycle
+unfolding cycle_text
+text_is m name cycle text test one two h = h.runs.text_is
+
+-- it and the executions are written, or there is no memory for their texts
+pub runs_written : (m : Machine) (folder : Option (List ℕ)) (name : List ℕ) (cycle : List Edge) (text : List ℕ) (test : TestRead) (one two : Execution)
+    (status : Status) (old new : ShelfSeen) (before after : SinkSeen) → why_refused m.puts cycle ≡ None
+    → AreRunsFor m.puts m.writing name (turned cycle) (observer_need (turned cycle)) text test one two
+    → WritesInMemory (why_files folder name text (text_of_execution test.places one) (text_of_execution test.places two)) (why_line name) status old new before after
+    → AnswersRuns m folder name (refused_showing (why_refused m.puts cycle)) cycle status old new before after
+runs_written m folder name cycle text test one two status old new before after none runs written =
+    subst (λ (refused : Option WhyRefusal). AnswersRuns m folder name (refused_showing refused) cycle status old new before after) (sym none) (answered written)
+  where
+    answered : WritesInMemory (why_files folder name text (text_of_execution test.places one) (text_of_execution test.places two)) (why_line name) status old new before after
+        → AnswersRuns m folder name None cycle status old new before after
+    answered (inl wants) = inl wants
+    answered (inr w) =
+        let same = text_is m name cycle text test one two runs in
+        inr (record {
+          test = test;
+          one = one;
+          two = two;
+          runs = subst (λ t. AreRunsFor m.puts m.writing name (turned cycle) (observer_need (turned cycle)) t test one two) same runs;
+          written =
+              subst (λ t. WritesFiles (why_files folder name t (text_of_execution test.places one) (text_of_execution test.places two)) (why_line name) status old new before after) same w;
+        })
+
+-- nothing is shown, for a reason
+pub runs_refused : (m : Machine) (folder : Option (List ℕ)) (name : List ℕ) (cycle : List Edge) (refusal : WhyRefusal) (status : Status) (shelf : ShelfSeen) (sink : SinkSeen)
+    → why_refused m.puts cycle ≡ Some refusal → status ≡ statuses.Refused (showing_refusal refusal)
+    → AnswersRuns m folder name (refused_showing (why_refused m.puts cycle)) cycle status shelf shelf sink sink
+runs_refused m folder name cycle refusal status shelf sink some e =
+    subst (λ (refused : Option WhyRefusal). AnswersRuns m folder name (refused_showing refused) cycle status shelf shelf sink sink) (sym some) (e, refl, refl)
+
+-- there is no memory
+pub runs_unmade : (m : Machine) (folder : Option (List ℕ)) (name : List ℕ) (cycle : List Edge) (shelf : ShelfSeen) (sink : SinkSeen)
+    → why_refused m.puts cycle ≡ None → AnswersRuns m folder name (refused_showing (why_refused m.puts cycle)) cycle statuses.NoMemory shelf shelf sink sink
+runs_unmade m folder name cycle shelf sink none =
+    subst (λ (refused : Option WhyRefusal). AnswersRuns m folder name (refused_showing refused) cycle statuses.NoMemory shelf shelf sink sink) (sym none) (inl (refl, refl, refl))
