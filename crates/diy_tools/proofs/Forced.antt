@@ -134,7 +134,7 @@ accepted a mode es h =
     none_made (Some reason) h = cc h
 
 -- a name as words give it has the form that a test's has
-named_so : (name : List ℕ) → is_name name ≡ true → IsTestName name
+pub named_so : (name : List ℕ) → is_name name ≡ true → IsTestName name
 named_so name h =
     let outer = and_parts (nat_lt 0 (length name) && nat_le (length name) 800) (list_all is_name_byte name) h in
     let inner = and_parts (nat_lt 0 (length name)) (nat_le (length name) 800) outer.0 in

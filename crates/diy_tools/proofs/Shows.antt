@@ -1,13 +1,14 @@
 -- What is written of two executions, as the answers see it.
 use Rattle.std.proofs.Common.{◌≡◌, ℕ, List, [], ◌∷◌, Option, Some, None, refl, sym, ap, ◌∙◌, subst, inl, inr}
-use Rattle.std.specs.Prelude.{◌⊎◌}
+use Rattle.std.specs.Prelude.{◌⊎◌, codes}
 use Rattle.relax_edges.specs.declared.kinds.ObsMode.TheVariants.{Avoid}
 use Rattle.relax_edges.specs.declared.edge.Edge.{Edge}
 use Rattle.resolution_laws.specs.Resolution.{turned}
 use Rattle.value_laws.specs.Values.{observer_need}
-use Rattle.diy_io.specs.Shelf.{ShelfSeen}
+use Rattle.diy_io.specs.Shelf.{ShelfSeen, Idle}
 use Rattle.diy_io.specs.Wrote.{SinkSeen}
 use Rattle.execution_text.specs.Written.{text_of_execution}
+use Rattle.listed_tests.specs.Putting.{Put}
 use Rattle.litmus_text.specs.TestReading.{TestRead}
 use Rattle.program_meaning.specs.Executions.{Execution}
 use Rattle.test_maker.specs.CycleText.{cycle_text}
@@ -15,10 +16,13 @@ use Rattle.two_runs.specs.declared.errors.WhyRefusal.{WhyRefusal}
 use Rattle.two_runs.specs.Shown.{AreRunsFor, why_refused}
 use Rattle.diy_tools.specs.declared.status.Status.{Status}
 use Rattle.diy_tools.specs.declared.status.Status.TheVariants as statuses
+use Rattle.diy_tools.specs.declared.status.Refusal.{Refusal}
+use Rattle.diy_tools.specs.declared.status.Device.TheVariants.{Out, Shelf}
 use Rattle.diy_tools.specs.Kept.{WritesInMemory}
 use Rattle.diy_tools.specs.Machines.{Machine}
+use Rattle.diy_tools.specs.Printing.{Prints}
 use Rattle.diy_tools.specs.Refused.{refused_showing, showing_refusal}
-use Rattle.diy_tools.specs.WhyAnswers.{AnswersRuns, WritesFiles, why_files, why_line}
+use Rattle.diy_tools.specs.WhyAnswers.{AnswersRuns, WritesFiles, WritesRuns, why_files, why_line, why_path}
 
 -- the text that was made is that of the cycle's test without observers
 text_is : (m : Machine) (name : List ℕ) (cycle : List Edge) (text : List ℕ) (test : TestRead) (one two : Execution)
@@ -61,3 +65,29 @@ pub runs_unmade : (m : Machine) (folder : Option (List ℕ)) (name : List ℕ) (
     → why_refused m.puts cycle ≡ None → AnswersRuns m folder name (refused_showing (why_refused m.puts cycle)) cycle statuses.NoMemory shelf shelf sink sink
 runs_unmade m folder name cycle shelf sink none =
     subst (λ (refused : Option WhyRefusal). AnswersRuns m folder name (refused_showing refused) cycle statuses.NoMemory shelf shelf sink sink) (sym none) (inl (refl, refl, refl))
+
+-- the three files, as they are put
+pub files_are : (folder : Option (List ℕ)) (name text one two a b c : List ℕ) → a ≡ why_path folder name (codes ".litmus") → b ≡ why_path folder name (codes ".one") → c ≡ why_path folder name (codes ".two")
+    → (let left : List (List ℕ × List ℕ) = (a, text) ∷ (b, one) ∷ (c, two) ∷ [] in left) ≡ why_files folder name text one two
+files_are folder name text one two a b c p q r = rw (p, q, r) refl
+
+-- files are put, and then a line is written
+pub line_after : (files : List (List ℕ × List ℕ)) (line : List ℕ) (status : Status) (old new : ShelfSeen) (before after : SinkSeen)
+    → Put old new files → Prints line status before after → WritesFiles files line status old new before after
+line_after files line statuses.Done old new before after put h = (put, h)
+line_after files line (statuses.WriteFault Out) old new before after put h = (put, h)
+line_after files line status old new before after put h = absurd h
+
+-- the shelf is at nothing again
+written_idle : (m : Machine) (folder : Option (List ℕ)) (name : List ℕ) (cycle : List Edge) (status : Status) (old new : ShelfSeen) (before after : SinkSeen)
+    → WritesRuns m folder name cycle status old new before after → new.mode ≡ Idle
+written_idle m folder name cycle statuses.Done old new before after h = h.written.0.mode
+written_idle m folder name cycle (statuses.WriteFault Out) old new before after h = h.written.0.mode
+written_idle m folder name cycle (statuses.WriteFault Shelf) old new before after h = h.written.0.part.mode
+written_idle m folder name cycle status old new before after h = absurd h.written
+
+pub runs_idle : (m : Machine) (folder : Option (List ℕ)) (name : List ℕ) (refused : Option Refusal) (cycle : List Edge) (status : Status) (old new : ShelfSeen) (before after : SinkSeen)
+    → old.mode ≡ Idle → AnswersRuns m folder name refused cycle status old new before after → new.mode ≡ Idle
+runs_idle m folder name (Some refusal) cycle status old new before after idle h = ap (λ (s : ShelfSeen). s.mode) h.1 ∙ idle
+runs_idle m folder name None cycle status old new before after idle (inl wants) = ap (λ (s : ShelfSeen). s.mode) wants.1 ∙ idle
+runs_idle m folder name None cycle status old new before after idle (inr h) = written_idle m folder name cycle status old new before after h

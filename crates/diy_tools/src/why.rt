@@ -80,6 +80,7 @@ fn why_on<A: Arch, H: Shelf, O: Sink>(
             out,
         ),
         None => {
+            let _edges = cycle.edges();
             let mut name = TestName::new();
             name_of(&cycle, &mut name);
             why_named::<A, H, O>(
@@ -202,12 +203,12 @@ fn write_line<O: Sink>(name: &str, out: &mut O) -> Result<(), Failed>
     ensures { Wrote (O.seen out.old) (O.seen out.new) (why_line name.now) result }
 {
     let mut page = Page::new();
-    send_line(name, &mut page, out)?;
+    send_line(name.as_bytes(), &mut page, out)?;
     page.flush(out)
 }
 
-fn send_line<O: Sink>(name: &str, page: &mut Page, out: &mut O) -> Result<(), Failed>
+fn send_line<O: Sink>(name: &[u8], page: &mut Page, out: &mut O) -> Result<(), Failed>
     ensures { Sends (O.seen out.old) page.old (O.seen out.new) page.new (why_line name.now) result }
 {
-    page.send_pieces(&[b"Two executions of ", name.as_bytes(), b"\n"], out)
+    page.send_pieces(&[b"Two executions of ", name, b"\n"], out)
 }

@@ -2,7 +2,10 @@ use Rattle.std.proofs.Common.{subst, Ok}
 use Rattle.diy_words.specs.declared.request.Request.{Request}
 use Rattle.diy_words.specs.Given.{Gives}
 use Rattle.diy_words.specs.Requests.{asked_of}
-use Rattle.diy_tools.proofs.Running.{check_answered, name_answered}
+use Rattle.diy_tools.specs.Kept.{edges_kept, folder_kept, named_kept, refused_why}
+use Rattle.diy_tools.specs.Machines.{machine_of}
+use Rattle.diy_tools.proofs.Running.{check_answered, name_answered, why_answered}
+use Rattle.diy_tools.proofs.Shows.{runs_idle}
 use Rattle.diy_tools.proofs.tools.answer.Goals as goal
 
 pub returns-in-Ok-Name-clause-answers : goal.returns-in-Ok-Name-clause-answers
@@ -21,3 +24,9 @@ returns-in-Ok-Check-clause-answers g c =
     (g.H.Shelf.seen c.check.new.shelf)
     (g.O.Sink.seen c.args.out.now) (g.O.Sink.seen c.check.new.out)
     (subst (λ (r : Request). Gives (Ok r) (asked_of c.args.words.now)) c.in-Ok-Check.field-0-is c.in-Ok-Check.ensures.given) c.check.ensures.answers
+
+pub returns-in-Ok-Why-clause-idle : goal.returns-in-Ok-Why-clause-idle
+returns-in-Ok-Why-clause-idle g c =
+    let request = c.in-Ok-Why.request in
+    runs_idle (machine_of request.arch) (folder_kept request) (named_kept request) (refused_why (machine_of request.arch) request.edges) (edges_kept request.edges) c.why.result
+    (g.H.Shelf.seen c.args.shelf.now) (g.H.Shelf.seen c.why.new.shelf) (g.O.Sink.seen c.args.out.now) (g.O.Sink.seen c.why.new.out) c.requires c.why.ensures.answers
