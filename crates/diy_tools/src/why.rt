@@ -83,14 +83,7 @@ fn why_on<A: Arch, H: Shelf, O: Sink>(
             let _edges = cycle.edges();
             let mut name = TestName::new();
             name_of(&cycle, &mut name);
-            why_named::<A, H, O>(
-                alloc,
-                &cycle,
-                name.as_str(),
-                request.folder,
-                shelf,
-                out,
-            )
+            why_named::<A, H, O>(alloc, &cycle, name.as_str(), request.folder, shelf, out)
         }
     }
 }
