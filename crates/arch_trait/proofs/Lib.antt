@@ -7,6 +7,6 @@ pub mod Tables
 pub mod Compiling
 pub mod Accesses
 pub mod Spelling
-pub mod Blanks
+pub mod Commas
 pub mod PlainTexts
 pub mod Edges

@@ -2,11 +2,12 @@
 use Rattle.std.proofs.Common.{ℕ, ◌≡◌, ◌==◌, refl, Bool, true, false, not, ◌&&◌, List, [], ◌∷◌, ◌++◌, Some, map, ◌∙◌, sym, ap, append-nil, append_assoc}
 use Rattle.std.proofs.lemmas.Bool.{and_parts}
 use Rattle.std.specs.List.{list_all, slice_split, onto_first}
-use Rattle.text_laws.specs.Runs.{is_blank, run_of, after_run, unblanked}
+use Rattle.text_laws.specs.Blanks.{is_blank, unblanked, kept_before, before_blanks, trimmed, is_inked}
+use Rattle.text_laws.specs.Runs.{run_of, after_run}
 use Rattle.micro_ops.specs.declared.operation.Micro.{Micro}
 use Rattle.arch_trait.specs.Threads.{Puts}
 use Rattle.arch_trait.specs.Writing.{OperandTexts, none, one, two, three, four, more, Written, Writing, WritesBack, listed, text_of, op_text, is_plain, all_plain, raw_of, name_of, is_named, with_number}
-use Rattle.arch_trait.specs.Reading.{kept_before, before_blanks, trimmed, is_inked, few, operands_if, operands_in, written_in, numbered, number_raw, instr_read}
+use Rattle.arch_trait.specs.Reading.{few, operands_if, operands_in, written_in, numbered, number_raw, instr_read}
 
 -- a byte of a word: no blank and no comma
 abbrev pub is_word_byte : ℕ → Bool

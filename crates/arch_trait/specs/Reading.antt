@@ -1,9 +1,10 @@
 -- How an instruction is read from the text of its cell, and its name gets a number.
 -- Source: the litmus format of the herdtools; where blanks may stand is own.
-use Rattle.std.specs.Prelude.{ℕ, ◌≡◌, ◌==◌, Bool, true, cond, not, List, [], ◌∷◌, Option, Some, None, Result, Ok, Err, map}
+use Rattle.std.specs.Prelude.{ℕ, ◌≡◌, ◌==◌, true, cond, List, [], ◌∷◌, Option, Some, None, Result, Ok, Err, map}
 use Rattle.std.specs.List.{slice_split}
 use Rattle.text_laws.specs.Names.{is_place_name}
-use Rattle.text_laws.specs.Runs.{is_blank, run_of, after_run, unblanked}
+use Rattle.text_laws.specs.Blanks.{is_inked, unblanked, trimmed}
+use Rattle.text_laws.specs.Runs.{run_of, after_run}
 use Rattle.micro_ops.specs.declared.operation.Micro.{Micro}
 use Rattle.micro_ops.specs.Machines.{InRange}
 use Rattle.arch_trait.specs.declared.reading.InstrError.{InstrError}
@@ -11,24 +12,6 @@ use Rattle.arch_trait.specs.declared.reading.InstrError.TheVariants as errors
 use Rattle.arch_trait.specs.Names.{number_added, names_added}
 use Rattle.arch_trait.specs.Threads.{Puts}
 use Rattle.arch_trait.specs.Writing.{OperandTexts, none, one, two, three, four, more, Written, Name, nothing, place, label, RawInstr, Writing, is_label_name, with_number}
-
--- a byte before what stands behind it without blanks at its end
-abbrev pub kept_before : ℕ → List ℕ → List ℕ
-kept_before b [] = cond (is_blank b) [] (b ∷ [])
-kept_before b (c ∷ text) = b ∷ c ∷ text
-
--- a text without the blanks at its end
-unfoldable pub before_blanks : List ℕ → List ℕ
-before_blanks [] = []
-before_blanks (b ∷ text) = kept_before b (before_blanks text)
-
--- a text without the blanks at both ends
-abbrev pub trimmed : List ℕ → List ℕ
-trimmed text = before_blanks (unblanked text)
-
--- a byte that isn't blank
-abbrev pub is_inked : ℕ → Bool
-is_inked b = not (is_blank b)
 
 -- the pieces of a text as operands
 abbrev pub few : List (List ℕ) → OperandTexts

@@ -6,7 +6,7 @@ use Rattle.std.specs.Fmt.{decimal}
 use Rattle.std.specs.Str.{bytes_eq}
 use Rattle.text_laws.specs.Names.{is_place_name, is_register_name}
 use Rattle.text_laws.specs.Numbers.{number_of}
-use Rattle.text_laws.specs.Runs.{is_blank}
+use Rattle.text_laws.specs.Blanks.{is_blank}
 use Rattle.micro_ops.specs.declared.operation.Micro.{Micro}
 use Rattle.micro_ops.specs.declared.operation.Micro.TheVariants as ops
 use Rattle.arch_trait.specs.Threads.{Puts}

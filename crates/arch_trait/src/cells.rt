@@ -7,9 +7,10 @@ ghost use Rattle.arch_trait.specs.Writing.{place, label, with_number};
 
 use crate::arch::Arch;
 use crate::places::Places;
-use crate::reading::{InstrError, Named, after_blanks, operands_of, split_word};
+use crate::reading::{InstrError, Named, operands_of};
 use final_cond::{RegName, is_place_name, is_register_name};
 use micro_ops::Micro;
+use text_parts::{Class, split_run, without_blanks};
 
 /// The instruction that the bytes of a cell are, as `Arch::read_instr` reads it.
 pub fn read_cell<A: Arch>(
@@ -19,7 +20,7 @@ pub fn read_cell<A: Arch>(
 ) -> Result<Micro, InstrError>
     ensures { Reads result places.old labels.old places.new labels.new (instr_read A.writing text.now places.old labels.old) }
 {
-    let (word, rest) = split_word(after_blanks(text));
+    let (word, rest) = split_run(Class::Inked, without_blanks(text));
     match A::read_raw(word, operands_of(rest)) {
         None => Err(InstrError::BadInstruction),
         Some(raw) => number(raw.op, raw.name, places, labels),

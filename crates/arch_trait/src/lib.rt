@@ -23,9 +23,7 @@ pub use link::{Link, link_of};
 pub use numbered::Numbered;
 pub use operand::{MAX_IMMEDIATE, immediate, push_label, read_label_alone};
 pub use places::{MAX_PLACES, Places};
-pub use reading::{
-    InstrError, Named, Operands, Raw, after_blanks, before_blanks, split_word, trimmed,
-};
+pub use reading::{InstrError, Named, Operands, Raw};
 pub use regs::{Links, MAX_REGISTERS, Regs};
 pub use shape::shape_of;
 pub use step::{MAX_STEPS, Shape, Step};

@@ -1,12 +1,12 @@
 ghost use Rattle.std.specs.Prelude.{◌≡◌, ◌==◌};
 ghost use Rattle.std.specs.List.{position, slice_split};
-ghost use Rattle.text_laws.specs.Runs.{is_blank, run_of, after_run, unblanked};
-ghost use Rattle.arch_trait.specs.Reading.{before_blanks, trimmed, is_inked, operands_in};
+ghost use Rattle.arch_trait.specs.Reading.{operands_in};
 ghost use Rattle.arch_trait.specs.Pieces.{texts_of, name_seen};
 ghost use Rattle.arch_trait.specs.Writing.{nothing};
 ghost use Rattle.arch_trait.specs.Cuts.{Cut};
 
 use micro_ops::Micro;
+use text_parts::trimmed;
 
 /// Why the text of a cell is no instruction, or can't be kept.
 #[derive(Clone, Copy, Debug, PartialEq, Eq, thiserror::Error)]
@@ -63,65 +63,8 @@ impl Raw<'_> {
     }
 }
 
-fn is_blank(byte: u8) -> bool
-    ensures { result ≡ is_blank byte }
-{
-    byte == b' ' || byte == b'\t'
-}
-
-/// The text without the blanks at its front.
-#[tactic(auto, using(crate::proofs::Blanks::blank_first, crate::proofs::Blanks::no_blank_first, crate::proofs::Blanks::nothing_first))]
-pub fn after_blanks(text: &[u8]) -> &[u8]
-    ensures { result.now ≡ unblanked text.now }
-{
-    let mut rest = text;
-    while let [first, behind @ ..] = rest {
-        if !is_blank(*first) {
-            break;
-        }
-        rest = behind;
-    }
-    rest
-}
-
-/// The text without the blanks at its end.
-#[tactic(auto, using(crate::proofs::Blanks::blank_last, crate::proofs::Blanks::no_blank_last, crate::proofs::Blanks::nothing_last))]
-pub fn before_blanks(text: &[u8]) -> &[u8]
-    ensures { result.now ≡ before_blanks text.now }
-{
-    let mut rest = text;
-    while let [front @ .., last] = rest {
-        if !is_blank(*last) {
-            break;
-        }
-        rest = front;
-    }
-    rest
-}
-
-/// The text without the blanks at both ends.
-pub fn trimmed(text: &[u8]) -> &[u8]
-    ensures { result.now ≡ trimmed text.now }
-{
-    before_blanks(after_blanks(text))
-}
-
-/// The first word of a text that doesn't begin with a blank, and what stands behind it.
-#[tactic(auto, using(text_laws::proofs::RunLaws::run_stops, text_laws::proofs::RunLaws::run_ends, text_laws::proofs::RunLaws::none_passed, text_laws::proofs::RunLaws::one_passed))]
-pub fn split_word(text: &[u8]) -> (&[u8], &[u8])
-    ensures word { result.0.now ≡ run_of is_inked text.now }
-    ensures rest { result.1.now ≡ after_run is_inked text.now }
-{
-    for (i, byte) in text.iter().enumerate() {
-        if is_blank(*byte) {
-            return text.split_at(i);
-        }
-    }
-    (text, &[])
-}
-
 /// The text before the first comma, and the one behind it.
-#[tactic(auto, using(crate::proofs::Blanks::cut_none, crate::proofs::Blanks::cut_some))]
+#[tactic(auto, using(crate::proofs::Commas::cut_none, crate::proofs::Commas::cut_some))]
 fn cut_comma(text: &[u8]) -> Option<(&[u8], &[u8])>
     ensures { Cut result text.now }
 {

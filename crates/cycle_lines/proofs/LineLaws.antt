@@ -6,27 +6,15 @@ use Rattle.std.proofs.lemmas.List.{map-append}
 use Rattle.std.proofs.lemmas.List.Splits.{slice_split_at, slice_split_none, length-slice_split}
 use Rattle.std.proofs.lemmas.Bool.Decides.{nat_tests}
 use Rattle.diy_io.specs.Sink.{line_feed_count}
-use Rattle.cycle_lines.specs.Lines.{is_line_feed, without_return, but_last, last_of, ended_lines, unended, last_line, lines_of}
+use Rattle.text_laws.specs.Lines.{is_line_feed, without_return, but_last, last_of}
+use Rattle.text_laws.proofs.PieceLaws.{first_piece}
+use Rattle.cycle_lines.specs.Lines.{ended_lines, unended, last_line, lines_of}
 use Rattle.cycle_lines.specs.Cycles.{is_too_long}
 use Rattle.cycle_lines.specs.Steps.{Without}
 
 pub by_test : {G : Type 0} (b : Bool) → (b ≡ true → G) → (b ≡ false → G) → G
 by_test true p q = p refl
 by_test false p q = q refl
-
--- a split has a first piece
-pub record FirstLine (text : List ℕ) : Type 0 where
-  pub line : List ℕ
-  pub rest : List (List ℕ)
-  pub is : slice_split is_line_feed text ≡ line ∷ rest
-
-pub first_line : (text : List ℕ) → FirstLine text
-first_line [] = record { line = []; rest = []; is = refl }
-first_line (byte ∷ text) =
-    let further = first_line text in
-    by_test (is_line_feed byte)
-    (λ e. record { line = []; rest = slice_split is_line_feed text; is = rw e refl })
-    (λ e. record { line = byte ∷ further.line; rest = further.rest; is = rw (e, further.is) refl })
 
 by_rest : (byte : ℕ) (line : List ℕ) (rest : List (List ℕ)) (l : List ℕ) (ls : List (List ℕ)) →
     onto_first byte (but_last (line ∷ rest) ++ (last_of (line ∷ rest) ++ l) ∷ ls) ≡ but_last ((byte ∷ line) ∷ rest) ++ (last_of ((byte ∷ line) ∷ rest) ++ l) ∷ ls
@@ -39,10 +27,10 @@ split_append : (a b l : List ℕ) (ls : List (List ℕ)) → slice_split is_line
 split_append [] b l ls h = h
 split_append (byte ∷ a) b l ls h =
     let further = split_append a b l ls h in
-    let first = first_line a in
+    let first = first_piece is_line_feed a in
     by_test (is_line_feed byte)
     (λ e. rw e (rw (further, first.is) refl))
-    (λ e. rw e (rw (further, first.is) (by_rest byte first.line first.rest l ls)))
+    (λ e. rw e (rw (further, first.is) (by_rest byte first.piece first.rest l ls)))
 
 but_last_behind : (xs : List (List ℕ)) (y : List ℕ) (ys : List (List ℕ)) → but_last (xs ++ y ∷ ys) ≡ xs ++ but_last (y ∷ ys)
 but_last_behind [] y ys = refl
@@ -64,18 +52,18 @@ split_behind a b l ls e h =
 pub ended_behind : (a b : List ℕ) → unended a ≡ [] → ended_lines (a ++ b) ≡ ended_lines a ++ ended_lines b
 unfolding ended_lines
 ended_behind a b e =
-    let first = first_line b in
-    ap (λ t. map without_return (but_last t)) (split_behind a b first.line first.rest e first.is)
-    ∙ ap (map without_return) (but_last_behind (but_last (slice_split is_line_feed a)) first.line first.rest)
-    ∙ map-append without_return (but_last (slice_split is_line_feed a)) (but_last (first.line ∷ first.rest))
+    let first = first_piece is_line_feed b in
+    ap (λ t. map without_return (but_last t)) (split_behind a b first.piece first.rest e first.is)
+    ∙ ap (map without_return) (but_last_behind (but_last (slice_split is_line_feed a)) first.piece first.rest)
+    ∙ map-append without_return (but_last (slice_split is_line_feed a)) (but_last (first.piece ∷ first.rest))
     ∙ ap (λ t. map without_return (but_last (slice_split is_line_feed a)) ++ map without_return (but_last t)) (sym first.is)
 
 pub unended_behind : (a b : List ℕ) → unended a ≡ [] → unended (a ++ b) ≡ unended b
 unfolding unended
 unended_behind a b e =
-    let first = first_line b in
-    ap last_of (split_behind a b first.line first.rest e first.is)
-    ∙ last_behind (but_last (slice_split is_line_feed a)) first.line first.rest ∙ ap last_of (sym first.is)
+    let first = first_piece is_line_feed b in
+    ap last_of (split_behind a b first.piece first.rest e first.is)
+    ∙ last_behind (but_last (slice_split is_line_feed a)) first.piece first.rest ∙ ap last_of (sym first.is)
 
 pub lines_behind : (a b : List ℕ) → unended a ≡ [] → lines_of (a ++ b) ≡ ended_lines a ++ lines_of b
 lines_behind a b e =
@@ -116,14 +104,14 @@ unended_nil = unended_all [] (without_nil 10)
 pub ended_cut : (line rest : List ℕ) → Without 10 line → ended_lines (line ++ 10 ∷ rest) ≡ without_return line ∷ ended_lines rest
 unfolding ended_lines
 ended_cut line rest h =
-    let first = first_line rest in
+    let first = first_piece is_line_feed rest in
     ap (λ t. map without_return (but_last t)) (slice_split_at is_line_feed line 10 rest h refl)
     ∙ rw first.is refl
 
 pub unended_cut : (line rest : List ℕ) → Without 10 line → unended (line ++ 10 ∷ rest) ≡ unended rest
 unfolding unended
 unended_cut line rest h =
-    let first = first_line rest in
+    let first = first_piece is_line_feed rest in
     ap last_of (slice_split_at is_line_feed line 10 rest h refl) ∙ rw first.is refl
 
 pub lines_cut : (line rest : List ℕ) → Without 10 line → lines_of (line ++ 10 ∷ rest) ≡ without_return line ∷ lines_of rest
@@ -172,11 +160,11 @@ some_line (b ∷ text) h = refl
 pub long_first : (text rest : List ℕ) → Without 10 text → is_too_long (without_return text) ≡ true → LongFirst (lines_of (text ++ rest))
 unfolding ended_lines unended
 long_first text rest h long =
-    let first = first_line rest in
+    let first = first_piece is_line_feed rest in
     let alone = slice_split_none is_line_feed text h in
-    let split : slice_split is_line_feed (text ++ rest) ≡ (text ++ first.line) ∷ first.rest =
-    split_append text rest first.line first.rest first.is ∙ ap (λ t. but_last t ++ (last_of t ++ first.line) ∷ first.rest) alone in
-    by_rest first.line first.rest split
+    let split : slice_split is_line_feed (text ++ rest) ≡ (text ++ first.piece) ∷ first.rest =
+    split_append text rest first.piece first.rest first.is ∙ ap (λ t. but_last t ++ (last_of t ++ first.piece) ∷ first.rest) alone in
+    by_rest first.piece first.rest split
   where
     kept : (line : List ℕ) → is_too_long (text ++ line) ≡ true
     kept line = long_by (without_return text) (text ++ line) (omega (arith, return_short text, length-append text line)) long
@@ -213,6 +201,6 @@ map_length f (x ∷ xs) = ap suc (map_length f xs)
 pub ended_count : (text : List ℕ) → length (ended_lines text) ≡ line_feed_count text
 unfolding ended_lines
 ended_count text =
-    let first = first_line text in
-    let all : length (first.line ∷ first.rest) ≡ line_feed_count text + 1 = ap length (sym first.is) ∙ length-slice_split is_line_feed text in
-    map_length without_return (but_last (slice_split is_line_feed text)) ∙ ap (λ t. length (but_last t)) first.is ∙ but_last_length first.line first.rest ∙ omega arith
+    let first = first_piece is_line_feed text in
+    let all : length (first.piece ∷ first.rest) ≡ line_feed_count text + 1 = ap length (sym first.is) ∙ length-slice_split is_line_feed text in
+    map_length without_return (but_last (slice_split is_line_feed text)) ∙ ap (λ t. length (but_last t)) first.is ∙ but_last_length first.piece first.rest ∙ omega arith

@@ -21,7 +21,8 @@ use Rattle.cycle_lines.specs.declared.errors.LinesError.{LinesError}
 use Rattle.cycle_lines.specs.declared.reader.Found.{Found}
 use Rattle.cycle_lines.specs.declared.reader.Found.TheVariants.{Next, Last}
 use Rattle.cycle_lines.specs.declared.reader.Line.{Line}
-use Rattle.cycle_lines.specs.Lines.{without_return, ended_lines, unended, last_line, lines_of}
+use Rattle.text_laws.specs.Lines.{without_return}
+use Rattle.cycle_lines.specs.Lines.{ended_lines, unended, last_line, lines_of}
 use Rattle.cycle_lines.specs.Cycles.{line_said, fault_of, is_sound, are_sound, cycle_said, cycles_of, is_too_long}
 use Rattle.cycle_lines.specs.Reading.{TookUpTo, Untouched, ReadAll, ReadToFault, ReadToLimit, ReadToStop, ReadSome, whole_of, cycles_before}
 use Rattle.cycle_lines.specs.Steps.{Without, CutsAt, ReaderSeen, HasRead, GivesLine, GivesNext, said_by, work, Fills, FillsBuffer, Ended, Stops, Ends, LessToDo, Continues, last_cycle}

@@ -1,27 +1,7 @@
 -- The lines of a text.
-use Rattle.std.specs.Prelude.{ℕ, ◌==◌, Bool, cond, List, [], ◌∷◌, ◌++◌, map}
+use Rattle.std.specs.Prelude.{ℕ, List, [], ◌∷◌, ◌++◌, map}
 use Rattle.std.specs.List.{slice_split}
-
--- a line feed
-abbrev pub is_line_feed : ℕ → Bool
-is_line_feed byte = byte == 10
-
--- a line without the carriage return at its end
-unfoldable pub without_return : List ℕ → List ℕ
-without_return [] = []
-without_return (byte ∷ []) = cond (byte == 13) [] (byte ∷ [])
-without_return (byte ∷ next ∷ text) = byte ∷ without_return (next ∷ text)
-
--- pieces but the last one, and the last one
-abbrev pub but_last : List (List ℕ) → List (List ℕ)
-but_last [] = []
-but_last (piece ∷ []) = []
-but_last (piece ∷ next ∷ rest) = piece ∷ but_last (next ∷ rest)
-
-abbrev pub last_of : List (List ℕ) → List ℕ
-last_of [] = []
-last_of (piece ∷ []) = piece
-last_of (piece ∷ next ∷ rest) = last_of (next ∷ rest)
+use Rattle.text_laws.specs.Lines.{is_line_feed, without_return, but_last, last_of}
 
 -- the lines that a line feed ends, each without that and without a carriage return right before it
 unfoldable pub ended_lines : List ℕ → List (List ℕ)

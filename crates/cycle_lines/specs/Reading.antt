@@ -11,7 +11,8 @@ use Rattle.relax_edges.specs.declared.edge.Edge.{Edge}
 use Rattle.cycle_lines.specs.declared.errors.LineKind.{LineKind}
 use Rattle.cycle_lines.specs.declared.errors.LinesError.{LinesError}
 use Rattle.cycle_lines.specs.declared.errors.LinesError.TheVariants.{Wrong, TooMuch, InputFault}
-use Rattle.cycle_lines.specs.Lines.{ended_lines, unended, lines_of, without_return}
+use Rattle.cycle_lines.specs.Lines.{ended_lines, unended, lines_of}
+use Rattle.text_laws.specs.Lines.{without_return}
 use Rattle.cycle_lines.specs.Cycles.{FirstFault, are_sound, cycles_of, is_sound, is_too_long}
 
 -- what was taken of a source and, where it tells that, what is left of it: then all that it had

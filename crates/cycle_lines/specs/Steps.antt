@@ -12,7 +12,8 @@ use Rattle.cycle_lines.specs.declared.reader.Line.{Line}
 use Rattle.cycle_lines.specs.declared.reader.Line.TheVariants as lines
 use Rattle.cycle_lines.specs.declared.reader.Found.{Found}
 use Rattle.cycle_lines.specs.declared.reader.Found.TheVariants.{Next, Last}
-use Rattle.cycle_lines.specs.Lines.{ended_lines, unended, without_return}
+use Rattle.cycle_lines.specs.Lines.{ended_lines, unended}
+use Rattle.text_laws.specs.Lines.{without_return}
 use Rattle.cycle_lines.specs.Cycles.{line_said, are_sound, cycles_of}
 use Rattle.cycle_lines.specs.Reading.{ReadAll, ReadUpTo, TookUpTo, Untouched}
 

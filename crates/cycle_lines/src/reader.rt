@@ -2,17 +2,18 @@ ghost use Rattle.std.specs.Prelude.{◌≡◌, ◌≤◌, ◌<◌, ℕ, ◌+◌,
 ghost use Rattle.relax_edges.specs.declared.edge.Edge.{Edge};
 ghost use Rattle.cycle_lines.specs.Cycles.{is_too_long};
 ghost use Rattle.cycle_lines.specs.Kept.{said_with};
-ghost use Rattle.cycle_lines.specs.Lines.{without_return};
+ghost use Rattle.text_laws.specs.Lines.{without_return};
 ghost use Rattle.cycle_lines.specs.Steps.{ReaderSeen, Without, GivesNext, said_by, Fills, FillsBuffer, Stops, ReadsOn, Refills, LessToDo, FindsLast, ReadsLast, Ends, work};
 
 use crate::MAX_LINE;
 use crate::errors::{LineKind, LinesError};
-use crate::line::{cut, read_line, without_return};
+use crate::line::read_line;
 use diy_io::{Failed, MAX_INPUT, Page, Source};
 use edge_algebra::Cycle;
 use edge_lists::EdgeList;
 use relax_edges::ArchName;
 use std::marker::Model;
+use text_parts::{cut, without_return};
 
 /// The most bytes that are read at once: 36,864. What `norm7` writes for so many mostly fits a page.
 const PIECE: usize = 36_864;

@@ -2,6 +2,7 @@
 -- Source: own.
 use Rattle.std.specs.Prelude.{ℕ, ◌≡◌, ◌<◌, Bool, ◌==◌, ◌||◌, List, [], ◌∷◌, length, Option, Some, None}
 use Rattle.std.specs.List.{slice_split}
+use Rattle.text_laws.specs.Blanks.{is_blank}
 use Rattle.relax_edges.specs.declared.edge.Edge.{Edge}
 use Rattle.relax_edges.specs.Spelling.{edge_of}
 use Rattle.edge_lists.specs.declared.read.Separators.{Separators}
@@ -9,8 +10,8 @@ use Rattle.edge_lists.specs.declared.read.Separators.TheVariants.{Blanks, Blanks
 
 -- a space or a tab, or also a comma
 abbrev pub separates : Separators → ℕ → Bool
-separates Blanks byte = (byte == 32) || (byte == 9)
-separates BlanksAndCommas byte = (byte == 32) || (byte == 9) || (byte == 44)
+separates Blanks byte = is_blank byte
+separates BlanksAndCommas byte = is_blank byte || byte == 44
 
 -- a text is a front, a separator, and what stands behind it, and the front is its first word
 pub record CutsAt (separators : Separators) (text front behind : List ℕ) : Type 0 where

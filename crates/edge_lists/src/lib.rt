@@ -5,4 +5,4 @@ mod list;
 mod read;
 
 pub use list::EdgeList;
-pub use read::{Separators, is_blank, read_edges};
+pub use read::{Separators, read_edges};

@@ -6,6 +6,7 @@ ghost use Rattle.edge_lists.specs.Kept.{added};
 
 use crate::list::EdgeList;
 use relax_edges::{Edge, UnknownEdge, read_edge_bytes};
+use text_parts::Class;
 
 /// What stands between the edges of a text.
 #[derive(Clone, Copy)]
@@ -62,7 +63,7 @@ fn first_blank(bytes: &[u8]) -> Option<usize>
     ensures place { result ≡ position (separates Separators.Blanks) bytes.now }
     ensures within { IfSome result (λ at. at < length bytes.now) }
 {
-    bytes.iter().position(|byte| is_blank(*byte))
+    bytes.iter().position(|byte| Class::Blank.has(*byte))
 }
 
 fn first_blank_or_comma(bytes: &[u8]) -> Option<usize>
@@ -71,14 +72,7 @@ fn first_blank_or_comma(bytes: &[u8]) -> Option<usize>
 {
     bytes
         .iter()
-        .position(|byte| is_blank(*byte) || *byte == b',')
-}
-
-/// Whether a byte is a space or a tab.
-pub fn is_blank(byte: u8) -> bool
-    ensures { result ≡ separates Separators.Blanks byte }
-{
-    byte == b' ' || byte == b'\t'
+        .position(|byte| Class::Blank.has(*byte) || *byte == b',')
 }
 
 /// Appends the edge that a word spells, if there is a word.

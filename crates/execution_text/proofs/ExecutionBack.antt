@@ -6,7 +6,7 @@ use Rattle.std.proofs.lemmas.List.{length-map}
 use Rattle.std.proofs.lemmas.List.Elements.{All-head, All-tail}
 use Rattle.std.proofs.lemmas.List.FromFn.{length-enumerate_from}
 use Rattle.text_laws.specs.Names.{is_place_name}
-use Rattle.litmus_text.specs.Cuts.{words}
+use Rattle.text_laws.specs.Words.{words}
 use Rattle.litmus_text.specs.TestText.{ended}
 use Rattle.litmus_text.specs.declared.limits.TheConstants.{MAX_TEXT}
 use Rattle.litmus_text.proofs.CutBack.{both}

@@ -5,8 +5,8 @@ use Rattle.std.specs.List.{list_all, All, slice_split}
 use Rattle.std.proofs.lemmas.Bool.{eq-eqb}
 use Rattle.std.proofs.lemmas.List.Sums.{AllPass-from_list_all}
 use Rattle.std.proofs.lemmas.List.Splits.{slice_split_none, slice_split_at, length-slice_split}
-use Rattle.litmus_text.specs.Lines.{is_line_feed, without_return}
-use Rattle.litmus_text.specs.Views.{CutParts}
+use Rattle.text_laws.specs.Lines.{is_line_feed, without_return}
+use Rattle.text_laws.specs.Cuts.{CutParts}
 use Rattle.execution_text.specs.ExecutionText.{lines_in, lines_of}
 
 not_true : (b : Bool) → not b ≡ true → b ≡ false

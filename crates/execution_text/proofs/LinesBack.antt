@@ -7,11 +7,11 @@ use Rattle.std.proofs.lemmas.Bool.Decides.{nat_tests}
 use Rattle.std.proofs.lemmas.List.{append-nil}
 use Rattle.std.proofs.lemmas.List.Splits.{slice_split_at, slice_split_none}
 use Rattle.std.proofs.lemmas.List.Sums.{AllPass-from_list_all}
-use Rattle.text_laws.specs.Runs.{is_blank}
-use Rattle.litmus_text.specs.Cuts.{is_nil, words}
-use Rattle.litmus_text.specs.Lines.{without_return}
+use Rattle.text_laws.specs.Blanks.{is_blank}
+use Rattle.text_laws.specs.Words.{is_nil, words}
+use Rattle.text_laws.specs.Lines.{without_return}
 use Rattle.litmus_text.specs.TestText.{ended}
-use Rattle.litmus_text.specs.Views.{CutParts}
+use Rattle.text_laws.specs.Cuts.{CutParts}
 use Rattle.litmus_text.proofs.CutBack.{all_both, both, bytes_same, weaker, without_class}
 use Rattle.execution_text.specs.declared.errors.ExecKind.{ExecKind}
 use Rattle.execution_text.specs.ExecutionText.{all_named, line_told, lines_of}

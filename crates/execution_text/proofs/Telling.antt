@@ -4,7 +4,7 @@ use Rattle.std.specs.Prelude.{Result, Ok, Err}
 use Rattle.program_meaning.specs.Executions.{Execution}
 use Rattle.execution_text.specs.declared.errors.ExecKind.{ExecKind}
 use Rattle.execution_text.specs.declared.errors.ExecFault.{ExecFault}
-use Rattle.litmus_text.specs.Cuts.{words}
+use Rattle.text_laws.specs.Words.{words}
 use Rattle.execution_text.specs.declared.errors.ExecKind.TheVariants.{EndMissing}
 use Rattle.execution_text.specs.ExecutionText.{put_first, put_line, at_line, lines_told}
 use Rattle.execution_text.specs.declared.errors.ExecError.{ExecError}

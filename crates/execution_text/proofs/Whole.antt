@@ -11,7 +11,7 @@ use Rattle.std.proofs.lemmas.Option.{unwrap_or-slice_get}
 use Rattle.program_meaning.specs.declared.WriteAt.{WriteAt}
 use Rattle.program_meaning.specs.Executions.{Execution}
 use Rattle.exec_meaning.specs.Kept.{added, empty_lists, nothing_kept, with_read, with_write}
-use Rattle.litmus_text.specs.Cuts.{words}
+use Rattle.text_laws.specs.Words.{words}
 use Rattle.execution_text.specs.declared.errors.ExecKind.{ExecKind}
 use Rattle.execution_text.specs.declared.errors.ExecKind.TheVariants.{BadThread, BadRead, BadPlace, BadWrite, StrayLine}
 use Rattle.litmus_text.specs.declared.limits.TheConstants.{MAX_TEXT}

@@ -12,9 +12,11 @@ use Rattle.std.proofs.lemmas.Slice.Eq.{bytes_eq-Decides}
 use Rattle.text_laws.specs.Names.{begins_place, is_place_byte, is_place_name}
 use Rattle.text_laws.proofs.NameLaws.{place_shaped, shaped_all}
 use Rattle.text_laws.proofs.NumberLaws.{own, number_of-decimal}
-use Rattle.litmus_text.specs.Cuts.{cut_at, is_nil}
+use Rattle.text_laws.specs.Cuts.{cut_at}
+use Rattle.text_laws.specs.Words.{is_nil}
 use Rattle.litmus_text.specs.declared.limits.TheConstants.{MAX_TEXT, MAX_ACCESSES}
-use Rattle.litmus_text.proofs.CutBack.{all_both, by_test, cut_back, cut_none, weaker, without_class}
+use Rattle.litmus_text.proofs.CutBack.{all_both, by_test, weaker, without_class}
+use Rattle.text_laws.proofs.CutLaws.{cut_back, cut_none}
 use Rattle.program_meaning.specs.declared.WriteAt.{WriteAt}
 use Rattle.execution_text.specs.ExecutionText.{access_in, access_named, kept_below, number_below, place_head, read_in, read_named, source_named, thread_head}
 use Rattle.execution_text.specs.Written.{access_word, read_word, source_word}

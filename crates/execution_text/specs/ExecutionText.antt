@@ -7,8 +7,9 @@ use Rattle.std.specs.List.{slice_split, range_with_len}
 use Rattle.std.specs.Option.{option_map}
 use Rattle.std.specs.Str.{bytes_eq}
 use Rattle.text_laws.specs.Numbers.{number_of}
-use Rattle.litmus_text.specs.Cuts.{cut_at, words}
-use Rattle.litmus_text.specs.Lines.{is_line_feed, without_return}
+use Rattle.text_laws.specs.Cuts.{cut_at}
+use Rattle.text_laws.specs.Words.{words}
+use Rattle.text_laws.specs.Lines.{is_line_feed, without_return}
 use Rattle.program_meaning.specs.declared.WriteAt.{WriteAt}
 use Rattle.program_meaning.specs.Executions.{Execution}
 use Rattle.execution_text.specs.declared.errors.ExecKind.{ExecKind}

@@ -1,6 +1,6 @@
 ghost use Rattle.execution_text.specs.Steps.{FirstLine};
 
-use litmus_text::{cut, without_return};
+use text_parts::{cut, without_return};
 
 /// The first line of a text, if it has one, and the text after it. A carriage return before a line feed is
 /// dropped.

@@ -1,6 +1,6 @@
 ghost use Rattle.std.specs.Prelude.{◌≡◌, ◌<◌, ◌+◌, [], IfOk, length, map, slice_index_or};
 ghost use Rattle.std.specs.List.{range_with_len};
-ghost use Rattle.litmus_text.specs.Cuts.{words};
+ghost use Rattle.text_laws.specs.Words.{words};
 ghost use Rattle.execution_text.specs.declared.errors.ExecKind.TheVariants.{BadThread, BadRead, BadPlace, BadWrite};
 ghost use Rattle.exec_meaning.specs.Kept.{with_read, with_write};
 ghost use Rattle.execution_text.specs.ExecutionText.{access_named, all_named, execution_read, line_told, lines_of, lines_told, place_head, read_named, thread_head};
@@ -16,8 +16,9 @@ use crate::words::{access_named, read_named};
 use arch_trait::Places;
 use diy_io::NoMemory;
 use exec_meaning::Execution;
-use litmus_text::{MAX_TEXT, first_word};
+use litmus_text::MAX_TEXT;
 use std::alloc::Global;
+use text_parts::next_word;
 
 /// What is faulty in a line, or that there is no memory for what it tells.
 pub(crate) enum LineError {
@@ -51,7 +52,7 @@ fn add_reads(thread: u8, threads: u8, text: &[u8], exec: &mut Execution) -> Resu
     ensures { ReadsLine result exec.new (line_added with_read exec.old thread (all_named BadRead (read_named threads) (words text.now))) }
 {
     let mut left = text;
-    while let Some((word, rest)) = first_word(left) {
+    while let Some((word, rest)) = next_word(left) {
         match read_named(threads, word) {
             Some((value, from)) => exec.add_read(thread, value, from)?,
             None => return Err(LineError::Kind(ExecKind::BadRead)),
@@ -67,7 +68,7 @@ fn add_writes(place: u8, threads: u8, text: &[u8], exec: &mut Execution) -> Resu
     ensures { ReadsLine result exec.new (line_added with_write exec.old place (all_named BadWrite (access_named threads) (words text.now))) }
 {
     let mut left = text;
-    while let Some((word, rest)) = first_word(left) {
+    while let Some((word, rest)) = next_word(left) {
         match access_named(threads, word) {
             Some(write) => exec.add_write(place, write)?,
             None => return Err(LineError::Kind(ExecKind::BadWrite)),
@@ -83,7 +84,7 @@ fn read_thread(thread: u8, threads: u8, line: &[u8], exec: &mut Execution) -> Re
     requires { thread < length exec.old.reads }
     ensures { ReadsLine result exec.new (line_added with_read exec.old thread (line_told BadThread BadRead (read_named threads) (thread_head thread) (words line.now))) }
 {
-    match first_word(line) {
+    match next_word(line) {
         Some((head, rest)) if is_thread_head(thread, head) => add_reads(
             thread, threads, rest, exec,
         ),
@@ -104,7 +105,7 @@ fn read_place(
     requires orders { place < length exec.old.orders }
     ensures { ReadsLine result exec.new (line_added with_write exec.old place (line_told BadPlace BadWrite (access_named threads) (place_head (slice_index_or places.now place [])) (words line.now))) }
 {
-    match first_word(line) {
+    match next_word(line) {
         Some((head, rest)) if is_place_head(places.get(place), head) => add_writes(
             place, threads, rest, exec,
         ),

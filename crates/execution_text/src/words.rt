@@ -2,8 +2,9 @@ ghost use Rattle.std.specs.Prelude.{◌≡◌, ◌≤◌};
 ghost use Rattle.execution_text.specs.ExecutionText.{access_named, number_below, read_named, source_named};
 
 use final_cond::number_of;
-use litmus_text::{MAX_ACCESSES, cut};
+use litmus_text::MAX_ACCESSES;
 use program_meaning::WriteAt;
+use text_parts::cut;
 
 /// The number below a bound that digits write, without leading zeros.
 fn number_below(bound: u32, digits: &[u8]) -> Option<u8>

@@ -15,7 +15,8 @@ use Rattle.final_cond.specs.declared.read.Follow.TheVariants as follows
 use Rattle.text_laws.specs.Names.{is_place_byte, begins_place, is_register_name}
 use Rattle.final_cond.specs.Conditions.{LeftSeen, InRegister, AtPlace, TermSeen, CondSeen}
 use Rattle.final_cond.specs.CondText.{quantifier_word, left_text, term_text, terms_text, cond_text}
-use Rattle.text_laws.specs.Runs.{run_of, after_run, is_blank, unblanked}
+use Rattle.text_laws.specs.Runs.{run_of, after_run}
+use Rattle.text_laws.specs.Blanks.{is_blank, unblanked}
 use Rattle.final_cond.specs.ReadBack.{IsFormedTerm, IsFormed}
 use Rattle.final_cond.specs.Reading.{sign_read, opening_read, left_at_front, register_at_front, has_form, left_read, value_read, right_read, term_read, follow_read, terms_read, parts_read, cond_read}
 use Rattle.text_laws.proofs.NameLaws.{place_shaped, register_shaped, shaped_all}

@@ -5,7 +5,7 @@ use Rattle.final_cond.specs.declared.errors.CondKind.TheVariants.{BadEnd}
 use Rattle.final_cond.specs.declared.read.Follow.{Follow}
 use Rattle.final_cond.specs.declared.read.Follow.TheVariants as follows
 use Rattle.final_cond.specs.Conditions.{LeftSeen, TermSeen}
-use Rattle.text_laws.specs.Runs.{unblanked}
+use Rattle.text_laws.specs.Blanks.{unblanked}
 use Rattle.final_cond.specs.Reading.{Fault, Read, ◌>>=◌, fault, term_read, follow_read, terms_read, before_terms}
 
 -- terms, and those that are read behind them

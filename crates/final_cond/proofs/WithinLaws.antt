@@ -10,8 +10,10 @@ use Rattle.final_cond.specs.declared.read.Follow.TheVariants as follows
 use Rattle.text_laws.specs.Names.{is_place_byte}
 use Rattle.final_cond.specs.Conditions.{LeftSeen, TermSeen, CondSeen}
 use Rattle.text_laws.specs.Numbers.{number_of}
-use Rattle.text_laws.specs.Runs.{run_of, after_run, is_blank, unblanked}
-use Rattle.final_cond.specs.Reading.{Fault, Read, ◌>>=◌, sign_at_front, sign_read, is_word_byte, found, before_text, quantifier_of, quantifier_at_front, opening_read, bracket_closed, bracketed_at_front, register_of_thread, register_at_front, left_at_front, known_left, only_known, left_read, value_at_front, value_read, right_read, term_read, and_at_front, follow_at_front, follow_read, and_further, terms_read, end_at_front, parts_read}
+use Rattle.text_laws.specs.Runs.{run_of, after_run}
+use Rattle.text_laws.specs.Blanks.{is_blank, unblanked}
+use Rattle.final_cond.specs.Reading.{Fault, Read, ◌>>=◌, sign_at_front, sign_read, found, before_text, quantifier_of, quantifier_at_front, opening_read, bracket_closed, bracketed_at_front, register_of_thread, register_at_front, left_at_front, known_left, only_known, left_read, value_at_front, value_read, right_read, term_read, and_at_front, follow_at_front, follow_read, and_further, terms_read, end_at_front, parts_read}
+use Rattle.text_laws.specs.Words.{is_word_byte}
 use Rattle.text_laws.proofs.RunLaws.{by_test, after_run-le}
 
 -- the text behind what was read, or from the fault on, has at most so many bytes

@@ -1,7 +1,6 @@
 pub mod Conditions
 pub mod CondText
 pub mod Reading
-pub mod Classes
 pub mod Gives
 pub mod States
 pub mod ReadBack

@@ -1,7 +1,7 @@
 -- The reading of the text of a condition, from left to right, with the first fault that is met.
 -- Blanks may stand between the parts of the text, and never inside a word, a left side or a number.
 -- Source: the litmus format of the herdtools manual; the faults and their places are own.
-use Rattle.std.specs.Prelude.{ℕ, zero, suc, ◌-◌, Bool, not, ◌&&◌, ◌||◌, ◌==◌, cond, List, [], ◌∷◌, length, codes, Option, Some, None, Result, Ok, Err, nat_lt}
+use Rattle.std.specs.Prelude.{ℕ, zero, suc, ◌-◌, Bool, ◌&&◌, ◌==◌, cond, List, [], ◌∷◌, length, codes, Option, Some, None, Result, Ok, Err, nat_lt}
 use Rattle.std.specs.Char.{is_ascii_digit, is_ascii_alphanumeric}
 use Rattle.std.specs.Str.{bytes_eq}
 use Rattle.final_cond.specs.declared.cond.TheConstants.{MAX_TERMS}
@@ -15,7 +15,9 @@ use Rattle.final_cond.specs.declared.read.Follow.TheVariants as follows
 use Rattle.text_laws.specs.Names.{is_place_byte, is_place_name, is_register_name}
 use Rattle.final_cond.specs.Conditions.{LeftSeen, InRegister, AtPlace, TermSeen, CondSeen}
 use Rattle.text_laws.specs.Numbers.{number_of}
-use Rattle.text_laws.specs.Runs.{run_of, after_run, is_blank, unblanked}
+use Rattle.text_laws.specs.Runs.{run_of, after_run}
+use Rattle.text_laws.specs.Blanks.{unblanked}
+use Rattle.text_laws.specs.Words.{is_word_byte}
 
 -- what is faulty, and the text from there on
 pub record Fault : Type 0 where
@@ -50,10 +52,6 @@ quantifier_of word =
     cond (bytes_eq word (codes "exists")) (Some Exists)
     (cond (bytes_eq word (codes "~exists")) (Some NotExists)
     (cond (bytes_eq word (codes "forall")) (Some Forall) None))
-
--- a word ends before a blank or a `(`
-abbrev pub is_word_byte : ℕ → Bool
-is_word_byte byte = not (is_blank byte || byte == 40)
 
 -- a part that was found, or the fault that it isn't there
 abbrev pub found : {A : Type 0} → CondKind → List ℕ → Option (A × List ℕ) → Read A

@@ -8,7 +8,6 @@ mod names;
 mod numbers;
 mod print;
 mod read;
-mod runs;
 mod state;
 
 pub use cond::{Cond, Left, MAX_TERMS, PlaceName, Quantifier, RegName, Term};

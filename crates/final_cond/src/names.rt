@@ -4,9 +4,9 @@ ghost use Rattle.std.specs.List.{list_all};
 ghost use Rattle.text_laws.specs.Names.{is_place_name, is_register_name};
 
 use crate::cond::{PlaceName, RegName};
-use crate::runs::Class;
 use arrayvec::ArrayString;
 use std::str;
+use text_parts::Class;
 
 /// The most bytes that the name of a place or a register has.
 pub const MAX_NAME: usize = 16;

@@ -1,8 +1,8 @@
 ghost use Rattle.std.specs.Prelude.{◌≡◌};
 ghost use Rattle.text_laws.specs.Numbers.{number_of};
 
-use crate::runs::Class;
 use std::str;
+use text_parts::Class;
 
 /// The number that these bytes write in decimal. There is none where they aren't digits, have a
 /// leading zero, or write more than `u32::MAX`.

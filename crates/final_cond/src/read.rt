@@ -1,15 +1,15 @@
 ghost use Rattle.std.specs.Prelude.{◌≡◌, [], map, option_map, IfOk, IfErr};
 ghost use Rattle.final_cond.specs.Conditions.{left_view, term_view, cond_view, InRegister, AtPlace};
 ghost use Rattle.final_cond.specs.Gives.{Gives, left_and_rest, term_and_rest};
-ghost use Rattle.text_laws.specs.Runs.{unblanked};
+ghost use Rattle.text_laws.specs.Blanks.{unblanked};
 ghost use Rattle.final_cond.specs.Reading.{sign_read, quantifier_of, opening_read, known_left, only_known, has_form, place_at_front, bracketed_at_front, register_at_front, left_at_front, left_read, value_read, right_read, term_read, follow_read, terms_read, parts_read, cond_read};
 
 use crate::cond::{Cond, Left, MAX_TERMS, Quantifier, Term};
 use crate::errors::{CondError, CondFault, CondKind};
 use crate::names::{place_name, register_name};
 use crate::numbers::number_of;
-use crate::runs::{Class, split_run, without_blanks};
 use arrayvec::ArrayVec;
+use text_parts::{Class, split_run, without_blanks};
 
 /// What follows a term of a condition.
 #[derive(Clone, Copy, Debug, PartialEq, Eq)]

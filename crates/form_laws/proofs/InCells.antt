@@ -6,8 +6,9 @@ use Rattle.std.proofs.lemmas.Bool.{and_parts, and_from, leb-true, ltb-true}
 use Rattle.std.proofs.lemmas.Bool.Decides.{nat_tests}
 use Rattle.std.proofs.lemmas.Fmt.{length-decimal-le}
 use Rattle.text_laws.specs.Names.{is_place_name}
-use Rattle.final_cond.specs.Reading.{is_word_byte}
-use Rattle.text_laws.specs.Runs.{is_blank, run_of, after_run, unblanked}
+use Rattle.text_laws.specs.Words.{is_word_byte}
+use Rattle.text_laws.specs.Blanks.{is_blank, unblanked}
+use Rattle.text_laws.specs.Runs.{run_of, after_run}
 use Rattle.text_laws.proofs.NameLaws.{all_weaker, place_name_short}
 use Rattle.micro_ops.specs.declared.operation.Micro.{Micro}
 use Rattle.micro_ops.specs.declared.operation.Micro.TheVariants as ops

@@ -3,13 +3,16 @@ use Rattle.std.proofs.Common.{◌≡◌, ℕ, zero, suc, List, [], ◌∷◌, �
 use Rattle.std.specs.Prelude.{Bool}
 use Rattle.std.specs.List.{list_all}
 use Rattle.std.proofs.Math.ListN.{replicate}
-use Rattle.text_laws.specs.Runs.{is_blank, run_of, after_run, unblanked}
-use Rattle.arch_trait.specs.Reading.{before_blanks, kept_before, trimmed, is_inked, operands_in, operands_if, written_in, instr_read, number_raw}
+use Rattle.text_laws.specs.Blanks.{is_blank, unblanked, before_blanks, kept_before, trimmed, is_inked}
+use Rattle.text_laws.specs.Runs.{run_of, after_run}
+use Rattle.arch_trait.specs.Reading.{operands_in, operands_if, written_in, instr_read, number_raw}
 use Rattle.arch_trait.specs.Writing.{Writing, Written}
 use Rattle.arch_trait.specs.Cells.{is_cell_byte}
-use Rattle.litmus_text.specs.Cuts.{cut_at, is_nil}
+use Rattle.text_laws.specs.Cuts.{cut_at}
+use Rattle.text_laws.specs.Words.{is_nil}
 use Rattle.litmus_text.specs.Table.{Column, Among, instr_put, instr_in, instr_or_nothing, cell_read}
-use Rattle.litmus_text.proofs.CutBack.{by_test, both_are, without_class, cut_back, cut_none, all_both}
+use Rattle.litmus_text.proofs.CutBack.{by_test, both_are, without_class, all_both}
+use Rattle.text_laws.proofs.CutLaws.{cut_back, cut_none}
 
 abbrev pub blanks : ℕ → List ℕ
 blanks k = replicate k 32

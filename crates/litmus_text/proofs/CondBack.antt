@@ -10,7 +10,8 @@ use Rattle.final_cond.specs.declared.cond.Quantifier.{Quantifier}
 use Rattle.final_cond.specs.declared.cond.Quantifier.TheVariants.{Exists, NotExists, Forall}
 use Rattle.final_cond.specs.declared.read.Follow.TheVariants as follows
 use Rattle.text_laws.specs.Names.{is_place_byte}
-use Rattle.text_laws.specs.Runs.{is_blank, run_of, after_run, unblanked}
+use Rattle.text_laws.specs.Blanks.{is_blank, unblanked}
+use Rattle.text_laws.specs.Runs.{run_of, after_run}
 use Rattle.final_cond.specs.Conditions.{LeftSeen, InRegister, AtPlace, TermSeen, CondSeen}
 use Rattle.final_cond.specs.CondText.{quantifier_word, left_text, term_text, further_term_text, terms_text, cond_text}
 use Rattle.final_cond.specs.Reading.{opening_read, sign_read, left_read, right_read, follow_read, has_form}

@@ -1,23 +1,20 @@
 -- Cuts and splits of printed texts.
-use Rattle.std.proofs.Common.{◌≡◌, ◌==◌, ℕ, List, [], ◌∷◌, ◌++◌, Some, None, true, false, get_or, refl, sym, ap, ◌∙◌}
+use Rattle.std.proofs.Common.{◌≡◌, ◌==◌, ℕ, List, [], ◌∷◌, ◌++◌, true, false, get_or, refl, sym, ap, ◌∙◌}
 use Rattle.std.specs.Prelude.{Bool, not, ◌&&◌}
-use Rattle.std.specs.List.{list_all, All, slice_split}
+use Rattle.std.specs.List.{list_all, All}
 use Rattle.std.proofs.lemmas.Bool.{eqb-true, eq-eqb}
 use Rattle.std.specs.Str.{bytes_eq}
 use Rattle.std.proofs.lemmas.Slice.Eq.{bytes_eq-Decides}
 use Rattle.std.proofs.lemmas.List.Sums.{AllPass-from_list_all}
 use Rattle.std.proofs.lemmas.List.Folds.{list_all-append}
 use Rattle.std.proofs.lemmas.List.Splits.{slice_split_none, slice_split_at}
-use Rattle.litmus_text.specs.Cuts.{cut_at, before_cut, pieces}
+use Rattle.text_laws.specs.Cuts.{is_without}
+use Rattle.litmus_text.specs.Cuts.{pieces}
 
 -- cases of a test
 pub by_test : {G : Type 0} (b : Bool) → (b ≡ true → G) → (b ≡ false → G) → G
 by_test true so other = so refl
 by_test false so other = other refl
-
--- no byte of a text is this one
-abbrev pub is_without : ℕ → List ℕ → Bool
-is_without sign text = list_all (λ byte. not (byte == sign)) text
 
 pub both : (p q : Bool) → p && q ≡ true → (p ≡ true) × (q ≡ true)
 both true q h = (refl, h)
@@ -48,21 +45,6 @@ not_true : (b : Bool) → not b ≡ true → b ≡ false
 not_true true e = cc
 not_true false e = refl
 
--- the text before a sign and the text behind it
-pub cut_back : (sign : ℕ) (front behind : List ℕ) → is_without sign front ≡ true → cut_at sign (front ++ sign ∷ behind) ≡ Some (front, behind)
-unfolding cut_at
-cut_back sign [] behind h = rw (eq-eqb sign sign refl) refl
-cut_back sign (byte ∷ front) behind h =
-    let parts = both (not (byte == sign)) (is_without sign front) h in
-    rw (not_true (byte == sign) parts.0) (ap (before_cut byte) (cut_back sign front behind parts.1))
-
-pub cut_none : (sign : ℕ) (text : List ℕ) → is_without sign text ≡ true → cut_at sign text ≡ None
-unfolding cut_at
-cut_none sign [] h = refl
-cut_none sign (byte ∷ text) h =
-    let parts = both (not (byte == sign)) (is_without sign text) h in
-    rw (not_true (byte == sign) parts.0) (ap (before_cut byte) (cut_none sign text parts.1))
-
 none_pass : (sign : ℕ) (text : List ℕ) → is_without sign text ≡ true → All (λ byte. (byte == sign) ≡ false) text
 none_pass sign text h i d k = not_true (get_or text i d == sign) (AllPass-from_list_all (λ byte. not (byte == sign)) text h i d k)
 
@@ -73,20 +55,6 @@ piece_back sign front behind h = slice_split_at (λ byte. byte == sign) front si
 -- the last piece
 pub piece_last : (sign : ℕ) (text : List ℕ) → is_without sign text ≡ true → pieces sign text ≡ text ∷ []
 piece_last sign text h = slice_split_none (λ byte. byte == sign) text (none_pass sign text h)
-
--- a split has a first piece
-pub record FirstPiece (p : ℕ → Bool) (text : List ℕ) : Type 0 where
-  pub piece : List ℕ
-  pub rest : List (List ℕ)
-  pub is : slice_split p text ≡ piece ∷ rest
-
-pub first_piece : (p : ℕ → Bool) (text : List ℕ) → FirstPiece p text
-first_piece p [] = record { piece = []; rest = []; is = refl }
-first_piece p (byte ∷ text) =
-    let further = first_piece p text in
-    by_test (p byte)
-    (λ e. record { piece = []; rest = slice_split p text; is = rw e refl })
-    (λ e. record { piece = byte ∷ further.piece; rest = further.rest; is = rw (e, further.is) refl })
 
 -- a text is equal to itself
 pub bytes_same : (text : List ℕ) → bytes_eq text text ≡ true

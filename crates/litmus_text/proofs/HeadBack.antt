@@ -14,15 +14,16 @@ use Rattle.relax_edges.specs.Architectures.{arch_word}
 use Rattle.relax_edges.specs.Words.{word_of}
 use Rattle.relax_edges.specs.AllEdges.{edges_in_order}
 use Rattle.relax_edges.proofs.Ranks.{each_edge}
-use Rattle.text_laws.specs.Runs.{is_blank, run_of, after_run, unblanked}
-use Rattle.arch_trait.specs.Reading.{before_blanks, kept_before, trimmed}
+use Rattle.text_laws.specs.Blanks.{is_blank, unblanked, before_blanks, kept_before, trimmed}
+use Rattle.text_laws.specs.Runs.{run_of, after_run}
 use Rattle.arch_trait.specs.Cells.{is_line_byte}
 use Rattle.litmus_text.specs.Lines.{Lines, line, is_passed}
-use Rattle.litmus_text.specs.Cuts.{is_nil, words}
+use Rattle.text_laws.specs.Words.{is_nil, words}
 use Rattle.litmus_text.specs.Header.{header_read, quote_read, is_setting, after_settings, name_in_header, two_words, quote_cut}
 use Rattle.litmus_text.specs.Printable.{is_name_byte, IsTestName}
 use Rattle.litmus_text.specs.TestText.{header_line, edges_line}
-use Rattle.litmus_text.proofs.CutBack.{by_test, both, both_are, weaker, all_both, without_class, cut_back, bytes_same}
+use Rattle.litmus_text.proofs.CutBack.{by_test, both, both_are, weaker, all_both, without_class, bytes_same}
+use Rattle.text_laws.proofs.CutLaws.{cut_back}
 use Rattle.litmus_text.proofs.LineBack.{IsLine}
 
 -- a name byte is one of a line, and no blank

@@ -9,9 +9,9 @@ use Rattle.std.proofs.Math.ListN.{replicate}
 use Rattle.std.proofs.lemmas.Bool.{lt-ltb}
 use Rattle.std.proofs.lemmas.Bool.Decides.{nat_tests}
 use Rattle.std.proofs.lemmas.List.{replicate_more}
-use Rattle.text_laws.specs.Runs.{is_blank, after_run}
+use Rattle.text_laws.specs.Blanks.{is_blank, before_blanks, kept_before, trimmed}
+use Rattle.text_laws.specs.Runs.{after_run}
 use Rattle.final_cond.proofs.BackLaws.{digits_of}
-use Rattle.arch_trait.specs.Reading.{before_blanks, kept_before, trimmed}
 use Rattle.arch_trait.specs.Threads.{ThreadCode}
 use Rattle.arch_trait.specs.Writing.{Writing}
 use Rattle.litmus_text.specs.Lines.{Lines, line}

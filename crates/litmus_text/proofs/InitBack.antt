@@ -9,7 +9,7 @@ use Rattle.arch_trait.specs.Cells.{is_line_byte}
 use Rattle.litmus_text.specs.Placing.{place_in}
 use Rattle.std.proofs.lemmas.List.Concat.{flat_map-append}
 use Rattle.std.proofs.lemmas.List.Folds.{list_all-append}
-use Rattle.text_laws.specs.Runs.{is_blank}
+use Rattle.text_laws.specs.Blanks.{is_blank}
 use Rattle.arch_trait.specs.Threads.{Puts, ThreadCode}
 use Rattle.arch_trait.specs.Writing.{Writing, WritesBack, name_in}
 use Rattle.litmus_text.specs.Lines.{Lines, ends, line, ◌>>=◌}
@@ -17,7 +17,9 @@ use Rattle.litmus_text.specs.Joined.{Joined, no_text, with_text}
 use Rattle.litmus_text.specs.InitialState.{closed, braced_if, braced, brace_ends, braced_read, initial_read}
 use Rattle.litmus_text.specs.TestText.{item_text, items_lines, initial_lines}
 use Rattle.litmus_text.specs.Items.{Link, links_of, links_mention, link_values, links_once, LinkFits}
-use Rattle.litmus_text.proofs.CutBack.{both, both_are, is_without, without_class, cut_back, cut_none, all_both, weaker}
+use Rattle.litmus_text.proofs.CutBack.{both, both_are, without_class, all_both, weaker}
+use Rattle.text_laws.specs.Cuts.{is_without}
+use Rattle.text_laws.proofs.CutLaws.{cut_back, cut_none}
 use Rattle.litmus_text.proofs.LineBack.{IsLine, before}
 use Rattle.litmus_text.proofs.HeadBack.{line_is, not_all_blank}
 use Rattle.litmus_text.proofs.NamesBack.{Within, IsAmong}

@@ -12,7 +12,8 @@ use Rattle.relax_edges.specs.declared.kinds.Value.TheVariants as values
 use Rattle.final_cond.specs.declared.errors.CondKind.TheVariants.{BadTerm}
 use Rattle.text_laws.specs.Names.{is_place_name, is_register_name, is_place_byte, begins_place}
 use Rattle.text_laws.specs.Numbers.{number_of}
-use Rattle.text_laws.specs.Runs.{is_blank, after_run, unblanked}
+use Rattle.text_laws.specs.Blanks.{is_blank, unblanked, before_blanks, trimmed}
+use Rattle.text_laws.specs.Runs.{after_run}
 use Rattle.final_cond.specs.Conditions.{LeftSeen, InRegister}
 use Rattle.final_cond.specs.CondText.{left_text}
 use Rattle.final_cond.specs.Reading.{Fault, found, only_known, left_at_front, left_read, has_form}
@@ -20,16 +21,17 @@ use Rattle.final_cond.proofs.BackLaws.{digits_of, left_back, named, place_bytes}
 use Rattle.text_laws.proofs.NumberLaws.{not_digits}
 use Rattle.arch_trait.specs.Threads.{Puts}
 use Rattle.arch_trait.specs.Names.{number_in, names_added}
-use Rattle.arch_trait.specs.Reading.{before_blanks, trimmed}
 use Rattle.arch_trait.specs.Writing.{Writing, WritesBack, name_in}
 use Rattle.arch_trait.specs.Cells.{is_line_byte}
-use Rattle.litmus_text.specs.Cuts.{cut_at, pieces}
+use Rattle.text_laws.specs.Cuts.{cut_at, is_without}
+use Rattle.litmus_text.specs.Cuts.{pieces}
 use Rattle.litmus_text.specs.Joined.{Joined}
 use Rattle.litmus_text.specs.InitialState.{gives, a_place, worth_of, worth_if, item_with, item_if, item_parts, whole_left, some_item, item_of, Begun, nothing_begun, is_given, item_read, items_read}
 use Rattle.litmus_text.specs.TestText.{item_text}
 use Rattle.litmus_text.specs.Placing.{or_zero, place_in}
 use Rattle.litmus_text.specs.Items.{Link, links_mention, link_values, links_once, LinkFits}
-use Rattle.litmus_text.proofs.CutBack.{both, both_are, is_without, without_class, cut_back, piece_back, piece_last, all_both, weaker, bytes_same}
+use Rattle.litmus_text.proofs.CutBack.{both, both_are, without_class, piece_back, piece_last, all_both, weaker, bytes_same}
+use Rattle.text_laws.proofs.CutLaws.{cut_back}
 use Rattle.litmus_text.proofs.NamesBack.{Within, within_self, within_trans, within_number, IsAmong, place_added}
 use Rattle.litmus_text.proofs.RowBack.{added_within}
 use Rattle.litmus_text.proofs.HeadRowBack.{inked_ends}

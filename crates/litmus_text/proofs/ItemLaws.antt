@@ -6,13 +6,13 @@ use Rattle.std.specs.Str.{bytes_eq}
 use Rattle.std.proofs.lemmas.Bool.{eqb-true}
 use Rattle.std.proofs.lemmas.Slice.Eq.{bytes_eq-Decides}
 use Rattle.final_cond.specs.declared.errors.CondKind.TheVariants.{BadTerm}
-use Rattle.text_laws.specs.Runs.{is_blank, after_run, unblanked}
+use Rattle.text_laws.specs.Blanks.{is_blank, unblanked, before_blanks, kept_before, trimmed}
+use Rattle.text_laws.specs.Runs.{after_run}
 use Rattle.final_cond.specs.Conditions.{LeftSeen, InRegister, AtPlace}
 use Rattle.text_laws.specs.Names.{is_register_name}
 use Rattle.final_cond.specs.Reading.{Fault, found, left_at_front, left_read, only_known, has_form}
-use Rattle.arch_trait.specs.Reading.{before_blanks, kept_before, trimmed}
 use Rattle.arch_trait.specs.Writing.{Writing}
-use Rattle.litmus_text.specs.Cuts.{is_nil}
+use Rattle.text_laws.specs.Words.{is_nil}
 use Rattle.litmus_text.specs.InitialState.{item_with, whole_left, item_if}
 use Rattle.litmus_text.proofs.CutBack.{by_test, both}
 

@@ -3,12 +3,13 @@ use Rattle.std.proofs.Common.{◌≡◌, ◌==◌, ◌+◌, ℕ, List, [], ◌�
 use Rattle.std.proofs.Math.ListN.{replicate}
 use Rattle.litmus_text.specs.declared.errors.TextError.{TextError}
 use Rattle.arch_trait.specs.Writing.{Writing}
-use Rattle.litmus_text.specs.Cuts.{cut_at, pieces}
+use Rattle.text_laws.specs.Cuts.{cut_at, CutParts, is_without}
+use Rattle.litmus_text.specs.Cuts.{pieces}
 use Rattle.litmus_text.specs.Lines.{Lines, ends, line, ◌>>=◌}
 use Rattle.litmus_text.specs.Joined.{Joined, with_text, all_joined}
 use Rattle.litmus_text.specs.InitialState.{Begun, item_read, items_read, but_last, closed, open_to, braced}
-use Rattle.litmus_text.specs.Views.{CutParts}
-use Rattle.litmus_text.proofs.CutBack.{is_without, piece_last, first_piece}
+use Rattle.litmus_text.proofs.CutBack.{piece_last}
+use Rattle.text_laws.proofs.PieceLaws.{first_piece}
 use Rattle.litmus_text.proofs.CutLaws.{pieces_cut}
 
 -- a blank and a line behind a text

@@ -3,9 +3,11 @@ use Rattle.std.proofs.Common.{◌≡◌, ◌+◌, ◌==◌, ℕ, List, [], ◌�
 use Rattle.std.specs.List.{list_all, flat_map, slice_split, AllByRecursion}
 use Rattle.std.proofs.lemmas.Bool.{eqb-true}
 use Rattle.arch_trait.specs.Cells.{is_line_byte}
-use Rattle.litmus_text.specs.Lines.{Lines, ends, line, is_passed, without_return, lines_in, is_line_feed, lines_from}
+use Rattle.litmus_text.specs.Lines.{Lines, ends, line, is_passed, lines_in, lines_from}
+use Rattle.text_laws.specs.Lines.{without_return, is_line_feed}
 use Rattle.litmus_text.specs.TestText.{ended}
-use Rattle.litmus_text.proofs.CutBack.{both, by_test, without_class, piece_back, first_piece}
+use Rattle.litmus_text.proofs.CutBack.{both, by_test, without_class, piece_back}
+use Rattle.text_laws.proofs.PieceLaws.{first_piece}
 
 -- a line of printed bytes that isn't passed over
 pub record IsLine (text : List ℕ) : Type 0 where

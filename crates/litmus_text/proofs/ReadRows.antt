@@ -18,12 +18,15 @@ use Rattle.text_laws.specs.Numbers.{number_of}
 use Rattle.final_cond.specs.Conditions.{LeftSeen, InRegister, AtPlace, TermSeen}
 use Rattle.final_cond.specs.Reading.{opening_read, sign_read, left_read, left_at_front, right_read, value_read, follow_read}
 use Rattle.arch_trait.specs.Names.{number_in}
-use Rattle.arch_trait.specs.Reading.{before_blanks, operands_in}
+use Rattle.text_laws.specs.Blanks.{before_blanks}
+use Rattle.arch_trait.specs.Reading.{operands_in}
 use Rattle.arch_trait.specs.Writing.{OperandTexts, none, one, two, Written, nothing, place, label, RawInstr, Writing, inside_brackets, immediate}
 use Rattle.arch_trait.specs.Cells.{ends_rows}
 use Rattle.litmus_text.specs.declared.errors.TestKind.TheVariants.{BadHeader, BadQuote, BadInit, BadTable, BadInstruction, BadLabel, BadCondition, TooLarge, EndMissing}
-use Rattle.litmus_text.specs.Lines.{lines_from, lines_in, is_passed, without_return, bad}
-use Rattle.litmus_text.specs.Cuts.{cut_at, words}
+use Rattle.litmus_text.specs.Lines.{lines_from, lines_in, is_passed, bad}
+use Rattle.text_laws.specs.Lines.{without_return}
+use Rattle.text_laws.specs.Cuts.{cut_at}
+use Rattle.text_laws.specs.Words.{words}
 use Rattle.litmus_text.specs.Header.{header_read, arch_read, quote_read, is_setting, after_settings}
 use Rattle.litmus_text.specs.Joined.{all_joined}
 use Rattle.litmus_text.specs.InitialState.{item_of, item_read, items_read, braced, initial_read}

@@ -9,10 +9,11 @@ use Rattle.text_laws.specs.Names.{is_place_name}
 use Rattle.final_cond.specs.Conditions.{LeftSeen, InRegister, AtPlace}
 use Rattle.final_cond.specs.Reading.{left_at_front}
 use Rattle.arch_trait.specs.Names.{number_in, number_added, names_added}
-use Rattle.arch_trait.specs.Reading.{trimmed}
+use Rattle.text_laws.specs.Blanks.{trimmed}
 use Rattle.arch_trait.specs.Writing.{Writing}
 use Rattle.litmus_text.specs.declared.limits.TheConstants.{MAX_THREADS}
-use Rattle.litmus_text.specs.Cuts.{cut_at, pieces}
+use Rattle.text_laws.specs.Cuts.{cut_at}
+use Rattle.litmus_text.specs.Cuts.{pieces}
 use Rattle.litmus_text.specs.Joined.{Joined, no_text}
 use Rattle.litmus_text.specs.Lines.{Lines, ends, line}
 use Rattle.litmus_text.specs.InitialState.{Worth, a_number, a_place, Item, empty, gives, zero_at, worth_of, given, item_with, whole_left, item_if, item_parts, some_item, item_of, Begun, nothing_begun, is_given, with_value, with_address, with_worth, with_named, item_put, item_read, items_read, but_last, Braced, closed, open_to, braced, brace_ends, braced_read, initial_line, initial_read}

@@ -18,12 +18,14 @@ use Rattle.arch_trait.specs.declared.reading.InstrError.TheVariants as instrs
 use Rattle.text_laws.specs.Names.{is_place_name}
 use Rattle.arch_trait.specs.Names.{number_added, names_added}
 use Rattle.arch_trait.specs.Cells.{is_access, ends_rows}
-use Rattle.arch_trait.specs.Reading.{trimmed, ReadInstr, with_place, with_label, numbered, number_raw, instr_read, written_in}
+use Rattle.text_laws.specs.Blanks.{trimmed}
+use Rattle.arch_trait.specs.Reading.{ReadInstr, with_place, with_label, numbered, number_raw, instr_read, written_in}
 use Rattle.arch_trait.specs.Writing.{Writing, Written, RawInstr, Name, nothing, place, label, with_number, is_label_name}
 use Rattle.litmus_text.specs.declared.errors.TestKind.TheVariants.{BadLabel}
 use Rattle.litmus_text.specs.declared.errors.TextError.{TextError}
 use Rattle.litmus_text.specs.declared.reading.table.Placed.{Placed}
-use Rattle.litmus_text.specs.Cuts.{is_nil, cut_at}
+use Rattle.text_laws.specs.Words.{is_nil}
+use Rattle.text_laws.specs.Cuts.{cut_at}
 use Rattle.litmus_text.specs.Lines.{Lines, ends, line, ◌>>=◌, bad}
 use Rattle.litmus_text.specs.Table.{Column, no_column, no_columns, Among, among, has_room, instr_put, instr_in, instr_or_nothing, cell_if, cell_read, row_read, rows_read, cells_of, is_label_of, is_label, lands_once, is_landing, labels_judged, all_labels_judged}
 use Rattle.litmus_text.specs.Runnable.{IsRunnable, NamesRegisters, AllNameRegisters, ops_in, AllRunnable}

@@ -7,15 +7,17 @@ use Rattle.std.proofs.Math.ListN.{replicate}
 use Rattle.std.proofs.lemmas.List.{replicate_more}
 use Rattle.std.proofs.lemmas.Bool.{ltb-true}
 use Rattle.std.proofs.lemmas.Bool.Decides.{nat_tests}
-use Rattle.text_laws.specs.Runs.{is_blank, run_of, after_run, unblanked}
-use Rattle.final_cond.specs.Reading.{is_word_byte}
+use Rattle.text_laws.specs.Blanks.{is_blank, unblanked}
+use Rattle.text_laws.specs.Runs.{run_of, after_run}
+use Rattle.text_laws.specs.Words.{is_word_byte}
 use Rattle.micro_ops.specs.declared.operation.Micro.{Micro}
 use Rattle.micro_ops.specs.declared.operation.Micro.TheVariants as ops
 use Rattle.arch_trait.specs.Threads.{Puts, ThreadCode}
 use Rattle.arch_trait.specs.Writing.{Writing, WritesBack, op_text, name_in, label_name}
 use Rattle.arch_trait.specs.Cells.{WritesCells, ends_rows, first_word, is_access, is_cell_byte, is_label_op, is_line_byte}
 use Rattle.arch_trait.specs.LabelOrder.{is_next, labels_after}
-use Rattle.litmus_text.specs.Cuts.{cut_at, pieces}
+use Rattle.text_laws.specs.Cuts.{cut_at, is_without}
+use Rattle.litmus_text.specs.Cuts.{pieces}
 use Rattle.litmus_text.specs.Table.{cells_if, cells_of}
 use Rattle.litmus_text.specs.TestText.{column_of, columns_of, width_of, cell_text, row_line}
 use Rattle.litmus_text.specs.Progress.{Progress, progress, moved, advanced}
@@ -23,7 +25,8 @@ use Rattle.litmus_text.specs.Printable.{is_row_byte}
 use Rattle.litmus_text.specs.Progress.{CodeFits, OpFits}
 use Rattle.litmus_text.proofs.LineBack.{IsLine}
 use Rattle.litmus_text.proofs.HeadBack.{line_is, not_all_blank}
-use Rattle.litmus_text.proofs.CutBack.{by_test, both, both_are, is_without, without_class, cut_back, piece_back, piece_last, all_both, weaker}
+use Rattle.litmus_text.proofs.CutBack.{by_test, both, both_are, without_class, piece_back, piece_last, all_both, weaker}
+use Rattle.text_laws.proofs.CutLaws.{cut_back}
 use Rattle.litmus_text.proofs.CellBack.{padded, Begins, blanks_class}
 use Rattle.litmus_text.proofs.RowBack.{next_text, AreCells, IsRow, AreRows, after_rows, named_op, text_begins, label_bytes}
 

@@ -4,8 +4,8 @@ use Rattle.std.specs.Prelude.{nat_lt, cond, codes, Some}
 use Rattle.std.proofs.Math.ListN.{set, get_or-map}
 use Rattle.std.proofs.lemmas.Bool.{ltb-true, ltb-false}
 use Rattle.std.proofs.Math.Seq.{drop-cons, take-length, drop-length, take-append-add}
-use Rattle.litmus_text.specs.Cuts.{cut_at}
-use Rattle.litmus_text.specs.Views.{CutParts, column_seen}
+use Rattle.text_laws.specs.Cuts.{cut_at, CutParts}
+use Rattle.litmus_text.specs.Views.{column_seen}
 use Rattle.litmus_text.specs.declared.reading.table.Column.{Column as ThreadColumn}
 use Rattle.std.proofs.lemmas.List.{take_more_set, drop-set-lt, append-nil, map-set, length-map}
 use Rattle.arch_trait.specs.Cells.{ends_rows}

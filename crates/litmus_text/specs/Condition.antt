@@ -4,7 +4,7 @@ use Rattle.std.specs.Prelude.{ℕ, zero, suc, ◌-◌, ◌==◌, cond, ◌&&◌,
 use Rattle.final_cond.specs.declared.cond.TheConstants.{MAX_TERMS}
 use Rattle.final_cond.specs.declared.read.Follow.{Follow}
 use Rattle.final_cond.specs.declared.read.Follow.TheVariants as follows
-use Rattle.text_laws.specs.Runs.{unblanked}
+use Rattle.text_laws.specs.Blanks.{unblanked}
 use Rattle.final_cond.specs.Conditions.{LeftSeen, InRegister, AtPlace, TermSeen, CondSeen}
 use Rattle.final_cond.specs.Reading.{Fault, opening_read, left_read, right_read, follow_read, end_at_front, has_form}
 use Rattle.arch_trait.specs.Names.{number_in, number_added, names_added}

@@ -9,7 +9,8 @@ use Rattle.text_laws.specs.Runs.{run_of, after_run}
 use Rattle.litmus_text.specs.declared.errors.TestKind.TheVariants.{BadHeader, BadQuote, EndMissing}
 use Rattle.litmus_text.specs.declared.limits.TheConstants.{MAX_NAME}
 use Rattle.litmus_text.specs.Lines.{Lines, ends, line, Read, bad}
-use Rattle.litmus_text.specs.Cuts.{is_nil, cut_at, words}
+use Rattle.text_laws.specs.Words.{is_nil, words}
+use Rattle.text_laws.specs.Cuts.{cut_at}
 
 -- the two words of a header
 abbrev pub two_words : List (List ℕ) → Option (List ℕ × List ℕ)

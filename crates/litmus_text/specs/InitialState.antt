@@ -7,17 +7,18 @@ use Rattle.relax_edges.specs.declared.kinds.Value.{Value}
 use Rattle.relax_edges.specs.declared.kinds.Value.TheVariants as values
 use Rattle.text_laws.specs.Names.{is_place_name}
 use Rattle.text_laws.specs.Numbers.{number_of}
-use Rattle.text_laws.specs.Runs.{unblanked}
+use Rattle.text_laws.specs.Blanks.{unblanked, trimmed, before_blanks}
 use Rattle.final_cond.specs.Conditions.{LeftSeen, InRegister, AtPlace}
 use Rattle.final_cond.specs.Reading.{left_at_front}
 use Rattle.arch_trait.specs.Names.{number_in, number_added, names_added}
-use Rattle.arch_trait.specs.Reading.{trimmed, before_blanks}
 use Rattle.arch_trait.specs.Writing.{Writing}
 use Rattle.litmus_text.specs.declared.errors.TestKind.TheVariants.{BadInit, TooLarge, EndMissing}
 use Rattle.litmus_text.specs.declared.errors.TextError.{TextError}
 use Rattle.litmus_text.specs.declared.limits.TheConstants.{MAX_THREADS}
 use Rattle.litmus_text.specs.Lines.{Lines, ends, line, Read, ◌>>=◌, bad}
-use Rattle.litmus_text.specs.Cuts.{is_nil, cut_at, pieces}
+use Rattle.text_laws.specs.Words.{is_nil}
+use Rattle.text_laws.specs.Cuts.{cut_at}
+use Rattle.litmus_text.specs.Cuts.{pieces}
 use Rattle.litmus_text.specs.Joined.{Joined, no_text, with_text, line_at}
 
 -- what an item gives a register: a number, or the address of a place

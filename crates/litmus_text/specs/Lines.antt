@@ -1,10 +1,10 @@
 -- The lines of a text, with their numbers.
 -- Source: own, as the litmus format is read line by line.
-use Rattle.std.specs.Prelude.{ℕ, ◌+◌, ◌-◌, ◌==◌, Bool, cond, ◌&&◌, ◌||◌, List, [], ◌∷◌, Result, Ok, Err, codes, length, take, drop}
+use Rattle.std.specs.Prelude.{ℕ, ◌+◌, ◌-◌, Bool, cond, ◌&&◌, ◌||◌, List, [], ◌∷◌, Result, Ok, Err, codes, length, take, drop}
 use Rattle.std.specs.List.{list_all, slice_split}
 use Rattle.std.specs.Str.{bytes_eq}
-use Rattle.text_laws.specs.Runs.{is_blank}
-use Rattle.arch_trait.specs.Reading.{trimmed}
+use Rattle.text_laws.specs.Blanks.{is_blank, trimmed}
+use Rattle.text_laws.specs.Lines.{is_line_feed, without_return}
 use Rattle.litmus_text.specs.declared.errors.TestKind.{TestKind}
 use Rattle.litmus_text.specs.declared.errors.TextError.{TextError}
 
@@ -25,16 +25,6 @@ is_passed text = list_all is_blank text || is_comment (trimmed text)
 abbrev pub kept : ℕ → List ℕ → Lines → Lines
 kept n text rest = cond (is_passed text) rest (line n text rest)
 
--- the last byte of a line, if it isn't a carriage return
-abbrev pub last_byte : ℕ → List ℕ
-last_byte byte = cond (byte == 13) [] (byte ∷ [])
-
--- a line without the carriage return at its end
-unfoldable pub without_return : List ℕ → List ℕ
-without_return [] = []
-without_return (byte ∷ []) = last_byte byte
-without_return (byte ∷ next ∷ text) = byte ∷ without_return (next ∷ text)
-
 -- what stands behind the last line feed: a line, if there is a byte
 abbrev pub last_line : ℕ → List ℕ → Lines
 last_line n [] = ends n
@@ -45,10 +35,6 @@ unfoldable pub lines_in : ℕ → List (List ℕ) → Lines
 lines_in n [] = ends n
 lines_in n (piece ∷ []) = last_line n piece
 lines_in n (piece ∷ next ∷ pieces) = kept n (without_return piece) (lines_in (n + 1) (next ∷ pieces))
-
--- a byte that ends a line
-abbrev pub is_line_feed : ℕ → Bool
-is_line_feed byte = byte == 10
 
 -- the lines of a text, numbered from n on
 unfoldable pub lines_from : ℕ → List ℕ → Lines

@@ -10,14 +10,17 @@ use Rattle.micro_ops.specs.declared.operation.Micro.TheVariants as ops
 use Rattle.arch_trait.specs.Cells.{ends_rows, first_word, is_access}
 use Rattle.arch_trait.specs.declared.reading.InstrError.{InstrError}
 use Rattle.arch_trait.specs.declared.reading.InstrError.TheVariants as instrs
-use Rattle.arch_trait.specs.Reading.{trimmed, ReadInstr, instr_read}
+use Rattle.text_laws.specs.Blanks.{trimmed}
+use Rattle.arch_trait.specs.Reading.{ReadInstr, instr_read}
 use Rattle.arch_trait.specs.Writing.{Writing}
 use Rattle.litmus_text.specs.declared.errors.TestKind.TheVariants.{BadTable, BadInstruction, BadLabel, TooLarge, EndMissing}
 use Rattle.litmus_text.specs.declared.errors.TextError.{TextError}
 use Rattle.litmus_text.specs.declared.limits.TheConstants.{MAX_THREADS, MAX_ROWS, MAX_ACCESSES}
 use Rattle.litmus_text.specs.declared.reading.table.Placed.{Placed}
 use Rattle.litmus_text.specs.Lines.{Lines, ends, line, Read, ◌>>=◌, bad}
-use Rattle.litmus_text.specs.Cuts.{is_nil, cut_at, pieces}
+use Rattle.text_laws.specs.Words.{is_nil}
+use Rattle.text_laws.specs.Cuts.{cut_at}
+use Rattle.litmus_text.specs.Cuts.{pieces}
 use Rattle.litmus_text.specs.InitialState.{Begun}
 
 -- the cells of a row, and whether its `;` is there and ends the line

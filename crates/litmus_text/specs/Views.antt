@@ -1,8 +1,7 @@
 -- The values of the code that reads, as the definitions see them.
 -- Source: own.
-use Rattle.std.specs.Prelude.{◌≡◌, ◌<◌, ℕ, length, ◌==◌, Bool, true, not, List, [], ◌∷◌, ◌++◌, Option, Some, None, Result, Ok}
+use Rattle.std.specs.Prelude.{◌≡◌, ◌<◌, ℕ, length, Bool, true, List, [], ◌∷◌, Option, Some, None, option_map, Result, Ok}
 use Rattle.std.specs.Borrow.{Bor}
-use Rattle.std.specs.List.{list_all}
 use Rattle.final_cond.specs.declared.cond.Cond.{Cond}
 use Rattle.final_cond.specs.declared.cond.Term.{Term}
 use Rattle.text_laws.specs.Names.{is_place_name}
@@ -35,17 +34,7 @@ use Rattle.litmus_text.specs.TestReading.{TestRead, threads_of}
 
 -- two texts of a cut
 abbrev pub cut_seen : Option (Bor (List ℕ) × Bor (List ℕ)) → Option (List ℕ × List ℕ)
-cut_seen None = None
-cut_seen (Some parts) = Some (parts.0.now, parts.1.now)
-
--- a text cut at the first place of a sign
-pub record CutParts (sign : ℕ) (text front behind : List ℕ) : Type 0 where
-  pub parts : text ≡ front ++ sign ∷ behind
-  pub first : list_all (λ byte. not (byte == sign)) front ≡ true
-
-abbrev pub CutsAt : ℕ → List ℕ → Option (Bor (List ℕ) × Bor (List ℕ)) → Type 0
-CutsAt sign text None = list_all (λ byte. not (byte == sign)) text ≡ true
-CutsAt sign text (Some cut) = CutParts sign text cut.0.now cut.1.now
+cut_seen cut = option_map (λ parts. (parts.0.now, parts.1.now)) cut
 
 -- the pieces that are left
 abbrev pub pieces_if : ℕ → Option (Bor (List ℕ)) → List (List ℕ)
@@ -59,11 +48,6 @@ pieces_left p = pieces_if p.sign p.rest
 abbrev pub FirstPiece : Option (Bor (List ℕ) × Pieces) → List (List ℕ) → Type 0
 FirstPiece None all = all ≡ []
 FirstPiece (Some first) all = all ≡ first.0.now ∷ pieces_left first.1
-
--- the first of some words, and the others as those of a text
-abbrev pub FirstWord : (List ℕ → List (List ℕ)) → Option (Bor (List ℕ) × Bor (List ℕ)) → List (List ℕ) → Type 0
-FirstWord words None all = all ≡ []
-FirstWord words (Some first) all = all ≡ first.0.now ∷ words first.1.now
 
 -- the lines that are left of a text
 abbrev pub text_left : Text → Lines

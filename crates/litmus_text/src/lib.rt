@@ -22,5 +22,5 @@ pub use law::printed_reads_back;
 pub use limits::{MAX_ACCESSES, MAX_NAME, MAX_ROWS, MAX_TEXT, MAX_THREADS};
 pub use parts::{TextPart, put_part};
 pub use print::{print_test, print_test_by};
-pub use reading::{ReadTest, arch_of, cut, first_word, read_test, without_return};
+pub use reading::{ReadTest, arch_of, read_test};
 pub use test::Test;

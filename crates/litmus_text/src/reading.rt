@@ -14,7 +14,5 @@ mod text;
 mod thread;
 mod whole;
 
-pub use cuts::{cut, first_word};
-pub use lines::without_return;
 pub use test::ReadTest;
 pub use whole::{arch_of, read_test};

@@ -13,9 +13,10 @@ use Rattle.std.proofs.lemmas.Bool.Decides.{nat_tests}
 use Rattle.std.proofs.lemmas.Str.Parse.{IsNumeralModel, numerals_by_value, parse_plain, not_in_digits}
 use Rattle.log_sum.specs.declared.errors.LogKind.{LogKind}
 use Rattle.log_sum.specs.declared.errors.LogKind.TheVariants.{BadState, BadCount}
-use Rattle.log_sum.specs.Texts.{run_of, after_run, is_nil}
+use Rattle.text_laws.specs.Runs.{run_of, after_run}
+use Rattle.text_laws.specs.Words.{is_nil}
 use Rattle.log_sum.specs.Counts.{count_read, count_of_digits, last_count}
-use Rattle.log_sum.proofs.RunLaws.{by_test, run_passes}
+use Rattle.text_laws.proofs.RunLaws.{by_test, run_passes}
 
 own : IsNumeralModel (λ ds. list_all is_ascii_digit ds ≡ true) (digits_value 10)
 own = numerals_by_value _ (search rules)

@@ -23,7 +23,7 @@ use Rattle.log_sum.specs.States.{form_read}
 use Rattle.log_sum.specs.Counts.{last_count}
 use Rattle.log_sum.specs.Steps.{known_state}
 use Rattle.log_sum.specs.StateEntries.{sum_view, state_view, state_at, states_view, AreInOrder, AreWritten, written_as, HasState}
-use Rattle.log_sum.proofs.RunLaws.{by_test}
+use Rattle.text_laws.proofs.RunLaws.{by_test}
 use Rattle.log_sum.proofs.OrderLaws.{ordered_known, ordered_put, ordered_is}
 
 abbrev Entries : Type 0

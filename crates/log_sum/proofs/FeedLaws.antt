@@ -12,10 +12,11 @@ use Rattle.log_sum.specs.declared.kinds.Place.{Place}
 use Rattle.log_sum.specs.declared.kinds.Place.TheVariants.{Outside, Histogram, States, Judgement, Rest, Conditioned}
 use Rattle.log_sum.specs.Facts.{Fact, facts_of, fault_of}
 use Rattle.log_sum.specs.Lines.{Said, line_said, fact_said, test_after, place_after}
-use Rattle.log_sum.specs.Reading.{Seen, ◌>>=◌, fault_at, is_too_long, nothing_seen, fact_put, fact_judged, said_to, said_put, at_next_line, next_line, text_judged, without_return, line_judged, lines_judged, lines_of, rest_of, rest_judged, bytes_judged, last_judged, end_at, end_judged, file_judged, files_judged, input_judged}
+use Rattle.log_sum.specs.Reading.{Seen, ◌>>=◌, fault_at, is_too_long, nothing_seen, fact_put, fact_judged, said_to, said_put, at_next_line, next_line, text_judged, line_judged, lines_judged, lines_of, rest_of, rest_judged, bytes_judged, last_judged, end_at, end_judged, file_judged, files_judged, input_judged}
+use Rattle.text_laws.specs.Lines.{without_return}
 use Rattle.log_sum.specs.Standing.{Progress, Kept, StandsFor, FedTo, EndedTo}
 use Rattle.log_sum.specs.Feeding.{AreMarked, Follows, ReadOn, ReadTo, PieceTo, EndTo, refusal_of}
-use Rattle.log_sum.proofs.RunLaws.{by_test}
+use Rattle.text_laws.proofs.RunLaws.{by_test}
 use Rattle.log_sum.proofs.ReadingLaws.{is_one_line, so_far, so_far_more, so_far_ended, input_by_lines, rest_more, rest_ended, read_on}
 use Rattle.log_sum.proofs.SumLaws.{none_marked}
 use Rattle.log_sum.proofs.FollowLaws.{entry_marked}

@@ -19,9 +19,9 @@ use Rattle.log_sum.specs.Lines.{Said, passed_over, begins, counts, a_state, judg
 use Rattle.log_sum.specs.Reading.{Seen, fact_put, fact_judged, fault_at, said_to, said_judged, said_put, text_judged, at_next_line, next_line, ◌>>=◌}
 use Rattle.log_sum.specs.Standing.{Progress, IsRunning, name_at}
 use Rattle.log_sum.specs.Summed.{Summed}
-use Rattle.log_sum.specs.Texts.{words}
+use Rattle.text_laws.specs.Words.{words}
 use Rattle.log_sum.specs.Feeding.{Marked, AreMarked, entry_of, FactPut, RowPut, Follows, ReadOn, ReadTo}
-use Rattle.log_sum.proofs.RunLaws.{by_test}
+use Rattle.text_laws.proofs.RunLaws.{by_test}
 use Rattle.log_sum.proofs.SumLaws.{rows_more, marked_put}
 use Rattle.log_sum.proofs.ReadingLaws.{facts_here, facts_elsewhere}
 

@@ -1,5 +1,5 @@
 mod ReadingRows
-pub mod RunLaws
+pub mod ListLaws
 pub mod TextLaws
 pub mod CountLaws
 pub mod StateLaws
@@ -16,6 +16,6 @@ pub mod SetLaws
 pub mod EntryLaws
 pub mod SortLaws
 pub mod PrintLaws
-pub mod ReturnLaws
+pub mod PlaceLaws
 pub mod StandingLaws
 pub mod PieceLaws

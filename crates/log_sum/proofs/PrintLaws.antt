@@ -1,8 +1,7 @@
 -- The printed sum, piece by piece.
-use Rattle.std.proofs.Common.{◌≡◌, ◌≤◌, ℕ, zero, suc, ◌-◌, List, [], ◌∷◌, ◌++◌, length, take, drop, refl, sym, ap, ◌∙◌, arith, min}
+use Rattle.std.proofs.Common.{◌≡◌, ◌≤◌, ℕ, zero, suc, ◌-◌, List, [], ◌∷◌, ◌++◌, length, take, drop, refl, sym, ap, ◌∙◌, arith, min, subst, append_assoc, append-nil}
 use Rattle.std.specs.Prelude.{map, replicate, codes, Result, Ok, Err}
 use Rattle.std.specs.Fmt.{decimal}
-use Rattle.std.proofs.Common.{subst, append_assoc, append-nil}
 use Rattle.std.specs.List.{flat_map}
 use Rattle.std.specs.Result.{IsErrAnd}
 use Rattle.std.proofs.lemmas.List.Concat.{flat_map-append}
@@ -17,7 +16,7 @@ use Rattle.log_sum.specs.Standing.{Kept, StandsFor, kept_text}
 use Rattle.log_sum.specs.Reading.{Seen}
 use Rattle.log_sum.specs.Facts.{facts_of, tests_of}
 use Rattle.log_sum.specs.SumText.{test_text, sum_text, line_end, filling, mark_sign, state_line, kind_word, verdict_word, how_often, head_text, verdict_text, observation_text}
-use Rattle.log_sum.proofs.RunLaws.{map_more}
+use Rattle.log_sum.proofs.ListLaws.{map_more}
 
 pub length_map : {A B : Type 0} (f : A → B) (xs : List A) → length (map f xs) ≡ length xs
 length_map f [] = refl

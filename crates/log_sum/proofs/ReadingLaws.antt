@@ -10,9 +10,11 @@ use Rattle.log_sum.specs.declared.errors.LogError.{LogError}
 use Rattle.log_sum.specs.Facts.{Fact, Entry, facts_of, tests_of, with_name}
 use Rattle.log_sum.specs.Summed.{Summed, summed}
 use Rattle.log_sum.specs.Standing.{table_of}
-use Rattle.log_sum.specs.Reading.{Seen, ◌>>=◌, lines_judged, line_judged, lines_of, rest_of, but_last, last_of, bytes_judged, rest_judged, file_judged, files_judged, input_judged, nothing_seen}
+use Rattle.log_sum.specs.Reading.{Seen, ◌>>=◌, lines_judged, line_judged, lines_of, rest_of, bytes_judged, rest_judged, file_judged, files_judged, input_judged, nothing_seen}
+use Rattle.text_laws.specs.Lines.{but_last, last_of}
 use Rattle.log_sum.specs.Feeding.{entry_of}
-use Rattle.log_sum.proofs.RunLaws.{by_test, map_more}
+use Rattle.text_laws.proofs.RunLaws.{by_test}
+use Rattle.log_sum.proofs.ListLaws.{map_more}
 
 abbrev is_feed : ℕ → Bool
 is_feed byte = byte == 10

@@ -5,12 +5,16 @@ use Rattle.std.specs.Fmt.{digits}
 use Rattle.log_sum.specs.declared.errors.LogKind.TheVariants.{Truncated, BadState, NoCounts, SumTooLarge, BadCount, MarkDiffers, KindDiffers}
 use Rattle.log_sum.specs.declared.errors.LogError.{LogError}
 use Rattle.log_sum.specs.declared.errors.LogKind.{LogKind}
-use Rattle.log_sum.specs.Texts.{run_of, after_run, before_blanks, words}
+use Rattle.text_laws.specs.Runs.{run_of, after_run}
+use Rattle.text_laws.specs.Blanks.{before_blanks}
+use Rattle.text_laws.specs.Words.{words}
 use Rattle.log_sum.specs.Counts.{count_read}
-use Rattle.log_sum.specs.States.{form_read, cut_at, with_pieces, state_read, state_form}
+use Rattle.log_sum.specs.States.{form_read, with_pieces, state_read, state_form}
+use Rattle.text_laws.specs.Cuts.{cut_at}
 use Rattle.log_sum.specs.Facts.{marked_sum, state_sum, states_of, mark_in, fault_of}
 use Rattle.log_sum.specs.Lines.{test_line, histogram_line, row_line, condition_line, hash_line, line_said, place_after, fact_said}
-use Rattle.log_sum.specs.Reading.{Seen, text_judged, without_return, line_judged, lines_of, rest_of, rest_judged, bytes_judged, last_judged, file_judged, input_judged}
+use Rattle.log_sum.specs.Reading.{Seen, text_judged, line_judged, lines_of, rest_of, rest_judged, bytes_judged, last_judged, file_judged, input_judged}
+use Rattle.text_laws.specs.Lines.{without_return}
 use Rattle.log_sum.specs.Summed.{summed}
 use Rattle.log_sum.specs.SumText.{state_line, head_text, verdict_text, condition_text, claim_text, hash_text, observation_text, test_text, sum_text}
 

@@ -13,11 +13,15 @@ use Rattle.std.proofs.lemmas.Bool.{and_from, or_from, or_parts}
 use Rattle.std.proofs.lemmas.List.Elements.{All-nil, All-head, All-tail, All-push}
 use Rattle.std.proofs.lemmas.List.Sorted.{All-permutation, IsPermutation-map, IsPermutation-sym, list_any-IsPermutation}
 use Rattle.std.proofs.lemmas.Map.Keys.{IsDistinct-IsPermutation}
-use Rattle.log_sum.specs.Texts.{is_nil, unblanked, begins_with}
-use Rattle.log_sum.specs.States.{cut_at, has_left, sides_read, with_equality, and_then, state_read, or_bad}
+use Rattle.text_laws.specs.Words.{is_nil}
+use Rattle.text_laws.specs.Blanks.{unblanked}
+use Rattle.log_sum.specs.Texts.{begins_with}
+use Rattle.text_laws.specs.Cuts.{cut_at}
+use Rattle.log_sum.specs.States.{has_left, sides_read, with_equality, and_then, state_read, or_bad}
 use Rattle.log_sum.specs.declared.errors.LogKind.{LogKind}
 use Rattle.log_sum.specs.Equalities.{equality_of, and_equality, with_piece, left_side, HasSign, same_left, has_left_twice, with_one, with_all}
-use Rattle.log_sum.proofs.RunLaws.{by_test, map_more}
+use Rattle.text_laws.proofs.RunLaws.{by_test}
+use Rattle.log_sum.proofs.ListLaws.{map_more}
 use Rattle.log_sum.proofs.OrderLaws.{order, is_text}
 use Rattle.log_sum.proofs.StateLaws.{rest_read, rest_goes, rest_whole, set_begins}
 use Rattle.log_sum.proofs.LeftLaws.{read_left, read_sign, begins_left, ascend_apart, twice_not_apart, sorted_ascends}

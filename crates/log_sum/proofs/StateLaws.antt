@@ -3,13 +3,17 @@ use Rattle.std.proofs.Common.{◌≡◌, ◌==◌, ℕ, zero, suc, ◌<◌, ◌�
 use Rattle.std.specs.Prelude.{cond, Option, map, Result, Err, get_or, take, slice_index_or}
 use Rattle.std.specs.List.{slice_split, onto_first}
 use Rattle.std.proofs.lemmas.Bool.{eqb-true}
-use Rattle.log_sum.specs.Texts.{is_blank, is_nil, after_run, unblanked}
-use Rattle.log_sum.specs.States.{cut_at, before_cut, with_pieces, with_equality, sides_read, and_then, later_unblanked, state_read, state_form, later_forms, separated, form_with}
+use Rattle.text_laws.specs.Blanks.{is_blank, unblanked}
+use Rattle.text_laws.specs.Words.{is_nil}
+use Rattle.text_laws.specs.Runs.{after_run}
+use Rattle.text_laws.specs.Cuts.{cut_at, before_cut}
+use Rattle.log_sum.specs.States.{with_pieces, with_equality, sides_read, and_then, later_unblanked, state_read, state_form, later_forms, separated, form_with}
 use Rattle.log_sum.specs.declared.errors.LogKind.{LogKind}
 use Rattle.log_sum.specs.declared.errors.Fault.{Fault}
 use Rattle.log_sum.specs.declared.errors.Fault.TheVariants.{Wrong, NoMemory}
 use Rattle.log_sum.specs.Classes.{IsFault}
-use Rattle.log_sum.proofs.RunLaws.{by_test, map_more}
+use Rattle.text_laws.proofs.RunLaws.{by_test}
+use Rattle.log_sum.proofs.ListLaws.{map_more}
 
 -- the pieces of a text, cut at its first semicolon
 pub pieces_cut : (sign : ℕ) (text : List ℕ) (parts : List ℕ × List ℕ) → cut_at sign text ≡ Some parts

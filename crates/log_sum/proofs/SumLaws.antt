@@ -28,7 +28,8 @@ use Rattle.log_sum.specs.Facts.{Row, Fact, a_kind, a_row, a_condition, a_hash, k
 use Rattle.log_sum.specs.Summed.{Summed, StateSummed, or_else, state_by, summed}
 use Rattle.log_sum.specs.Steps.{or_this, marked, with_marked, known_state, count_known, with_row, fact_to}
 use Rattle.log_sum.specs.Feeding.{Marked}
-use Rattle.log_sum.proofs.RunLaws.{by_test, map_more}
+use Rattle.text_laws.proofs.RunLaws.{by_test}
+use Rattle.log_sum.proofs.ListLaws.{map_more}
 
 -- the facts of a sort, with a fact more
 kinds_more : (facts : List Fact) (fact : Fact) → kinds (facts ++ fact ∷ []) ≡ kinds facts ++ kinds (fact ∷ [])

@@ -26,7 +26,7 @@ use Rattle.log_sum.specs.Steps.{fact_to, row_to, of_kind}
 use Rattle.log_sum.specs.StateEntries.{states_view}
 use Rattle.log_sum.specs.Standing.{table_of, name_at}
 use Rattle.log_sum.specs.Feeding.{AreMarked, WithFact, FactPut, RowPut}
-use Rattle.log_sum.proofs.RunLaws.{by_test}
+use Rattle.text_laws.proofs.RunLaws.{by_test}
 use Rattle.log_sum.proofs.SumLaws.{by_fault, fact_put_is}
 use Rattle.log_sum.proofs.ReadingLaws.{Differ, more, put_at, table_put, tests_differ}
 

@@ -1,14 +1,11 @@
 -- What the code's view of texts stands for.
 -- Source: own.
-use Rattle.std.specs.Prelude.{◌≡◌, ℕ, Bool, List, [], ◌∷◌, Option, Some, None, Result, Ok, Err, map, option_map}
+use Rattle.std.specs.Prelude.{◌≡◌, ℕ, Bool, List, Some, Result, Ok, Err, map, option_map}
 use Rattle.std.specs.List.{list_all}
 use Rattle.std.specs.Borrow.{Bor}
 use Rattle.log_sum.specs.declared.errors.LogKind.{LogKind}
 use Rattle.log_sum.specs.declared.errors.Fault.{Fault}
 pub use Rattle.log_sum.specs.Faults.{IsFault}
-use Rattle.std.specs.Char.{is_ascii_digit}
-use Rattle.log_sum.specs.declared.texts.Class.{Class}
-use Rattle.log_sum.specs.declared.texts.Class.TheVariants as classes
 use Rattle.log_sum.specs.declared.lines.Row.{Row as RowCode}
 use Rattle.log_sum.specs.declared.lines.Said.{Said as SaidCode}
 use Rattle.log_sum.specs.declared.lines.Said.TheVariants as code
@@ -24,18 +21,6 @@ use Rattle.log_sum.specs.Facts.{Row}
 use Rattle.log_sum.specs.Standing.{Progress}
 use Rattle.log_sum.specs.States.{form_read}
 use Rattle.log_sum.specs.Lines.{Said, row_of, row_said, passed_over, begins, counts, judged, conditioned, hashed, ends}
-use Rattle.log_sum.specs.Texts.{is_blank, is_inked, words}
-
--- whether a byte is of a class
-abbrev pub class_test : Class → ℕ → Bool
-class_test classes.Blank = is_blank
-class_test classes.Inked = is_inked
-class_test classes.Digit = is_ascii_digit
-
--- the words of a text by its first word and the text behind it
-abbrev pub words_seen : Option (List ℕ × List ℕ) → List (List ℕ)
-words_seen None = []
-words_seen (Some parts) = parts.0 ∷ words parts.1
 
 -- an answer is what the definition gives, where view says what it means
 abbrev pub Gives : {X Y : Type 0} → (X → Y) → Result X LogKind → Result Y LogKind → Type 0

@@ -5,7 +5,7 @@ use Rattle.std.specs.Char.{is_ascii_digit}
 use Rattle.std.specs.Str.Parse.{digits_value}
 use Rattle.log_sum.specs.declared.errors.LogKind.{LogKind}
 use Rattle.log_sum.specs.declared.errors.LogKind.TheVariants.{BadState, BadCount}
-use Rattle.log_sum.specs.Texts.{run_of, after_run}
+use Rattle.text_laws.specs.Runs.{run_of, after_run}
 
 -- the greatest count, and the greatest sum of counts
 abbrev pub last_count : ℕ

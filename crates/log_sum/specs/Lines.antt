@@ -12,7 +12,9 @@ use Rattle.log_sum.specs.declared.kinds.Verdict.{Verdict}
 use Rattle.log_sum.specs.declared.kinds.Verdict.TheVariants.{Validated, NotValidated}
 use Rattle.log_sum.specs.declared.kinds.Place.{Place}
 use Rattle.log_sum.specs.declared.kinds.Place.TheVariants.{Outside, Histogram, States, Judgement, Rest, Conditioned}
-use Rattle.log_sum.specs.Texts.{is_nil, trimmed, unblanked, words, joined_words, ends_with, before_end, begins_with}
+use Rattle.text_laws.specs.Words.{is_nil, words}
+use Rattle.text_laws.specs.Blanks.{trimmed, unblanked}
+use Rattle.log_sum.specs.Texts.{joined_words, ends_with, before_end, begins_with}
 use Rattle.log_sum.specs.Counts.{count_read}
 use Rattle.log_sum.specs.States.{form_read}
 use Rattle.log_sum.specs.Facts.{Row, Fact, a_kind, a_row, a_condition, a_hash}

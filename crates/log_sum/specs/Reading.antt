@@ -2,6 +2,7 @@
 -- Source: own.
 use Rattle.std.specs.Prelude.{ℕ, ◌+◌, ◌==◌, nat_lt, Bool, cond, List, [], ◌∷◌, ◌++◌, length, min, Option, Some, None, Result, Ok, Err}
 use Rattle.std.specs.List.{slice_split}
+use Rattle.text_laws.specs.Lines.{without_return, but_last, last_of}
 use Rattle.log_sum.specs.declared.errors.LogKind.{LogKind}
 use Rattle.log_sum.specs.declared.errors.LogKind.TheVariants.{Truncated, LineTooLong}
 use Rattle.log_sum.specs.declared.errors.LogError.{LogError}
@@ -73,16 +74,6 @@ said_put seen said = said_judged seen said >>= at_next_line
 unfoldable pub text_judged : Seen → List ℕ → Result Seen LogError
 text_judged seen text = said_put seen (line_said seen.place text)
 
--- a line without the carriage return at its end
-abbrev pub return_before : ℕ → List ℕ → List ℕ
-return_before byte [] = cond (byte == 13) [] (byte ∷ [])
-return_before byte (next ∷ text) = byte ∷ next ∷ text
-
-unfoldable pub without_return : List ℕ → List ℕ
-without_return [] = []
-without_return (byte ∷ []) = cond (byte == 13) [] (byte ∷ [])
-without_return (byte ∷ next ∷ text) = byte ∷ without_return (next ∷ text)
-
 -- a line that ended with a line feed
 unfoldable pub line_judged : Seen → List ℕ → Result Seen LogError
 line_judged seen line = cond (is_too_long line) (fault_at seen.line LineTooLong) (text_judged seen (without_return line))
@@ -92,16 +83,6 @@ lines_judged seen [] = Ok seen
 lines_judged seen (line ∷ rest) = line_judged seen line >>= λ next. lines_judged next rest
 
 -- the lines of bytes that ended with a line feed, and the line behind them
-abbrev pub but_last : List (List ℕ) → List (List ℕ)
-but_last [] = []
-but_last (piece ∷ []) = []
-but_last (piece ∷ next ∷ rest) = piece ∷ but_last (next ∷ rest)
-
-abbrev pub last_of : List (List ℕ) → List ℕ
-last_of [] = []
-last_of (piece ∷ []) = piece
-last_of (piece ∷ next ∷ rest) = last_of (next ∷ rest)
-
 unfoldable pub lines_of : List ℕ → List (List ℕ)
 lines_of bytes = but_last (slice_split (λ byte. byte == 10) bytes)
 

@@ -7,16 +7,10 @@ use Rattle.std.specs.List.{list_any, list_all, slice_split}
 use Rattle.std.specs.Ordering.{nat_cmp}
 use Rattle.std.specs.Cmp.Lexicographic.{slice_cmp}
 use Rattle.std.specs.BTreeSet.{insert_key}
-use Rattle.log_sum.specs.Texts.{is_inked, is_nil, unblanked, begins_with}
-
--- the text before the first such byte, and the text behind it
-abbrev pub before_cut : ℕ → Option (List ℕ × List ℕ) → Option (List ℕ × List ℕ)
-before_cut byte None = None
-before_cut byte (Some parts) = Some (byte ∷ parts.0, parts.1)
-
-unfoldable pub cut_at : ℕ → List ℕ → Option (List ℕ × List ℕ)
-cut_at sign [] = None
-cut_at sign (byte ∷ text) = cond (byte == sign) (Some ([], text)) (before_cut byte (cut_at sign text))
+use Rattle.text_laws.specs.Blanks.{is_inked, unblanked}
+use Rattle.text_laws.specs.Words.{is_nil}
+use Rattle.text_laws.specs.Cuts.{cut_at}
+use Rattle.log_sum.specs.Texts.{begins_with}
 
 -- a left side as it is kept: in brackets, unless it has a colon or begins with a bracket
 abbrev pub is_bracketed : List ℕ → Bool

@@ -14,7 +14,6 @@ mod states;
 mod summer;
 mod table;
 mod test_sum;
-mod texts;
 
 pub use errors::{LogError, LogKind, SumError};
 pub use law::same_answers;

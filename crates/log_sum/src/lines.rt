@@ -2,14 +2,15 @@ ghost use Rattle.std.specs.Prelude.{◌≡◌, option_map, take, IfOk};
 ghost use Rattle.std.specs.Borrow.{Bor};
 ghost use Rattle.log_sum.specs.Classes.{Gives, Reads, ReadsOr, row_read, said_read, condition_view};
 ghost use Rattle.log_sum.specs.Lines.{kind_of, test_line, is_states, are_states, after_histogram, histogram_line, mark_of, mark_read, row_line, is_judgement, verdict_cut, condition_line, quantifier, hash_line, hash_said, condition_said, rest_said, is_observation, line_said};
-ghost use Rattle.log_sum.specs.Texts.{words, joined_words};
+ghost use Rattle.text_laws.specs.Words.{words};
+ghost use Rattle.log_sum.specs.Texts.{joined_words};
 
 use crate::counts::read_count;
 use crate::errors::{Fault, LogKind};
 use crate::kinds::{Kind, Mark, Place, Verdict};
-use crate::texts::{next_word, trimmed, without_blanks};
 use diy_io::NoMemory;
 use std::alloc::Global;
+use text_parts::{next_word, trimmed, without_blanks};
 
 /// What a line says.
 #[derive(Drop)]
@@ -77,7 +78,7 @@ fn is_states(text: &[u8]) -> bool
 }
 
 /// Whether a count in parentheses ends so, with nothing between.
-#[tactic(auto, using(crate::proofs::TextLaws::empty_is_nil))]
+#[tactic(auto, using(text_laws::proofs::WordLaws::empty_is_nil))]
 fn are_states(behind: &[u8], rest: &[u8]) -> bool
     ensures { result ≡ are_states behind.now (words rest.now) }
 {

@@ -29,7 +29,7 @@ fn kind_at(place: Place) -> Kind
     }
 }
 
-#[tactic(auto, using(crate::proofs::ReturnLaws::one_state_less))]
+#[tactic(auto, using(crate::proofs::PlaceLaws::one_state_less))]
 fn after_state(place: Place) -> Place
     ensures { result ≡ after_state (kind_at place) (left_at place) }
 {

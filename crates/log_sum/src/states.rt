@@ -1,13 +1,14 @@
 ghost use Rattle.std.specs.Prelude.{◌≡◌, ◌++◌, ◌∷◌, [], option_map, OnOk};
 ghost use Rattle.std.specs.List.{All};
 ghost use Rattle.log_sum.specs.Classes.{GivesOr, texts_of};
-ghost use Rattle.log_sum.specs.States.{left_kept, is_side, state_read, form_read, state_form, or_bad, cut_at, sides_read, separated, form_with};
+ghost use Rattle.log_sum.specs.States.{left_kept, is_side, state_read, form_read, state_form, or_bad, sides_read, separated, form_with};
+ghost use Rattle.text_laws.specs.Cuts.{cut_at};
 ghost use Rattle.log_sum.specs.Equalities.{HasSign, has_left_twice, left_side, same_left, with_all, with_piece};
 
 use crate::errors::{Fault, LogKind};
-use crate::texts::{Class, cut, without_blanks};
 use diy_io::NoMemory;
 use std::alloc::Global;
+use text_parts::{Class, cut, without_blanks};
 
 /// Reads states, each into the memory of the one before: only a state that needs more takes some.
 #[derive(Drop)]
@@ -38,7 +39,7 @@ fn put_left(text: &mut Vec<u8>, left: &[u8]) -> Result<(), NoMemory>
 }
 
 /// Whether a side of an equality has a byte and no blank.
-#[tactic(auto, using(crate::proofs::TextLaws::empty_is_nil))]
+#[tactic(auto, using(text_laws::proofs::WordLaws::empty_is_nil))]
 fn is_side(text: &[u8]) -> bool
     ensures { result ≡ is_side text.now }
 {

@@ -1,17 +1,17 @@
 ghost use Rattle.std.specs.Prelude.{◌≡◌, ℕ, List, [], ◌++◌, true, Some, None, IfOk, IfErr, OnOk};
 ghost use Rattle.diy_io.specs.Page.{Sends};
 ghost use Rattle.diy_io.specs.Wrote.{Wrote};
-ghost use Rattle.log_sum.specs.Reading.{Seen, without_return, line_judged, rest_judged};
+ghost use Rattle.log_sum.specs.Reading.{Seen, line_judged, rest_judged};
 ghost use Rattle.log_sum.specs.Standing.{Kept, StandsFor, FedTo, EndedTo, IsKept, GivenAgain, kept_text};
 ghost use Rattle.log_sum.specs.Feeding.{Follows, ReadTo, PieceTo, EndTo, refusal_of};
 
 use crate::errors::{Fault, LogError, LogKind, SumError};
 use crate::print::print_sum;
 use crate::reading::Reading;
-use crate::texts::cut;
 use diy_io::{Failed, NoMemory, Page, Sink};
 use std::alloc::Global;
 use std::marker::Model;
+use text_parts::{cut, without_return};
 
 /// The most bytes that a line of a log may have, its line feed not counted.
 pub const MAX_LINE: usize = 65_536;
@@ -41,17 +41,6 @@ impl Model for Summer {
     } };
 
     ghost invariant = { λ s. length s.held.items ≤ 65536 };
-}
-
-/// A line without the carriage return at its end.
-#[tactic(auto, using(crate::proofs::ReturnLaws::return_off, crate::proofs::ReturnLaws::return_kept, crate::proofs::ReturnLaws::return_none))]
-fn without_return(line: &[u8]) -> &[u8]
-    ensures { result.now ≡ without_return line.now }
-{
-    match line {
-        [text @ .., b'\r'] => text,
-        _ => line,
-    }
 }
 
 impl Summer {

@@ -14,7 +14,8 @@ use Rattle.log_sum.specs.Counts.{last_count}
 use Rattle.log_sum.specs.Facts.{Row, Fact, Entry, a_kind, a_row, a_condition, a_hash, kinds, rows, conditions, hashes, first_of, same_kind, same_mark, marked_sum, state_sum, mark_in, is_other, fault_if, fault_of, facts_of}
 use Rattle.log_sum.specs.Summed.{or_else}
 use Rattle.sum_laws.proofs.Cases.{Kind, Mark, Verdict, allowed, plain, kind_cases, mark_cases}
-use Rattle.sum_laws.proofs.Texts.{by_test, bytes_same, not_false}
+use Rattle.text_laws.proofs.RunLaws.{by_test}
+use Rattle.sum_laws.proofs.Texts.{bytes_same, not_false}
 use Rattle.sum_laws.proofs.Blocks.{Clean}
 use Rattle.sum_laws.proofs.Printed.{AllOf}
 

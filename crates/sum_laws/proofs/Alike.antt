@@ -14,7 +14,8 @@ use Rattle.log_sum.specs.Facts.{Row, Fact, a_kind, a_row, a_condition, a_hash, k
 use Rattle.log_sum.specs.Summed.{Summed, or_else, state_by, summed, validated_by, is_validated}
 use Rattle.log_sum.specs.SumText.{test_text, head_text, verdict_text, claim_text, condition_text, observation_text}
 use Rattle.sum_laws.proofs.Cases.{Kind, Mark, Verdict, allowed, plain, starred, kind_cases}
-use Rattle.sum_laws.proofs.Texts.{by_test, bytes_same}
+use Rattle.text_laws.proofs.RunLaws.{by_test}
+use Rattle.sum_laws.proofs.Texts.{bytes_same}
 use Rattle.sum_laws.proofs.Lines.{said_as}
 use Rattle.sum_laws.proofs.Printed.{AllOf, kind_of_test, IsCondition}
 use Rattle.sum_laws.proofs.Agreeing.{Profile, FitsTo, Agrees, all_of_both, all_of_parts, kinds_both, rows_both, conditions_both, hashes_both, or_first, first_both, map_first, marked_both, state_both, mark_both, kind_fits, condition_fits, hash_fits}

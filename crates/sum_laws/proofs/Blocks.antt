@@ -5,13 +5,15 @@ use Rattle.std.specs.Char.{is_ascii_digit}
 use Rattle.std.specs.List.{slice_split, list_all}
 use Rattle.std.proofs.lemmas.Bool.Decides.{nat_tests}
 use Rattle.std.proofs.lemmas.Bool.{and_parts}
-use Rattle.log_sum.specs.Texts.{is_nil}
+use Rattle.text_laws.specs.Words.{is_nil}
 use Rattle.log_sum.specs.Counts.{last_count}
 use Rattle.log_sum.specs.Facts.{Fact, Entry, facts_of, fault_of}
 use Rattle.log_sum.specs.Lines.{Said, line_said, place_after, fact_said, test_after}
-use Rattle.log_sum.specs.Reading.{Seen, ◌>>=◌, is_too_long, next_line, fact_put, at_next_line, text_judged, without_return, line_judged, lines_judged, but_last, last_of, lines_of, rest_of}
+use Rattle.log_sum.specs.Reading.{Seen, ◌>>=◌, is_too_long, next_line, fact_put, at_next_line, text_judged, line_judged, lines_judged, lines_of, rest_of}
+use Rattle.text_laws.specs.Lines.{without_return, but_last, last_of}
 use Rattle.sum_laws.proofs.Cases.{Place}
-use Rattle.sum_laws.proofs.Texts.{not_true, all_both, all_weaker, no_feed, first_piece, split_both, split_whole}
+use Rattle.sum_laws.proofs.Texts.{not_true, all_both, all_weaker, no_feed, split_both, split_whole}
+use Rattle.text_laws.proofs.PieceLaws.{first_piece}
 use Rattle.sum_laws.proofs.Lines.{digits_all}
 
 -- what was seen

@@ -1,12 +1,14 @@
 -- Cases of kinds, marks, verdicts and places, whose variants log_sum keeps to itself.
 use Rattle.std.proofs.Common.{◌≡◌, ℕ, List, [], true, false, sym, arith, subst, Some, None}
 use Rattle.std.specs.Prelude.{codes, Option, Bool, Result, Ok, Err}
-use Rattle.log_sum.specs.Texts.{words, after_run, before_blanks, run_of}
+use Rattle.text_laws.specs.Words.{words}
+use Rattle.text_laws.specs.Runs.{after_run, run_of}
+use Rattle.text_laws.specs.Blanks.{before_blanks}
 use Rattle.log_sum.specs.Counts.{count_read}
 use Rattle.log_sum.specs.Lines.{begins, judged, conditioned, kind_of, mark_of, kind_at, states_left, verdict_cut, row_said, line_said, place_after, test_line, histogram_line, row_line, condition_line, hash_line}
 use Rattle.log_sum.specs.Reading.{nothing_seen, end_at}
 use Rattle.log_sum.specs.Facts.{same_mark, same_kind, says_validated}
-use Rattle.sum_laws.proofs.Texts.{by_test}
+use Rattle.text_laws.proofs.RunLaws.{by_test}
 
 abbrev pub TypeOf : {A : Type 0} → A → Type 0
 TypeOf {A} x = A

@@ -2,22 +2,25 @@
 use Rattle.std.proofs.Common.{◌≡◌, ℕ, ◌≤◌, List, [], ◌∷◌, ◌++◌, length, drop, refl, sym, ◌∙◌, arith, subst, Some}
 use Rattle.std.specs.Str.{bytes_eq}
 use Rattle.std.proofs.lemmas.Slice.Eq.{bytes_eq-Decides}
-use Rattle.log_sum.specs.Facts.{Fact, Entry, a_kind, a_row, a_condition, a_hash, row_with, facts_of}
+use Rattle.log_sum.specs.Facts.{Fact, Entry, a_kind, a_row, a_condition, a_hash, row_with, facts_of, marked_sum, state_sum, states_of, mark_in, fault_of}
 use Rattle.sum_laws.specs.Laws.{IsSum}
 use Rattle.sum_laws.proofs.Cases.{forbidden, plain, not_validated, outside}
-use Rattle.sum_laws.proofs.Texts.{by_test}
+use Rattle.text_laws.proofs.RunLaws.{by_test}
 use Rattle.sum_laws.proofs.Blocks.{entry}
 use Rattle.sum_laws.proofs.Agreeing.{fact_elsewhere}
 use Rattle.std.specs.Prelude.{codes, Result, Ok, Err}
 use Rattle.std.specs.Fmt.{digits}
 use Rattle.log_sum.specs.declared.errors.LogKind.TheVariants.{HashDiffers}
 use Rattle.log_sum.specs.declared.errors.LogError.{LogError}
-use Rattle.log_sum.specs.Texts.{run_of, after_run, before_blanks, words}
+use Rattle.text_laws.specs.Runs.{run_of, after_run}
+use Rattle.text_laws.specs.Blanks.{before_blanks}
+use Rattle.text_laws.specs.Words.{words}
 use Rattle.log_sum.specs.Counts.{count_read, last_count}
-use Rattle.log_sum.specs.States.{form_read, cut_at, with_pieces, state_read, state_form}
-use Rattle.log_sum.specs.Facts.{marked_sum, state_sum, states_of, mark_in, fault_of}
+use Rattle.log_sum.specs.States.{form_read, with_pieces, state_read, state_form}
+use Rattle.text_laws.specs.Cuts.{cut_at}
 use Rattle.log_sum.specs.Lines.{test_line, histogram_line, row_line, condition_line, hash_line, line_said, place_after, fact_said}
-use Rattle.log_sum.specs.Reading.{text_judged, without_return, line_judged, lines_of, rest_of, last_judged, file_judged}
+use Rattle.log_sum.specs.Reading.{text_judged, line_judged, lines_of, rest_of, last_judged, file_judged}
+use Rattle.text_laws.specs.Lines.{without_return}
 use Rattle.log_sum.specs.Summed.{summed}
 use Rattle.log_sum.specs.SumText.{state_line, head_text, verdict_text, condition_text, claim_text, hash_text, observation_text, test_text, sum_text}
 use Rattle.log_sum.specs.Standing.{logs_text}

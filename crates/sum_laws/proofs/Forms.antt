@@ -12,10 +12,15 @@ use Rattle.std.specs.Str.{bytes_eq}
 use Rattle.std.proofs.lemmas.Bool.{and_parts, and_from, eqb-true}
 use Rattle.std.proofs.lemmas.List.{take_at, take-append-drop}
 use Rattle.std.proofs.lemmas.Slice.Eq.{bytes_eq-Decides}
-use Rattle.log_sum.specs.Texts.{is_blank, is_inked, is_nil, after_run, before_blanks, unblanked, begins_with}
-use Rattle.log_sum.specs.States.{before_cut, cut_at, is_bracketed, left_kept, is_side, sides_read, has_left, with_equality, and_then, with_pieces, later_unblanked, state_read, later_forms, state_form, or_bad, form_read}
-use Rattle.log_sum.specs.Reading.{without_return}
-use Rattle.sum_laws.proofs.Texts.{by_test, not_true, all_both, all_parts, all_weaker, all_and, all_after, bytes_same, no_feed, split_both, split_whole, end_stays, ink_stays}
+use Rattle.text_laws.specs.Blanks.{is_blank, is_inked, before_blanks, unblanked}
+use Rattle.text_laws.specs.Words.{is_nil}
+use Rattle.text_laws.specs.Runs.{after_run}
+use Rattle.log_sum.specs.Texts.{begins_with}
+use Rattle.text_laws.specs.Cuts.{before_cut, cut_at}
+use Rattle.log_sum.specs.States.{is_bracketed, left_kept, is_side, sides_read, has_left, with_equality, and_then, with_pieces, later_unblanked, state_read, later_forms, state_form, or_bad, form_read}
+use Rattle.text_laws.specs.Lines.{without_return}
+use Rattle.text_laws.proofs.RunLaws.{by_test}
+use Rattle.sum_laws.proofs.Texts.{not_true, all_both, all_parts, all_weaker, all_and, all_after, bytes_same, no_feed, split_both, split_whole, end_stays, ink_stays}
 use Rattle.sum_laws.proofs.Blocks.{IsLine, append_line}
 use Rattle.sum_laws.proofs.Printed.{AllOf, IsForm}
 use Rattle.sum_laws.proofs.Agreeing.{all_of_both}

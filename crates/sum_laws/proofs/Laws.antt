@@ -6,13 +6,15 @@ use Rattle.std.specs.Str.{bytes_eq}
 use Rattle.log_sum.specs.declared.errors.LogError.{LogError}
 use Rattle.log_sum.specs.Counts.{last_count}
 use Rattle.log_sum.specs.Facts.{Row, Fact, Entry, a_kind, a_row, a_condition, a_hash, rows, hashes, first_of, same_mark, marked_sum, state_sum, states_of, facts_of, tests_of}
-use Rattle.log_sum.specs.Reading.{Seen, nothing_seen, ◌>>=◌, without_return, file_judged, files_judged}
+use Rattle.log_sum.specs.Reading.{Seen, nothing_seen, ◌>>=◌, file_judged, files_judged}
+use Rattle.text_laws.specs.Lines.{without_return}
 use Rattle.log_sum.specs.Summed.{state_by, summed}
 use Rattle.log_sum.specs.SumText.{test_text, sum_text}
 use Rattle.log_sum.specs.Standing.{logs_text}
 use Rattle.sum_laws.specs.Laws.{KeepsLimits, NoFault, IsSum, StandFor, none, a_log, a_sum, SumsAreLogs, SumOfSums}
 use Rattle.sum_laws.proofs.Cases.{Mark, outside, is_outside, starred, plain}
-use Rattle.sum_laws.proofs.Texts.{by_test, bytes_same, is_word}
+use Rattle.text_laws.proofs.RunLaws.{by_test}
+use Rattle.sum_laws.proofs.Texts.{bytes_same, is_word}
 use Rattle.sum_laws.proofs.Lines.{told_hash}
 use Rattle.sum_laws.proofs.Blocks.{seen_at, Clean, clean_parts, return_front}
 use Rattle.sum_laws.proofs.Printed.{AllOf, IsForm, IsHashed, AreForms, Printable, told, file_goes}

@@ -10,14 +10,19 @@ use Rattle.std.proofs.lemmas.Bool.{and_parts}
 use Rattle.std.proofs.lemmas.List.{drop_at, drop-drop}
 use Rattle.std.proofs.lemmas.Str.Parse.{IsNumeralModel, numerals_by_value}
 use Rattle.std.proofs.lemmas.Fmt.{digits_decimal, digits_value-decimal, decimal_nonempty}
-use Rattle.log_sum.specs.Texts.{is_blank, is_inked, is_nil, run_of, after_run, before_blanks, kept_before, words, unblanked, trimmed, later_words, joined_words, ends_with, begins_with}
+use Rattle.text_laws.specs.Blanks.{is_blank, is_inked, before_blanks, kept_before, unblanked, trimmed}
+use Rattle.text_laws.specs.Words.{is_nil, words}
+use Rattle.text_laws.specs.Runs.{run_of, after_run}
+use Rattle.log_sum.specs.Texts.{later_words, joined_words, ends_with, begins_with}
 use Rattle.log_sum.specs.Counts.{count_read, count_of_digits, last_count}
 use Rattle.log_sum.specs.States.{form_read}
 use Rattle.log_sum.specs.Facts.{row_with}
 use Rattle.log_sum.specs.Lines.{passed_over, begins, counts, a_state, judged, conditioned, hashed, ends, test_line, histogram_line, row_line, row_marked, mark_read, condition_line, verdict_cut, hash_line, quantifier, line_said, place_after, states_left}
 use Rattle.log_sum.specs.SumText.{kind_word, mark_sign, filling, verdict_word, verdict_end}
 use Rattle.sum_laws.proofs.Cases.{Kind, Mark, Verdict, validated, not_validated, starred, plain, outside, histogram, judgement, in_rest, conditioned_at, kind_cases, mark_cases}
-use Rattle.sum_laws.proofs.Texts.{by_test, not_true, all_weaker, is_plain, is_word, word_is, words_both, one_word, first_piece, end_stays, ink_stays, ends_so, before_so, joined_both}
+use Rattle.text_laws.proofs.RunLaws.{by_test}
+use Rattle.sum_laws.proofs.Texts.{not_true, all_weaker, is_plain, is_word, word_is, words_both, one_word, end_stays, ink_stays, ends_so, before_so, joined_both}
+use Rattle.text_laws.proofs.PieceLaws.{first_piece}
 
 -- counts
 own : IsNumeralModel (λ ds. list_all is_ascii_digit ds ≡ true) (digits_value 10)

@@ -8,7 +8,8 @@ use Rattle.std.proofs.lemmas.List.Sums.{fold-append}
 use Rattle.std.proofs.lemmas.List.Folds.{list_any-append}
 use Rattle.log_sum.specs.Facts.{Entry, a_condition, facts_of, with_name, tests_of}
 use Rattle.log_sum.specs.Summed.{Summed, StateSummed, or_else, is_validated}
-use Rattle.sum_laws.proofs.Texts.{by_test, bytes_same}
+use Rattle.text_laws.proofs.RunLaws.{by_test}
+use Rattle.sum_laws.proofs.Texts.{bytes_same}
 use Rattle.sum_laws.proofs.Lines.{said_as}
 use Rattle.sum_laws.proofs.Blocks.{entry}
 use Rattle.sum_laws.proofs.Printed.{AllOf, state_entries, hash_entries, told}

@@ -5,9 +5,10 @@ use Rattle.log_sum.specs.declared.errors.LogError.{LogError}
 use Rattle.log_sum.specs.declared.errors.LogKind.{LogKind}
 use Rattle.log_sum.specs.Facts.{Fact, Entry, facts_of, fault_of}
 use Rattle.log_sum.specs.Lines.{Said, line_said, place_after, fact_said, test_after}
-use Rattle.log_sum.specs.Reading.{Seen, ◌>>=◌, is_too_long, next_line, fact_put, fact_judged, at_next_line, said_put, text_judged, without_return, line_judged, lines_judged, lines_of, rest_of, last_judged, end_at, end_judged, file_judged, files_judged}
+use Rattle.log_sum.specs.Reading.{Seen, ◌>>=◌, is_too_long, next_line, fact_put, fact_judged, at_next_line, said_put, text_judged, line_judged, lines_judged, lines_of, rest_of, last_judged, end_at, end_judged, file_judged, files_judged}
+use Rattle.text_laws.specs.Lines.{without_return}
 use Rattle.sum_laws.proofs.Cases.{Place, outside, is_outside, outside_is}
-use Rattle.sum_laws.proofs.Texts.{by_test}
+use Rattle.text_laws.proofs.RunLaws.{by_test}
 use Rattle.sum_laws.proofs.Blocks.{seen_at, entry, Clean, clean_parts}
 
 pub clean_both : (before one two : List Entry) → Clean before one → Clean (before ++ one) two → Clean before (one ++ two)

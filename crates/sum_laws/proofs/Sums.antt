@@ -6,7 +6,8 @@ use Rattle.std.specs.Str.{bytes_eq}
 use Rattle.log_sum.specs.Facts.{Row, Fact, a_kind, a_row, a_condition, a_hash, row_with, rows, conditions, hashes, first_of, same_mark, marked_sum, state_sum, states_of, mark_in, facts_of}
 use Rattle.log_sum.specs.Summed.{Summed, StateSummed, or_else, state_by, is_validated}
 use Rattle.sum_laws.proofs.Cases.{Mark, plain}
-use Rattle.sum_laws.proofs.Texts.{by_test, bytes_same}
+use Rattle.text_laws.proofs.RunLaws.{by_test}
+use Rattle.sum_laws.proofs.Texts.{bytes_same}
 use Rattle.sum_laws.proofs.Lines.{said_as}
 use Rattle.sum_laws.proofs.Blocks.{entry}
 use Rattle.sum_laws.proofs.Printed.{AllOf, kind_of_test, state_entries, hash_entries, told}

@@ -8,11 +8,12 @@ use Rattle.std.proofs.lemmas.List.Folds.{list_all-append}
 use Rattle.std.proofs.lemmas.Bool.{and_parts, and_from}
 use Rattle.std.specs.Str.{bytes_eq}
 use Rattle.std.proofs.lemmas.Slice.Eq.{bytes_eq-Decides}
-use Rattle.log_sum.specs.Texts.{is_blank, is_inked, is_nil, after_run, before_blanks, kept_before, words, unblanked, trimmed, later_words, joined_words, ends_with, before_end}
-
-pub by_test : {G : Type 0} (b : Bool) → (b ≡ true → G) → (b ≡ false → G) → G
-by_test true f g = f refl
-by_test false f g = g refl
+use Rattle.text_laws.specs.Blanks.{is_blank, is_inked, before_blanks, kept_before, unblanked, trimmed}
+use Rattle.text_laws.specs.Words.{is_nil, words}
+use Rattle.text_laws.specs.Runs.{after_run}
+use Rattle.log_sum.specs.Texts.{later_words, joined_words, ends_with, before_end}
+use Rattle.text_laws.proofs.RunLaws.{by_test}
+use Rattle.text_laws.proofs.PieceLaws.{first_piece}
 
 pub not_true : (b : Bool) → not b ≡ true → b ≡ false
 not_true true h = cc
@@ -108,19 +109,6 @@ ink_stays b (c ∷ text) h e = ap (kept_before b) e
 -- words
 some_words : List (List ℕ) → List (List ℕ)
 some_words pieces = filter (λ word. not (is_nil word)) pieces
-
-pub record FirstPiece (p : ℕ → Bool) (text : List ℕ) : Type 0 where
-  pub piece : List ℕ
-  pub rest : List (List ℕ)
-  pub is : slice_split p text ≡ piece ∷ rest
-
-pub first_piece : (p : ℕ → Bool) (text : List ℕ) → FirstPiece p text
-first_piece p [] = record { piece = []; rest = []; is = refl }
-first_piece p (b ∷ text) =
-    let further = first_piece p text in
-    by_test (p b)
-    (λ e. record { piece = []; rest = slice_split p text; is = rw e refl })
-    (λ e. record { piece = b ∷ further.piece; rest = further.rest; is = rw (e, further.is) refl })
 
 pub split_both : (p : ℕ → Bool) (front : List ℕ) (b : ℕ) (text : List ℕ) → p b ≡ true → slice_split p (front ++ b ∷ text) ≡ slice_split p front ++ slice_split p text
 split_both p [] b text h = rw h refl

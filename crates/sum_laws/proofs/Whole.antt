@@ -9,13 +9,17 @@ use Rattle.std.proofs.lemmas.List.Folds.{list_any-append}
 use Rattle.log_sum.specs.declared.errors.LogError.{LogError}
 use Rattle.log_sum.specs.declared.errors.LogKind.{LogKind}
 use Rattle.log_sum.specs.declared.errors.LogKind.TheVariants.{ConditionDiffers, KindDiffers}
-use Rattle.log_sum.specs.Texts.{words, run_of, after_run, before_blanks}
+use Rattle.text_laws.specs.Words.{words}
+use Rattle.text_laws.specs.Runs.{run_of, after_run}
+use Rattle.text_laws.specs.Blanks.{before_blanks}
 use Rattle.log_sum.specs.Counts.{count_read}
 use Rattle.log_sum.specs.Facts.{Fact, Entry, a_kind, a_row, a_condition, a_hash, kinds, conditions, first_of, facts_of, fault_of, is_other, same_kind}
 use Rattle.log_sum.specs.Lines.{Said, passed_over, begins, counts, a_state, judged, conditioned, hashed, ends, histogram_line, line_said, row_line, place_after, kind_at, left_at, states_left, after_state, fact_said}
-use Rattle.log_sum.specs.Reading.{Seen, nothing_seen, ◌>>=◌, is_too_long, next_line, fact_put, fact_judged, at_next_line, said_put, said_to, text_judged, without_return, line_judged, lines_judged, but_last, last_of, lines_of, rest_of, last_judged, end_judged, file_judged, files_judged}
+use Rattle.log_sum.specs.Reading.{Seen, nothing_seen, ◌>>=◌, is_too_long, next_line, fact_put, fact_judged, at_next_line, said_put, said_to, text_judged, line_judged, lines_judged, lines_of, rest_of, last_judged, end_judged, file_judged, files_judged}
+use Rattle.text_laws.specs.Lines.{without_return, but_last, last_of}
 use Rattle.sum_laws.proofs.Cases.{Kind, Verdict, Place, outside, histogram, in_rest, conditioned_at, is_outside}
-use Rattle.sum_laws.proofs.Texts.{by_test, not_false, no_feed, is_word, bytes_same}
+use Rattle.text_laws.proofs.RunLaws.{by_test}
+use Rattle.sum_laws.proofs.Texts.{not_false, no_feed, is_word, bytes_same}
 use Rattle.sum_laws.proofs.Blocks.{seen_at, entry}
 use Rattle.sum_laws.proofs.Printed.{AllOf, IsForm, IsCondition}
 use Rattle.sum_laws.proofs.Scans.{end_is}

@@ -4,7 +4,8 @@ use Rattle.std.specs.Prelude.{◌≡◌, ℕ, ◌≤◌, true, not, List, [], �
 use Rattle.std.specs.List.{list_all}
 use Rattle.log_sum.specs.Counts.{last_count}
 use Rattle.log_sum.specs.Facts.{Entry, facts_of}
-use Rattle.log_sum.specs.Reading.{Seen, nothing_seen, is_too_long, without_return, lines_of, files_judged}
+use Rattle.log_sum.specs.Reading.{Seen, nothing_seen, is_too_long, lines_of, files_judged}
+use Rattle.text_laws.specs.Lines.{without_return}
 use Rattle.log_sum.specs.Summed.{summed}
 use Rattle.log_sum.specs.SumText.{sum_text}
 use Rattle.log_sum.specs.Standing.{logs_text}

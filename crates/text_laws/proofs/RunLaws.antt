@@ -1,5 +1,5 @@
 -- The front of a text as far as its bytes pass: how a walk finds it, and what it is where the text is known.
-use Rattle.std.proofs.Common.{◌≡◌, ℕ, suc, ◌+◌, ◌<◌, ◌≤◌, List, [], ◌∷◌, ◌++◌, length, get_or, take, drop, refl, sym, ap, ◌∙◌, arith, add-one, append_assoc, append-nil}
+use Rattle.std.proofs.Common.{◌≡◌, ℕ, suc, ◌+◌, ◌<◌, ◌≤◌, List, [], ◌∷◌, ◌++◌, length, get_or, take, drop, refl, sym, ap, ◌∙◌, arith, add-one, append_assoc, append-nil, length-append}
 use Rattle.std.specs.Prelude.{Bool, true, false}
 use Rattle.std.specs.List.{list_all}
 use Rattle.std.proofs.Math.Seq.{drop-cons, drop-length, take-length}
@@ -72,3 +72,17 @@ after_run-le passes [] = omega arith
 after_run-le passes (byte ∷ text) =
     let k : length (after_run passes text) ≤ length text = after_run-le passes text in
     by_test (passes byte) (λ h. rw h (omega arith)) (λ h. rw h (omega arith))
+
+pub after_run_short : (passes : ℕ → Bool) (text rest : List ℕ) → rest ≡ after_run passes text → length rest ≤ length text
+after_run_short passes text rest e = let k : length (after_run passes text) ≤ length text = after_run-le passes text in rw e k
+
+-- a run and what comes after it are the text
+run_and_rest : (passes : ℕ → Bool) (text : List ℕ) → run_of passes text ++ after_run passes text ≡ text
+unfolding run_of after_run
+run_and_rest passes [] = refl
+run_and_rest passes (byte ∷ text) = by_test (passes byte) (λ h. rw h (ap (λ t. byte ∷ t) (run_and_rest passes text))) (λ h. rw h refl)
+
+-- where a run has a byte, what comes after it is shorter than the text
+pub less_behind : (passes : ℕ → Bool) (text word rest : List ℕ) → word ≡ run_of passes text → rest ≡ after_run passes text → 0 < length word → length rest < length text
+less_behind passes text word rest e f some =
+    let k : length (word ++ rest) ≡ length text = ap length (rw (e, f) (run_and_rest passes text)) in omega (arith, length-append word rest)

@@ -1,2 +1,2 @@
-//! Runs of bytes, numbers and names in a text as definitions, and laws of them.
+//! Parts of texts, numbers and names in them as definitions, and laws of them.
 #![tactic(auto)]

@@ -9,10 +9,11 @@ use crate::reading::joined::Joined;
 use crate::reading::lines::Lines;
 use crate::reading::terms::{Mentioned, Setting, read_terms};
 use crate::reading::text::Text;
-use arch_trait::{Arch, Places, after_blanks};
+use arch_trait::{Arch, Places};
 use arrayvec::ArrayVec;
 use final_cond::{Cond, read_opening};
 use std::alloc::Global;
+use text_parts::without_blanks;
 
 /// Reads the whole text of a condition.
 #[tactic(auto, unfolding(crate::specs::Condition::cond_here))]
@@ -26,7 +27,7 @@ fn read_cond_here<A: Arch>(here: &Setting, names: Places) -> Result<(Cond, Place
     let mut terms = ArrayVec::new();
     let mut mentioned = Mentioned { names, over: None };
     let behind = read_terms::<A>(here, inside, &mut mentioned, &mut terms)?;
-    if !after_blanks(behind).is_empty() {
+    if !without_blanks(behind).is_empty() {
         return Err(bad(TestKind::BadCondition, here.begins));
     }
     match mentioned.over {

@@ -2,16 +2,18 @@ ghost use Rattle.std.specs.Prelude.{◌≡◌, Option, option_map};
 ghost use Rattle.relax_edges.specs.Architectures.{arch_of};
 ghost use Rattle.litmus_text.specs.Gives.{Gives};
 ghost use Rattle.litmus_text.specs.Header.{arch_read, arch_in, header_read, name_in_header, quote_read, quote_line, quote_cut, is_setting, after_settings, two_words};
-ghost use Rattle.litmus_text.specs.Cuts.{cut_at, words};
+ghost use Rattle.text_laws.specs.Cuts.{cut_at};
+ghost use Rattle.text_laws.specs.Words.{words};
 ghost use Rattle.litmus_text.specs.Lines.{line};
 ghost use Rattle.litmus_text.specs.Views.{text_left, cut_seen};
 
 use crate::errors::{TestKind, TextError, bad};
 use crate::limits::MAX_NAME;
-use crate::reading::cuts::{cut, split_letters, two_words};
+use crate::reading::cuts::{split_letters, two_words};
 use crate::reading::lines::Lines;
 use crate::reading::text::Text;
 use relax_edges::ArchName;
+use text_parts::cut;
 
 /// The architecture with this name.
 fn arch_named(word: &[u8]) -> Option<ArchName>

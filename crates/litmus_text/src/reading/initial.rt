@@ -7,15 +7,15 @@ ghost use Rattle.litmus_text.specs.InitialState.{nothing_begun, is_given, with_w
 ghost use Rattle.litmus_text.specs.Views.{text_left, joined_seen, begun_seen, worth_seen, worth_formed, item_seen, item_formed, braced_seen};
 
 use crate::errors::{ReadError, TestKind, bad};
-use crate::reading::cuts::cut;
 use crate::reading::items::{Item, Worth, item_of};
 use crate::reading::joined::Joined;
 use crate::reading::lines::Lines;
 use crate::reading::text::Text;
-use arch_trait::{Arch, Places, after_blanks, before_blanks};
+use arch_trait::{Arch, Places};
 use final_cond::PlaceName;
 use relax_edges::Value;
 use std::alloc::{AllocError, Global};
+use text_parts::{cut, without_blanks, without_last_blanks};
 
 /// A thread, and the value of one of its registers.
 pub(crate) type Given = (u8, (u8, Value));
@@ -114,8 +114,8 @@ fn read_item<A: Arch>(
     requires { i + length piece.now < 2 ^ 64 }
     ensures { GivesInMemory (λ _. begun_seen begun.new) result (item_read A.writing (joined_seen joined.now) i piece.now (begun_seen begun.old)) }
 {
-    let first = joined.line_at(i + (piece.len() - after_blanks(piece).len()));
-    let last = joined.line_at(i + before_blanks(piece).len().saturating_sub(1));
+    let first = joined.line_at(i + (piece.len() - without_blanks(piece).len()));
+    let last = joined.line_at(i + without_last_blanks(piece).len().saturating_sub(1));
     begun.put(first, last, &item_of::<A>(piece))
 }
 

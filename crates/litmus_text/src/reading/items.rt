@@ -1,14 +1,14 @@
 ghost use Rattle.std.specs.Prelude.{◌≡◌, true, option_map, IfSome};
 ghost use Rattle.final_cond.specs.Conditions.{left_view};
 ghost use Rattle.final_cond.specs.Reading.{left_at_front};
-ghost use Rattle.arch_trait.specs.Reading.{trimmed};
+ghost use Rattle.text_laws.specs.Blanks.{trimmed};
 ghost use Rattle.litmus_text.specs.InitialState.{worth_of, item_with, whole_left, item_of, item_if};
 ghost use Rattle.litmus_text.specs.Views.{worth_seen, worth_formed, item_seen, item_formed};
 
 use crate::limits::MAX_THREADS;
-use crate::reading::cuts::cut;
-use arch_trait::{Arch, register_named, trimmed};
+use arch_trait::{Arch, register_named};
 use final_cond::{Left, PlaceName, is_place_name, number_of, read_left};
+use text_parts::{cut, trimmed};
 
 /// What an item gives a register: a number, or the address of a place.
 #[derive(Clone, Copy)]

@@ -1,10 +1,9 @@
 ghost use Rattle.std.specs.Prelude.{◌≡◌, ◌<◌, length};
-ghost use Rattle.litmus_text.specs.Lines.{kept, is_passed, is_comment, without_return, lines_from};
+ghost use Rattle.litmus_text.specs.Lines.{kept, is_passed, is_comment, lines_from};
 ghost use Rattle.litmus_text.specs.Views.{text_left, lines_seen, IsShorter};
 
-use crate::reading::cuts::cut;
 use crate::reading::text::Text;
-use arch_trait::trimmed;
+use text_parts::{cut, trimmed, without_return};
 
 /// A line that isn't passed over, and what is left behind it.
 #[derive(Clone, Copy)]
@@ -35,16 +34,6 @@ fn is_passed(text: &[u8]) -> bool
 {
     let inner = trimmed(text);
     inner.is_empty() || is_comment(inner)
-}
-
-/// A line without the carriage return at its end.
-pub fn without_return(text: &[u8]) -> &[u8]
-    ensures { result.now ≡ without_return text.now }
-{
-    let [front @ .., last] = text else {
-        return text;
-    };
-    if *last == b'\r' { front } else { text }
 }
 
 impl<'a> Text<'a> {

@@ -7,13 +7,14 @@ ghost use Rattle.litmus_text.specs.Views.{text_left, pieces_left, cells_seen, co
 
 use crate::errors::{ReadError, TestKind, TextError, bad};
 use crate::limits::{MAX_ACCESSES, MAX_ROWS};
-use crate::reading::cuts::{Pieces, cut, first_word_of_line};
+use crate::reading::cuts::{Pieces, first_word_of_line};
 use crate::reading::lines::Lines;
 use crate::reading::table::{Cells, Column, Placed, cells_of};
 use crate::reading::text::Text;
-use arch_trait::{Arch, InstrError, Places, read_cell, trimmed};
+use arch_trait::{Arch, InstrError, Places, read_cell};
 use micro_ops::Micro;
 use std::alloc::{AllocError, Global};
+use text_parts::{cut, trimmed};
 
 /// So many columns without operations.
 pub(crate) fn no_columns(alloc: Global, threads: usize) -> Result<Vec<Column>, AllocError>

@@ -6,13 +6,14 @@ ghost use Rattle.litmus_text.specs.Views.{text_left, begun_seen, cells_seen};
 
 use crate::errors::{TestKind, TextError, bad};
 use crate::limits::MAX_THREADS;
-use crate::reading::cuts::{Pieces, cut};
+use crate::reading::cuts::Pieces;
 use crate::reading::initial::Begun;
 use crate::reading::lines::Lines;
 use crate::reading::text::Text;
-use arch_trait::{Places, trimmed};
+use arch_trait::Places;
 use itoa::Buffer;
 use micro_ops::Micro;
+use text_parts::{cut, trimmed};
 
 /// An operation, and the line where it stands.
 #[derive(Clone, Copy, Debug)]

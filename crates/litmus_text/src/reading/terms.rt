@@ -8,9 +8,10 @@ ghost use Rattle.litmus_text.specs.Views.{setting_seen, mentioned_seen, term_rea
 
 use crate::errors::{TestKind, TextError, bad};
 use crate::reading::joined::Joined;
-use arch_trait::{Arch, Places, after_blanks, register_named};
+use arch_trait::{Arch, Places, register_named};
 use arrayvec::ArrayVec;
 use final_cond::{Follow, Left, MAX_TERMS, PlaceName, Term, read_follow, read_left, read_right};
+use text_parts::without_blanks;
 
 /// The threads of the table, the line where the condition begins, and its text.
 #[derive(Debug, Drop)]
@@ -102,7 +103,7 @@ fn read_term<'a, A: Arch>(
     };
     put_left::<A>(
         here,
-        here.line_of_rest(after_blanks(text)),
+        here.line_of_rest(without_blanks(text)),
         &left,
         mentioned,
     )?;

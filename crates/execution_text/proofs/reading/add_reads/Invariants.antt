@@ -1,5 +1,5 @@
 use Rattle.std.proofs.Common.{◌≡◌, ◌<◌, length}
-use Rattle.litmus_text.specs.Cuts.{words}
+use Rattle.text_laws.specs.Words.{words}
 use Rattle.exec_meaning.specs.Kept.{with_read}
 use Rattle.execution_text.specs.declared.errors.ExecKind.TheVariants.{BadRead}
 use Rattle.execution_text.specs.ExecutionText.{read_named, all_named}

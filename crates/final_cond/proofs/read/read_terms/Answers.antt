@@ -21,7 +21,7 @@ pub returns-then-is_full : goal.returns-then-is_full
 returns-then-is_full c =
     let n : length c.terms.terms.items ≡ MAX_TERMS = eqb-true (length c.terms.terms.items) MAX_TERMS (sym c.if-is_full.ensures.value) in
     stops_at_full has_form (MAX_TERMS - length c.terms.terms.items) c.terms.rest.now (map term_view c.terms.terms.items) (term_and_rest c.in-Ok.term)
-    (terms_read has_form MAX_TERMS c.args.text.now) (omega arith) c.in-Ok.ensures c.terms.invariant ∙ rw c.without_blanks.ensures refl
+    (terms_read has_form MAX_TERMS c.args.text.now) (omega arith) c.in-Ok.ensures c.terms.invariant ∙ rw c.without_blanks.ensures.text refl
 
 pub returns-in_err-behind : goal.returns-in_err-behind
 returns-in_err-behind c =

@@ -1,5 +1,6 @@
 use Rattle.std.proofs.Common.{◌≡◌, length}
-use Rattle.log_sum.specs.Texts.{words, joined_words}
+use Rattle.text_laws.specs.Words.{words}
+use Rattle.log_sum.specs.Texts.{joined_words}
 use Rattle.log_sum.proofs.TextLaws.{joined_onto}
 use Rattle.log_sum.proofs.lines.joined_words.Given as goal
 

@@ -1,15 +1,15 @@
 use Rattle.std.proofs.Common.{◌≤◌, length, arith}
-use Rattle.text_laws.specs.Runs.{is_blank}
+use Rattle.text_laws.specs.Blanks.{is_blank}
 use Rattle.text_laws.proofs.RunLaws.{after_run-le}
 use Rattle.litmus_text.proofs.ItemLaws.{before_blanks-le}
 use Rattle.litmus_text.proofs.reading.initial.read_item.Goals as goal
 
 pub overflow_sub-piece : goal.overflow_sub-piece
-overflow_sub-piece g c = rw c.after_blanks.ensures (after_run-le is_blank c.args.piece.now)
+overflow_sub-piece g c = rw c.without_blanks.ensures.text (after_run-le is_blank c.args.piece.now)
 
 pub overflow_add-i-2 : goal.overflow_add-i-2
 overflow_add-i-2 g c =
-    let k : length c.before_blanks.result.now ≤ length c.args.piece.now = rw c.before_blanks.ensures (before_blanks-le c.args.piece.now) in
+    let k : length c.without_last_blanks.result.now ≤ length c.args.piece.now = rw c.without_last_blanks.ensures (before_blanks-le c.args.piece.now) in
     let r = c.requires in
     let s = c.saturating_sub.ensures in
     omega arith

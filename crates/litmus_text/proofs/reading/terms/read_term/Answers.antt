@@ -1,5 +1,5 @@
 use Rattle.final_cond.specs.Conditions.{left_view}
-use Rattle.text_laws.specs.Runs.{unblanked}
+use Rattle.text_laws.specs.Blanks.{unblanked}
 use Rattle.litmus_text.proofs.ItemLaws.{left_form}
 use Rattle.litmus_text.proofs.reading.terms.read_term.Goals as goal
 

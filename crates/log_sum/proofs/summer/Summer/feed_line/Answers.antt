@@ -3,7 +3,8 @@ use Rattle.std.specs.Prelude.{Ok, Err}
 use Rattle.std.proofs.lemmas.Result.{err_from_is_err_and}
 use Rattle.log_sum.specs.declared.errors.LogKind.TheVariants.{LineTooLong}
 use Rattle.log_sum.specs.Classes.{progress_view}
-use Rattle.log_sum.specs.Reading.{Seen, fault_at, without_return}
+use Rattle.log_sum.specs.Reading.{Seen, fault_at}
+use Rattle.text_laws.specs.Lines.{without_return}
 use Rattle.log_sum.specs.Standing.{Progress, Kept}
 use Rattle.log_sum.specs.Feeding.{Follows}
 use Rattle.log_sum.proofs.FeedLaws.{line_long, line_read, long_ended, nothing_there, none_there}

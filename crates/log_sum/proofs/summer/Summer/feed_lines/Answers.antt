@@ -15,7 +15,7 @@ loop-front-init c = record {
 
 pub loop-front-preserved : goal.loop-front-preserved
 loop-front-preserved c =
-    let cut = cut_parts c.loop-front.rest.now (c.in-Some.front.now, c.in-Some.behind.now) (sym c.in-Some.ensures.parts) in
+    let cut = cut_parts c.loop-front.rest.now (c.in-Some.front.now, c.in-Some.behind.now) (sym c.in-Some.ensures.cut) in
     let fed = c.loop-front.invariant in
     record {
       done = fed.done ++ (c.in-Some.front.now ++ 10 ∷ []);
@@ -30,7 +30,7 @@ loop-front-preserved c =
 pub returns-in_err-feed_line : goal.returns-in_err-feed_line
 returns-in_err-feed_line c = λ files bytes stands.
     let p = err_from_is_err_and c.from_residual.result c.from_residual.ensures.1 in
-    let cut = cut_parts c.loop-front.rest.now (c.in-Some.front.now, c.in-Some.behind.now) (sym c.in-Some.ensures.parts) in
+    let cut = cut_parts c.loop-front.rest.now (c.in-Some.front.now, c.in-Some.behind.now) (sym c.in-Some.ensures.cut) in
     let fed = c.loop-front.invariant in
     let s = fed.stands files bytes stands in
     rw (p.1, p.2) (line_answered c.loop-front.self c.feed_line.new.self files (bytes ++ fed.done) c.in-Some.front.now c.in-Some.behind.now (bytes ++ c.args.piece.now) s cut.one
@@ -42,5 +42,5 @@ returns c = λ files bytes stands.
     let fed = c.loop-front.invariant in
     let s = fed.stands files bytes stands in
     subst (λ (t : List ℕ). PieceTo c.hold.new.self files t c.hold.result) (append_assoc bytes fed.done c.loop-front.rest.now ∙ ap (λ t. bytes ++ t) fed.whole)
-    (part_answered c.loop-front.self c.hold.new.self files (bytes ++ fed.done) c.loop-front.rest.now s (cut_none c.loop-front.rest.now (sym c.in_default.ensures.parts)) c.hold.result
+    (part_answered c.loop-front.self c.hold.new.self files (bytes ++ fed.done) c.loop-front.rest.now s (cut_none c.loop-front.rest.now (sym c.in_default.ensures.cut)) c.hold.result
     (c.hold.ensures.judged s.seen (stands_follows c.loop-front.self files (bytes ++ fed.done) s)) c.hold.ensures.held)

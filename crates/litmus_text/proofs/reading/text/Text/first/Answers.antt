@@ -1,6 +1,6 @@
 use Rattle.std.proofs.Common.{sym, ap, ◌∙◌, ◌+◌, arith}
 use Rattle.litmus_text.specs.Lines.{kept, lines_from}
-use Rattle.litmus_text.proofs.CutLaws.{cut_length}
+use Rattle.text_laws.proofs.CutLaws.{cut_length}
 use Rattle.litmus_text.proofs.LineLaws.{line_cut, line_last}
 use Rattle.litmus_text.proofs.reading.text.Text.first.Goals as goal
 

@@ -1,0 +1,158 @@
+-- The comma at which a text is cut, and the operands between commas.
+use Rattle.std.proofs.Common.{ℕ, ◌+◌, ◌-◌, ◌<◌, ◌≤◌, ◌≡◌, ◌==◌, refl, Bool, true, false, cond, List, [], ◌∷◌, Some, None, nat_lt, map, length, length-drop, get_or, take, drop, ◌∙◌, sym, ap, arith}
+use Rattle.std.proofs.lemmas.Bool.{ltb-true, ltb-false, eqb-true, eqb-false}
+use Rattle.std.proofs.Math.Seq.{take-length}
+use Rattle.std.specs.List.{position, position_or_len, slice_split, onto_first}
+use Rattle.std.proofs.lemmas.List.Splits.{slice_split_first, slice_split_none}
+use Rattle.std.proofs.lemmas.List.Sums.{fails_before_first}
+use Rattle.text_laws.specs.Blanks.{trimmed}
+use Rattle.arch_trait.specs.Writing.{none, one, two, three, four, more}
+use Rattle.arch_trait.specs.Reading.{few, operands_if, operands_in}
+use Rattle.arch_trait.proofs.Taking.{by_test}
+
+-- a text cut at its first comma, and one without a comma
+abbrev pub is_comma : ℕ → Bool
+is_comma b = b == 44
+
+pub cut_none : (t : List ℕ) → position is_comma t ≡ None → slice_split is_comma t ≡ t ∷ []
+cut_none t e = slice_split_none is_comma t (λ k d h. all_fail t k d h (none_from t e))
+  where
+    none_from : (t : List ℕ) → position is_comma t ≡ None → length t ≤ position_or_len is_comma t
+    none_from t e = by_test (nat_lt (position_or_len is_comma t) (length t))
+        (λ f. absurd (some_none (sym (ap (λ b. cond b (Some (position_or_len is_comma t)) None) f) ∙ e)))
+        (λ f. ltb-false (position_or_len is_comma t) (length t) f)
+      where
+        some_none : Some (position_or_len is_comma t) ≡ None → ⊥
+        some_none e = cc
+
+    all_fail : (t : List ℕ) (k d : ℕ) → k < length t → length t ≤ position_or_len is_comma t →
+        is_comma (get_or t k d) ≡ false
+    all_fail t k d h m = fails_before_first is_comma t k d (omega arith)
+
+pub cut_some : (t : List ℕ) (i : ℕ) → position is_comma t ≡ Some i →
+    slice_split is_comma t ≡
+    take i t ∷ slice_split is_comma (take (length t - (i + 1)) (drop (i + 1) t))
+cut_some t i e = by_test (nat_lt (position_or_len is_comma t) (length t))
+    (λ f. let g : Some (position_or_len is_comma t) ≡ Some i =
+    sym (ap (λ b. cond b (Some (position_or_len is_comma t)) None) f) ∙ e in
+    let j : position_or_len is_comma t ≡ i = cc in
+    slice_split_first is_comma t 0 (ltb-true (position_or_len is_comma t) (length t) f) ∙
+    (ap (λ n. take n t ∷ slice_split is_comma (drop (n + 1) t)) j ∙
+    ap (λ l. take i t ∷ slice_split is_comma l) (sym (whole (drop (i + 1) t) (length t - (i + 1)) (length-drop (i + 1) t)))))
+    (λ f. absurd (none_some (sym (ap (λ b. cond b (Some (position_or_len is_comma t)) None) f) ∙ e)))
+  where
+    whole : (l : List ℕ) (n : ℕ) → length l ≡ n → take n l ≡ l
+    whole l n e = ap (λ n. take n l) (sym e) ∙ take-length l
+
+    none_some : None ≡ Some i → ⊥
+    none_some e = cc
+
+-- the operands of a text by its pieces
+operands_some : (t u : List ℕ) → u ≡ trimmed t → 1 ≤ length u →
+    operands_in t ≡ few (map trimmed (slice_split is_comma u))
+unfolding operands_in
+operands_some t [] e h = absurd (omega arith)
+operands_some t (b ∷ u) e h = ap operands_if (sym e)
+
+pub operands_none : (t u : List ℕ) → u ≡ trimmed t → length u ≡ 0 → none ≡ operands_in t
+unfolding operands_in
+operands_none t [] e h = ap operands_if e
+operands_none t (b ∷ u) e h = absurd (omega arith)
+
+pub operands_one : (t u : List ℕ) → u ≡ trimmed t → 1 ≤ length u → slice_split is_comma u ≡ u ∷ [] →
+    operands_in t ≡ one (trimmed u)
+operands_one t u e h s = operands_some t u e h ∙ ap (λ l. few (map trimmed l)) s
+
+pub operands_two : (t u a r : List ℕ) → u ≡ trimmed t → 1 ≤ length u →
+    slice_split is_comma u ≡ a ∷ slice_split is_comma r → slice_split is_comma r ≡ r ∷ [] →
+    operands_in t ≡ two (trimmed a) (trimmed r)
+operands_two t u a r e h s i =
+    operands_some t u e h ∙ ap (λ l. few (map trimmed l)) (s ∙ ap (λ l. a ∷ l) i)
+
+pub operands_three : (t u a r b q : List ℕ) → u ≡ trimmed t → 1 ≤ length u →
+    slice_split is_comma u ≡ a ∷ slice_split is_comma r →
+    slice_split is_comma r ≡ b ∷ slice_split is_comma q → slice_split is_comma q ≡ q ∷ [] →
+    operands_in t ≡ three (trimmed a) (trimmed b) (trimmed q)
+operands_three t u a r b q e h s i j =
+    operands_some t u e h ∙
+    ap (λ l. few (map trimmed l)) (s ∙ ap (λ l. a ∷ l) (i ∙ ap (λ l. b ∷ l) j))
+
+pub operands_four : (t u a r b q d p : List ℕ) → u ≡ trimmed t → 1 ≤ length u →
+    slice_split is_comma u ≡ a ∷ slice_split is_comma r →
+    slice_split is_comma r ≡ b ∷ slice_split is_comma q →
+    slice_split is_comma q ≡ d ∷ slice_split is_comma p → slice_split is_comma p ≡ p ∷ [] →
+    operands_in t ≡ four (trimmed a) (trimmed b) (trimmed d) (trimmed p)
+operands_four t u a r b q d p e h s i j k =
+    operands_some t u e h ∙
+    ap (λ l. few (map trimmed l)) (s ∙ ap (λ l. a ∷ l) (i ∙ ap (λ l. b ∷ l) (j ∙ ap (λ l. d ∷ l) k)))
+
+pub operands_more : (t u a r b q d p c o : List ℕ) → u ≡ trimmed t → 1 ≤ length u →
+    slice_split is_comma u ≡ a ∷ slice_split is_comma r →
+    slice_split is_comma r ≡ b ∷ slice_split is_comma q →
+    slice_split is_comma q ≡ d ∷ slice_split is_comma p →
+    slice_split is_comma p ≡ c ∷ slice_split is_comma o → operands_in t ≡ more
+operands_more t u a r b q d p c o e h s i j k =
+    operands_some t u e h ∙
+    (ap (λ l. few (map trimmed l))
+    (s ∙ ap (λ l. a ∷ l) (i ∙ ap (λ l. b ∷ l) (j ∙ ap (λ l. d ∷ l) k))) ∙ rest o)
+  where
+    rest : (p : List ℕ) → few (map trimmed (a ∷ b ∷ d ∷ c ∷ slice_split is_comma p)) ≡ more
+    rest p = some_piece (slice_split is_comma p) (pieces p)
+      where
+        IsSome : List (List ℕ) → Type 0
+        IsSome [] = ⊥
+        IsSome (x ∷ l) = Unit {0}
+
+        pieces : (p : List ℕ) → IsSome (slice_split is_comma p)
+        pieces [] = tt
+        pieces (x ∷ p) = of_test (is_comma x) (slice_split is_comma p)
+          where
+            of_test : (t : Bool) (l : List (List ℕ)) →
+                IsSome (cond t ([] ∷ l) (onto_first x l))
+            of_test true l = tt
+            of_test false [] = tt
+            of_test false (y ∷ l) = tt
+
+        some_piece : (l : List (List ℕ)) → IsSome l → few (map trimmed (a ∷ b ∷ d ∷ c ∷ l)) ≡ more
+        some_piece [] h = absurd h
+        some_piece (x ∷ l) h = refl
+
+-- what the test of an empty text says
+pub no_bytes : (u : List ℕ) (b : Bool) → b ≡ (length u == 0) → b ≡ true → length u ≡ 0
+no_bytes u b e f = eqb-true (length u) 0 (sym e ∙ f)
+
+pub some_bytes : (u : List ℕ) (b : Bool) → b ≡ (length u == 0) → b ≡ false → 1 ≤ length u
+some_bytes u b e f =
+    let d : length u ≡ 0 → ⊥ = eqb-false (length u) 0 (sym e ∙ f) in omega arith
+
+-- the same of the operands as they were trimmed
+pub gave_one : (t u x : List ℕ) → u ≡ trimmed t → 1 ≤ length u → slice_split is_comma u ≡ u ∷ [] →
+    x ≡ trimmed u → one x ≡ operands_in t
+gave_one t u x e h s f = ap (λ l. one l) f ∙ sym (operands_one t u e h s)
+
+pub gave_two : (t u a r x y : List ℕ) → u ≡ trimmed t → 1 ≤ length u →
+    slice_split is_comma u ≡ a ∷ slice_split is_comma r → slice_split is_comma r ≡ r ∷ [] →
+    x ≡ trimmed a → y ≡ trimmed r → two x y ≡ operands_in t
+gave_two t u a r x y e h s i f g =
+    ap (λ l. two l y) f ∙ (ap (λ l. two (trimmed a) l) g ∙ sym (operands_two t u a r e h s i))
+
+pub gave_three : (t u a r b q x y z : List ℕ) → u ≡ trimmed t → 1 ≤ length u →
+    slice_split is_comma u ≡ a ∷ slice_split is_comma r →
+    slice_split is_comma r ≡ b ∷ slice_split is_comma q → slice_split is_comma q ≡ q ∷ [] →
+    x ≡ trimmed a → y ≡ trimmed b → z ≡ trimmed q → three x y z ≡ operands_in t
+gave_three t u a r b q x y z e h s i j f g k =
+    ap (λ l. three l y z) f ∙
+    (ap (λ l. three (trimmed a) l z) g ∙
+    (ap (λ l. three (trimmed a) (trimmed b) l) k ∙ sym (operands_three t u a r b q e h s i j)))
+
+pub gave_four : (t u a r b q d p x y z w : List ℕ) → u ≡ trimmed t → 1 ≤ length u →
+    slice_split is_comma u ≡ a ∷ slice_split is_comma r →
+    slice_split is_comma r ≡ b ∷ slice_split is_comma q →
+    slice_split is_comma q ≡ d ∷ slice_split is_comma p → slice_split is_comma p ≡ p ∷ [] →
+    x ≡ trimmed a → y ≡ trimmed b → z ≡ trimmed d → w ≡ trimmed p → four x y z w ≡ operands_in t
+gave_four t u a r b q d p x y z w e h s i j m f g k n =
+    ap (λ l. four l y z w) f ∙
+    (ap (λ l. four (trimmed a) l z w) g ∙
+    (ap (λ l. four (trimmed a) (trimmed b) l w) k ∙
+    (ap (λ l. four (trimmed a) (trimmed b) (trimmed d) l) n ∙
+    sym (operands_four t u a r b q d p e h s i j m))))

@@ -1,0 +1,64 @@
+-- A cut at the first place of a byte.
+use Rattle.std.proofs.Common.{◌≡◌, ◌==◌, ◌+◌, ◌-◌, ◌<◌, ◌≤◌, ℕ, zero, suc, List, [], ◌∷◌, ◌++◌, Some, None, true, false, get_or, take, drop, length, length-drop, length-append, refl, sym, ap, ◌∙◌, arith, add-one}
+use Rattle.std.specs.Prelude.{Bool, not}
+use Rattle.std.proofs.lemmas.Bool.{eqb-true, eq-eqb, and_parts}
+use Rattle.std.proofs.lemmas.List.{take-append-drop}
+use Rattle.std.proofs.Math.Seq.{drop-cons, take-length}
+use Rattle.text_laws.specs.Cuts.{before_cut, cut_at, is_without, CutParts}
+use Rattle.text_laws.proofs.RunLaws.{by_test}
+
+not_true : (b : Bool) → not b ≡ true → b ≡ false
+not_true true e = cc
+not_true false e = refl
+
+-- the text before a sign and the text behind it
+pub cut_back : (sign : ℕ) (front behind : List ℕ) → is_without sign front ≡ true → cut_at sign (front ++ sign ∷ behind) ≡ Some (front, behind)
+unfolding cut_at
+cut_back sign [] behind h = rw (eq-eqb sign sign refl) refl
+cut_back sign (byte ∷ front) behind h =
+    let parts = and_parts (not (byte == sign)) (is_without sign front) h in
+    rw (not_true (byte == sign) parts.0) (ap (before_cut byte) (cut_back sign front behind parts.1))
+
+pub cut_none : (sign : ℕ) (text : List ℕ) → is_without sign text ≡ true → cut_at sign text ≡ None
+unfolding cut_at
+cut_none sign [] h = refl
+cut_none sign (byte ∷ text) h =
+    let parts = and_parts (not (byte == sign)) (is_without sign text) h in
+    rw (not_true (byte == sign) parts.0) (ap (before_cut byte) (cut_none sign text parts.1))
+
+-- the bytes before a place are without a sign that stands at none of them
+pub without_take : (sign : ℕ) (text : List ℕ) (k : ℕ) → ((j : ℕ) → j < k → j < length text → get_or text j 0 == sign ≡ true → ⊥) → is_without sign (take k text) ≡ true
+without_take sign text zero h = refl
+without_take sign [] (suc k) h = refl
+without_take sign (b ∷ text) (suc k) h =
+    by_test (b == sign)
+    (λ e. absurd (h 0 (omega arith) (omega arith) e))
+    (λ e. rw e (without_take sign text k (λ j low inside is. h (suc j) (omega arith) (omega arith) is)))
+
+pub without_all : (sign : ℕ) (text : List ℕ) → ((j : ℕ) → j < length text → get_or text j 0 == sign ≡ true → ⊥) → is_without sign text ≡ true
+without_all sign text h = ap (is_without sign) (sym (take-length text)) ∙ without_take sign text (length text) (λ j low inside is. h j inside is)
+
+-- a text with a sign at a place
+pub cut_there : (sign : ℕ) (text : List ℕ) (k : ℕ) → k < length text → get_or text k 0 == sign ≡ true → text ≡ take k text ++ sign ∷ drop (k + 1) text
+cut_there sign text k inside is =
+    let e : get_or text k 0 ≡ sign = eqb-true (get_or text k 0) sign is in
+    let d : drop k text ≡ sign ∷ drop (k + 1) text = rw add-one (drop-cons text k 0 inside ∙ ap (λ b. b ∷ drop (suc k) text) e) in
+    sym (take-append-drop k text) ∙ ap (λ t. take k text ++ t) d
+
+-- the text behind a place
+pub rest_whole : (text : List ℕ) (k : ℕ) → take (length text - k) (drop k text) ≡ drop k text
+rest_whole text k = ap (λ n. take n (drop k text)) (sym (length-drop k text)) ∙ take-length (drop k text)
+
+pub cut_found : (sign : ℕ) (text : List ℕ) (k : ℕ) → k < length text → ((j : ℕ) → 0 ≤ j → j < k → get_or text j 0 == sign ≡ true → ⊥) → get_or text k 0 == sign ≡ true
+    → CutParts sign text (take k text) (take (length text - (k + 1)) (drop (k + 1) text))
+cut_found sign text k inside before is = rw (rest_whole text (k + 1)) (record {
+  parts = cut_there sign text k inside is;
+  first = without_take sign text k (λ j low within there. before j (omega arith) low there);
+})
+
+-- what is cut
+pub cut_is : (sign : ℕ) (text front behind : List ℕ) → CutParts sign text front behind → cut_at sign text ≡ Some (front, behind)
+cut_is sign text front behind p = ap (cut_at sign) p.parts ∙ cut_back sign front behind p.first
+
+pub cut_length : (sign : ℕ) (text front behind : List ℕ) → CutParts sign text front behind → length text ≡ length front + (length behind + 1)
+cut_length sign text front behind p = let e : length (front ++ sign ∷ behind) ≡ length front + length (sign ∷ behind) = length-append front (sign ∷ behind) in ap length p.parts ∙ e ∙ (omega arith)

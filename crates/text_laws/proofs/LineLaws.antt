@@ -1,0 +1,33 @@
+-- The carriage return at the end of a line.
+use Rattle.std.proofs.Common.{◌≡◌, ◌==◌, ℕ, ◌-◌, ◌<◌, ◌≤◌, List, [], ◌∷◌, ◌++◌, true, false, length, get_or, take, refl, sym, ap, ◌∙◌, arith}
+use Rattle.std.specs.Prelude.{Bool, cond}
+use Rattle.text_laws.specs.Lines.{without_return}
+use Rattle.text_laws.proofs.BlankLaws.{front_and_last}
+
+last_return : (text : List ℕ) (byte : ℕ) → without_return (text ++ byte ∷ []) ≡ cond (byte == 13) text (text ++ byte ∷ [])
+unfolding without_return
+last_return [] byte = refl
+last_return (b ∷ []) byte = ap (λ t. b ∷ t) (last_return [] byte) ∙ inside (byte == 13)
+  where
+    inside : (c : Bool) → b ∷ cond c [] (byte ∷ []) ≡ cond c (b ∷ []) (b ∷ byte ∷ [])
+    inside true = refl
+    inside false = refl
+last_return (b ∷ d ∷ text) byte = ap (λ t. b ∷ t) (last_return (d ∷ text) byte) ∙ inside (byte == 13)
+  where
+    inside : (c : Bool) → b ∷ cond c (d ∷ text) ((d ∷ text) ++ byte ∷ []) ≡ cond c (b ∷ d ∷ text) ((b ∷ d ∷ text) ++ byte ∷ [])
+    inside true = refl
+    inside false = refl
+
+by_last : (text : List ℕ) → 1 ≤ length text → without_return text ≡ cond (get_or text (length text - 1) 0 == 13) (take (length text - 1) text) (take (length text - 1) text ++ get_or text (length text - 1) 0 ∷ [])
+by_last text h = ap without_return (front_and_last text h) ∙ last_return (take (length text - 1) text) (get_or text (length text - 1) 0)
+
+pub return_off : (text : List ℕ) → 1 ≤ length text → get_or text (length text - 1) 0 ≡ 13 → without_return text ≡ take (length text - 1) text
+return_off text h e = by_last text h ∙ ap (λ b. cond (b == 13) (take (length text - 1) text) (take (length text - 1) text ++ get_or text (length text - 1) 0 ∷ [])) e
+
+pub return_kept : (text : List ℕ) → 1 ≤ length text → (get_or text (length text - 1) 0 == 13) ≡ false → without_return text ≡ text
+return_kept text h e = by_last text h ∙ ap (λ b. cond b (take (length text - 1) text) (take (length text - 1) text ++ get_or text (length text - 1) 0 ∷ [])) e ∙ sym (front_and_last text h)
+
+pub return_none : (text : List ℕ) → length text < 1 → without_return text ≡ text
+unfolding without_return
+return_none [] h = refl
+return_none (b ∷ text) h = absurd (omega arith)

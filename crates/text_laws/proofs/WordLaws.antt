@@ -1,0 +1,71 @@
+-- The first word of a text, by a walk over blanks and then over a word.
+use Rattle.std.proofs.Common.{◌≡◌, ◌==◌, ℕ, ◌<◌, List, [], ◌∷◌, true, false, length, refl, sym, ap, ◌∙◌, arith}
+use Rattle.std.specs.Prelude.{Bool, not}
+use Rattle.std.specs.List.{slice_split, filter}
+use Rattle.std.proofs.lemmas.Bool.{eqb-true}
+use Rattle.text_laws.specs.Runs.{run_of, after_run}
+use Rattle.text_laws.specs.Blanks.{is_blank, is_inked, unblanked}
+use Rattle.text_laws.specs.Words.{is_nil, words}
+use Rattle.text_laws.proofs.RunLaws.{by_test}
+
+-- the pieces between blanks, by the first of them
+abbrev further : List ℕ → List (List ℕ)
+further [] = []
+further (byte ∷ text) = slice_split is_blank text
+
+first_run : (text : List ℕ) → slice_split is_blank text ≡ run_of is_inked text ∷ further (after_run is_inked text)
+unfolding run_of after_run
+first_run [] = refl
+first_run (byte ∷ text) =
+    by_test (is_blank byte) (λ h. rw h refl) (λ h. rw h (rw (first_run text) refl))
+
+abbrev some_words : List (List ℕ) → List (List ℕ)
+some_words pieces = filter (λ word. not (is_nil word)) pieces
+
+words_further : (text : List ℕ) → some_words (further (after_run is_inked text)) ≡ words (after_run is_inked text)
+unfolding words after_run
+words_further [] = refl
+words_further (byte ∷ text) =
+    by_test (is_blank byte) (λ h. rw h (rw h refl)) (λ h. rw h (words_further text))
+
+words_first : (text : List ℕ) → is_nil (run_of is_inked text) ≡ false → words text ≡ run_of is_inked text ∷ words (after_run is_inked text)
+unfolding words
+words_first text h =
+    ap some_words (first_run text) ∙ rw h (ap (λ rest. run_of is_inked text ∷ rest) (words_further text))
+
+words_unblanked : (text : List ℕ) → words (after_run is_blank text) ≡ words text
+unfolding words after_run
+words_unblanked [] = refl
+words_unblanked (byte ∷ text) = by_test (is_blank byte) (λ h. rw h (words_unblanked text)) (λ h. rw h (rw h refl))
+
+no_run : (text : List ℕ) → is_nil (run_of is_inked (after_run is_blank text)) ≡ true → after_run is_blank text ≡ []
+unfolding run_of after_run
+no_run [] h = refl
+no_run (byte ∷ text) h =
+    by_test (is_blank byte) (λ e. rw e (no_run text (rw e at h))) (λ e. let k = rw (e, e) at h in absurd (cc))
+
+words_none : (text : List ℕ) → is_nil (run_of is_inked (after_run is_blank text)) ≡ true → words text ≡ []
+unfolding words
+words_none text h = sym (words_unblanked text) ∙ ap words (no_run text h)
+
+-- the first word by what a walk over blanks and then over a word found
+pub word_found : (text front word rest : List ℕ) → front ≡ unblanked text → word ≡ run_of is_inked front → rest ≡ after_run is_inked front → is_nil word ≡ false → words text ≡ word ∷ words rest
+word_found text front word rest e f g h =
+    sym (words_unblanked text) ∙ ap words (sym e) ∙ words_first front (ap is_nil (sym f) ∙ h) ∙ ap (λ w. w ∷ words (after_run is_inked front)) (sym f) ∙ ap (λ t. word ∷ words t) (sym g)
+
+pub no_word_found : (text front word : List ℕ) → front ≡ unblanked text → word ≡ run_of is_inked front → is_nil word ≡ true → words text ≡ []
+no_word_found text front word e f h =
+    words_none text (ap (λ t. is_nil (run_of is_inked t)) (sym e) ∙ ap is_nil (sym f) ∙ h)
+
+not_so : (b : Bool) → (b ≡ true → ⊥) → b ≡ false
+not_so true h = absurd (h refl)
+not_so false h = refl
+
+-- a test whether a text is empty
+pub empty_is_nil : (text : List ℕ) → is_nil text ≡ (length text == 0)
+empty_is_nil [] = refl
+empty_is_nil (x ∷ text) = sym (not_so (length (x ∷ text) == 0) (λ h. let e : length (x ∷ text) ≡ 0 = eqb-true (length (x ∷ text)) 0 h in omega arith))
+
+pub some_if : (text : List ℕ) → is_nil text ≡ false → 0 < length text
+some_if [] h = cc
+some_if (x ∷ text) h = omega arith

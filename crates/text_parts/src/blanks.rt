@@ -1,0 +1,35 @@
+ghost use Rattle.std.specs.Prelude.{◌≡◌, ◌≤◌, length};
+ghost use Rattle.text_laws.specs.Blanks.{unblanked, before_blanks, trimmed};
+
+use crate::classes::Class;
+use crate::runs::split_run;
+
+/// A text without the blanks at its start.
+#[tactic(auto, using(text_laws::proofs::RunLaws::after_run_short))]
+pub fn without_blanks(text: &[u8]) -> &[u8]
+    ensures text { result.now ≡ unblanked text.now }
+    ensures short { length result.now ≤ length text.now }
+{
+    split_run(Class::Blank, text).1
+}
+
+/// A text without the blanks at its end.
+pub fn without_last_blanks(text: &[u8]) -> &[u8]
+    ensures { result.now ≡ before_blanks text.now }
+{
+    let mut text = text;
+    while let [front @ .., last] = text {
+        if !Class::Blank.has(*last) {
+            break;
+        }
+        text = front;
+    }
+    text
+}
+
+/// A text without the blanks at both ends.
+pub fn trimmed(text: &[u8]) -> &[u8]
+    ensures { result.now ≡ trimmed text.now }
+{
+    without_last_blanks(without_blanks(text))
+}
