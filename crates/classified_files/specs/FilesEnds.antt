@@ -106,3 +106,10 @@ FilesClassified asked old new words places out_old out_new (ends.Wrong file line
 FilesClassified asked old new words places out_old out_new (ends.NoFile word) = FileMissing asked old new words places word × (out_new ≡ out_old)
 FilesClassified asked old new words places out_old out_new ends.ShelfFault = ShelfFailed asked old new words places × (out_new ≡ out_old)
 FilesClassified asked old new words places out_old out_new ends.NoMemory = out_new ≡ out_old
+
+-- How the classifying of the files of the words at these places ended, on an architecture with this name, whose code is written so:
+-- their families are written whole or a prefix of them; or the first file with a fault or that isn't there is named, the shelf
+-- failed, or there is no memory, and nothing is written.
+abbrev pub ClassifiesFiles : ArchName → Writing → List (List ℕ) → List ℕ → FilesEnd → ShelfSeen → ShelfSeen → SinkSeen → SinkSeen → Type 0
+ClassifiesFiles arch writing words places end old new out_old out_new =
+    FilesClassified (record { arch = arch; writing = writing }) old new words places out_old out_new end

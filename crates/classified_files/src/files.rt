@@ -1,7 +1,7 @@
 ghost use Rattle.std.specs.Prelude.{◌≡◌, ◌<◌, length};
 ghost use Rattle.std.specs.List.{All};
 ghost use Rattle.diy_io.specs.Shelf.{Idle};
-ghost use Rattle.classified_files.specs.FilesEnds.{FilesClassified};
+ghost use Rattle.classified_files.specs.FilesEnds.{ClassifiesFiles};
 
 use crate::errors::FilesEnd;
 use crate::file::cycle_of_file;
@@ -27,7 +27,7 @@ pub fn classify_files<A: Arch, H: Shelf, O: Sink>(
 ) -> FilesEnd
     requires idle { (H.seen shelf.old).mode ≡ Idle }
     requires within { All (λ place. place < length words.now) places.now }
-    ensures classified { FilesClassified (record { arch = A.NAME; writing = A.writing }) (H.seen shelf.old) (H.seen shelf.new) words.now places.now (O.seen out.old) (O.seen out.new) result }
+    ensures classified { ClassifiesFiles A.NAME A.writing words.now places.now result (H.seen shelf.old) (H.seen shelf.new) (O.seen out.old) (O.seen out.new) }
     ensures mode { (H.seen shelf.new).mode ≡ Idle }
     ensures files { (H.seen shelf.new).files ≡ (H.seen shelf.old).files }
 {

@@ -1,6 +1,6 @@
 -- How the code finds the family of a cycle and the rotation that it is named from.
 -- Source: own.
-use Rattle.std.specs.Prelude.{◌≡◌, ◌<◌, ℕ, ◌+◌, ◌*◌, ◌==◌, ◌&&◌, ◌||◌, nat_lt, cond, Bool, true, false, sum, Option, Some, List, [], ◌++◌, length, map}
+use Rattle.std.specs.Prelude.{◌≡◌, ◌<◌, ◌≤◌, ℕ, ◌+◌, ◌*◌, ◌==◌, ◌&&◌, ◌||◌, nat_lt, cond, Bool, true, false, sum, Option, Some, List, [], ◌++◌, length, map}
 use Rattle.std.specs.List.{find}
 use Rattle.relax_edges.specs.declared.kinds.Dir.{Dir}
 use Rattle.relax_edges.specs.declared.kinds.Dir.TheVariants.{R, W}
@@ -23,10 +23,12 @@ use Rattle.relax_edges.specs.declared.edge.Edge.TheVariants as edges
 use Rattle.relax_edges.specs.EdgeTable.{kind_of, source_mark, target_mark, is_diff, same_dir}
 use Rattle.relax_edges.specs.Order.{pick_rank}
 use Rattle.relax_edges.specs.Relaxations.{is_same}
+use Rattle.walk_laws.specs.Order.{ranks_below}
 use Rattle.walk_laws.specs.Rotation.{rotated}
 use Rattle.cycle_names.specs.declared.slot.Slot.{Slot}
 use Rattle.cycle_names.specs.declared.slot.Slot.TheVariants as slots
 use Rattle.cycle_names.specs.declared.family.Family.{Family}
+use Rattle.cycle_names.specs.declared.family.TheConstants.{LONGEST}
 use Rattle.cycle_names.specs.Families.{family_edges, all_families}
 use Rattle.cycle_names.specs.Links.{outline, link_word}
 use Rattle.cycle_names.specs.Rotations.{is_plain_outside, found_family, named_rotation}
@@ -102,6 +104,14 @@ pub record JoinsFirst (slots u : List Edge) (place : ℕ) : Type 0 where
 pub record FitsFirst (u : List Edge) (family : Family) (place : ℕ) : Type 0 where
   pub first : JoinsFirst (family_edges family) u place
   pub plain : is_plain_outside u ≡ true
+
+-- the words of the rotation from one place come before those of the rotation from another
+abbrev pub comes_before : List Edge → ℕ → ℕ → Bool
+comes_before u place named = ranks_below (rotated place (map word_place u)) (rotated named (map word_place u))
+
+-- a list of edges may be of this family: it is no longer than a family's cycle may be, and has as many edges of each sort
+abbrev pub MayBeOf : List Edge → Family → Type 0
+MayBeOf u family = (length u ≤ LONGEST) × (family_counted (counted u) ≡ Some family)
 
 -- a cycle is of this family, and named from the rotation from this place
 pub record IsNamedAt (u : List Edge) (family : Family) (place : ℕ) : Type 0 where

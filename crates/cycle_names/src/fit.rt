@@ -4,11 +4,10 @@ ghost use Rattle.relax_edges.specs.EdgeTable.{target_mark, same_mark, is_externa
 ghost use Rattle.relax_edges.specs.Relaxations.{is_same};
 ghost use Rattle.walk_laws.specs.Composable.{IsCycle};
 ghost use Rattle.walk_laws.specs.Order.{ranks_below};
-ghost use Rattle.walk_laws.specs.Rotation.{rotated};
 ghost use Rattle.cycle_names.specs.Families.{family_edges};
 ghost use Rattle.cycle_names.specs.Links.{outline};
 ghost use Rattle.cycle_names.specs.Rotations.{all_plain, is_plain_outside, found_family};
-ghost use Rattle.cycle_names.specs.Fitting.{slot_edge, counted, family_counted, joins_at, JoinsNone, JoinsFirst, FitsFirst, IsNamedAt, word_place, twice};
+ghost use Rattle.cycle_names.specs.Fitting.{slot_edge, counted, family_counted, joins_at, JoinsNone, JoinsFirst, FitsFirst, IsNamedAt, word_place, twice, MayBeOf, comes_before};
 
 use crate::family::{Family, LONGEST};
 use crate::link::word_place;
@@ -62,7 +61,7 @@ fn first_fit(edges: &[Edge]) -> Option<Fit>
 
 /// The only family that a list of edges can be of: its cycle has as many edges of each sort.
 fn likely_family(edges: &[Edge]) -> Option<Family>
-    ensures { MatchOption result (found_family edges.now ≡ None) (λ family. (length edges.now ≤ LONGEST) × (family_counted (counted edges.now) ≡ Some family)) }
+    ensures { MatchOption result (found_family edges.now ≡ None) (MayBeOf edges.now) }
 {
     if edges.len() > LONGEST {
         return None;
@@ -108,7 +107,7 @@ fn family_counted(count: u16) -> Option<Family>
 
 /// The first place from which a rotation joins what the slots do.
 fn first_place(edges: &[Edge], slots: &[Slot]) -> Option<usize>
-    ensures { MatchOption result (JoinsNone (map slot_edge slots.now) edges.now (length edges.now)) (λ place. JoinsFirst (map slot_edge slots.now) edges.now place) }
+    ensures { MatchOption result (JoinsNone (map slot_edge slots.now) edges.now (length edges.now)) (JoinsFirst (map slot_edge slots.now) edges.now) }
 {
     for place in 0..edges.len() {
         if joins_at(edges, place, slots) {
@@ -199,7 +198,7 @@ fn is_better(edges: &[Edge], slots: &[Slot], place: usize, named: usize) -> bool
     requires few { length edges.now ≤ LONGEST }
     requires place { place < length edges.now }
     requires named { named < length edges.now }
-    ensures { result ≡ (joins_at (map slot_edge slots.now) edges.now place && ranks_below (rotated place (map word_place edges.now)) (rotated named (map word_place edges.now))) }
+    ensures { result ≡ (joins_at (map slot_edge slots.now) edges.now place && comes_before edges.now place named) }
 {
     joins_at(edges, place, slots) && comes_first(edges, place, named)
 }
@@ -209,7 +208,7 @@ fn comes_first(edges: &[Edge], place: usize, named: usize) -> bool
     requires few { length edges.now ≤ LONGEST }
     requires place { place < length edges.now }
     requires named { named < length edges.now }
-    ensures { result ≡ ranks_below (rotated place (map word_place edges.now)) (rotated named (map word_place edges.now)) }
+    ensures { result ≡ comes_before edges.now place named }
 {
     let places = places_twice(edges);
     let len = edges.len();

@@ -1,7 +1,7 @@
 -- How the summary is counted, a test after another.
 -- Source: own.
-use Rattle.std.specs.Prelude.{◌+◌, ◌^◌, ◌<◌}
-use Rattle.diy_io.specs.Sink.{Tally}
+use Rattle.std.specs.Prelude.{ℕ, ◌≡◌, ◌+◌, ◌^◌, ◌<◌, List, length, slice_index_or, slice_set}
+use Rattle.diy_io.specs.Sink.{Tally, line_feed_count, tally_of}
 use Rattle.demo_tests.specs.declared.tally.TestTally.{TestTally}
 
 -- nothing is counted
@@ -11,6 +11,14 @@ nothing_counted = record { tests = 0; lines = 0; bytes = 0 }
 -- a test more is counted, by the tally of its text
 abbrev pub counted : Tally → TestTally → TestTally
 counted text tally = record { tests = tally.tests + 1; lines = tally.lines + text.line_feeds; bytes = tally.bytes + text.bytes }
+
+-- the tally of a text: its bytes and its line feeds
+abbrev pub text_tally : List ℕ → Tally
+text_tally text = tally_of (length text) (line_feed_count text)
+
+-- the tally at a place, which is there, counts a text more, and the others stay
+abbrev pub CountsAt : List TestTally → List TestTally → ℕ → Tally → Type 0
+CountsAt old new place text = (other : TestTally) → new ≡ slice_set old place (counted text (slice_index_or old place other))
 
 -- there is room for it
 pub record Fits (text : Tally) (tally : TestTally) : Type 0 where

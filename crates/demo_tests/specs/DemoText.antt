@@ -24,8 +24,12 @@ abbrev pub family_lines : List Family → List TestTally → List ℕ
 family_lines (family ∷ families) (tally ∷ tallies) = family_line family tally ++ family_lines families tallies
 family_lines _ _ = []
 
+-- the lines of all families and then the line of all tests, by the tallies of each
+abbrev pub summary_lines : List TestTally → TestTally → List ℕ
+summary_lines families all = family_lines all_families families ++ tally_line (codes "total") all
+
 -- the summary of so many tests: a line for each family that had one, in the order of the table, and one for all
 unfoldable pub demo_text : Puts → Writing → ℕ → List ℕ
 demo_text puts writing count =
     let text = numbered_text puts writing in
-    family_lines all_families (family_tallies text count) ++ tally_line (codes "total") (tally_of text (upto count))
+    summary_lines (family_tallies text count) (tally_of text (upto count))

@@ -1,9 +1,9 @@
-ghost use Rattle.std.specs.Prelude.{◌≡◌, ◌≤◌, None, length};
+ghost use Rattle.std.specs.Prelude.{◌≡◌, ◌≤◌, None};
 ghost use Rattle.relax_edges.specs.declared.kinds.ObsMode.TheVariants.{Accept};
 ghost use Rattle.cycle_names.specs.Names.{name_of};
-ghost use Rattle.diy_io.specs.Sink.{line_feed_count, tally_of};
 ghost use Rattle.test_maker.specs.CycleText.{cycle_text};
 ghost use Rattle.test_maker.specs.Refusals.{refusal_of};
+ghost use Rattle.demo_tests.specs.Counting.{text_tally};
 
 use crate::text_tally::TextTally;
 use arch_trait::Arch;
@@ -37,7 +37,7 @@ impl Desk {
     /// The bytes and line feeds of the text of the test of a cycle that has one, under its name. The test is made in `test`.
     pub(crate) fn measure<A: Arch>(&mut self, cycle: &Cycle, test: &mut Test) -> TextTally
         requires { refusal_of A.puts cycle.now Accept ≡ None }
-        ensures { result ≡ tally_of (length (cycle_text A.puts A.writing Accept (name_of cycle.now) cycle.now)) (line_feed_count (cycle_text A.puts A.writing Accept (name_of cycle.now) cycle.now)) }
+        ensures { result ≡ text_tally (cycle_text A.puts A.writing Accept (name_of cycle.now) cycle.now) }
     {
         let _edges = cycle.edges();
         match make_into::<A>(cycle, ObsMode::Accept, test) {

@@ -1,11 +1,9 @@
-ghost use Rattle.std.specs.Prelude.{◌≡◌, ◌<◌, ◌++◌, codes, length, replicate, slice_index_or, slice_set};
+ghost use Rattle.std.specs.Prelude.{◌≡◌, ◌<◌, length, replicate};
 ghost use Rattle.std.specs.List.{All};
-ghost use Rattle.cycle_names.specs.Families.{all_families};
 ghost use Rattle.diy_io.specs.Page.{Sends};
 ghost use Rattle.diy_io.specs.Wrote.{Wrote};
-ghost use Rattle.demo_tests.specs.declared.tally.TestTally.{TestTally as Tallied};
-ghost use Rattle.demo_tests.specs.Counting.{Fits, counted, nothing_counted};
-ghost use Rattle.demo_tests.specs.DemoText.{family_line, family_lines, tally_line};
+ghost use Rattle.demo_tests.specs.Counting.{Fits, counted, nothing_counted, CountsAt};
+ghost use Rattle.demo_tests.specs.DemoText.{family_line, family_lines, tally_line, summary_lines};
 
 use crate::tally::TestTally;
 use crate::text_tally::TextTally;
@@ -40,7 +38,7 @@ impl Summary {
         requires place { place < length self.old.families }
         requires families { All (Fits text.now) self.old.families }
         requires all { Fits text.now self.old.all }
-        ensures families { (d : Tallied) → self.new.families ≡ slice_set self.old.families place (counted text.now (slice_index_or self.old.families place d)) }
+        ensures families { CountsAt self.old.families self.new.families place text.now }
         ensures all { self.new.all ≡ counted text.now self.old.all }
     {
         self.families[place].count(text);
@@ -50,7 +48,7 @@ impl Summary {
     /// Writes a line for each family that had a test, and then one for all. Where the sink fails, it
     /// has taken a prefix of them.
     pub(crate) fn write<O: Sink>(&self, out: &mut O) -> Result<(), Failed>
-        ensures { Wrote (O.seen out.old) (O.seen out.new) (family_lines all_families self.now.families ++ tally_line (codes "total") self.now.all) result }
+        ensures { Wrote (O.seen out.old) (O.seen out.new) (summary_lines self.now.families self.now.all) result }
     {
         let mut page = Page::new();
         self.send(&mut page, out)?;
@@ -58,7 +56,7 @@ impl Summary {
     }
 
     fn send<O: Sink>(&self, page: &mut Page, out: &mut O) -> Result<(), Failed>
-        ensures { Sends (O.seen out.old) page.old (O.seen out.new) page.new (family_lines all_families self.now.families ++ tally_line (codes "total") self.now.all) result }
+        ensures { Sends (O.seen out.old) page.old (O.seen out.new) page.new (summary_lines self.now.families self.now.all) result }
     {
         send_families(&FAMILIES, &self.families, page, out)?;
         send_line(b"total", &self.all, page, out)

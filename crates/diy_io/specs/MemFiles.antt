@@ -39,6 +39,10 @@ abbrev pub put_in : List ℕ → List ℕ → List Named → Option ℕ → List
 put_in name bytes files None = files ++ (name, bytes) ∷ []
 put_in name bytes files (Some place) = slice_set files place (name_at place files, bytes)
 
+-- files with bytes more at the end of the one at a place
+abbrev pub with_bytes_at : ℕ → List ℕ → List Named → List Named
+with_bytes_at place bytes files = slice_set files place (name_at place files, bytes_at place files ++ bytes)
+
 -- a file was put among files, which have the same room as before
 pub record PutIn (old new : MemFilesState) (name bytes : List ℕ) : Type 0 where
   pub files : new.files ≡ put_in name bytes old.files (place_of name old.files)

@@ -1,8 +1,8 @@
 -- A shelf in memory that fails at chosen calls.
-use Rattle.std.specs.Prelude.{◌≡◌, ◌≤◌, ℕ, List, drop, length, Some}
+use Rattle.std.specs.Prelude.{◌≡◌, ◌≤◌, ◌/◌, ℕ, List, [], drop, take, length, min, Some}
 use Rattle.diy_io.specs.Count.{next_count}
-use Rattle.diy_io.specs.Shelf.{Mode, Idle, Reading, Writing, ShelfSeen}
-use Rattle.diy_io.specs.MemFiles.{Named, MemFilesState, place_of, name_at, bytes_at, files_of}
+use Rattle.diy_io.specs.Shelf.{Mode, Idle, Reading, Writing, ShelfSeen, name_written}
+use Rattle.diy_io.specs.MemFiles.{Named, MemFilesState, place_of, name_at, bytes_at, files_of, appended}
 use Rattle.diy_io.specs.declared.mem_shelf.Work.{Work}
 use Rattle.diy_io.specs.declared.mem_shelf.Work.TheVariants as works
 
@@ -15,6 +15,27 @@ pub record MemShelfState : Type 0 where
   pub faults : ℕ
   pub taken : ℕ
   pub opened : ℕ
+
+-- a new shelf: it has no files, memory for so many names and so much room, and it is at nothing; these calls fail, and nothing
+-- is counted yet
+abbrev pub new_shelf : ℕ → ℕ → List ℕ → MemShelfState
+new_shelf files room fail = record {
+  held = record { files = []; room = room; names = files };
+  mode = Idle;
+  fail = fail;
+  calls = 0;
+  faults = 0;
+  taken = 0;
+  opened = 0;
+}
+
+-- what a shelf holds once the file that is written grew by the first bytes of a text, so many of them
+abbrev pub held_with : MemShelfState → ℕ → List ℕ → MemFilesState
+held_with shelf count bytes = appended shelf.held (name_written shelf.mode) (take count bytes)
+
+-- how many bytes of the first half of a text fit into a shelf; the half is rounded down
+abbrev pub half_that_fits : MemShelfState → List ℕ → ℕ
+half_that_fits shelf bytes = min (length bytes / 2) shelf.held.room
 
 -- what it tells
 abbrev pub mem_shelf_seen : MemShelfState → ShelfSeen

@@ -1,5 +1,5 @@
 ghost use Rattle.std.specs.Prelude.{◌≡◌, ◌+◌, ◌-◌, ◌<◌, ◌≤◌, ◌++◌, ◌∷◌, ℕ, [], length, vec_len, vec_capacity, map, All, slice_set, IfOk, IfSome, OnOk, OnErr};
-ghost use Rattle.diy_io.specs.MemFiles.{MemFilesState, PutIn, place_of, name_at, bytes_at};
+ghost use Rattle.diy_io.specs.MemFiles.{MemFilesState, PutIn, place_of, name_at, bytes_at, with_bytes_at};
 
 use crate::errors::NoMemory;
 use std::alloc::Global;
@@ -136,7 +136,7 @@ impl MemFiles {
     pub(crate) fn append(&mut self, place: usize, bytes: &[u8])
         requires there { place < length self.old.files }
         requires fits { length bytes.now ≤ self.old.room }
-        ensures { self.new ≡ record self.old { files = slice_set self.old.files place (name_at place self.old.files, bytes_at place self.old.files ++ bytes.now); room = self.old.room - length bytes.now } }
+        ensures { self.new ≡ record self.old { files = with_bytes_at place bytes.now self.old.files; room = self.old.room - length bytes.now } }
     {
         self.entries[place].bytes.extend_from_slice(bytes).unwrap();
         self.room -= bytes.len();

@@ -1,4 +1,4 @@
-ghost use Rattle.std.specs.Prelude.{◌≡◌, ◌+◌, ◌-◌, ◌/◌, ◌<◌, ◌≤◌, ◌↔◌, ◌⊎◌, ℕ, [], Err, None, Some, length, min, take, Contains, IsTrue, IsErr, IfOk, OnOk, OnErr, MatchOption};
+ghost use Rattle.std.specs.Prelude.{◌≡◌, ◌+◌, ◌-◌, ◌<◌, ◌≤◌, ◌↔◌, ◌⊎◌, ℕ, Err, None, Some, length, take, Contains, IsTrue, IsErr, IfOk, OnOk, OnErr, MatchOption};
 ghost use Rattle.diy_io.specs.declared.shelf.OpenError.TheVariants as open_errors;
 ghost use Rattle.diy_io.specs.Count.{next_count};
 ghost use Rattle.diy_io.specs.Shelf.{Idle, name_written, IsReading, IsWriting, IsBusy, Opened, NotThere, Stopped, Gave, Created, NotCreated, Appended, AppendedPart, Finished};
@@ -53,7 +53,7 @@ impl Model for MemShelf {
 
 impl MemShelf {
     ghost use Rattle.diy_io.specs.MemFiles.{PutIn, place_of, bytes_at, files_of, appended};
-    ghost use Rattle.diy_io.specs.MemShelf.{mem_shelf_seen, Called, SameCall, mode_of, IsPlace};
+    ghost use Rattle.diy_io.specs.MemShelf.{mem_shelf_seen, new_shelf, Called, SameCall, mode_of, IsPlace};
     ghost use Rattle.diy_io.specs.Shelf.{with_more};
     ghost use Rattle.diy_io.specs.declared.mem_shelf.Work.TheVariants as works;
 
@@ -66,7 +66,7 @@ impl MemShelf {
         room: usize,
         fail: Vec<u64>,
     ) -> Result<MemShelf, NoMemory>
-        ensures { IfOk result (λ shelf. shelf ≡ record { held = record { files = []; room = room; names = files }; mode = Idle; fail = fail.items; calls = 0; faults = 0; taken = 0; opened = 0 }) }
+        ensures { IfOk result (λ shelf. shelf ≡ new_shelf files room fail.items) }
     {
         Ok(MemShelf {
             alloc,
@@ -195,8 +195,8 @@ impl MemShelf {
 }
 
 impl Shelf for MemShelf {
-    ghost use Rattle.diy_io.specs.MemFiles.{IsRefused, names_after, appended};
-    ghost use Rattle.diy_io.specs.MemShelf.{mem_shelf_seen, Called};
+    ghost use Rattle.diy_io.specs.MemFiles.{IsRefused, names_after};
+    ghost use Rattle.diy_io.specs.MemShelf.{mem_shelf_seen, held_with, half_that_fits, Called};
 
     ghost seen = { mem_shelf_seen };
 
@@ -280,8 +280,8 @@ impl Shelf for MemShelf {
         ensures answer { IsErr result ↔ (Contains self.old.fail self.old.calls ⊎ (self.old.held.room < length bytes.now)) }
         ensures called { Called self.old self.new }
         ensures names { self.new.held.names ≡ self.old.held.names }
-        ensures half { Contains self.old.fail self.old.calls → self.new.held ≡ appended self.old.held (name_written self.old.mode) (take (min (length bytes.now / 2) self.old.held.room) bytes.now) }
-        ensures fitting { ¬ Contains self.old.fail self.old.calls → self.new.held ≡ appended self.old.held (name_written self.old.mode) (take self.old.held.room bytes.now) }
+        ensures half { Contains self.old.fail self.old.calls → self.new.held ≡ held_with self.old (half_that_fits self.old bytes.now) bytes.now }
+        ensures fitting { ¬ Contains self.old.fail self.old.calls → self.new.held ≡ held_with self.old self.old.held.room bytes.now }
 
         ensures ok { OnOk result (Appended (mem_shelf_seen self.old) (mem_shelf_seen self.new) (name_written self.old.mode) bytes.now) }
         ensures failed { OnErr result (AppendedPart (mem_shelf_seen self.old) (mem_shelf_seen self.new) (name_written self.old.mode) bytes.now) }

@@ -1,5 +1,6 @@
 -- What only private functions cite: requests as they are kept, and the parts of a test, of a listing and of a sum.
 use Rattle.std.specs.Prelude.{ℕ, ◌≡◌, ◌⊎◌, List, [], Option, Some, None, Result, Ok, Err}
+use Rattle.std.specs.Borrow.{Bor}
 use Rattle.std.specs.Option.{option_map, option_or}
 use Rattle.arrayvec.specs.ArrayString.{ArrayString}
 use Rattle.relax_edges.specs.declared.edge.Edge.{Edge}
@@ -21,7 +22,7 @@ use Rattle.litmus_text.specs.declared.test.Test.{Test}
 use Rattle.litmus_text.specs.Tests.{test_seen}
 use Rattle.summed_logs.specs.declared.sum_end.SumEnd.{SumEnd}
 use Rattle.summed_logs.specs.SumEnds.{InputSummed, FilesSummed}
-use Rattle.test_maker.specs.CycleText.{cycle_test}
+use Rattle.test_maker.specs.CycleText.{cycle_test, cycle_text}
 use Rattle.test_maker.specs.Made.{shown}
 use Rattle.test_maker.specs.Refusals.{refusal_of}
 use Rattle.diy_tools.specs.declared.status.Status.{Status}
@@ -33,18 +34,27 @@ use Rattle.classified_files.specs.declared.errors.FilesEnd.{FilesEnd}
 use Rattle.checked_files.specs.declared.errors.CheckEnd.{CheckEnd}
 use Rattle.diy_words.specs.Requests.{CheckAsked}
 use Rattle.diy_tools.specs.CheckAnswers.{EndsChecked, check_status}
-use Rattle.diy_tools.specs.CrossAnswers.{AnswersCross}
+use Rattle.diy_tools.specs.CrossAnswers.{AnswersCross, AnswersChoices}
 use Rattle.diy_tools.specs.FamilyAnswers.{EndsNamed, files_status}
-use Rattle.diy_tools.specs.Machines.{Machine}
+use Rattle.diy_tools.specs.Machines.{Machine, machine, machine_of}
 use Rattle.diy_tools.specs.NameAnswers.{AnswersLines, AnswersName}
 use Rattle.diy_tools.specs.Printing.{AnswersEdges}
 use Rattle.diy_tools.specs.Refused.{refused_list, refused_making, refused_showing}
 use Rattle.diy_tools.specs.TestAnswers.{test_name}
-use Rattle.diy_tools.specs.WhyAnswers.{WritesFiles}
+use Rattle.diy_tools.specs.WhyAnswers.{WritesFiles, AnswersRuns, why_files, why_line}
+use Rattle.diy_words.specs.declared.request.Check.{Check}
+use Rattle.diy_words.specs.declared.request.Cross.{Cross}
+use Rattle.diy_words.specs.declared.request.DiyOne.{DiyOne}
 use Rattle.diy_words.specs.declared.request.Why.{Why}
+use Rattle.arch_trait.specs.Threads.{Puts}
+use Rattle.arch_trait.specs.Writing.{Writing}
+use Rattle.checked_files.specs.FilesChecked.{FilesChecked}
+use Rattle.diy_tools.specs.Devices.{Seen, devices}
+use Rattle.execution_text.specs.Written.{text_of_execution}
+use Rattle.two_runs.specs.declared.shown.TwoRuns.{TwoRuns}
 use Rattle.two_runs.specs.Shown.{why_refused}
 use Rattle.diy_tools.specs.declared.status.Status.TheVariants as statuses
-use Rattle.diy_tools.specs.SumAnswers.{sum_status}
+use Rattle.diy_tools.specs.SumAnswers.{sum_status, AnswersSum}
 
 -- the edges that are kept
 abbrev pub edges_kept : EdgeList → List Edge
@@ -73,9 +83,28 @@ MakesCycle refused edges (Err refusal) = refused ≡ Some refusal
 abbrev pub name_kept : Option ArrayString → Option (List ℕ)
 name_kept name = option_map (λ name. name.bytes) name
 
+-- the name that is kept, or that of the cycle where there is none
+abbrev pub chosen_name : Option ArrayString → List Edge → List ℕ
+chosen_name name cycle = test_name (name_kept name) cycle
+
+-- a cycle has no test in a mode, and that is the refusal; or its test is printed
+abbrev pub AnswersCycle : Machine → ObsMode → Option ArrayString → List Edge → Status → SinkSeen → SinkSeen → Type 0
+AnswersCycle m mode name cycle =
+    AnswersEdges (refused_making (refusal_of m.puts cycle mode)) (cycle_text m.puts m.writing mode (chosen_name name cycle) cycle)
+
+-- the edges of a request are refused; or the test of their cycle is printed
+abbrev pub AnswersOne : Machine → DiyOne → Status → SinkSeen → SinkSeen → Type 0
+AnswersOne m request =
+    AnswersEdges (refused_kept m request.mode request.edges)
+    (cycle_text m.puts m.writing request.mode (chosen_name request.name (edges_kept request.edges)) (edges_kept request.edges))
+
+-- a folder that is lent, where one is given
+abbrev pub folder_lent : Option (Bor (List ℕ)) → Option (List ℕ)
+folder_lent folder = option_map (λ folder. folder.now) folder
+
 -- the folder of a request to show two executions, and the name of the test, as they are kept
 abbrev pub folder_kept : Why → Option (List ℕ)
-folder_kept request = option_map (λ folder. folder.now) request.folder
+folder_kept request = folder_lent request.folder
 
 abbrev pub named_kept : Why → List ℕ
 named_kept request = test_name (name_kept request.name) (edges_kept request.edges)
@@ -84,6 +113,35 @@ named_kept request = test_name (name_kept request.name) (edges_kept request.edge
 abbrev pub WritesInMemory : List (List ℕ × List ℕ) → List ℕ → Status → ShelfSeen → ShelfSeen → SinkSeen → SinkSeen → Type 0
 WritesInMemory files line status old new before after =
     ((status ≡ statuses.NoMemory) × (new ≡ old) × (after ≡ before)) ⊎ WritesFiles files line status old new before after
+
+-- the edges of a request to show two executions are refused, there is no memory, or the executions of their cycle are written
+abbrev pub AnswersShowing : Machine → Why → Status → ShelfSeen → ShelfSeen → SinkSeen → SinkSeen → Type 0
+AnswersShowing m request =
+    AnswersRuns m (folder_kept request) (named_kept request) (refused_why m request.edges) (edges_kept request.edges)
+
+-- the same of a cycle under a name, on an architecture with this code that is written so
+abbrev pub ShowsOn : Puts → Writing → Option (Bor (List ℕ)) → List ℕ → List Edge → Status → ShelfSeen → ShelfSeen → SinkSeen → SinkSeen → Type 0
+ShowsOn puts writing folder name cycle =
+    AnswersRuns (machine puts writing) (folder_lent folder) name (refused_showing (why_refused puts cycle)) cycle
+
+-- the files of a test with this text and of two executions with these are put on the shelf, and the line on them is written
+abbrev pub PutsRuns : Option (Bor (List ℕ)) → List ℕ → List ℕ → List ℕ → List ℕ → Status → ShelfSeen → ShelfSeen → SinkSeen → SinkSeen → Type 0
+PutsRuns folder name text one two = WritesFiles (why_files (folder_lent folder) name text one two) (why_line name)
+
+-- the same of two executions that aren't texts yet, or there is no memory, and nothing is written
+abbrev pub WritesRunsOf : {A : Type 0} → Option (Bor (List ℕ)) → List ℕ → TwoRuns A → Status → ShelfSeen → ShelfSeen → SinkSeen → SinkSeen → Type 0
+WritesRunsOf folder name runs =
+    WritesInMemory
+    (why_files (folder_lent folder) name runs.text.items (text_of_execution runs.test.places runs.one) (text_of_execution runs.test.places runs.two))
+    (why_line name)
+
+-- the tests of the choices from lists are written, as a request asks for them; or there is no memory, and nothing is
+abbrev pub CrossesFor : Cross → List (List (List Edge)) → Status → ShelfSeen → ShelfSeen → SinkSeen → SinkSeen → Type 0
+CrossesFor request = AnswersChoices (machine_of request.arch) request.mode (folder_lent request.folder)
+
+-- the same on an architecture with this code that is written so
+abbrev pub CrossesOn : Puts → Writing → ObsMode → Option (Bor (List ℕ)) → List (List (List Edge)) → Status → ShelfSeen → ShelfSeen → SinkSeen → SinkSeen → Type 0
+CrossesOn puts writing mode folder = AnswersChoices (machine puts writing) mode (folder_lent folder)
 
 -- the answer for the cycles that are sought, as they are kept
 abbrev pub AnswersKept : ArchName → Sought → Status → SourceSeen → SourceSeen → SinkSeen → SinkSeen → Type 0
@@ -124,6 +182,14 @@ pub record ChecksFiles (words : List (List ℕ)) (arch : ArchName) (test executi
   pub ends : EndsChecked words (record { arch = arch; test = test; execution = execution }) end old new before after
   pub status_is : status ≡ check_status end
 
+-- the same by the request, and how the checking itself ends
+abbrev pub ChecksFor : List (List ℕ) → Check → Status → ShelfSeen → ShelfSeen → SinkSeen → SinkSeen → Type 0
+ChecksFor words request = ChecksFiles words request.arch request.test request.execution
+
+abbrev pub CheckEndsFor : List (List ℕ) → Check → CheckEnd → ShelfSeen → ShelfSeen → SinkSeen → SinkSeen → Type 0
+CheckEndsFor words request end old new before after =
+    FilesChecked request.arch (machine_of request.arch).writing old new words request.test request.execution before after end
+
 -- the input is summed as one log, or there is a reason why it can't be
 pub record SumsInput (status : Status) (old new : SourceSeen) (before after : SinkSeen) : Type 0 where
   pub end : SumEnd
@@ -136,3 +202,7 @@ pub record SumsFiles (words : List (List ℕ)) (status : Status) (old new : Shel
   pub summed : FilesSummed old new words 1 before after end
   pub files : new.files ≡ old.files
   pub status_is : status ≡ sum_status end
+
+-- the logs that the words name are summed, or the input where they name none, by what is seen of the devices
+abbrev pub AnswersSumOf : List (List ℕ) → Status → Seen → Seen → Type 0
+AnswersSumOf words status old new = AnswersSum words status (devices old) (devices new)

@@ -151,6 +151,10 @@ file_text words (Some word) = word_at words word
 abbrev pub refusal_line : List ℕ → List ℕ
 refusal_line text = codes "diy: refused " ++ text ++ codes "\n"
 
+-- the line of what is wrong with a line of a text, by the name of the text and that of the fault
+abbrev pub text_line : List ℕ → ℕ → List ℕ → List ℕ
+text_line file line kind = codes "diy: " ++ file ++ codes ":" ++ decimal line ++ codes ": " ++ kind ++ codes "\n"
+
 -- the line of words that make no request: what is wrong, and the word that shows it
 abbrev pub usage_line : List ℕ → List ℕ → List ℕ
 usage_line name shown = codes "diy: usage " ++ name ++ shown ++ codes "\n"
@@ -162,7 +166,7 @@ status_line words (statuses.Refused refusal) = refusal_line (refusal_text refusa
 status_line words (statuses.Usage word kind) =
     usage_line (usage_text kind) (shown_word (slice_get words word))
 status_line words (statuses.BadText file line kind) =
-    codes "diy: " ++ file_text words file ++ codes ":" ++ decimal line ++ codes ": " ++ kind_text kind ++ codes "\n"
+    text_line (file_text words file) line (kind_text kind)
 status_line words (statuses.NoFile word) = codes "diy: no file: " ++ word_at words word ++ codes "\n"
 status_line words (statuses.ReadFault device) = codes "diy: read fault: " ++ device_text device ++ codes "\n"
 status_line words (statuses.WriteFault device) = codes "diy: write fault: " ++ device_text device ++ codes "\n"

@@ -1,9 +1,7 @@
 ghost use Rattle.std.specs.Prelude.{◌≡◌, ◌<◌, length};
 ghost use Rattle.diy_io.specs.Shelf.{Idle};
-ghost use Rattle.checked_files.specs.FilesChecked.{FilesChecked};
 ghost use Rattle.diy_tools.specs.CheckAnswers.{check_status, checked_kind};
-ghost use Rattle.diy_tools.specs.Kept.{ChecksFiles};
-ghost use Rattle.diy_tools.specs.Machines.{machine_of};
+ghost use Rattle.diy_tools.specs.Kept.{CheckEndsFor, ChecksFor};
 ghost use Rattle.diy_tools.specs.Report.{NamesLocation};
 
 use crate::status::{Device, Status, TextKind};
@@ -28,7 +26,7 @@ pub(crate) fn check<H: Shelf, O: Sink>(
     requires idle { (H.seen shelf.old).mode ≡ Idle }
     requires test { request.test < length words.now }
     requires execution { request.execution < length words.now }
-    ensures answers { ChecksFiles words.now request.arch request.test request.execution result (H.seen shelf.old) (H.seen shelf.new) (O.seen out.old) (O.seen out.new) }
+    ensures answers { ChecksFor words.now request result (H.seen shelf.old) (H.seen shelf.new) (O.seen out.old) (O.seen out.new) }
     ensures idle { (H.seen shelf.new).mode ≡ Idle }
     ensures location { NamesLocation result }
 {
@@ -46,7 +44,7 @@ fn check_on<H: Shelf, O: Sink>(
     requires idle { (H.seen shelf.old).mode ≡ Idle }
     requires test { request.test < length words.now }
     requires execution { request.execution < length words.now }
-    ensures checked { FilesChecked request.arch (machine_of request.arch).writing (H.seen shelf.old) (H.seen shelf.new) words.now request.test request.execution (O.seen out.old) (O.seen out.new) result }
+    ensures checked { CheckEndsFor words.now request result (H.seen shelf.old) (H.seen shelf.new) (O.seen out.old) (O.seen out.new) }
     ensures idle { (H.seen shelf.new).mode ≡ Idle }
     ensures stay { (H.seen shelf.new).files ≡ (H.seen shelf.old).files }
 {

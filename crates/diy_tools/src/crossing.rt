@@ -1,12 +1,10 @@
 ghost use Rattle.std.specs.Prelude.{◌≡◌, ◌≤◌, Ok, length};
-ghost use Rattle.std.specs.Option.{ForSome, option_map};
+ghost use Rattle.std.specs.Option.{ForSome};
 ghost use Rattle.diy_io.specs.Shelf.{Idle};
 ghost use Rattle.diy_words.specs.Given.{Gives, HasForm};
 ghost use Rattle.diy_words.specs.Requests.{asked_of};
 ghost use Rattle.diy_words.specs.declared.request.Request.TheVariants as requests;
-ghost use Rattle.diy_tools.specs.CrossAnswers.{AnswersChoices};
-ghost use Rattle.diy_tools.specs.Kept.{AnswersCrossing};
-ghost use Rattle.diy_tools.specs.Machines.{machine, machine_of};
+ghost use Rattle.diy_tools.specs.Kept.{AnswersCrossing, CrossesFor, CrossesOn};
 ghost use Rattle.diy_tools.specs.Report.{NamesLocation};
 
 use crate::listing::listing_status;
@@ -55,7 +53,7 @@ fn cross_places<H: Shelf, O: Sink>(
 ) -> Status
     requires idle { (H.seen shelf.old).mode ≡ Idle }
     requires form { HasForm (requests.Cross request) }
-    ensures answers { AnswersChoices (machine_of request.entry.arch) request.entry.mode (option_map (λ folder. folder.now) request.entry.folder) places.now result (H.seen shelf.old) (H.seen shelf.new) (O.seen out.old) (O.seen out.new) }
+    ensures answers { CrossesFor request.entry places.now result (H.seen shelf.old) (H.seen shelf.new) (O.seen out.old) (O.seen out.new) }
     ensures location { NamesLocation result }
 {
     let Cross { arch, mode, folder } = request;
@@ -80,7 +78,7 @@ fn cross_on<A: Arch, H: Shelf, O: Sink>(
 ) -> Status
     requires idle { (H.seen shelf.old).mode ≡ Idle }
     requires folder { ForSome folder (λ folder. length folder.now ≤ MAX_FOLDER) }
-    ensures answers { AnswersChoices (machine A.puts A.writing) mode (option_map (λ folder. folder.now) folder.entry) places.now result (H.seen shelf.old) (H.seen shelf.new) (O.seen out.old) (O.seen out.new) }
+    ensures answers { CrossesOn A.puts A.writing mode folder.entry places.now result (H.seen shelf.old) (H.seen shelf.new) (O.seen out.old) (O.seen out.new) }
     ensures location { NamesLocation result }
 {
     match crossed_cycles::<A>(alloc, places, mode) {

@@ -1,7 +1,7 @@
 ghost use Rattle.std.specs.Prelude.{◌≡◌};
-ghost use Rattle.demo_tests.specs.DemoText.{demo_text};
 ghost use Rattle.diy_words.specs.Given.{HasForm};
 ghost use Rattle.diy_words.specs.declared.request.Request.TheVariants as requests;
+ghost use Rattle.diy_tools.specs.DemoAnswers.{demo_on};
 ghost use Rattle.diy_tools.specs.Machines.{machine_of};
 ghost use Rattle.diy_tools.specs.Printing.{Prints};
 ghost use Rattle.diy_tools.specs.Report.{NamesLocation};
@@ -21,7 +21,7 @@ use relax_edges::ArchName;
 #[inline(never)]
 pub(crate) fn demo<O: Sink>(request: &Demo, out: &mut O) -> Status
     requires form { HasForm (requests.Demo request.now) }
-    ensures prints { Prints (demo_text (machine_of request.now.arch).puts (machine_of request.now.arch).writing request.now.count) result (O.seen out.old) (O.seen out.new) }
+    ensures prints { Prints (demo_on (machine_of request.now.arch) request.now.count) result (O.seen out.old) (O.seen out.new) }
     ensures location { NamesLocation result }
 {
     families_have_tests();

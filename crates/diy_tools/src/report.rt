@@ -1,10 +1,10 @@
 ghost use Rattle.std.specs.Prelude.{◌≡◌, ◌<◌, ◌++◌, codes, slice_get};
 ghost use Rattle.std.specs.Fmt.{decimal};
 ghost use Rattle.relax_edges.specs.declared.TheConstants.{MAX_EDGES};
-ghost use Rattle.arch_trait.specs.Names.{location_name};
 ghost use Rattle.diy_io.specs.Page.{Sends};
 ghost use Rattle.diy_io.specs.Wrote.{Wrote};
-ghost use Rattle.diy_tools.specs.Report.{status_line, refusal_line, refusal_text, usage_line, usage_text, line_text, log_text, test_text, exec_text, kind_text, word_at, file_text, shown_word, device_text, NamesLocation, RefusesLocation};
+ghost use Rattle.diy_tools.specs.declared.status.Refusal.TheVariants as refusals;
+ghost use Rattle.diy_tools.specs.Report.{status_line, refusal_line, refusal_text, usage_line, usage_text, line_text, log_text, test_text, exec_text, kind_text, word_at, file_text, shown_word, device_text, NamesLocation, RefusesLocation, text_line};
 
 use crate::status::{Device, Refusal, Status, TextKind};
 use arch_trait::Places;
@@ -228,7 +228,7 @@ fn send_text<E: Sink>(
     page: &mut Page,
     err: &mut E,
 ) -> Result<(), Failed>
-    ensures { Sends (E.seen err.old) page.old (E.seen err.new) page.new (codes "diy: " ++ file.now ++ codes ":" ++ decimal line ++ codes ": " ++ kind.now ++ codes "\n") result }
+    ensures { Sends (E.seen err.old) page.old (E.seen err.new) page.new (text_line file.now line kind.now) result }
 {
     let mut digits = Buffer::new();
     let digits = digits.format(line).as_bytes();
@@ -277,7 +277,7 @@ fn refuse_unobserved<E: Sink>(
     err: &mut E,
 ) -> Result<(), Failed>
     requires { location < MAX_EDGES }
-    ensures { Sends (E.seen err.old) page.old (E.seen err.new) page.new (refusal_line (codes "NeedsObserver " ++ location_name location ++ codes " " ++ decimal event)) result }
+    ensures { Sends (E.seen err.old) page.old (E.seen err.new) page.new (refusal_line (refusal_text (refusals.NeedsObserver location event))) result }
 {
     let places = Places::letters(location + 1);
     let name = places.get(location).as_str().as_bytes();

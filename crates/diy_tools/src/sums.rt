@@ -1,9 +1,8 @@
 ghost use Rattle.std.specs.Prelude.{◌≡◌, ◌<◌, length};
 ghost use Rattle.diy_io.specs.Shelf.{Idle};
-ghost use Rattle.diy_tools.specs.Devices.{devices};
 ghost use Rattle.diy_tools.specs.Report.{NamesLocation};
-ghost use Rattle.diy_tools.specs.SumAnswers.{AnswersSum, sum_status};
-ghost use Rattle.diy_tools.specs.Kept.{SumsFiles, SumsInput};
+ghost use Rattle.diy_tools.specs.SumAnswers.{sum_status};
+ghost use Rattle.diy_tools.specs.Kept.{AnswersSumOf, SumsFiles, SumsInput};
 
 use crate::status::{Device, Status, TextKind};
 use diy_io::{Shelf, Sink, Source, Words};
@@ -21,7 +20,7 @@ pub(crate) fn sum<I: Source, O: Sink, H: Shelf>(
     out: &mut O,
 ) -> Status
     requires { (H.seen shelf.old).mode ≡ Idle }
-    ensures answers { AnswersSum words.now result (devices (I.seen input.old, O.seen out.old, H.seen shelf.old)) (devices (I.seen input.new, O.seen out.new, H.seen shelf.new)) }
+    ensures answers { AnswersSumOf words.now result (I.seen input.old, O.seen out.old, H.seen shelf.old) (I.seen input.new, O.seen out.new, H.seen shelf.new) }
     ensures idle { (H.seen shelf.new).mode ≡ Idle }
     ensures location { NamesLocation result }
 {

@@ -1,14 +1,10 @@
-ghost use Rattle.std.specs.Prelude.{◌≡◌, OnOk, IfErr};
+ghost use Rattle.std.specs.Prelude.{OnOk, IfErr};
 ghost use Rattle.litmus_text.specs.Tests.{test_seen};
 ghost use Rattle.litmus_text.specs.TestText.{test_text};
-ghost use Rattle.test_maker.specs.CycleText.{cycle_text};
 ghost use Rattle.test_maker.specs.Made.{CanPrint};
-ghost use Rattle.test_maker.specs.Refusals.{refusal_of};
-ghost use Rattle.diy_tools.specs.Printing.{AnswersEdges, Prints};
-ghost use Rattle.diy_tools.specs.TestAnswers.{test_name};
-ghost use Rattle.diy_tools.specs.Kept.{MakesCycle, MakesTestOf, edges_kept, name_kept, refused_edges, refused_kept};
+ghost use Rattle.diy_tools.specs.Printing.{Prints};
+ghost use Rattle.diy_tools.specs.Kept.{AnswersCycle, AnswersOne, MakesCycle, MakesTestOf, chosen_name, edges_kept, refused_edges};
 ghost use Rattle.diy_tools.specs.Machines.{machine, machine_of};
-ghost use Rattle.diy_tools.specs.Refused.{refused_making};
 ghost use Rattle.diy_tools.specs.Report.{NamesLocation, RefusesLocation};
 
 use crate::edges::cycle_of_edges;
@@ -31,7 +27,7 @@ use test_maker::make_into;
 
 /// Prints the test that is asked for.
 pub(crate) fn diyone<O: Sink>(request: &DiyOne, out: &mut O) -> Status
-    ensures answers { AnswersEdges (refused_kept (machine_of request.now.arch) request.now.mode request.now.edges) (cycle_text (machine_of request.now.arch).puts (machine_of request.now.arch).writing request.now.mode (test_name (name_kept request.now.name) (edges_kept request.now.edges)) (edges_kept request.now.edges)) result (O.seen out.old) (O.seen out.new) }
+    ensures answers { AnswersOne (machine_of request.now.arch) request.now result (O.seen out.old) (O.seen out.new) }
     ensures location { NamesLocation result }
 {
     match request.arch {
@@ -45,7 +41,7 @@ pub(crate) fn diyone<O: Sink>(request: &DiyOne, out: &mut O) -> Status
 /// Prints the test that is asked for, on an architecture.
 #[inline(never)]
 fn diyone_on<A: Arch, O: Sink>(request: &DiyOne, out: &mut O) -> Status
-    ensures answers { AnswersEdges (refused_kept (machine A.puts A.writing) request.now.mode request.now.edges) (cycle_text A.puts A.writing request.now.mode (test_name (name_kept request.now.name) (edges_kept request.now.edges)) (edges_kept request.now.edges)) result (O.seen out.old) (O.seen out.new) }
+    ensures answers { AnswersOne (machine A.puts A.writing) request.now result (O.seen out.old) (O.seen out.new) }
     ensures location { NamesLocation result }
 {
     match cycle_on::<A>(&request.edges) {
@@ -71,7 +67,7 @@ fn answer_cycle<A: Arch, O: Sink>(
     name: &Option<TestName>,
     out: &mut O,
 ) -> Status
-    ensures answers { AnswersEdges (refused_making (refusal_of A.puts cycle.now mode)) (cycle_text A.puts A.writing mode (test_name (name_kept name.now) cycle.now) cycle.now) result (O.seen out.old) (O.seen out.new) }
+    ensures answers { AnswersCycle (machine A.puts A.writing) mode name.now cycle.now result (O.seen out.old) (O.seen out.new) }
     ensures location { NamesLocation result }
 {
     // It is written out here, and not made by a call of `Test::new`: so the program clears it once where it
@@ -108,7 +104,7 @@ fn print_named<A: Arch, O: Sink>(
     out: &mut O,
 ) -> Status
     requires { CanPrint A.puts A.REGISTERS test.now }
-    ensures prints { Prints (test_text A.puts.name A.writing (test_name (name_kept name.now) cycle.now) (test_seen test.now)) result (O.seen out.old) (O.seen out.new) }
+    ensures prints { Prints (test_text A.puts.name A.writing (chosen_name name.now cycle.now) (test_seen test.now)) result (O.seen out.old) (O.seen out.new) }
     ensures location { NamesLocation result }
 {
     match name {

@@ -1,19 +1,16 @@
 ghost use Rattle.std.specs.Prelude.{◌≡◌, ◌≤◌, length};
-ghost use Rattle.std.specs.Option.{ForSome, option_map};
+ghost use Rattle.std.specs.Option.{ForSome};
 ghost use Rattle.diy_io.specs.Shelf.{Idle};
 ghost use Rattle.diy_words.specs.Given.{HasForm};
 ghost use Rattle.diy_words.specs.declared.request.Request.TheVariants as requests;
 ghost use Rattle.diy_io.specs.Page.{Sends};
 ghost use Rattle.diy_io.specs.Wrote.{Wrote};
-ghost use Rattle.execution_text.specs.Written.{text_of_execution};
 ghost use Rattle.litmus_text.specs.Printable.{IsTestName};
-ghost use Rattle.two_runs.specs.Shown.{why_refused};
-ghost use Rattle.diy_tools.specs.Kept.{WritesInMemory, edges_kept, folder_kept, named_kept, refused_why};
+ghost use Rattle.diy_tools.specs.Kept.{AnswersShowing, PutsRuns, ShowsOn, WritesRunsOf};
 ghost use Rattle.diy_tools.specs.Machines.{machine, machine_of};
 ghost use Rattle.diy_tools.specs.Printing.{Prints};
-ghost use Rattle.diy_tools.specs.Refused.{refused_showing};
 ghost use Rattle.diy_tools.specs.Report.{NamesLocation};
-ghost use Rattle.diy_tools.specs.WhyAnswers.{AnswersRuns, WritesFiles, why_files, why_line};
+ghost use Rattle.diy_tools.specs.WhyAnswers.{why_line};
 
 use crate::edges::cycle_of_edges;
 use crate::status::{Device, Refusal, Status};
@@ -42,7 +39,7 @@ pub(crate) fn why<H: Shelf, O: Sink>(
 ) -> Status
     requires idle { (H.seen shelf.old).mode ≡ Idle }
     requires form { HasForm (requests.Why request.now) }
-    ensures answers { AnswersRuns (machine_of request.now.arch) (folder_kept request.now) (named_kept request.now) (refused_why (machine_of request.now.arch) request.now.edges) (edges_kept request.now.edges) result (H.seen shelf.old) (H.seen shelf.new) (O.seen out.old) (O.seen out.new) }
+    ensures answers { AnswersShowing (machine_of request.now.arch) request.now result (H.seen shelf.old) (H.seen shelf.new) (O.seen out.old) (O.seen out.new) }
     ensures location { NamesLocation result }
 {
     match request.arch {
@@ -63,7 +60,7 @@ fn why_on<A: Arch, H: Shelf, O: Sink>(
 ) -> Status
     requires idle { (H.seen shelf.old).mode ≡ Idle }
     requires form { HasForm (requests.Why request.now) }
-    ensures answers { AnswersRuns (machine A.puts A.writing) (folder_kept request.now) (named_kept request.now) (refused_why (machine A.puts A.writing) request.now.edges) (edges_kept request.now.edges) result (H.seen shelf.old) (H.seen shelf.new) (O.seen out.old) (O.seen out.new) }
+    ensures answers { AnswersShowing (machine A.puts A.writing) request.now result (H.seen shelf.old) (H.seen shelf.new) (O.seen out.old) (O.seen out.new) }
     ensures location { NamesLocation result }
 {
     let cycle = match cycle_of_edges(&request.edges, A::NAME) {
@@ -100,7 +97,7 @@ fn why_named<A: Arch, H: Shelf, O: Sink>(
     requires idle { (H.seen shelf.old).mode ≡ Idle }
     requires named { IsTestName name.now }
     requires folder { ForSome folder (λ folder. length folder.now ≤ MAX_FOLDER) }
-    ensures answers { AnswersRuns (machine A.puts A.writing) (option_map (λ folder. folder.now) folder.entry) name.now (refused_showing (why_refused A.puts cycle.now)) cycle.now result (H.seen shelf.old) (H.seen shelf.new) (O.seen out.old) (O.seen out.new) }
+    ensures answers { ShowsOn A.puts A.writing folder.entry name.now cycle.now result (H.seen shelf.old) (H.seen shelf.new) (O.seen out.old) (O.seen out.new) }
     ensures location { NamesLocation result }
 {
     match two_runs::<A>(alloc, cycle, name) {
@@ -123,7 +120,7 @@ fn write_runs<A: Arch, H: Shelf, O: Sink>(
     requires one { length runs.now.test.places ≡ length runs.now.one.orders }
     requires two { length runs.now.test.places ≡ length runs.now.two.orders }
     requires folder { ForSome folder (λ folder. length folder.now ≤ MAX_FOLDER) }
-    ensures written { WritesInMemory (why_files (option_map (λ folder. folder.now) folder.entry) name.now runs.now.text.items (text_of_execution runs.now.test.places runs.now.one) (text_of_execution runs.now.test.places runs.now.two)) (why_line name.now) result (H.seen shelf.old) (H.seen shelf.new) (O.seen out.old) (O.seen out.new) }
+    ensures written { WritesRunsOf folder.entry name.now runs.now result (H.seen shelf.old) (H.seen shelf.new) (O.seen out.old) (O.seen out.new) }
     ensures location { NamesLocation result }
 {
     let places = runs.test.places();
@@ -158,7 +155,7 @@ fn put_runs<'a, H: Shelf, O: Sink>(
 ) -> Status
     requires idle { (H.seen shelf.old).mode ≡ Idle }
     requires folder { ForSome folder (λ folder. length folder.now ≤ MAX_FOLDER) }
-    ensures written { WritesFiles (why_files (option_map (λ folder. folder.now) folder.entry) name.now text.now one.now two.now) (why_line name.now) result (H.seen shelf.old) (H.seen shelf.new) (O.seen out.old) (O.seen out.new) }
+    ensures written { PutsRuns folder.entry name.now text.now one.now two.now result (H.seen shelf.old) (H.seen shelf.new) (O.seen out.old) (O.seen out.new) }
     ensures location { NamesLocation result }
 {
     let files = [

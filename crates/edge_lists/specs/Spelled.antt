@@ -13,6 +13,10 @@ abbrev pub separates : Separators → ℕ → Bool
 separates Blanks byte = is_blank byte
 separates BlanksAndCommas byte = is_blank byte || byte == 44
 
+-- a text has no separator: it is its one word
+abbrev pub IsOneWord : Separators → List ℕ → Type 0
+IsOneWord separators text = slice_split (separates separators) text ≡ text ∷ []
+
 -- a text is a front, a separator, and what stands behind it, and the front is its first word
 pub record CutsAt (separators : Separators) (text front behind : List ℕ) : Type 0 where
   pub words : slice_split (separates separators) text ≡ front ∷ slice_split (separates separators) behind

@@ -1,7 +1,7 @@
 ghost use Rattle.std.specs.Prelude.{◌≡◌, [], ◌∷◌, Option, Some, None, is_ok, if◌then◌else◌, MatchOption, IfSome, ◌<◌, length};
 ghost use Rattle.std.specs.Option.{option_map};
-ghost use Rattle.std.specs.List.{position, slice_split};
-ghost use Rattle.edge_lists.specs.Spelled.{separates, edges_spelled, edges_of, CutsAt};
+ghost use Rattle.std.specs.List.{position};
+ghost use Rattle.edge_lists.specs.Spelled.{separates, edges_spelled, edges_of, CutsAt, IsOneWord};
 ghost use Rattle.edge_lists.specs.Kept.{added};
 
 use crate::list::EdgeList;
@@ -40,7 +40,7 @@ pub fn read_edges(
 
 /// What stands before the first separator, and what behind it.
 fn cut_at_separator(separators: Separators, bytes: &[u8]) -> Option<(&[u8], &[u8])>
-    ensures { MatchOption result (slice_split (separates separators) bytes.now ≡ bytes.now ∷ []) (λ parts. CutsAt separators bytes.now parts.0.now parts.1.now) }
+    ensures { MatchOption result (IsOneWord separators bytes.now) (λ parts. CutsAt separators bytes.now parts.0.now parts.1.now) }
 {
     match first_separator(separators, bytes) {
         Some(at) => Some((&bytes[..at], &bytes[at + 1..])),

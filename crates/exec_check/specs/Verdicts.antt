@@ -40,11 +40,15 @@ abbrev pub JudgesEdges : Option (List Edge) → Program → Execution → List (
 JudgesEdges None p x judged = judged ≡ []
 JudgesEdges (Some es) p x judged = AreJudged es p x judged
 
+-- the terms of a test's condition hold in the final state of an execution
+abbrev pub MeetsCondition : (List ℕ → Option ℕ) → TestRead → Execution → Type 0
+MeetsCondition register_number test x = Meets (final_state (program_read test) test.places register_number x) test.cond
+
 -- what a verdict says of a candidate execution: whether it is coherent, whether the terms of the condition hold in its final
 -- state, and which edges of the quoted cycle stand
 pub record JudgesCandidate (arch : ArchName) (register_number : List ℕ → Option ℕ) (test : TestRead) (x : Execution) (v : Verdict) : Type 0 where
   pub coherent : IsTrue v.coherent ↔ IsCoherentIn (program_read test) x
-  pub condition : IsTrue v.condition ↔ Meets (final_state (program_read test) test.places register_number x) test.cond
+  pub condition : IsTrue v.condition ↔ MeetsCondition register_number test x
   pub edges : JudgesEdges (judged_cycle arch test) (program_read test) x v.edges.items
 
 -- it says nothing of another execution

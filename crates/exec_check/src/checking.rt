@@ -1,10 +1,8 @@
 ghost use Rattle.std.specs.Prelude.{◌≡◌, ◌↔◌, IfOk, IsTrue, length};
 ghost use Rattle.arch_trait.specs.Names.{number_in};
-ghost use Rattle.final_cond.specs.States.{Meets};
 ghost use Rattle.litmus_text.specs.Programs.{program_read};
 ghost use Rattle.program_meaning.specs.Programs.{IsCandidate};
-ghost use Rattle.test_laws.specs.FinalStates.{final_state};
-ghost use Rattle.exec_check.specs.Verdicts.{Checks, IsVerdict};
+ghost use Rattle.exec_check.specs.Verdicts.{Checks, IsVerdict, MeetsCondition};
 
 use crate::edges::edges_on;
 use crate::errors::CheckError;
@@ -83,7 +81,7 @@ fn meets_condition<A: Arch>(
     exec: &Execution,
 ) -> Result<bool, NoMemory>
     requires { IsCandidate (program_read test.now) exec.now }
-    ensures { IfOk result (λ answer. IsTrue answer ↔ Meets (final_state (program_read test.now) test.now.places (number_in A.writing.registers) exec.now) test.now.cond) }
+    ensures { IfOk result (λ answer. IsTrue answer ↔ MeetsCondition (number_in A.writing.registers) test.now exec.now) }
 {
     let state = final_of(alloc, test, exec)?;
     Ok(holds(test.cond(), &state))

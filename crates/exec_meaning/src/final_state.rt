@@ -1,13 +1,10 @@
 ghost use Rattle.std.specs.Prelude.{◌≡◌, ◌<◌, ◌≤◌, ◌++◌, IfOk, OnOk, length, map};
 ghost use Rattle.arch_trait.specs.Names.{number_in};
-ghost use Rattle.final_cond.specs.Conditions.{LeftSeen};
-ghost use Rattle.final_cond.specs.States.{value_in};
 ghost use Rattle.micro_ops.specs.Threads.{value_in as held_by};
 ghost use Rattle.program_meaning.specs.Coherence.{final_value};
 ghost use Rattle.program_meaning.specs.Programs.{IsCandidate};
-ghost use Rattle.test_laws.specs.FinalStates.{final_state};
 ghost use Rattle.litmus_text.specs.Programs.{program_read};
-ghost use Rattle.exec_meaning.specs.Finals.{registers_at, all_registers, places_at};
+ghost use Rattle.exec_meaning.specs.Finals.{registers_at, all_registers, places_at, EndsIn};
 
 use crate::accesses::{Accesses, access_at, all_accesses};
 use crate::execution::Execution;
@@ -85,7 +82,7 @@ pub fn final_of<A: Arch>(
     exec: &Execution,
 ) -> Result<Final, NoMemory>
     requires { IsCandidate (program_read test.now) exec.now }
-    ensures { IfOk result (λ state. (left : LeftSeen) → value_in state left ≡ final_state (program_read test.now) test.now.places (number_in A.writing.registers) exec.now left) }
+    ensures { IfOk result (EndsIn (number_in A.writing.registers) test.now exec.now) }
 {
     let _threads = test.threads();
     let traces = candidate_runs(alloc, test, exec)?;

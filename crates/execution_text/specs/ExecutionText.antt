@@ -1,7 +1,7 @@
 -- The text of an execution: a line for each thread with what its reads read, and then a line for each place with its writes in
 -- coherence order.
 -- Source: own.
-use Rattle.std.specs.Prelude.{ℕ, ◌+◌, cond, List, [], ◌∷◌, ◌++◌, length, map, codes, nat_lt, Option, Some, None, option_and_then, Result, Ok, Err}
+use Rattle.std.specs.Prelude.{ℕ, ◌+◌, cond, List, [], ◌∷◌, ◌++◌, length, map, codes, nat_lt, Option, Some, None, option_and_then, Result, Ok, Err, slice_index_or}
 use Rattle.std.specs.Fmt.{decimal}
 use Rattle.std.specs.List.{slice_split, range_with_len}
 use Rattle.std.specs.Option.{option_map}
@@ -72,6 +72,13 @@ unfoldable pub line_told : {X : Type 0} → ExecKind → ExecKind → (List ℕ 
 line_told bad_head bad name head [] = Err bad_head
 line_told bad_head bad name head (word ∷ rest) = cond (bytes_eq word head) (all_named bad name rest) (Err bad_head)
 
+-- what the line of a thread tells and what that of a place does, whose first word is this head
+abbrev pub reads_told : ℕ → List ℕ → List (List ℕ) → Result (List (ℕ × Option WriteAt)) ExecKind
+reads_told threads = line_told BadThread BadRead (read_named threads)
+
+abbrev pub writes_told : ℕ → List ℕ → List (List ℕ) → Result (List WriteAt) ExecKind
+writes_told threads = line_told BadPlace BadWrite (access_named threads)
+
 -- a fault at a line
 abbrev pub at_line : {A : Type 0} → ℕ → Result A ExecKind → Result A ExecFault
 at_line n (Ok a) = Ok a
@@ -96,6 +103,17 @@ thread_head thread = codes "P" ++ (decimal thread ++ codes ":")
 abbrev pub place_head : List ℕ → List ℕ
 place_head place = place ++ codes ":"
 
+-- the head of the line of a place with this number, where places have these names
+abbrev pub place_head_at : List (List ℕ) → ℕ → List ℕ
+place_head_at places place = place_head (slice_index_or places place [])
+
+-- what the lines of all threads tell, from the first line on, and what those of all places do after them
+abbrev pub all_reads_told : ℕ → List (List ℕ) → Result (List (List (ℕ × Option WriteAt)) × List (List ℕ)) ExecFault
+all_reads_told threads lines = lines_told (reads_told threads) 1 (map thread_head (range_with_len 0 threads)) lines
+
+abbrev pub all_writes_told : ℕ → List (List ℕ) → List (List ℕ) → Result (List (List WriteAt) × List (List ℕ)) ExecFault
+all_writes_told threads places lines = lines_told (writes_told threads) (threads + 1) (map place_head places) lines
+
 -- an execution by the lines of its threads and those of its places, if no line is left
 abbrev pub execution_of : ℕ → List (List (ℕ × Option WriteAt)) → List (List WriteAt) × List (List ℕ) → Result Execution ExecFault
 execution_of n reads (orders, []) = Ok (record { reads = reads; orders = orders })
@@ -109,8 +127,8 @@ abbrev pub ◌>>=◌ : {A B : Type 0} → Result A ExecFault → (A → Result B
 -- the execution that lines tell, of a program of so many threads and of these places
 unfoldable pub lines_read : ℕ → List (List ℕ) → List (List ℕ) → Result Execution ExecFault
 lines_read threads places lines = do
-  reads ← lines_told (line_told BadThread BadRead (read_named threads)) 1 (map thread_head (range_with_len 0 threads)) lines
-  orders ← lines_told (line_told BadPlace BadWrite (access_named threads)) (threads + 1) (map place_head places) reads.1
+  reads ← all_reads_told threads lines
+  orders ← all_writes_told threads places reads.1
   execution_of (threads + length places + 1) reads.0 orders
 
 -- what stands after the last line feed is a line if it has a byte

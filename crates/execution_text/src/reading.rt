@@ -3,7 +3,7 @@ ghost use Rattle.std.specs.List.{range_with_len};
 ghost use Rattle.text_laws.specs.Words.{words};
 ghost use Rattle.execution_text.specs.declared.errors.ExecKind.TheVariants.{BadThread, BadRead, BadPlace, BadWrite};
 ghost use Rattle.exec_meaning.specs.Kept.{with_read, with_write};
-ghost use Rattle.execution_text.specs.ExecutionText.{access_named, all_named, execution_read, line_told, lines_of, lines_told, place_head, read_named, thread_head};
+ghost use Rattle.execution_text.specs.ExecutionText.{access_named, all_named, execution_read, lines_of, read_named, thread_head, reads_told, writes_told, all_reads_told, all_writes_told, place_head_at};
 ghost use Rattle.execution_text.specs.Steps.{AtLine, ReadsLine, ReadsLines, ReadsText, line_added, lines_added};
 ghost use Rattle.execution_text.specs.declared.errors.ExecKind.TheVariants.{EndMissing};
 ghost use Rattle.execution_text.specs.declared.errors.ExecError.TheVariants.{Text};
@@ -82,7 +82,7 @@ fn add_writes(place: u8, threads: u8, text: &[u8], exec: &mut Execution) -> Resu
 #[tactic(auto, unfolding(crate::specs::ExecutionText::line_told))]
 fn read_thread(thread: u8, threads: u8, line: &[u8], exec: &mut Execution) -> Result<(), LineError>
     requires { thread < length exec.old.reads }
-    ensures { ReadsLine result exec.new (line_added with_read exec.old thread (line_told BadThread BadRead (read_named threads) (thread_head thread) (words line.now))) }
+    ensures { ReadsLine result exec.new (line_added with_read exec.old thread (reads_told threads (thread_head thread) (words line.now))) }
 {
     match next_word(line) {
         Some((head, rest)) if is_thread_head(thread, head) => add_reads(
@@ -103,7 +103,7 @@ fn read_place(
 ) -> Result<(), LineError>
     requires place { place < length places.now }
     requires orders { place < length exec.old.orders }
-    ensures { ReadsLine result exec.new (line_added with_write exec.old place (line_told BadPlace BadWrite (access_named threads) (place_head (slice_index_or places.now place [])) (words line.now))) }
+    ensures { ReadsLine result exec.new (line_added with_write exec.old place (writes_told threads (place_head_at places.now place) (words line.now))) }
 {
     match next_word(line) {
         Some((head, rest)) if is_place_head(places.get(place), head) => add_writes(
@@ -120,7 +120,7 @@ fn read_threads<'a>(
     exec: &mut Execution,
 ) -> Result<&'a [u8], ExecError>
     requires { length exec.old.reads ≡ threads }
-    ensures { ReadsLines result exec.new (lines_added with_read exec.old 0 (lines_told (line_told BadThread BadRead (read_named threads)) 1 (map thread_head (range_with_len 0 threads)) (lines_of text.now))) }
+    ensures { ReadsLines result exec.new (lines_added with_read exec.old 0 (all_reads_told threads (lines_of text.now))) }
 {
     let mut left = text;
     for thread in 0..threads {
@@ -144,7 +144,7 @@ fn read_places<'a>(
     exec: &mut Execution,
 ) -> Result<&'a [u8], ExecError>
     requires { length exec.old.orders ≡ length places.now }
-    ensures { ReadsLines result exec.new (lines_added with_write exec.old 0 (lines_told (line_told BadPlace BadWrite (access_named threads)) (threads + 1) (map place_head places.now) (lines_of text.now))) }
+    ensures { ReadsLines result exec.new (lines_added with_write exec.old 0 (all_writes_told threads places.now (lines_of text.now))) }
 {
     let mut left = text;
     for place in 0..places.len() {

@@ -10,7 +10,8 @@ use Rattle.form_laws.specs.declared.kind.Operand.TheVariants as operands
 use Rattle.instruction_forms.specs.declared.operand_list.OperandList.{OperandList}
 use Rattle.instruction_forms.specs.declared.sorts.Sort.{Sort}
 use Rattle.instruction_forms.specs.declared.sorts.Sort.TheVariants as sorts
-use Rattle.form_laws.specs.Tables.{PieceText, filled, after_hole}
+use Rattle.form_laws.specs.Kinds.{operands_of}
+use Rattle.form_laws.specs.Tables.{PieceText, FormText, filled, after_hole, given}
 use Rattle.form_laws.specs.Clear.{is_piece_good, most_in, most_of}
 use Rattle.std.specs.List.{list_all}
 
@@ -35,6 +36,10 @@ joined_texts names (p ∷ ps) vs = piece_text names p vs ++ (byte_before 44 ps +
 -- an instruction's text: its word, a blank before operands, and these
 abbrev pub form_text : (ℕ → List ℕ) → List ℕ → List PieceText → List Operand → List ℕ
 form_text names word ps vs = word ++ (byte_before 32 ps ++ joined_texts names ps vs)
+
+-- the text of an operation as an instruction of a form
+abbrev pub op_text : (ℕ → List ℕ) → Micro → FormText → List ℕ
+op_text names op f = form_text names f.word f.pieces (given (operands_of f.kind op))
 
 -- each place of operands has a name of at most 16 bytes
 abbrev pub AllShort : (ℕ → List ℕ) → List Operand → Type 0

@@ -2,8 +2,8 @@ ghost use Rattle.std.specs.Prelude.{◌≡◌, ◌<◌, ◌≤◌, ◌+◌, ◌�
 ghost use Rattle.arrayvec.specs.ArrayVec.{array_vec_len};
 ghost use Rattle.arch_trait.specs.Pieces.{raw_seen};
 ghost use Rattle.form_laws.specs.Kinds.{raw_with, unnamed, at_place, at_label};
-ghost use Rattle.form_laws.specs.Tables.{hole_found, joined};
-ghost use Rattle.instruction_forms.specs.Founds.{found_seen, founds_seen, founds_if};
+ghost use Rattle.form_laws.specs.Tables.{hole_found};
+ghost use Rattle.instruction_forms.specs.Founds.{and_founds, found_seen, founds_seen, founds_if};
 
 use crate::numbers::{immediate, register_in};
 use arch_trait::{Named, Raw};
@@ -32,7 +32,7 @@ pub(crate) type Founds<'a> = ArrayVec<Found<'a>, 4>;
 /// Appends the operand that a text in a hole is, if there is one. Tells whether the text may be there.
 pub(crate) fn add_found<'a>(hole: Hole, text: &'a [u8], founds: &mut Founds<'a>) -> bool
     requires room { array_vec_len founds.old < 4 }
-    ensures found { founds_if result founds.new.items ≡ joined (Some (founds_seen founds.old.items)) (hole_found hole text.now) }
+    ensures found { founds_if result founds.new.items ≡ and_founds founds.old.items (hole_found hole text.now) }
     ensures more { array_vec_len founds.new ≤ array_vec_len founds.old + 1 }
 {
     match hole {

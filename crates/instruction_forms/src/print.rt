@@ -1,10 +1,9 @@
 ghost use Rattle.std.specs.Prelude.{◌≡◌, ◌<◌, ◌≤◌, ◌++◌, [], true, false, map, length};
 ghost use Rattle.std.specs.List.{list_any};
 ghost use Rattle.arch_trait.specs.Writing.{text_of, name_in, place_below, label_below};
-ghost use Rattle.form_laws.specs.Kinds.{operands_of};
-ghost use Rattle.form_laws.specs.Tables.{piece_seen, form_seen, table_seen, does, given, fits, fits_first, table_has, filled, first_written, table_written};
+ghost use Rattle.form_laws.specs.Tables.{piece_seen, form_seen, table_seen, does, fits, fits_first, table_has, filled, first_written, table_written};
 ghost use Rattle.form_laws.specs.Clear.{is_clear, is_form_good};
-ghost use Rattle.instruction_forms.specs.Printing.{piece_text, byte_before, joined_texts, form_text, place_short, op_sort, AllShort, Ready, ReadyPiece};
+ghost use Rattle.instruction_forms.specs.Printing.{piece_text, byte_before, joined_texts, form_text, op_text, place_short, op_sort, AllShort, Ready, ReadyPiece};
 
 use crate::fits::{after_hole, fits_first};
 use crate::operands::operands_of;
@@ -82,7 +81,7 @@ fn print_of_sort(form: &Form, op: &Micro, sort: Sort, places: &Places, out: &mut
     requires place { place_short (name_in places.now) op.now ≡ true }
     requires empty { out.old.bytes ≡ [] }
     ensures does { result ≡ does op.now (form_seen form.now) }
-    ensures printed { result ≡ true → out.new.bytes ≡ form_text (name_in places.now) form.now.word.now (map piece_seen form.now.pieces.now) (given (operands_of form.now.kind op.now)) }
+    ensures printed { result ≡ true → out.new.bytes ≡ op_text (name_in places.now) op.now (form_seen form.now) }
     ensures kept { result ≡ false → out.new.bytes ≡ [] }
 {
     if may_do(form, op, sort) {
@@ -99,7 +98,7 @@ fn print_if(form: &Form, op: &Micro, places: &Places, out: &mut Text) -> bool
     requires place { place_short (name_in places.now) op.now ≡ true }
     requires empty { out.old.bytes ≡ [] }
     ensures does { result ≡ does op.now (form_seen form.now) }
-    ensures printed { result ≡ true → out.new.bytes ≡ form_text (name_in places.now) form.now.word.now (map piece_seen form.now.pieces.now) (given (operands_of form.now.kind op.now)) }
+    ensures printed { result ≡ true → out.new.bytes ≡ op_text (name_in places.now) op.now (form_seen form.now) }
     ensures kept { result ≡ false → out.new.bytes ≡ [] }
 {
     match operands_of(&form.kind, op) {

@@ -1,9 +1,9 @@
-ghost use Rattle.std.specs.Prelude.{◌≡◌, ◌<◌, ◌≤◌, ◌+◌, [], Some, map, option_map, length};
+ghost use Rattle.std.specs.Prelude.{◌≡◌, ◌<◌, ◌≤◌, ◌+◌, [], map, option_map, length};
 ghost use Rattle.arrayvec.specs.ArrayVec.{array_vec_len};
 ghost use Rattle.arch_trait.specs.Pieces.{raw_seen, texts_of};
-ghost use Rattle.form_laws.specs.Tables.{piece_seen, form_seen, table_seen, after_prefix, before_suffix, piece_found, joined, pieces_found, table_raw};
+ghost use Rattle.form_laws.specs.Tables.{piece_seen, form_seen, table_seen, after_prefix, before_suffix, piece_found, pieces_found, table_raw};
 ghost use Rattle.form_laws.specs.Kinds.{raw_with};
-ghost use Rattle.instruction_forms.specs.Founds.{founds_seen, founds_if, found_in, form_raw, texts_seen};
+ghost use Rattle.instruction_forms.specs.Founds.{and_founds, founds_if, found_in, form_raw, texts_seen};
 
 use crate::found::{Founds, add_found, raw_with};
 use arch_trait::{Operands, Raw, read_label_alone};
@@ -50,7 +50,7 @@ fn before_suffix<'a>(suffix: &[u8], text: &'a [u8]) -> Option<&'a [u8]>
 #[tactic(auto, unfolding(form_laws::specs::Tables::piece_found))]
 fn add_piece<'a>(piece: &Piece, text: &'a [u8], founds: &mut Founds<'a>) -> bool
     requires room { array_vec_len founds.old < 4 }
-    ensures found { founds_if result founds.new.items ≡ joined (Some (founds_seen founds.old.items)) (piece_found (piece_seen piece.now) text.now) }
+    ensures found { founds_if result founds.new.items ≡ and_founds founds.old.items (piece_found (piece_seen piece.now) text.now) }
     ensures more { array_vec_len founds.new ≤ array_vec_len founds.old + 1 }
 {
     let Some(rest) = after_prefix(piece.before.as_bytes(), text) else {
@@ -66,7 +66,7 @@ fn add_piece<'a>(piece: &Piece, text: &'a [u8], founds: &mut Founds<'a>) -> bool
 #[tactic(auto, unfolding(form_laws::specs::Tables::pieces_found), using(crate::proofs::Readings::join_joined, crate::proofs::Readings::no_text))]
 fn add_pieces<'a>(pieces: &[Piece], texts: &[&'a [u8]], founds: &mut Founds<'a>) -> bool
     requires room { array_vec_len founds.old + length texts.now ≤ 4 }
-    ensures { founds_if result founds.new.items ≡ joined (Some (founds_seen founds.old.items)) (pieces_found (map piece_seen pieces.now) (texts_seen texts.now)) }
+    ensures { founds_if result founds.new.items ≡ and_founds founds.old.items (pieces_found (map piece_seen pieces.now) (texts_seen texts.now)) }
 {
     match (pieces, texts) {
         ([], []) => true,

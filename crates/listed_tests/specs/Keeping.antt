@@ -1,13 +1,21 @@
 -- What is kept of the names of a listing's files while they are written.
 -- Source: own.
-use Rattle.std.specs.Prelude.{◌≡◌, ◌≤◌, ℕ, ◌+◌, List, [], ◌∷◌, ◌++◌, length, Option, Some, None, MatchOption}
+use Rattle.std.specs.Prelude.{◌≡◌, ◌≤◌, ℕ, ◌+◌, List, [], ◌∷◌, ◌++◌, length, codes, Option, Some, None, MatchOption}
+use Rattle.std.specs.Borrow.{Bor}
 use Rattle.relax_edges.specs.declared.edge.Edge.{Edge}
+use Rattle.relax_edges.specs.declared.kinds.ObsMode.{ObsMode}
 use Rattle.walk_laws.specs.Order.{IsNormal}
 use Rattle.listing_laws.specs.Listing.{AreAllListed, AreListedTo}
+use Rattle.arch_trait.specs.Threads.{Puts}
+use Rattle.arch_trait.specs.Writing.{Writing}
 use Rattle.diy_io.specs.Shelf.{ShelfSeen}
 use Rattle.listed_tests.specs.declared.names.TheConstants.{MAX_LINE, MAX_LINES}
 use Rattle.listed_tests.specs.declared.names.Closed.{Closed}
-use Rattle.listed_tests.specs.Files.{number_of, file_lines, test_files}
+use Rattle.listed_tests.specs.declared.names.Names.{Names}
+use Rattle.listed_tests.specs.declared.wanted.Wanted.{Wanted}
+use Rattle.listed_tests.specs.Ends.{StopsAtTest}
+use Rattle.listed_tests.specs.Files.{number_of, all_path, file_lines, test_files}
+use Rattle.listed_tests.specs.Plans.{HaveTests, folder_in, folder_of, named_text}
 use Rattle.listed_tests.specs.Putting.{Put, PutPart, Filling}
 
 -- the lines that are kept are those of the listed cycles up to one, and this is the number of the next
@@ -28,6 +36,15 @@ pub record KeepsLine (lines new : List ℕ) (closed : Option Closed) (line : Lis
   pub lines_are : new ≡ lines ++ line
   pub room : MatchOption closed (length new + MAX_LINE ≤ MAX_LINES) (λ closed. (closed.cycle ≡ cycle) × (closed.number ≡ next))
 
+-- the lines that are kept stay as they were
+abbrev pub NamesStay : Names → Names → Type 0
+NamesStay old new = (new.lines.items ≡ old.lines.items) × (new.closed ≡ old.closed)
+
+-- the line of a file is kept; or there was no room for one more before, and the lines stay
+abbrev pub KeepsFile : Names → Names → List ℕ → List Edge → ℕ → Type 0
+KeepsFile old new file cycle next =
+    MatchOption old.closed (KeepsLine old.lines.items new.lines.items new.closed (file ++ codes "\n") cycle next) (λ _. NamesStay old new)
+
 -- the files of the listed cycles up to the last one are there, their number is counted, and the lines that name them are kept
 pub record Goes (listed : List Edge → Type 0) (folder : Option (List ℕ)) (text : List Edge → List ℕ) (given last : Option (List Edge)) (old new : ShelfSeen) (count : ℕ) (lines : List ℕ) (closed : Option Closed) : Type 0 where
   pub cycles : List (List Edge)
@@ -43,6 +60,16 @@ pub record HasGone (listed : List Edge → Type 0) (folder : Option (List ℕ)) 
   pub files : Put old new (test_files folder text cycles)
   pub counted : count ≡ number_of (length cycles)
   pub kept : Keeps listed given cycles lines closed
+
+-- the same of the tests that are wanted: those of the listed cycles that have one
+abbrev pub PutsAll : Puts → Writing → Wanted → (List Edge → Type 0) → Option (List Edge) → ShelfSeen → ShelfSeen → Names → ℕ → Type 0
+PutsAll puts writing wanted listed given old new names count =
+    HasGone (HaveTests puts wanted.mode listed) (folder_of wanted) (named_text puts writing wanted.mode) given old new count names.lines.items names.closed
+
+-- the files of these tests up to one are there, and the shelf failed at the file of the next one
+abbrev pub StopsPutting : Puts → Writing → Wanted → (List Edge → Type 0) → Option (List Edge) → ShelfSeen → ShelfSeen → Type 0
+StopsPutting puts writing wanted listed given old new =
+    StopsAtTest (HaveTests puts wanted.mode listed) (folder_of wanted) (named_text puts writing wanted.mode) given old new
 
 -- the file that names all is there: it has the lines that were kept, and those of all listed cycles behind
 pub record NamesBehind (listed : List Edge → Type 0) (path lines : List ℕ) (closed : Closed) (old new : ShelfSeen) : Type 0 where
@@ -66,6 +93,21 @@ NamesAll listed path lines (Some closed) old new = NamesBehind listed path lines
 abbrev pub StopsNaming : (List Edge → Type 0) → List ℕ → List ℕ → Option Closed → ShelfSeen → ShelfSeen → Type 0
 StopsNaming listed path lines None old new = PutPart old new [] path lines
 StopsNaming listed path lines (Some closed) old new = StopsBehind listed path lines closed old new
+
+-- the same in a folder, where one is given, by the lines that are kept: the file is there, or the shelf failed at it
+abbrev pub NamesKept : (List Edge → Type 0) → Option (Bor (List ℕ)) → Names → ShelfSeen → ShelfSeen → Type 0
+NamesKept listed folder names old new = NamesAll listed (all_path (folder_in folder)) names.lines.items names.closed old new
+
+abbrev pub StopsNames : (List Edge → Type 0) → Option (Bor (List ℕ)) → Names → ShelfSeen → ShelfSeen → Type 0
+StopsNames listed folder names old new = StopsNaming listed (all_path (folder_in folder)) names.lines.items names.closed old new
+
+-- the file that names all is there: it has the lines that were kept, and then those of the listed cycles that have a test; or the
+-- shelf failed at it
+abbrev pub NamesRest : Puts → ObsMode → (List Edge → Type 0) → List ℕ → List ℕ → Closed → ShelfSeen → ShelfSeen → Type 0
+NamesRest puts mode listed path lines closed old new = NamesBehind (HaveTests puts mode listed) path lines closed old new
+
+abbrev pub StopsRest : Puts → ObsMode → (List Edge → Type 0) → List ℕ → List ℕ → Closed → ShelfSeen → ShelfSeen → Type 0
+StopsRest puts mode listed path lines closed old new = StopsBehind (HaveTests puts mode listed) path lines closed old new
 
 -- the file that names all has the lines of the listed cycles behind up to the last one, but for those that wait
 pub record Naming (listed : List Edge → Type 0) (path lines : List ℕ) (closed : Closed) (last : Option (List Edge)) (old new : ShelfSeen) (number : ℕ) (waiting : List ℕ) : Type 0 where

@@ -2,6 +2,7 @@
 -- Source: own, after diy.
 use Rattle.std.specs.Prelude.{◌≡◌, ℕ, Bool, true, ◌&&◌, nat_le, is_none, List, length, Option, Some, None}
 use Rattle.std.specs.List.{list_all}
+use Rattle.std.specs.Borrow.{Bor}
 use Rattle.std.specs.Option.{option_map}
 use Rattle.relax_edges.specs.declared.edge.Edge.{Edge}
 use Rattle.relax_edges.specs.declared.kinds.ArchName.{ArchName}
@@ -16,6 +17,9 @@ use Rattle.arch_trait.specs.Writing.{Writing}
 use Rattle.test_maker.specs.Refusals.{refusal_of}
 use Rattle.test_maker.specs.CycleText.{cycle_text}
 use Rattle.cycle_enum.specs.declared.limits.Limits.{Limits}
+use Rattle.cycle_enum.specs.Walking.{Walking}
+use Rattle.listed_tests.specs.Files.{path_of, file_of, test_files}
+use Rattle.listed_tests.specs.declared.listing.Listing.{Listing}
 use Rattle.listed_tests.specs.declared.wanted.Wanted.{Wanted}
 
 -- a cycle has at most so many threads: so many of its edges lead to another one
@@ -56,9 +60,13 @@ pub record Plan : Type 0 where
   pub relaxes : List (List Edge)
   pub limits : Limits
 
+-- a folder, where one is given
+abbrev pub folder_in : Option (Bor (List ℕ)) → Option (List ℕ)
+folder_in folder = option_map (λ text. text.now) folder
+
 -- the folder of its files
 abbrev pub folder_of : Wanted → Option (List ℕ)
-folder_of wanted = option_map (λ folder. folder.now) wanted.folder
+folder_of wanted = folder_in wanted.folder
 
 -- the plan of a listing by what it wants
 abbrev pub plan_of : Puts → Writing → Wanted → List (List Edge) → Limits → Plan
@@ -73,6 +81,20 @@ plan_of puts writing wanted relaxes limits = record {
   limits = limits;
 }
 
+-- the plan of a listing by what is asked for
+abbrev pub plan_in : Puts → Writing → Listing → Plan
+plan_in puts writing listing =
+    plan_of puts writing (record { threads = listing.threads; accesses = listing.accesses; mode = listing.mode; folder = listing.folder })
+    listing.relaxes listing.limits
+
+-- the plan of a listing by what it wants and by its walk
+abbrev pub walk_plan : {K J P : Type 0} → Puts → Writing → Wanted → Walking K J P → Plan
+walk_plan puts writing wanted walk = plan_of puts writing wanted walk.relaxes walk.limits
+
+-- a listing wants a cycle if that has a test
+abbrev pub Seeks : Puts → Wanted → List Edge → Type 0
+Seeks puts wanted cycle = is_sought puts.name wanted.threads wanted.accesses cycle ≡ true
+
 -- a cycle is listed
 abbrev pub IsPlanned : Plan → List Edge → Type 0
 IsPlanned plan = IsListed (λ cycle. is_wanted plan.puts plan.mode plan.threads plan.accesses cycle ≡ true) plan.relaxes plan.limits.size plan.limits.exact
@@ -84,3 +106,12 @@ named_text puts writing mode cycle = cycle_text puts writing mode (name_of cycle
 -- the same for a listing
 abbrev pub planned_text : Plan → List Edge → List ℕ
 planned_text plan = named_text plan.puts plan.writing plan.mode
+
+-- the file of the test of a cycle, by its path and its text, under the number of the test
+abbrev pub test_file_of : Puts → Writing → Wanted → ℕ → List Edge → List ℕ × List ℕ
+test_file_of puts writing wanted number cycle =
+    (path_of (folder_of wanted) (file_of number cycle), named_text puts writing wanted.mode cycle)
+
+-- the files of the tests of cycles, numbered from 0
+abbrev pub test_files_of : Puts → Writing → Wanted → List (List Edge) → List (List ℕ × List ℕ)
+test_files_of puts writing wanted cycles = test_files (folder_of wanted) (named_text puts writing wanted.mode) cycles

@@ -31,6 +31,10 @@ pub record PutPart (old new : ShelfSeen) (added : List (List ℕ × List ℕ)) (
   pub counts : CountsStay old new
   pub faulted : Faulted old new
 
+-- a shelf failed at its first file, by its path and its text: that one is as it was, or has a prefix of the text
+abbrev pub FailsAt : ShelfSeen → ShelfSeen → List ℕ × List ℕ → Type 0
+FailsAt old new file = PutPart old new [] file.0 file.1
+
 -- a file is being written on a shelf, and has these bytes so far
 pub record Filling (old new : ShelfSeen) (path bytes : List ℕ) : Type 0 where
   pub mode : new.mode ≡ Writing path

@@ -1,11 +1,11 @@
 ghost use Rattle.std.specs.Prelude.{◌≡◌, ◌≤◌, ◌∷◌, [], length, None, OnOk, OnErr};
 ghost use Rattle.std.specs.List.{All};
-ghost use Rattle.std.specs.Option.{ForSome, option_map};
+ghost use Rattle.std.specs.Option.{ForSome};
 ghost use Rattle.diy_io.specs.Shelf.{Idle};
 ghost use Rattle.test_maker.specs.Refusals.{refusal_of};
-ghost use Rattle.listed_tests.specs.Files.{all_path, file_lines, test_files};
-ghost use Rattle.listed_tests.specs.Given.{EndsGiven, PutUpTo, given_files};
-ghost use Rattle.listed_tests.specs.Plans.{folder_of, named_text};
+ghost use Rattle.listed_tests.specs.Files.{file_lines};
+ghost use Rattle.listed_tests.specs.Given.{PutUpTo, EndsPutting, given_files_of};
+ghost use Rattle.listed_tests.specs.Plans.{test_files_of};
 ghost use Rattle.listed_tests.specs.Putting.{Put, PutPart};
 
 use crate::ending::ListingEnd;
@@ -41,7 +41,7 @@ pub fn put_cycles<A: Arch, H: Shelf, O: Sink>(
     requires tests { All (λ cycle. refusal_of A.puts cycle mode ≡ None) cycles.now }
     requires folder { ForSome folder (λ folder. length folder.now ≤ MAX_FOLDER) }
     requires idle { (H.seen shelf.old).mode ≡ Idle }
-    ensures { EndsGiven O.seen (option_map (λ folder. folder.now) folder.entry) (named_text A.puts A.writing mode) cycles.now result (H.seen shelf.old) (H.seen shelf.new) out.old out.new }
+    ensures { EndsPutting O.seen A.puts A.writing mode folder.entry cycles.now result (H.seen shelf.old) (H.seen shelf.new) out.old out.new }
 {
     let wanted = Wanted {
         threads: MAX_EDGES as u8,
@@ -68,8 +68,8 @@ fn put_given<A: Arch, H: Shelf>(
     requires tests { All (λ cycle. refusal_of A.puts cycle wanted.now.mode ≡ None) cycles.now }
     requires folder { ForSome wanted.now.folder (λ folder. length folder.now ≤ MAX_FOLDER) }
     requires idle { (H.seen shelf.old).mode ≡ Idle }
-    ensures ok { OnOk result (Put (H.seen shelf.old) (H.seen shelf.new) (given_files (folder_of wanted.now) (named_text A.puts A.writing wanted.now.mode) cycles.now)) }
-    ensures failed { OnErr result (PutUpTo (H.seen shelf.old) (H.seen shelf.new) (given_files (folder_of wanted.now) (named_text A.puts A.writing wanted.now.mode) cycles.now)) }
+    ensures ok { OnOk result (Put (H.seen shelf.old) (H.seen shelf.new) (given_files_of A.puts A.writing wanted.now cycles.now)) }
+    ensures failed { OnErr result (PutUpTo (H.seen shelf.old) (H.seen shelf.new) (given_files_of A.puts A.writing wanted.now cycles.now)) }
 {
     put_tests_of::<A, H>(wanted, cycles, &mut Test::new(), shelf)?;
     let path = path_of(wanted.folder, "@all");
@@ -87,8 +87,8 @@ fn put_tests_of<A: Arch, H: Shelf>(
     requires tests { All (λ cycle. refusal_of A.puts cycle wanted.now.mode ≡ None) cycles.now }
     requires folder { ForSome wanted.now.folder (λ folder. length folder.now ≤ MAX_FOLDER) }
     requires idle { (H.seen shelf.old).mode ≡ Idle }
-    ensures ok { OnOk result (Put (H.seen shelf.old) (H.seen shelf.new) (test_files (folder_of wanted.now) (named_text A.puts A.writing wanted.now.mode) cycles.now)) }
-    ensures failed { OnErr result (PutUpTo (H.seen shelf.old) (H.seen shelf.new) (test_files (folder_of wanted.now) (named_text A.puts A.writing wanted.now.mode) cycles.now)) }
+    ensures ok { OnOk result (Put (H.seen shelf.old) (H.seen shelf.new) (test_files_of A.puts A.writing wanted.now cycles.now)) }
+    ensures failed { OnErr result (PutUpTo (H.seen shelf.old) (H.seen shelf.new) (test_files_of A.puts A.writing wanted.now cycles.now)) }
 {
     let mut desk = Desk::new();
     let mut number: u128 = 0;

@@ -9,11 +9,11 @@ ghost use Rattle.cycle_enum.specs.Walking.{KnowsOf, Lists, Says};
 ghost use Rattle.diy_io.specs.Shelf.{Idle};
 ghost use Rattle.diy_io.specs.Wrote.{Wrote};
 ghost use Rattle.test_maker.specs.Refusals.{refusal_of};
-ghost use Rattle.listed_tests.specs.Ends.{BeginsBehind, EndsBehind, EndsListing, StopsAtTest};
-ghost use Rattle.listed_tests.specs.Files.{count_line, path_of, file_of};
-ghost use Rattle.listed_tests.specs.Keeping.{HasGone};
-ghost use Rattle.listed_tests.specs.Plans.{HaveTests, folder_of, is_sought, named_text, plan_of};
-ghost use Rattle.listed_tests.specs.Putting.{Put, PutPart};
+ghost use Rattle.listed_tests.specs.Ends.{BeginsBehind, EndsBehind, EndsListing};
+ghost use Rattle.listed_tests.specs.Files.{count_line, file_of};
+ghost use Rattle.listed_tests.specs.Keeping.{PutsAll, StopsPutting};
+ghost use Rattle.listed_tests.specs.Plans.{HaveTests, is_sought, Seeks, plan_in, test_file_of, walk_plan};
+ghost use Rattle.listed_tests.specs.Putting.{Put, FailsAt};
 ghost use Rattle.listed_tests.specs.Ready.{IsReady};
 
 use crate::ending::ListingEnd;
@@ -81,7 +81,7 @@ pub fn list_tests<A: Arch, H: Shelf, O: Sink>(
     requires size { listing.limits.size ≤ MAX_EDGES }
     requires folder { ForSome listing.folder (λ folder. length folder.now ≤ MAX_FOLDER) }
     requires idle { (H.seen shelf.old).mode ≡ Idle }
-    ensures { EndsListing O.seen (plan_of A.puts A.writing (record { threads = listing.entry.threads; accesses = listing.entry.accesses; mode = listing.entry.mode; folder = listing.entry.folder }) listing.entry.relaxes listing.entry.limits) listing.entry.after result (H.seen shelf.old) (H.seen shelf.new) out.old out.new }
+    ensures { EndsListing O.seen (plan_in A.puts A.writing listing.entry) listing.entry.after result (H.seen shelf.old) (H.seen shelf.new) out.old out.new }
 {
     let Listing {
         relaxes,
@@ -142,10 +142,10 @@ fn list_walk<
     out: &mut O,
 ) -> ListingEnd
     requires knows { KnowsOf K.pre K.Fn.post J.pre J.Fn.post P.pre P.Fn.post walk.old.keep walk.old.fit walk.old.take }
-    requires sought { (cycle : List EdgeValue) → IsCycle cycle → Says P.Fn.post walk.old.take cycle true ↔ (is_sought A.puts.name wanted.now.threads wanted.now.accesses cycle ≡ true) }
+    requires sought { (cycle : List EdgeValue) → IsCycle cycle → Says P.Fn.post walk.old.take cycle true ↔ Seeks A.puts wanted.now cycle }
     requires folder { ForSome wanted.now.folder (λ folder. length folder.now ≤ MAX_FOLDER) }
     requires idle { (H.seen shelf.old).mode ≡ Idle }
-    ensures { EndsBehind O.seen (plan_of A.puts A.writing wanted.now walk.old.relaxes walk.old.limits) walk.old.last result (H.seen shelf.old) (H.seen shelf.new) out.old out.new }
+    ensures { EndsBehind O.seen (walk_plan A.puts A.writing wanted.now walk.old) walk.old.last result (H.seen shelf.old) (H.seen shelf.new) out.old out.new }
 {
     let mut names = Names::new();
     let count = match put_tests::<A, H, K, J, P>(wanted, walk, test, &mut names, shelf) {
@@ -182,8 +182,8 @@ fn put_tests<
     requires idle { (H.seen shelf.old).mode ≡ Idle }
     requires no_lines { names.old.lines.items ≡ [] }
     requires not_closed { names.old.closed ≡ None }
-    ensures ok { IfOk result (λ count. HasGone (HaveTests A.puts wanted.now.mode (Lists P.Fn.post walk.old)) (folder_of wanted.now) (named_text A.puts A.writing wanted.now.mode) walk.old.last (H.seen shelf.old) (H.seen shelf.new) count names.new.lines.items names.new.closed) }
-    ensures failed { OnErr result (StopsAtTest (HaveTests A.puts wanted.now.mode (Lists P.Fn.post walk.old)) (folder_of wanted.now) (named_text A.puts A.writing wanted.now.mode) walk.old.last (H.seen shelf.old) (H.seen shelf.new)) }
+    ensures ok { IfOk result (PutsAll A.puts A.writing wanted.now (Lists P.Fn.post walk.old) walk.old.last (H.seen shelf.old) (H.seen shelf.new) names.new) }
+    ensures failed { OnErr result (StopsPutting A.puts A.writing wanted.now (Lists P.Fn.post walk.old) walk.old.last (H.seen shelf.old) (H.seen shelf.new)) }
     ensures walk { walk.new ≡ record walk.old { last = walk.new.last } }
 {
     let mut desk = Desk::new();
@@ -232,8 +232,8 @@ pub(crate) fn put_test<A: Arch, H: Shelf>(
     requires folder { ForSome wanted.now.folder (λ folder. length folder.now ≤ MAX_FOLDER) }
     requires idle { (H.seen shelf.old).mode ≡ Idle }
     ensures file { IfOk result (λ file. file.bytes ≡ file_of number cycle.now) }
-    ensures ok { OnOk result (Put (H.seen shelf.old) (H.seen shelf.new) ((path_of (folder_of wanted.now) (file_of number cycle.now), named_text A.puts A.writing wanted.now.mode cycle.now) ∷ [])) }
-    ensures failed { OnErr result (PutPart (H.seen shelf.old) (H.seen shelf.new) [] (path_of (folder_of wanted.now) (file_of number cycle.now)) (named_text A.puts A.writing wanted.now.mode cycle.now)) }
+    ensures ok { OnOk result (Put (H.seen shelf.old) (H.seen shelf.new) (test_file_of A.puts A.writing wanted.now number cycle.now ∷ [])) }
+    ensures failed { OnErr result (FailsAt (H.seen shelf.old) (H.seen shelf.new) (test_file_of A.puts A.writing wanted.now number cycle.now)) }
 {
     if !make_test::<A>(cycle, wanted.mode, test, &mut desk.table) {
         unreachable!();
@@ -254,8 +254,8 @@ fn put_made<A: Arch, H: Shelf>(
     requires folder { ForSome wanted.now.folder (λ folder. length folder.now ≤ MAX_FOLDER) }
     requires idle { (H.seen shelf.old).mode ≡ Idle }
     ensures file { IfOk result (λ file. file.bytes ≡ file_of number cycle.now) }
-    ensures ok { OnOk result (Put (H.seen shelf.old) (H.seen shelf.new) ((path_of (folder_of wanted.now) (file_of number cycle.now), named_text A.puts A.writing wanted.now.mode cycle.now) ∷ [])) }
-    ensures failed { OnErr result (PutPart (H.seen shelf.old) (H.seen shelf.new) [] (path_of (folder_of wanted.now) (file_of number cycle.now)) (named_text A.puts A.writing wanted.now.mode cycle.now)) }
+    ensures ok { OnOk result (Put (H.seen shelf.old) (H.seen shelf.new) (test_file_of A.puts A.writing wanted.now number cycle.now ∷ [])) }
+    ensures failed { OnErr result (FailsAt (H.seen shelf.old) (H.seen shelf.new) (test_file_of A.puts A.writing wanted.now number cycle.now)) }
 {
     name_of(cycle, &mut desk.name);
     let file = file_named(number, desk.name.as_str());

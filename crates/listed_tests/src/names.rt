@@ -1,12 +1,12 @@
-ghost use Rattle.std.specs.Prelude.{◌≡◌, ◌<◌, ◌≤◌, ◌+◌, ◌++◌, [], ◌∷◌, Some, None, length, codes, IsTrue, IsFalse, IfSome, OnOk, OnErr, MatchOption};
-ghost use Rattle.std.specs.Option.{ForSome, ForNone, option_map};
+ghost use Rattle.std.specs.Prelude.{◌≡◌, ◌<◌, ◌≤◌, ◌+◌, ◌++◌, [], Some, None, length, codes, IsTrue, IsFalse, IfSome, OnOk, OnErr};
+ghost use Rattle.std.specs.Option.{ForSome, ForNone};
 ghost use Rattle.walk_laws.specs.Order.{IsNormal};
 ghost use Rattle.listing_laws.specs.Counting.{later};
 ghost use Rattle.listing_laws.specs.Listing.{IsAnswer};
 ghost use Rattle.cycle_enum.specs.Walking.{KnowsOf, Lists};
 ghost use Rattle.diy_io.specs.Shelf.{Idle};
-ghost use Rattle.listed_tests.specs.Files.{all_path, file_of};
-ghost use Rattle.listed_tests.specs.Keeping.{KeepsLine, NamesAll, NamesBehind, StopsBehind, StopsNaming};
+ghost use Rattle.listed_tests.specs.Files.{file_of};
+ghost use Rattle.listed_tests.specs.Keeping.{KeepsFile, NamesKept, NamesRest, StopsNames, StopsRest};
 ghost use Rattle.listed_tests.specs.Plans.{HaveTests};
 ghost use Rattle.test_maker.specs.Refusals.{refusal_of};
 
@@ -57,7 +57,7 @@ impl Names {
     /// Keeps the line of a cycle's file, while there is room.
     pub(crate) fn keep(&mut self, cycle: &Cycle, file: &FileName, next: u128)
         requires { ForNone self.old.closed (length self.old.lines.items + MAX_LINE ≤ MAX_LINES) }
-        ensures { MatchOption self.old.closed (KeepsLine self.old.lines.items self.new.lines.items self.new.closed (file.now.bytes ++ codes "\n") cycle.now next) (λ _. (self.new.lines.items ≡ self.old.lines.items) × (self.new.closed ≡ self.old.closed)) }
+        ensures { KeepsFile self.old self.new file.now.bytes cycle.now next }
     {
         if self.closed.is_some() {
             return;
@@ -110,8 +110,8 @@ pub(crate) fn put_names<
     requires idle { (H.seen shelf.old).mode ≡ Idle }
     requires folder { ForSome folder (λ folder. length folder.now ≤ MAX_FOLDER) }
     requires normal { ForSome names.old.closed (λ closed. IsNormal closed.cycle) }
-    ensures ok { OnOk result (NamesAll (HaveTests A.puts mode (Lists P.Fn.post walk.old)) (all_path (option_map (λ folder. folder.now) folder.entry)) names.old.lines.items names.old.closed (H.seen shelf.old) (H.seen shelf.new)) }
-    ensures failed { OnErr result (StopsNaming (HaveTests A.puts mode (Lists P.Fn.post walk.old)) (all_path (option_map (λ folder. folder.now) folder.entry)) names.old.lines.items names.old.closed (H.seen shelf.old) (H.seen shelf.new)) }
+    ensures ok { OnOk result (NamesKept (HaveTests A.puts mode (Lists P.Fn.post walk.old)) folder.entry names.old (H.seen shelf.old) (H.seen shelf.new)) }
+    ensures failed { OnErr result (StopsNames (HaveTests A.puts mode (Lists P.Fn.post walk.old)) folder.entry names.old (H.seen shelf.old) (H.seen shelf.new)) }
 {
     let path = path_of(folder, "@all");
     match &names.closed {
@@ -146,8 +146,8 @@ fn put_behind<
     requires knows { KnowsOf K.pre K.Fn.post J.pre J.Fn.post P.pre P.Fn.post walk.old.keep walk.old.fit walk.old.take }
     requires idle { (H.seen shelf.old).mode ≡ Idle }
     requires normal { IsNormal closed.now.cycle }
-    ensures ok { OnOk result (NamesBehind (HaveTests A.puts mode (Lists P.Fn.post walk.old)) path.now lines.old.items closed.now (H.seen shelf.old) (H.seen shelf.new)) }
-    ensures failed { OnErr result (StopsBehind (HaveTests A.puts mode (Lists P.Fn.post walk.old)) path.now lines.old.items closed.now (H.seen shelf.old) (H.seen shelf.new)) }
+    ensures ok { OnOk result (NamesRest A.puts mode (Lists P.Fn.post walk.old) path.now lines.old.items closed.now (H.seen shelf.old) (H.seen shelf.new)) }
+    ensures failed { OnErr result (StopsRest A.puts mode (Lists P.Fn.post walk.old) path.now lines.old.items closed.now (H.seen shelf.old) (H.seen shelf.new)) }
 {
     shelf.create(path)?;
     walk.after(&closed.cycle);

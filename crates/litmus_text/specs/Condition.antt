@@ -44,11 +44,15 @@ abbrev pub place_put : ℕ → ℕ → Mentioned → List ℕ → Option ℕ →
 place_put begins n s name (Some place) = Ok (record s { names = names_added s.names name })
 place_put begins n s name None = over_at begins n s
 
+-- a place of a name, at a line, among those that are named so far
+abbrev pub name_put : ℕ → ℕ → Mentioned → List ℕ → Result Mentioned TextError
+name_put begins n s name = place_put begins n s name (number_added s.names name)
+
 -- a left side at a line: a register of a thread of the table, or a place
 abbrev pub left_put : Writing → Setting → ℕ → Mentioned → LeftSeen → Result Mentioned TextError
 left_put w here n s (InRegister thread name) =
     cond (nat_lt thread here.threads && is_some (number_in w.registers name)) (Ok s) (bad BadCondition here.begins)
-left_put w here n s (AtPlace name) = place_put here.begins n s name (number_added s.names name)
+left_put w here n s (AtPlace name) = name_put here.begins n s name
 
 -- the line of the first byte of what is left of the text
 abbrev pub line_of_rest : Setting → List ℕ → ℕ

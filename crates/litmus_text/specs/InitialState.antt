@@ -112,13 +112,17 @@ abbrev pub with_named : ℕ → Begun → List ℕ → Option ℕ → Result Beg
 with_named n begun name None = bad TooLarge n
 with_named n begun name (Some place) = Ok (record begun { names = names_added begun.names name })
 
+-- a place of a name, at a line, among those that are named so far
+abbrev pub name_put : ℕ → Begun → List ℕ → Result Begun TextError
+name_put n begun name = with_named n begun name (number_added begun.names name)
+
 -- an item that begins at a line and ends at one
 abbrev pub item_put : ℕ → ℕ → Begun → Option Item → Result Begun TextError
 item_put first last begun None = bad BadInit first
 item_put first last begun (Some empty) = Ok begun
 item_put first last begun (Some (gives thread register worth)) =
     cond (is_given thread register begun.values) (bad BadInit first) (with_worth last begun thread register worth)
-item_put first last begun (Some (zero_at name)) = with_named first begun name (number_added begun.names name)
+item_put first last begun (Some (zero_at name)) = name_put first begun name
 
 -- the item of a piece that begins at a place of a text
 unfoldable pub item_read : Writing → Joined → ℕ → List ℕ → Begun → Result Begun TextError

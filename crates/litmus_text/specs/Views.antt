@@ -1,9 +1,10 @@
 -- The values of the code that reads, as the definitions see them.
 -- Source: own.
-use Rattle.std.specs.Prelude.{◌≡◌, ◌<◌, ℕ, length, Bool, true, List, [], ◌∷◌, Option, Some, None, option_map, Result, Ok}
+use Rattle.std.specs.Prelude.{◌≡◌, ◌<◌, ℕ, length, Bool, true, List, [], ◌∷◌, Option, Some, None, option_map, Result, Ok, ◌==◌, not, ◌++◌, map}
 use Rattle.std.specs.Borrow.{Bor}
 use Rattle.final_cond.specs.declared.cond.Cond.{Cond}
 use Rattle.final_cond.specs.declared.cond.Term.{Term}
+use Rattle.final_cond.specs.declared.cond.TheConstants.{MAX_TERMS}
 use Rattle.text_laws.specs.Names.{is_place_name}
 use Rattle.final_cond.specs.Conditions.{TermSeen, term_view, cond_view}
 use Rattle.litmus_text.specs.declared.reading.cuts.Pieces.{Pieces}
@@ -25,11 +26,13 @@ use Rattle.litmus_text.specs.declared.reading.terms.Mentioned.{Mentioned as Name
 use Rattle.litmus_text.specs.Cuts.{pieces}
 use Rattle.litmus_text.specs.Lines.{Lines, ends, line, lines_from, ◌>>=◌}
 use Rattle.arch_trait.specs.Writing.{Writing}
+use Rattle.relax_edges.specs.declared.kinds.Value.{Value}
 use Rattle.litmus_text.specs.declared.errors.TextError.{TextError}
+use Rattle.litmus_text.specs.Gives.{Gives}
 use Rattle.litmus_text.specs.Joined.{Joined}
-use Rattle.litmus_text.specs.InitialState.{Worth, a_number, a_place, Item, empty, gives, zero_at, Begun, initial_read, Braced, closed, open_to}
-use Rattle.litmus_text.specs.Table.{Cells, Column, among, no_columns, rows_read, head_read, all_labels_judged, after_locations}
-use Rattle.litmus_text.specs.Condition.{Setting, Mentioned, TermRead, TermsRead, CondRead, condition_read}
+use Rattle.litmus_text.specs.InitialState.{Worth, a_number, a_place, Item, empty, gives, zero_at, Begun, items_read, initial_read, Braced, closed, open_to}
+use Rattle.litmus_text.specs.Table.{Cells, Column, Among, among, no_columns, row_read, rows_read, head_read, all_labels_judged, after_locations}
+use Rattle.litmus_text.specs.Condition.{Setting, Mentioned, TermRead, TermsRead, CondRead, terms_here, condition_read}
 use Rattle.litmus_text.specs.TestReading.{TestRead, threads_of}
 
 -- two texts of a cut
@@ -89,6 +92,10 @@ item_formed (items.Zero name) = is_place_name name.bytes
 abbrev pub begun_seen : State → Begun
 begun_seen b = record { names = b.names; values = b.values.items }
 
+-- the items of pieces of a text, of which the first stands at its beginning, added to what is given so far
+abbrev pub pieces_read : Writing → JoinedText → List (List ℕ) → State → Result Begun TextError
+pieces_read w joined ps begun = items_read w (joined_seen joined) 0 ps (begun_seen begun)
+
 -- what ends the text of the items
 abbrev pub braced_seen : Joined → BracedText → Braced
 braced_seen joined (ends_of.Closed n behind rest) = closed joined n behind.now (text_left rest)
@@ -100,6 +107,25 @@ cells_seen c = record { texts = pieces_left c.pieces; whole = c.whole }
 
 abbrev pub column_seen : ThreadColumn → Column
 column_seen c = record { ops = c.ops.items; labels = c.labels }
+
+-- one column, and all columns, among the names of places
+abbrev pub column_among : List (List ℕ) → ThreadColumn → Among Column
+column_among names column = among names (column_seen column)
+
+abbrev pub columns_among : List (List ℕ) → List ThreadColumn → Among (List Column)
+columns_among names columns = among names (map column_seen columns)
+
+-- the columns of a table, and what is left of the text after its rows
+abbrev pub columns_before : List (List ℕ) → List ThreadColumn → Text → Among (List Column) × Lines
+columns_before names columns text = (columns_among names columns, text_left text)
+
+-- the cells of a row, read into the columns
+abbrev pub cells_read : Writing → ℕ → RowCells → List (List ℕ) → List ThreadColumn → Result (Among (List Column)) TextError
+cells_read w n cells names columns = row_read w n (cells_seen cells).whole (cells_seen cells).texts names (map column_seen columns)
+
+-- an answer to the cells of a row after its last column, whatever the names of places are
+abbrev pub EndsRow : ℕ → Bool → List (List ℕ) → Result (Unit {0}) TextError → Type 0
+EndsRow n whole cells answer = (w : Writing) → (names : List (List ℕ)) → Gives (λ _. among names []) answer (row_read w n whole cells names [])
 
 -- terms of the condition
 abbrev pub setting_seen : Here → Setting
@@ -114,8 +140,41 @@ term_read_seen m t = record { term = term_view t.0; state = mentioned_seen m; re
 abbrev pub terms_read_seen : List TermSeen → Names → List ℕ → TermsRead
 terms_read_seen terms m rest = record { terms = terms; state = mentioned_seen m; rest = rest }
 
+-- an answer with the names that are mentioned then
+abbrev pub GivesMentioned : Names → Result (Unit {0}) TextError → Result Mentioned TextError → Type 0
+GivesMentioned new answer read = Gives (λ _. mentioned_seen new) answer read
+
+-- terms that were read, the names that are mentioned then, and what is left of the text
+abbrev pub all_terms_seen : List Term → Names → Bor (List ℕ) → TermsRead
+all_terms_seen terms m rest = terms_read_seen (map term_view terms) m rest.now
+
+-- the terms of what is left of the text, with the names that are mentioned so far
+abbrev pub terms_from : Writing → Here → Names → List ℕ → Result TermsRead TextError
+terms_from w here m text = terms_here w (setting_seen here) MAX_TERMS (mentioned_seen m) text
+
 abbrev pub cond_read_seen : Cond × List (List ℕ) → CondRead
 cond_read_seen c = record { cond = cond_view c.0; names = c.1 }
+
+-- a name and a text in quotes, which need not be there
+abbrev pub Head : Type 0
+Head = Bor (List ℕ) × Option (Bor (List ℕ))
+
+abbrev pub quoted_seen : Option (Bor (List ℕ)) → Option (List ℕ)
+quoted_seen quoted = option_map (λ text. text.now) quoted
+
+-- an initial state that gives values and names no place
+abbrev pub only_values : List (ℕ × (ℕ × Value)) → Begun
+only_values values = record { names = []; values = values }
+
+-- the test of its parts
+abbrev pub test_of_parts : List ℕ → Option (Bor (List ℕ)) → List (ℕ × (ℕ × Value)) → List ThreadColumn → Cond → List (List ℕ) → TestRead
+test_of_parts name quoted values columns cond places = record {
+  name = name;
+  quoted = quoted_seen quoted;
+  places = places;
+  threads = threads_of (only_values values) (map column_seen columns);
+  cond = cond_view cond;
+}
 
 -- a test, from what stands behind its table on
 unfoldable pub rest_read : Writing → List ℕ → Option (List ℕ) → Begun → List Column → ℕ → List (List ℕ) → Lines → Result TestRead TextError
@@ -136,3 +195,14 @@ body_read w name quoted ls = do
   initial ← initial_read w ls
   head ← head_read initial.0 initial.1
   table_read w name quoted initial.0 head.0 head.1
+
+-- the same by the values of the code
+abbrev pub rest_of : Writing → Head → List (ℕ × (ℕ × Value)) → List ThreadColumn → List (List ℕ) → Text → Result TestRead TextError
+rest_of w head values columns names text =
+    rest_read w head.0.now (quoted_seen head.1) (only_values values) (map column_seen columns) (length columns) names (text_left text)
+
+abbrev pub table_of : Writing → Head → State → ℕ → Text → Result TestRead TextError
+table_of w head begun threads text = table_read w head.0.now (quoted_seen head.1) (begun_seen begun) threads (text_left text)
+
+abbrev pub body_of : Writing → Head → Text → Result TestRead TextError
+body_of w head text = body_read w head.0.now (quoted_seen head.1) (text_left text)

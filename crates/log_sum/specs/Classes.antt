@@ -17,9 +17,10 @@ use Rattle.log_sum.specs.declared.table.Table.{Table}
 use Rattle.log_sum.specs.declared.reading.Reading.{Reading}
 use Rattle.log_sum.specs.Summed.{Summed}
 use Rattle.log_sum.specs.StateEntries.{states_view}
-use Rattle.log_sum.specs.Facts.{Row}
+use Rattle.log_sum.specs.Facts.{Row, Fact}
 use Rattle.log_sum.specs.Standing.{Progress}
 use Rattle.log_sum.specs.States.{form_read}
+use Rattle.log_sum.specs.Steps.{fact_to}
 use Rattle.log_sum.specs.Lines.{Said, row_of, row_said, passed_over, begins, counts, judged, conditioned, hashed, ends}
 
 -- an answer is what the definition gives, where view says what it means
@@ -78,6 +79,10 @@ test_view test = record {
   plain = test.plain;
   states = states_view test.states.sums.entries;
 }
+
+-- an answer to a fact of a test: the test has the fact too, or it has this fault
+abbrev pub TestTold : TestSum → TestSum → Fact → Result (Unit {0}) Fault → Type 0
+TestTold old new fact answer = GivesOr (λ _. test_view new) answer (fact_to (test_view old) fact)
 
 abbrev pub named_view : Vec ℕ Global × TestSum → List ℕ × Summed
 named_view test = (test.0.items, test_view test.1)

@@ -13,7 +13,8 @@ use Rattle.log_sum.specs.declared.kinds.Mark.{Mark}
 use Rattle.log_sum.specs.declared.table.Table.{Table}
 use Rattle.log_sum.specs.Classes.{tests_view}
 use Rattle.log_sum.specs.Facts.{Row, Fact, Entry, a_row, facts_of, rows, same_mark, mark_in, fault_of}
-use Rattle.log_sum.specs.Reading.{Seen, nothing_seen, fault_at, input_judged, files_judged}
+use Rattle.log_sum.specs.Lines.{Said, line_said}
+use Rattle.log_sum.specs.Reading.{Seen, nothing_seen, fault_at, said_judged, input_judged, files_judged}
 use Rattle.log_sum.specs.Standing.{Progress, IsAt, Kept, StandsFor, table_of, name_at}
 
 -- each row of a state has its mark
@@ -23,6 +24,16 @@ pub record Marked (rs : List Row) : Type 0 where
 -- that is so of each test
 abbrev pub AreMarked : List Entry → Type 0
 AreMarked entries = (test : List ℕ) → Marked (rows (facts_of test entries))
+
+-- something is so of the entries that a table stands for, whatever they are, where the rows of each state have one mark
+abbrev pub ForEntries : Table → (List Entry → Type 0) → Type 0
+ForEntries table Holds = (entries : List Entry) → tests_view table ≡ table_of entries → AreMarked entries → Holds entries
+
+-- the same of these entries and of the name of the test that is running
+abbrev pub ForRunningTest : Table → (List Entry → List ℕ → Type 0) → Type 0
+ForRunningTest table Holds =
+    (entries : List Entry) (name : List ℕ) → tests_view table ≡ table_of entries → name_at (tests_view table) table.running ≡ Some name → AreMarked entries
+    → Holds entries name
 
 abbrev pub entry_of : List ℕ → Fact → Entry
 entry_of test fact = record { test = test; fact = fact }
@@ -78,6 +89,11 @@ abbrev pub EndTo : Kept → List (List ℕ) → List ℕ → Result (Unit {0}) F
 EndTo new files bytes (Ok x) = StandsFor new (files ++ bytes ∷ []) []
 EndTo new files bytes (Err (Wrong kind)) = files_judged nothing_seen (files ++ bytes ∷ []) ≡ fault_at new.progress.line kind
 EndTo new files bytes (Err NoMemory) = Unit {0}
+
+-- an answer to what a line says: it is that of every reading which is as far as this one, of every line that says so
+abbrev pub SaidTo : Progress → Progress → Result Said LogKind → Result (Unit {0}) Fault → Type 0
+SaidTo old new said answer =
+    (seen : Seen) (text : List ℕ) → Follows old seen → line_said seen.place text ≡ said → ReadTo new (said_judged seen said) answer
 
 -- a fault as it is answered, at the running line
 abbrev pub refusal_of : ℕ → Fault → SumError

@@ -1,6 +1,6 @@
 -- States with their sums, as a table keeps them.
 -- Source: own.
-use Rattle.std.specs.Prelude.{◌≡◌, ℕ, T, List, [], ◌∷◌, Option, Some, None, map, option_map, slice_get, Ok}
+use Rattle.std.specs.Prelude.{◌≡◌, ◌+◌, ℕ, T, min, List, [], ◌∷◌, Option, Some, None, map, option_map, slice_get, Ok}
 use Rattle.std.specs.Ordering.{nat_cmp}
 use Rattle.std.specs.Cmp.Lexicographic.{slice_cmp}
 use Rattle.std.specs.BTreeMap.{insert_entry}
@@ -9,7 +9,9 @@ use Rattle.std.specs.declared.vec.Vec.{Vec}
 use Rattle.std.specs.declared.alloc.Global.{Global}
 use Rattle.log_sum.specs.declared.kinds.Mark.{Mark}
 use Rattle.log_sum.specs.declared.state_table.StateSum.{StateSum}
+use Rattle.log_sum.specs.Counts.{last_count}
 use Rattle.log_sum.specs.States.{form_read}
+use Rattle.log_sum.specs.Steps.{known_state}
 use Rattle.log_sum.specs.Summed.{StateSummed}
 
 -- a state's mark and count
@@ -32,6 +34,28 @@ states_view entries = ordered (map state_view entries)
 -- the state at an index
 abbrev pub state_at : List (Vec ℕ Global × StateSum) → ℕ → Option (List ℕ)
 state_at entries i = option_map (λ entry. entry.0.items) (slice_get entries i)
+
+-- the mark and count of a state of entries
+abbrev pub known_in : List (Vec ℕ Global × StateSum) → List ℕ → Option (Mark × ℕ)
+known_in entries state = known_state (states_view entries) state
+
+-- the states of entries with one that has this mark and count, whatever it had
+abbrev pub with_state : List (Vec ℕ Global × StateSum) → List ℕ → Mark × ℕ → List StateSummed
+with_state entries state known = insert_entry (slice_cmp nat_cmp) (states_view entries) state known
+
+-- something is so of the state at an index, if there is one
+abbrev pub ForStateAt : List (Vec ℕ Global × StateSum) → ℕ → (List ℕ → Type 0) → Type 0
+ForStateAt entries i Holds = (state : List ℕ) → state_at entries i ≡ Some state → Holds state
+
+-- the state at an index has this mark and count
+abbrev pub IsSumAt : List (Vec ℕ Global × StateSum) → ℕ → Mark × ℕ → Type 0
+IsSumAt entries i sum = ForStateAt entries i (λ state. known_in entries state ≡ Some sum)
+
+-- the state at an index was seen so often more: its mark stays, and its count stops at the greatest count
+abbrev pub SeenMore : List (Vec ℕ Global × StateSum) → List (Vec ℕ Global × StateSum) → ℕ → ℕ → Type 0
+SeenMore old new i count =
+    (state : List ℕ) (known : Mark × ℕ) → state_at old i ≡ Some state → known_in old state ≡ Some known
+    → states_view new ≡ with_state old state (known.0, min (known.1 + count) last_count)
 
 -- the states stand in byte order, each once
 abbrev pub AreInOrder : List (Vec ℕ Global × StateSum) → Type 0

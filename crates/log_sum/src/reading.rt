@@ -1,10 +1,7 @@
-ghost use Rattle.std.specs.Prelude.{◌≡◌, ℕ, List, true, OnOk};
-ghost use Rattle.log_sum.specs.Classes.{said_read, row_read, tests_view, are_in_order, progress_view};
-ghost use Rattle.log_sum.specs.Facts.{Entry};
-ghost use Rattle.log_sum.specs.Lines.{line_said};
-ghost use Rattle.log_sum.specs.Standing.{table_of, name_at};
-ghost use Rattle.log_sum.specs.Reading.{Seen, nothing_seen, said_judged, text_judged, end_judged};
-ghost use Rattle.log_sum.specs.Feeding.{AreMarked, RowPut, Follows, ReadTo};
+ghost use Rattle.std.specs.Prelude.{◌≡◌, true, OnOk};
+ghost use Rattle.log_sum.specs.Classes.{said_read, row_read, are_in_order, progress_view};
+ghost use Rattle.log_sum.specs.Reading.{Seen, nothing_seen, text_judged, end_judged};
+ghost use Rattle.log_sum.specs.Feeding.{RowPut, Follows, ReadTo, SaidTo, ForRunningTest};
 
 use crate::errors::{Fault, LogKind};
 use crate::kinds::Place;
@@ -67,7 +64,7 @@ impl Reading {
 
     /// What a line says at the place.
     fn put(&mut self, said: Said<'_>) -> Result<(), Fault>
-        ensures put { (seen : Seen) (text : List ℕ) → Follows (progress_view self.old) seen → line_said seen.place text ≡ said_read said.entry → ReadTo (progress_view self.new) (said_judged seen (said_read said.entry)) result }
+        ensures put { SaidTo (progress_view self.old) (progress_view self.new) (said_read said.entry) result }
         ensures line { self.new.line ≡ self.old.line }
     {
         self.place = place_after(self.place, &said);
@@ -82,7 +79,7 @@ impl Reading {
 
     /// A state of the running test.
     fn put_row(&mut self, row: Row<'_>) -> Result<(), Fault>
-        ensures put { (entries : List Entry) (name : List ℕ) → tests_view self.old.table ≡ table_of entries → name_at (tests_view self.old.table) self.old.table.running ≡ Some name → AreMarked entries → RowPut entries name (row_read row.entry) self.new.table result }
+        ensures put { ForRunningTest self.old.table (λ entries name. RowPut entries name (row_read row.entry) self.new.table result) }
         ensures place { self.new.place ≡ self.old.place }
         ensures line { self.new.line ≡ self.old.line }
     {

@@ -1,13 +1,7 @@
-ghost use Rattle.std.specs.Prelude.{◌≡◌, ◌+◌, ℕ, List, [], true, Some, None, min, Ok, OnOk, IfSome, MatchOption};
+ghost use Rattle.std.specs.Prelude.{◌≡◌, [], true, Some, None, Ok, OnOk, IfSome, MatchOption};
 ghost use Rattle.std.specs.Bool.{OnTrue};
-ghost use Rattle.std.specs.Ordering.{nat_cmp};
-ghost use Rattle.std.specs.Cmp.Lexicographic.{slice_cmp};
-ghost use Rattle.std.specs.BTreeMap.{insert_entry};
-ghost use Rattle.log_sum.specs.declared.kinds.Mark.{Mark as StateMark};
-ghost use Rattle.log_sum.specs.Counts.{last_count};
 ghost use Rattle.log_sum.specs.States.{form_read};
-ghost use Rattle.log_sum.specs.Steps.{known_state};
-ghost use Rattle.log_sum.specs.StateEntries.{AreInOrder, AreWritten, HasState, sum_view, state_at, states_view, written_as};
+ghost use Rattle.log_sum.specs.StateEntries.{AreInOrder, AreWritten, HasState, IsSumAt, SeenMore, known_in, sum_view, state_at, states_view, with_state, written_as};
 
 use crate::kinds::Mark;
 use diy_io::NoMemory;
@@ -93,14 +87,14 @@ impl StateTable {
 
     /// The index of a state.
     pub(crate) fn index_of(&self, state: &[u8]) -> Option<usize>
-        ensures { MatchOption result (known_state (states_view self.now.sums.entries) state.now ≡ None) (λ i. state_at self.now.sums.entries i ≡ Some state.now) }
+        ensures { MatchOption result (known_in self.now.sums.entries state.now ≡ None) (λ i. state_at self.now.sums.entries i ≡ Some state.now) }
     {
         self.sums.get_index_of(state)
     }
 
     /// The mark and count of the state at an index.
     pub(crate) fn sum_at(&self, i: usize) -> Option<(Mark, u64)>
-        ensures { MatchOption result (state_at self.now.sums.entries i ≡ None) (λ sum. (state : List ℕ) → state_at self.now.sums.entries i ≡ Some state → known_state (states_view self.now.sums.entries) state ≡ Some sum) }
+        ensures { MatchOption result (state_at self.now.sums.entries i ≡ None) (IsSumAt self.now.sums.entries i) }
     {
         match self.sums.get_index(i) {
             Some((_, sum)) => Some((sum.mark, sum.count)),
@@ -110,7 +104,7 @@ impl StateTable {
 
     /// The state at an index, seen so often more.
     pub(crate) fn add(&mut self, i: usize, count: u64)
-        ensures { (state : List ℕ) (known : StateMark × ℕ) → state_at self.old.sums.entries i ≡ Some state → known_state (states_view self.old.sums.entries) state ≡ Some known → states_view self.new.sums.entries ≡ insert_entry (slice_cmp nat_cmp) (states_view self.old.sums.entries) state (known.0, min (known.1 + count) last_count) }
+        ensures { SeenMore self.old.sums.entries self.new.sums.entries i count }
     {
         if let Some(sum) = self.sums.get_index_mut(i) {
             sum.count = sum.count.saturating_add(count);
@@ -126,9 +120,9 @@ impl StateTable {
 
     /// A state more.
     pub(crate) fn put(&mut self, state: Vec<u8>, sum: StateSum) -> Result<(), NoMemory>
-        requires new { known_state (states_view self.old.sums.entries) state.items ≡ None }
+        requires new { known_in self.old.sums.entries state.items ≡ None }
         requires written { form_read (written_as state.items sum.other_text) ≡ Ok state.items }
-        ensures { OnOk result (states_view self.new.sums.entries ≡ insert_entry (slice_cmp nat_cmp) (states_view self.old.sums.entries) state.items (sum_view sum)) }
+        ensures { OnOk result (states_view self.new.sums.entries ≡ with_state self.old.sums.entries state.items (sum_view sum)) }
     {
         self.in_order = false;
         self.sums.insert(state, sum)?;

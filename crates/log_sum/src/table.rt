@@ -1,8 +1,7 @@
-ghost use Rattle.std.specs.Prelude.{◌≡◌, ℕ, List, [], true, OnOk};
+ghost use Rattle.std.specs.Prelude.{◌≡◌, [], true, OnOk};
 ghost use Rattle.log_sum.specs.Classes.{row_read, tests_view, are_in_order};
-ghost use Rattle.log_sum.specs.Facts.{Entry, a_kind, a_condition, a_hash};
-ghost use Rattle.log_sum.specs.Standing.{table_of, name_at};
-ghost use Rattle.log_sum.specs.Feeding.{AreMarked, FactPut, RowPut};
+ghost use Rattle.log_sum.specs.Facts.{a_kind, a_condition, a_hash};
+ghost use Rattle.log_sum.specs.Feeding.{FactPut, RowPut, ForEntries, ForRunningTest};
 
 use crate::errors::Fault;
 use crate::kinds::{Kind, Verdict};
@@ -34,7 +33,7 @@ impl Table {
 
     /// A block of a test and its kind begin.
     pub(crate) fn begin(&mut self, alloc: Global, name: &[u8], kind: Kind) -> Result<(), Fault>
-        ensures { (entries : List Entry) → tests_view self.old ≡ table_of entries → AreMarked entries → FactPut entries name.now (a_kind kind) self.new result }
+        ensures { ForEntries self.old (λ entries. FactPut entries name.now (a_kind kind) self.new result) }
     {
         if let Some(i) = self.tests.get_index_of(name) {
             if let Some((_, test)) = self.tests.get_index(i) {
@@ -57,7 +56,7 @@ impl Table {
         reader: &mut StateReader,
         row: Row<'_>,
     ) -> Result<(), Fault>
-        ensures { (entries : List Entry) (name : List ℕ) → tests_view self.old ≡ table_of entries → name_at (tests_view self.old) self.old.running ≡ Some name → AreMarked entries → RowPut entries name (row_read row.entry) self.new result }
+        ensures { ForRunningTest self.old (λ entries name. RowPut entries name (row_read row.entry) self.new result) }
     {
         match self.tests.get_index_mut(self.running) {
             Some(test) => test.put_row(alloc, reader, row),
@@ -80,7 +79,7 @@ impl Table {
 
     /// A condition of the running test, and what its block says of it.
     pub(crate) fn put_condition(&mut self, text: Vec<u8>, verdict: Verdict) -> Result<(), Fault>
-        ensures { (entries : List Entry) (name : List ℕ) → tests_view self.old ≡ table_of entries → name_at (tests_view self.old) self.old.running ≡ Some name → AreMarked entries → FactPut entries name (a_condition text.items verdict) self.new result }
+        ensures { ForRunningTest self.old (λ entries name. FactPut entries name (a_condition text.items verdict) self.new result) }
     {
         if let Some(test) = self.tests.get_index_mut(self.running) {
             test.put_condition(text, verdict)?;
@@ -90,7 +89,7 @@ impl Table {
 
     /// A hash of the running test.
     pub(crate) fn put_hash(&mut self, alloc: Global, text: &[u8]) -> Result<(), Fault>
-        ensures { (entries : List Entry) (name : List ℕ) → tests_view self.old ≡ table_of entries → name_at (tests_view self.old) self.old.running ≡ Some name → AreMarked entries → FactPut entries name (a_hash text.now) self.new result }
+        ensures { ForRunningTest self.old (λ entries name. FactPut entries name (a_hash text.now) self.new result) }
     {
         match self.tests.get_index_mut(self.running) {
             Some(test) => test.put_hash(alloc, text),

@@ -1,8 +1,8 @@
-ghost use Rattle.std.specs.Prelude.{◌≡◌, ℕ, List, Some, None, Ok, IfOk};
-ghost use Rattle.log_sum.specs.Classes.{Gives, GivesOr, row_read, test_view};
+ghost use Rattle.std.specs.Prelude.{◌≡◌, None, Ok, IfOk};
+ghost use Rattle.log_sum.specs.Classes.{Gives, GivesOr, TestTold, row_read, test_view};
 ghost use Rattle.log_sum.specs.Facts.{same_kind, same_mark, a_kind, a_condition, a_hash, a_row, row_with};
 ghost use Rattle.log_sum.specs.States.{form_read};
-ghost use Rattle.log_sum.specs.StateEntries.{state_at, written_as};
+ghost use Rattle.log_sum.specs.StateEntries.{ForStateAt, written_as};
 ghost use Rattle.log_sum.specs.Steps.{fact_to, of_kind, known_state, row_to, with_verdict, marked, with_marked};
 
 use crate::errors::{Fault, LogKind};
@@ -115,7 +115,7 @@ impl TestSum {
     /// A hash.
     #[tactic(auto, unfolding(crate::specs::Steps::fact_to))]
     pub(crate) fn put_hash(&mut self, alloc: Global, text: &[u8]) -> Result<(), Fault>
-        ensures { GivesOr (λ _. test_view self.new) result (fact_to (test_view self.old) (a_hash text.now)) }
+        ensures { TestTold self.old self.new (a_hash text.now) result }
     {
         if let Some(known) = &self.hash {
             if known.as_slice() != text {
@@ -167,7 +167,7 @@ impl TestSum {
 
     /// The state at an index with a mark, seen so often more.
     fn add(&mut self, i: usize, mark: Mark, count: u64) -> Result<(), Fault>
-        ensures { (state : List ℕ) → state_at self.old.states.sums.entries i ≡ Some state → GivesOr (λ _. test_view self.new) result (fact_to (test_view self.old) (a_row (row_with state mark count))) }
+        ensures { ForStateAt self.old.states.sums.entries i (λ state. TestTold self.old self.new (a_row (row_with state mark count)) result) }
     {
         let sum = self.marked(mark);
         let Some((known, _)) = self.states.sum_at(i) else {
@@ -188,7 +188,7 @@ impl TestSum {
     fn put_new(&mut self, alloc: Global, state: &[u8], row: Row<'_>) -> Result<(), Fault>
         requires new { known_state (test_view self.old).states state.now ≡ None }
         requires read { form_read row.text.now ≡ Ok state.now }
-        ensures { GivesOr (λ _. test_view self.new) result (fact_to (test_view self.old) (a_row (row_with state.now row.entry.mark row.entry.count))) }
+        ensures { TestTold self.old self.new (a_row (row_with state.now row.entry.mark row.entry.count)) result }
     {
         let sum = self.marked(row.mark);
         if row.count > u64::MAX - sum {

@@ -1,6 +1,6 @@
 -- The run of a thread: a list of operations, on the numbers that its loads read.
 -- Source: own.
-use Rattle.std.specs.Prelude.{ℕ, ◌<◌, ◌^◌, ◌==◌, Bool, true, false, cond, ◌||◌, ◌&&◌, List, [], ◌∷◌, ◌++◌, count_by, Option, Some, None, ◌≡◌}
+use Rattle.std.specs.Prelude.{ℕ, ◌<◌, ◌^◌, ◌==◌, Bool, true, false, cond, ◌||◌, ◌&&◌, List, [], ◌∷◌, ◌++◌, count_by, Option, Some, None, ◌≡◌, ◌⊎◌}
 use Rattle.relax_edges.specs.declared.kinds.Value.{Value}
 use Rattle.micro_ops.specs.declared.held.Held.{Held}
 use Rattle.micro_ops.specs.declared.operation.Micro.{Micro}
@@ -208,3 +208,15 @@ OnRun P (At r) = P r
 OnRun P (Past _ r) = P r
 OnRun P (Wants r) = P r
 OnRun P Stuck = Unit {0}
+
+-- a jump to a label goes on after it, where the label doesn't stand before
+abbrev pub JumpLands : List Micro → ℕ → List Micro → Run → Type 0
+JumpLands before label after r = stands label before ≡ false → exec (before ++ (ops.Label label ∷ after)) (Past label r) ≡ exec after (At r)
+
+-- operations let a register keep what it holds
+abbrev pub KeepsHeld : List Micro → ℕ → Held → Point → Type 0
+KeepsHeld code register held p = OnRun (λ r. r.state.regs register ≡ held) p → OnRun (λ r. r.state.regs register ≡ held) (exec code p)
+
+-- a run has the items of the run before it, and at most one more
+abbrev pub MadeAtMostOne : Run → Run → Type 0
+MadeAtMostOne before after = (after.made ≡ before.made) ⊎ ((item : Item) × (after.made ≡ before.made ++ (item ∷ [])))

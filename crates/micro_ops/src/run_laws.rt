@@ -1,10 +1,9 @@
 //! The laws of runs: each function does nothing, and its contract is the law.
-ghost use Rattle.std.specs.Prelude.{◌≡◌, ℕ, ◌⊎◌, ◌++◌, ◌∷◌, [], List, Option, false, true};
+ghost use Rattle.std.specs.Prelude.{◌≡◌, ℕ, ◌++◌, List, Option, false, true};
 ghost use Rattle.relax_edges.specs.declared.kinds.Value.{Value};
 ghost use Rattle.micro_ops.specs.declared.operation.Micro.{Micro};
-ghost use Rattle.micro_ops.specs.declared.operation.Item.{Item};
 ghost use Rattle.micro_ops.specs.declared.held.Held.{Held};
-ghost use Rattle.micro_ops.specs.Running.{Run, Point, At, Past, go, exec, stands, lands, is_past, is_written, beginning, OnRun, RunNamesLoads};
+ghost use Rattle.micro_ops.specs.Running.{Run, Point, At, go, exec, lands, is_past, is_written, beginning, OnRun, RunNamesLoads, JumpLands, KeepsHeld, MadeAtMostOne};
 ghost use Rattle.micro_ops.specs.Threads.{StopsAt, goes_on};
 
 /// A run of one list of operations and then another is a run of the second from where the first
@@ -17,7 +16,7 @@ pub fn runs_append()
 /// A jump goes on after its label.
 #[tactic(auto, using(crate::proofs::Laws::jump_lands))]
 pub fn jumps_land()
-    ensures { (before after : List Micro) → (label : ℕ) → (r : Run) → stands label before ≡ false → exec (before ++ (Micro.Label label ∷ after)) (Past label r) ≡ exec after (At r) }
+    ensures { (before after : List Micro) → (label : ℕ) → (r : Run) → JumpLands before label after r }
 {}
 
 /// Where each branch's label stands later, no run ends on the way to a label.
@@ -29,13 +28,13 @@ pub fn no_jump_is_open()
 /// A register that no operation writes keeps what it holds.
 #[tactic(auto, using(crate::proofs::Laws::unwritten_kept))]
 pub fn unwritten_registers_stay()
-    ensures { (code : List Micro) → (register : ℕ) → (held : Held) → (p : Point) → is_written register code ≡ false → OnRun (λ r. r.state.regs register ≡ held) p → OnRun (λ r. r.state.regs register ≡ held) (exec code p) }
+    ensures { (code : List Micro) (register : ℕ) (held : Held) (p : Point) → is_written register code ≡ false → KeepsHeld code register held p }
 {}
 
 /// An operation makes at most one item.
 #[tactic(auto, using(crate::proofs::Laws::one_item))]
 pub fn one_item_an_operation()
-    ensures { (op : Micro) → (r : Run) → OnRun (λ after. (after.made ≡ r.made) ⊎ ((item : Item) × (after.made ≡ r.made ++ (item ∷ [])))) (go op (At r)) }
+    ensures { (op : Micro) → (r : Run) → OnRun (MadeAtMostOne r) (go op (At r)) }
 {}
 
 /// Each mask of a run, in registers and items, names only loads that were stepped.

@@ -1,5 +1,5 @@
 -- The paths that begin with some edges and go on with one of each of some lists, and how they are kept.
-use Rattle.std.specs.Prelude.{◌≡◌, Bool, not, Ok, List, [], ◌∷◌, ◌++◌, filter, map}
+use Rattle.std.specs.Prelude.{◌≡◌, Bool, not, Result, Ok, Err, MatchResult, List, [], ◌∷◌, ◌++◌, filter, map}
 use Rattle.std.specs.List.{flat_map}
 use Rattle.relax_edges.specs.declared.edge.Edge.{Edge}
 use Rattle.relax_edges.specs.RelaxText.{is_empty}
@@ -17,3 +17,7 @@ paths_by front lists edges = flat_map (λ edge. paths_behind (front ++ edge ∷ 
 pub record KeepsPaths (old paths new : List (List Edge)) (some : Bool) : Type 0 where
   pub kept : at_most_64 (keep_all old paths) ≡ Ok new
   pub found : some ≡ not (is_empty paths)
+
+-- an answer beside what reading gives: this is kept, or the text is refused so
+abbrev pub Keeps : {A E : Type 0} → Result (List (List Edge)) E → List (List Edge) → Result A E → Type 0
+Keeps read new answer = MatchResult answer (λ _. read ≡ Ok new) (λ error. read ≡ Err error)

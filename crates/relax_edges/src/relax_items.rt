@@ -1,7 +1,8 @@
-ghost use Rattle.std.specs.Prelude.{◌≡◌, ◌<◌, ◌≤◌, ◌+◌, ◌∷◌, false, length, Ok, Err, None, OnOk, IfOk, MatchOption, MatchResult};
+ghost use Rattle.std.specs.Prelude.{◌≡◌, ◌<◌, ◌≤◌, ◌+◌, ◌∷◌, false, length, None, OnOk, IfOk, MatchOption};
 ghost use Rattle.std.specs.List.{position, position_or_len};
 ghost use Rattle.relax_edges.specs.RelaxText.{is_separator, is_bracket, ends_word, words_of, bracket_words};
 ghost use Rattle.relax_edges.specs.RelaxFront.{front_len, kept_front, ends_here, IsInside, IsFrontWord};
+ghost use Rattle.relax_edges.specs.RelaxSearch.{Keeps};
 ghost use Rattle.relax_edges.specs.Relaxations.{kept_words};
 
 use crate::relax::Relaxes;
@@ -80,7 +81,7 @@ fn front_word(text: &[u8]) -> &[u8]
 fn keep_words(words: &[u8], kept: &mut Relaxes) -> Result<(), RelaxKind>
     requires some { 0 < length (words_of words.now) }
     requires few { length kept.old ≤ 64 }
-    ensures kept { MatchResult result (λ _. kept_words kept.old (words_of words.now) ≡ Ok kept.new) (λ kind. kept_words kept.old (words_of words.now) ≡ Err kind) }
+    ensures kept { Keeps (kept_words kept.old (words_of words.now)) kept.new result }
     ensures few { OnOk result (length kept.new ≤ 64) }
 {
     if has_unknown(words) {
@@ -102,7 +103,7 @@ fn keep_words(words: &[u8], kept: &mut Relaxes) -> Result<(), RelaxKind>
 pub(crate) fn keep_item(text: &[u8], kept: &mut Relaxes) -> Result<usize, RelaxKind>
     requires some { 0 < length text.now }
     requires few { length kept.old ≤ 64 }
-    ensures kept { MatchResult result (λ _. kept_front kept.old text.now ≡ Ok kept.new) (λ kind. kept_front kept.old text.now ≡ Err kind) }
+    ensures kept { Keeps (kept_front kept.old text.now) kept.new result }
     ensures len { IfOk result (λ len. len ≡ front_len text.now) }
     ensures more { IfOk result (λ len. 0 < len) }
     ensures within { IfOk result (λ len. len ≤ length text.now) }
@@ -123,7 +124,7 @@ pub(crate) fn keep_item(text: &[u8], kept: &mut Relaxes) -> Result<usize, RelaxK
 /// Keeps the relaxations of a bracket, from what stands behind its `[`, and answers its length.
 fn keep_bracket(behind: &[u8], kept: &mut Relaxes) -> Result<usize, RelaxKind>
     requires { length kept.old ≤ 64 }
-    ensures kept { MatchResult result (λ _. kept_front kept.old (91 ∷ behind.now) ≡ Ok kept.new) (λ kind. kept_front kept.old (91 ∷ behind.now) ≡ Err kind) }
+    ensures kept { Keeps (kept_front kept.old (91 ∷ behind.now)) kept.new result }
     ensures len { IfOk result (λ len. len ≡ front_len (91 ∷ behind.now)) }
     ensures more { IfOk result (λ len. 0 < len) }
     ensures within { IfOk result (λ len. len ≤ length behind.now + 1) }
@@ -142,7 +143,7 @@ fn keep_bracket(behind: &[u8], kept: &mut Relaxes) -> Result<usize, RelaxKind>
 fn keep_word(text: &[u8], kept: &mut Relaxes) -> Result<usize, RelaxKind>
     requires word { ends_here text.now ≡ false }
     requires few { length kept.old ≤ 64 }
-    ensures kept { MatchResult result (λ _. kept_front kept.old text.now ≡ Ok kept.new) (λ kind. kept_front kept.old text.now ≡ Err kind) }
+    ensures kept { Keeps (kept_front kept.old text.now) kept.new result }
     ensures len { IfOk result (λ len. len ≡ front_len text.now) }
     ensures more { IfOk result (λ len. 0 < len) }
     ensures within { IfOk result (λ len. len ≤ length text.now) }

@@ -20,6 +20,10 @@ pub record Reads (feeding : Feeding) (logs : List (List ℕ)) (bytes : List ℕ)
   pub read : feeding.read ≡ length bytes
   pub line_feeds : feeding.line_feeds ≡ line_feed_count bytes
 
+-- something is so of the logs that were fed, whatever they are, where nothing has come of one more
+abbrev pub ForLogs : Feeding → (List (List ℕ) → Type 0) → Type 0
+ForLogs feeding Holds = (logs : List (List ℕ)) → Reads feeding logs [] → Holds logs
+
 -- why no more of a log is fed, where these bytes have come of it
 abbrev pub IsFault : List (List ℕ) → List ℕ → LogFault → Type 0
 IsFault logs bytes (Wrong error) = FrontWrong logs bytes error

@@ -1,7 +1,7 @@
 ghost use Rattle.std.specs.Prelude.{◌≡◌, ◌<◌, ◌≤◌, length, ℕ, List, [], Result, MatchResult};
 ghost use Rattle.diy_io.specs.Shelf.{Idle, IsReading};
 ghost use Rattle.summed_logs.specs.Logs.{max_piece};
-ghost use Rattle.summed_logs.specs.Feeding.{Reads, ReadTo, SummedTo, ClosedTo};
+ghost use Rattle.summed_logs.specs.Feeding.{Reads, ReadTo, SummedTo, ClosedTo, ForLogs};
 ghost use Rattle.summed_logs.specs.Files.{log_seen, ModeAfter, FileTo, file_end};
 ghost use Rattle.summed_logs.specs.SumEnds.{FilesSummed};
 
@@ -39,7 +39,7 @@ fn read_file<H: Shelf>(
     requires reading { IsReading (H.seen shelf.old).mode }
     requires some { 0 < length buf.old }
     requires piece { length buf.old ≤ max_piece }
-    ensures read { (logs : List (List ℕ)) → Reads feeding.old logs [] → ReadTo (log_seen (H.seen shelf.old)) (log_seen (H.seen shelf.new)) feeding.new logs result }
+    ensures read { ForLogs feeding.old (λ logs. ReadTo (log_seen (H.seen shelf.old)) (log_seen (H.seen shelf.new)) feeding.new logs result) }
     ensures mode { ModeAfter (H.seen shelf.new).mode result }
     ensures files { (H.seen shelf.new).files ≡ (H.seen shelf.old).files }
     ensures opened { (H.seen shelf.new).opened ≡ (H.seen shelf.old).opened }
@@ -65,7 +65,7 @@ fn sum_log<H: Shelf>(feeding: &mut Feeding, shelf: &mut H, buf: &mut [u8]) -> Re
     ensures mode { ModeAfter (H.seen shelf.new).mode result }
     ensures files { (H.seen shelf.new).files ≡ (H.seen shelf.old).files }
     ensures opened { (H.seen shelf.new).opened ≡ (H.seen shelf.old).opened }
-    ensures summed { (logs : List (List ℕ)) → Reads feeding.old logs [] → SummedTo (log_seen (H.seen shelf.old)) (log_seen (H.seen shelf.new)) feeding.new logs result }
+    ensures summed { ForLogs feeding.old (λ logs. SummedTo (log_seen (H.seen shelf.old)) (log_seen (H.seen shelf.new)) feeding.new logs result) }
 {
     match read_file(feeding, shelf, buf) {
         Ok(()) => {}
@@ -86,7 +86,7 @@ fn sum_open<H: Shelf>(feeding: &mut Feeding, shelf: &mut H, buf: &mut [u8]) -> R
     ensures mode { (H.seen shelf.new).mode ≡ Idle }
     ensures files { (H.seen shelf.new).files ≡ (H.seen shelf.old).files }
     ensures opened { (H.seen shelf.new).opened ≡ (H.seen shelf.old).opened }
-    ensures summed { (logs : List (List ℕ)) → Reads feeding.old logs [] → ClosedTo (log_seen (H.seen shelf.old)) (log_seen (H.seen shelf.new)) feeding.new logs result }
+    ensures summed { ForLogs feeding.old (λ logs. ClosedTo (log_seen (H.seen shelf.old)) (log_seen (H.seen shelf.new)) feeding.new logs result) }
 {
     match sum_log(feeding, shelf, buf) {
         Ok(()) => match shelf.finish() {

@@ -1,7 +1,7 @@
 -- What the calls of the test maker give.
 -- Source: own.
-use Rattle.std.specs.Prelude.{Option, ℕ, ◌≡◌, ◌<◌, true, List, map, length, Some, None, Result, Ok, Err}
-use Rattle.std.specs.List.{All, list_all}
+use Rattle.std.specs.Prelude.{Option, ℕ, ◌≡◌, ◌<◌, true, not, List, map, length, Some, None, Result, Ok, Err}
+use Rattle.std.specs.List.{All, list_all, position_from}
 use Rattle.relax_edges.specs.declared.TheConstants.{MAX_EDGES}
 use Rattle.relax_edges.specs.declared.kinds.ObsMode.{ObsMode}
 use Rattle.relax_edges.specs.declared.edge.Edge.{Edge}
@@ -36,6 +36,10 @@ test_view test = record {
 -- all edges are of the architecture
 abbrev pub AreOfArch : Puts → List Edge → Type 0
 AreOfArch a es = list_all (λ e. is_of_arch e a.name) es ≡ true
+
+-- no edge of a cycle is foreign to the architecture
+abbrev pub NoneForeign : Puts → List Edge → Type 0
+NoneForeign a cycle = position_from (λ e. not (is_of_arch e a.name)) 0 cycle ≡ None
 
 -- a call makes the test of a resolved and valued cycle, or names the first thread that needs too many registers
 abbrev pub MakesValued : Puts → (ℕ → List ℕ) → List Edge → ObsMode → TestSeen → Result (Unit {0}) MakeRefusal → Type 0

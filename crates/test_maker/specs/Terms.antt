@@ -1,19 +1,28 @@
 -- How a test grows thread by thread.
-use Rattle.std.specs.Prelude.{ℕ, ◌≡◌, true, false, ◌+◌, List, [], ◌∷◌, ◌++◌, map, take, Some, None, Result, Ok, Err}
+use Rattle.std.specs.Prelude.{ℕ, ◌≡◌, true, false, ◌+◌, List, [], ◌∷◌, ◌++◌, map, take, slice_index_or, Some, None, Result, Ok, Err}
+use Rattle.std.specs.List.{zip}
 use Rattle.arrayvec.specs.ArrayVec.{ArrayVec}
 use Rattle.relax_edges.specs.declared.kinds.ObsMode.{ObsMode}
 use Rattle.relax_edges.specs.declared.edge.Edge.{Edge}
 use Rattle.final_cond.specs.declared.cond.Cond.{Cond}
-use Rattle.final_cond.specs.Conditions.{term_view}
+use Rattle.final_cond.specs.Conditions.{TermSeen, AtPlace, term_view}
 use Rattle.arch_trait.specs.declared.code.Code.{Code}
 use Rattle.arch_trait.specs.declared.step.Step.{Step}
 use Rattle.arch_trait.specs.Codes.{thread_of}
 use Rattle.arch_trait.specs.Threads.{Puts, compiled}
-use Rattle.test_laws.specs.Steps.{cycle_steps}
-use Rattle.test_laws.specs.TestOf.{plain, load_terms, thread_terms}
+use Rattle.test_laws.specs.Steps.{cycle_steps, numbers_read}
+use Rattle.test_laws.specs.TestOf.{plain, load_term, load_terms, thread_terms}
 use Rattle.test_maker.specs.declared.refusal.MakeRefusal.{MakeRefusal}
 use Rattle.test_maker.specs.declared.refusal.MakeRefusal.TheVariants.{TooManyRegisters}
 use Rattle.test_maker.specs.Refusals.{crowded_thread, is_crowded}
+
+-- a location ends with a value, where places have these names
+abbrev pub place_term : List (List ℕ) → ℕ → ℕ → TermSeen
+place_term places location value = record { left = AtPlace (slice_index_or places location []); value = value }
+
+-- the registers of the loads of a thread hold the numbers that its steps are to read
+abbrev pub terms_of_loads : (ℕ → List ℕ) → ℕ → List ℕ → List Step → List TermSeen
+terms_of_loads register_name thread loads steps = map (load_term register_name thread) (zip loads (numbers_read steps))
 
 -- a call makes the code of a thread and appends the terms of its loads, or refuses the thread for its registers
 abbrev pub PutsCode : Puts → (ℕ → List ℕ) → ℕ → List Step → Code → Cond → Cond → Result (Unit {0}) MakeRefusal → Type 0

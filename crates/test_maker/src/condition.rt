@@ -1,14 +1,14 @@
-ghost use Rattle.std.specs.Prelude.{◌≡◌, ◌<◌, ◌≤◌, ◌+◌, ◌++◌, ◌∷◌, [], length, map, slice_index_or};
-ghost use Rattle.std.specs.List.{zip};
+ghost use Rattle.std.specs.Prelude.{◌≡◌, ◌<◌, ◌≤◌, ◌+◌, ◌++◌, ◌∷◌, [], length, map};
 ghost use Rattle.arrayvec.specs.ArrayVec.{array_vec_len};
 ghost use Rattle.final_cond.specs.declared.cond.Quantifier.TheVariants.{Exists};
-ghost use Rattle.final_cond.specs.Conditions.{term_view, AtPlace};
+ghost use Rattle.final_cond.specs.Conditions.{term_view};
 ghost use Rattle.resolution_laws.specs.Resolution.{move_count};
 ghost use Rattle.arch_trait.specs.Names.{letters};
 ghost use Rattle.arch_trait.specs.Writing.{name_in};
 ghost use Rattle.test_laws.specs.Steps.{numbers_read};
 ghost use Rattle.test_laws.specs.TestOf.{is_named, last_terms, load_term};
 ghost use Rattle.arch_trait.specs.Codes.{AllBelow};
+ghost use Rattle.test_maker.specs.Terms.{place_term, terms_of_loads};
 
 use arch_trait::{Arch, Places, Step};
 use arrayvec::ArrayVec;
@@ -53,7 +53,7 @@ fn is_named(valued: &Valued, location: u8) -> bool
 fn push_last_term(places: &Places, location: u8, writes: u8, terms: &mut Terms)
     requires place { location < length places.now }
     requires room { array_vec_len terms.old < MAX_TERMS }
-    ensures { map term_view terms.new.items ≡ map term_view terms.old.items ++ record { left = AtPlace (slice_index_or places.now location []); value = writes } ∷ [] }
+    ensures { map term_view terms.new.items ≡ map term_view terms.old.items ++ place_term places.now location writes ∷ [] }
 {
     let mut name = PlaceName::new();
     name.push_str(places.get(location).as_str());
@@ -68,7 +68,7 @@ pub fn put_load_terms<A: Arch>(thread: u8, steps: &[Step], loads: &[u8], terms: 
     requires loads { length loads.now ≡ length (numbers_read steps.now) }
     requires registers { AllBelow A.puts.registers loads.now }
     requires room { array_vec_len terms.old + length loads.now ≤ MAX_TERMS }
-    ensures { map term_view terms.new.items ≡ map term_view terms.old.items ++ map (load_term (name_in A.writing.registers) thread) (zip loads.now (numbers_read steps.now)) }
+    ensures { map term_view terms.new.items ≡ map term_view terms.old.items ++ terms_of_loads (name_in A.writing.registers) thread loads.now steps.now }
 {
     let mut left = loads;
     for step in steps {

@@ -8,11 +8,18 @@ use Rattle.resolution_laws.specs.Resolution.{external_count, move_count, thread_
 use Rattle.value_laws.specs.Values.{write_count}
 use Rattle.arch_trait.specs.Names.{location_name}
 use Rattle.litmus_text.specs.Placing.{place_in}
+use Rattle.diy_io.specs.Sink.{written_told}
+use Rattle.diy_io.specs.Wrote.{SinkSeen}
 use Rattle.program_meaning.specs.declared.WriteAt.{WriteAt}
 use Rattle.program_meaning.specs.Accesses.{is_read}
 use Rattle.program_meaning.specs.Executions.{Execution}
 use Rattle.program_meaning.specs.Intended.{event_access, event_read, location_numbered, reads_in, write_of}
 use Rattle.communication.specs.Exchange.{exchanged_value}
+use Rattle.two_runs.specs.declared.sink.TextSink.{TextSink}
+
+-- a text in memory, as a sink
+abbrev pub text_sink_seen : TextSink → SinkSeen
+text_sink_seen sink = record { told = written_told sink.bytes.items; faults = sink.faults }
 
 -- the numbers of the locations' places, where places have these names
 abbrev pub numbers_by : List (List ℕ) → ℕ → ℕ
@@ -26,9 +33,13 @@ appended lists k xs = slice_set lists k (unwrap_or (slice_get lists k) [] ++ xs)
 abbrev pub is_read_of : List Edge → ℕ → ℕ → Bool
 is_read_of es thread i = is_read (event_access es (λ location. location) i) && (thread_of es i == thread)
 
+-- what the reads of a thread read
+abbrev pub thread_reads : List Edge → ℕ → List (ℕ × Option WriteAt)
+thread_reads es thread = map (event_read es) (reads_in es thread)
+
 -- what the reads of the cycle's threads read
 abbrev pub cycle_reads : List Edge → List (List (ℕ × Option WriteAt))
-cycle_reads es = map (λ thread. map (event_read es) (reads_in es thread)) (upto (external_count es))
+cycle_reads es = map (thread_reads es) (upto (external_count es))
 
 -- the value whose write stands where the write of a value would, if a write and the one before it are exchanged, or none are
 abbrev pub value_there : List Edge → Option ℕ → ℕ → ℕ → ℕ

@@ -1,6 +1,6 @@
 ghost use Rattle.std.specs.Prelude.{◌≡◌, []};
-ghost use Rattle.diy_io.specs.Sink.{written_told};
 ghost use Rattle.diy_io.specs.Wrote.{Wrote};
+ghost use Rattle.two_runs.specs.Runs.{text_sink_seen};
 
 use diy_io::{Failed, Sink};
 use std::alloc::Global;
@@ -25,11 +25,11 @@ impl TextSink {
 
 #[tactic(auto, using(diy_io::specs::SinkLaws::written_grew, diy_io::specs::SinkLaws::prefix_nothing))]
 impl Sink for TextSink {
-    ghost seen = { λ sink. record { told = written_told sink.bytes.items; faults = sink.faults } };
+    ghost seen = { text_sink_seen };
 
     /// Where there is no memory for all bytes, it takes none of them.
     fn write_all(&mut self, bytes: &[u8]) -> Result<(), Failed>
-        ensures { Wrote (record { told = written_told self.old.bytes.items; faults = self.old.faults }) (record { told = written_told self.new.bytes.items; faults = self.new.faults }) bytes.now result }
+        ensures { Wrote (text_sink_seen self.old) (text_sink_seen self.new) bytes.now result }
     {
         match self.bytes.extend_from_slice(bytes) {
             Ok(()) => Ok(()),

@@ -1,7 +1,7 @@
 -- The arcs of the locations of a resolved cycle, the values of its events, and the locations that have an observer. `es`
 -- is the list of edges in which threads and locations are counted. Source: the diy part of the herdtools manual (values
 -- along the coherence order, observers); which locations are observed in which mode is own.
-use Rattle.std.specs.Prelude.{ℕ, ◌+◌, Bool, false, not, ◌==◌, ◌&&◌, nat_lt, nat_le, if◌then◌else◌, List, [], ◌∷◌, ◌++◌, length, count_by, Option, Some, None, Result, Ok, Err}
+use Rattle.std.specs.Prelude.{ℕ, ◌+◌, Bool, false, not, ◌==◌, ◌&&◌, nat_lt, nat_le, if◌then◌else◌, List, [], ◌∷◌, ◌++◌, length, take, count_by, Option, Some, None, Result, Ok, Err}
 use Rattle.std.specs.List.{filter, find, list_any, filter_map}
 use Rattle.std.specs.Option.{option_map, option_or}
 use Rattle.relax_edges.specs.declared.kinds.Dir.TheVariants as dirs
@@ -28,6 +28,18 @@ way es = filter (is_behind_moves es) (upto (length es)) ++ filter (λ i. not (is
 -- the arc of a location: its events, in the order in which they stand on that way
 unfoldable pub arc : List Edge → ℕ → List ℕ
 arc es location = filter (λ i. location_of es i == location) (way es)
+
+-- the arc that event i is on
+abbrev pub arc_of : List Edge → ℕ → List ℕ
+arc_of es i = arc es (location_of es i)
+
+-- there is an event i, and it is at the location
+abbrev pub is_event_at : List Edge → ℕ → ℕ → Bool
+is_event_at es location i = nat_lt i (length es) && (location_of es i == location)
+
+-- how many writes some events have up to number k of them and with it
+abbrev pub writes_to : List Edge → List ℕ → ℕ → ℕ
+writes_to es events k = count_by (is_write es) (take (k + 1) events)
 
 -- event i is a write at the location
 abbrev pub is_write_at : List Edge → ℕ → ℕ → Bool

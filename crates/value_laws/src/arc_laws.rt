@@ -1,15 +1,15 @@
 //! The laws of arcs: each function does nothing, and its contract is the law.
-ghost use Rattle.std.specs.Prelude.{◌≡◌, ℕ, ◌+◌, ◌<◌, ◌==◌, ◌&&◌, nat_lt, if◌then◌else◌, List, length, take, count_by, Some};
+ghost use Rattle.std.specs.Prelude.{◌≡◌, ℕ, ◌<◌, ◌==◌, if◌then◌else◌, List, count_by, Some};
 ghost use Rattle.std.specs.List.{AllPairs, filter, flat_map, slice_get};
 ghost use Rattle.relax_edges.specs.declared.edge.Edge.{Edge};
 ghost use Rattle.list_laws.specs.Numbers.{upto};
-ghost use Rattle.resolution_laws.specs.Resolution.{move_count, location_of, IsResolved};
-ghost use Rattle.value_laws.specs.Values.{is_write, way, arc, way_place, value_of, write_at};
+ghost use Rattle.resolution_laws.specs.Resolution.{move_count, IsResolved};
+ghost use Rattle.value_laws.specs.Values.{is_write, way, arc, way_place, value_of, write_at, arc_of, is_event_at, writes_to};
 
 /// The arc of a location has the events of the location, each once, and nothing else.
 #[tactic(auto, using(crate::proofs::Arcs::arc_events))]
 pub fn arcs_have_their_events()
-    ensures { (es : List Edge) → (location i : ℕ) → count_by (λ j. j == i) (arc es location) ≡ (if nat_lt i (length es) && (location_of es i == location) then 1 else 0) }
+    ensures { (es : List Edge) → (location i : ℕ) → count_by (λ j. j == i) (arc es location) ≡ (if is_event_at es location i then 1 else 0) }
 {}
 
 /// The way round a resolved cycle is the arcs of all locations, one behind the other.
@@ -27,7 +27,7 @@ pub fn places_grow_along_arcs()
 /// The value of an event is the number of writes that its arc has up to it and with it.
 #[tactic(auto, using(crate::proofs::Arcs::value_on_arc))]
 pub fn values_count_writes_along_arcs()
-    ensures { (es : List Edge) → (i k : ℕ) → slice_get (arc es (location_of es i)) k ≡ Some i → value_of es i ≡ count_by (is_write es) (take (k + 1) (arc es (location_of es i))) }
+    ensures { (es : List Edge) → (i k : ℕ) → slice_get (arc_of es i) k ≡ Some i → value_of es i ≡ writes_to es (arc_of es i) k }
 {}
 
 /// The writes of a location are those of its arc, in the order of the arc.

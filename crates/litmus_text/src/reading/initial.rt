@@ -1,10 +1,9 @@
 ghost use Rattle.std.specs.Prelude.{◌≡◌, ◌<◌, ◌+◌, ◌^◌, true, length, option_map, IfSome, IfOk};
 ghost use Rattle.text_laws.specs.Names.{is_place_name};
-ghost use Rattle.arch_trait.specs.Names.{number_added};
 ghost use Rattle.litmus_text.specs.Gives.{GivesInMemory};
 ghost use Rattle.litmus_text.specs.Cuts.{pieces};
-ghost use Rattle.litmus_text.specs.InitialState.{nothing_begun, is_given, with_worth, with_named, item_put, item_read, items_read, but_last, braced, braced_read, initial_read};
-ghost use Rattle.litmus_text.specs.Views.{text_left, joined_seen, begun_seen, worth_seen, worth_formed, item_seen, item_formed, braced_seen};
+ghost use Rattle.litmus_text.specs.InitialState.{nothing_begun, is_given, with_worth, name_put, item_put, item_read, but_last, braced, braced_read, initial_read};
+ghost use Rattle.litmus_text.specs.Views.{text_left, joined_seen, pieces_read, begun_seen, worth_seen, worth_formed, item_seen, item_formed, braced_seen};
 
 use crate::errors::{ReadError, TestKind, bad};
 use crate::reading::items::{Item, Worth, item_of};
@@ -70,7 +69,7 @@ impl Begun {
     /// Names a place, which stands at a line.
     fn name(&mut self, line: u64, name: &PlaceName) -> Result<(), ReadError>
         requires { is_place_name name.now.bytes ≡ true }
-        ensures { GivesInMemory (λ _. begun_seen self.new) result (with_named line (begun_seen self.old) name.now.bytes (number_added self.old.names name.now.bytes)) }
+        ensures { GivesInMemory (λ _. begun_seen self.new) result (name_put line (begun_seen self.old) name.now.bytes) }
     {
         match self.names.add_bytes(name.as_str().as_bytes()) {
             Some(_) => Ok(()),
@@ -121,7 +120,7 @@ fn read_item<A: Arch>(
 
 /// Reads the items of a text that a `}` ends.
 fn read_items<A: Arch>(joined: &Joined, begun: &mut Begun) -> Result<(), ReadError>
-    ensures { GivesInMemory (λ _. begun_seen begun.new) result (items_read A.writing (joined_seen joined.now) 0 (pieces 59 joined.now.bytes.items) (begun_seen begun.old)) }
+    ensures { GivesInMemory (λ _. begun_seen begun.new) result (pieces_read A.writing joined.now (pieces 59 joined.now.bytes.items) begun.old) }
 {
     let mut i = 0;
     let mut rest = joined.bytes.as_slice();
@@ -139,7 +138,7 @@ fn read_items<A: Arch>(joined: &Joined, begun: &mut Begun) -> Result<(), ReadErr
 
 /// Reads the items of a text that no `}` ends: those that a `;` ends.
 fn read_ended_items<A: Arch>(joined: &Joined, begun: &mut Begun) -> Result<(), ReadError>
-    ensures { GivesInMemory (λ _. begun_seen begun.new) result (items_read A.writing (joined_seen joined.now) 0 (but_last (pieces 59 joined.now.bytes.items)) (begun_seen begun.old)) }
+    ensures { GivesInMemory (λ _. begun_seen begun.new) result (pieces_read A.writing joined.now (but_last (pieces 59 joined.now.bytes.items)) begun.old) }
 {
     let mut i = 0;
     let mut rest = joined.bytes.as_slice();

@@ -1,9 +1,8 @@
-ghost use Rattle.std.specs.Prelude.{◌≡◌, ℕ, List, [], map, length, count_by, IfOk};
-ghost use Rattle.arch_trait.specs.Writing.{Writing};
+ghost use Rattle.std.specs.Prelude.{◌≡◌, map, length, count_by, IfOk};
 ghost use Rattle.arch_trait.specs.Cells.{is_access, ends_rows};
-ghost use Rattle.litmus_text.specs.Gives.{Gives, GivesInMemory};
-ghost use Rattle.litmus_text.specs.Table.{among, no_columns, has_room, instr_in, instr_or_nothing, cell_read, row_read, rows_read, after_locations};
-ghost use Rattle.litmus_text.specs.Views.{text_left, pieces_left, cells_seen, column_seen};
+ghost use Rattle.litmus_text.specs.Gives.{GivesInMemory};
+ghost use Rattle.litmus_text.specs.Table.{no_columns, has_room, instr_in, instr_or_nothing, cell_read, rows_read, after_locations};
+ghost use Rattle.litmus_text.specs.Views.{text_left, pieces_left, cells_read, column_among, columns_among, columns_before, column_seen, EndsRow};
 
 use crate::errors::{ReadError, TestKind, TextError, bad};
 use crate::limits::{MAX_ACCESSES, MAX_ROWS};
@@ -66,7 +65,7 @@ fn read_instr<A: Arch>(
     names: &mut Places,
     column: &mut Column,
 ) -> Result<(), ReadError>
-    ensures { GivesInMemory (λ _. among names.new (column_seen column.new)) result (instr_in A.writing number text.now (among names.old (column_seen column.old))) }
+    ensures { GivesInMemory (λ _. column_among names.new column.new) result (instr_in A.writing number text.now (column_among names.old column.old)) }
 {
     match read_cell::<A>(text, names, &mut column.labels) {
         Ok(op) => {
@@ -95,7 +94,7 @@ fn read_instr_or_nothing<A: Arch>(
     names: &mut Places,
     column: &mut Column,
 ) -> Result<(), ReadError>
-    ensures { GivesInMemory (λ _. among names.new (column_seen column.new)) result (instr_or_nothing A.writing number text.now (among names.old (column_seen column.old))) }
+    ensures { GivesInMemory (λ _. column_among names.new column.new) result (instr_or_nothing A.writing number text.now (column_among names.old column.old)) }
 {
     if trimmed(text).is_empty() {
         return Ok(());
@@ -111,7 +110,7 @@ fn read_one_cell<A: Arch>(
     names: &mut Places,
     column: &mut Column,
 ) -> Result<(), ReadError>
-    ensures { GivesInMemory (λ _. among names.new (column_seen column.new)) result (cell_read A.writing number text.now (among names.old (column_seen column.old))) }
+    ensures { GivesInMemory (λ _. column_among names.new column.new) result (cell_read A.writing number text.now (column_among names.old column.old)) }
 {
     match cut(b':', text) {
         None => read_instr_or_nothing::<A>(number, text, names, column),
@@ -125,7 +124,7 @@ fn read_one_cell<A: Arch>(
 /// Judges the end of a row behind its last column: no cell is left, and the row is whole.
 #[tactic(auto, unfolding(crate::specs::Table::row_read))]
 fn judge_end(number: u64, pieces: Pieces<'_>, is_whole: bool) -> Result<(), TextError>
-    ensures { (w : Writing) → (names : List (List ℕ)) → Gives (λ _. among names []) result (row_read w number is_whole (pieces_left pieces.entry) names []) }
+    ensures { EndsRow number is_whole (pieces_left pieces.entry) result }
 {
     if let Some(_) = pieces.first() {
         return Err(bad(TestKind::BadTable, number));
@@ -144,7 +143,7 @@ fn read_row<A: Arch>(
     names: &mut Places,
     columns: &mut [Column],
 ) -> Result<(), ReadError>
-    ensures { GivesInMemory (λ _. among names.new (map column_seen columns.new)) result (row_read A.writing number (cells_seen cells.entry).whole (cells_seen cells.entry).texts names.old (map column_seen columns.old)) }
+    ensures { GivesInMemory (λ _. columns_among names.new columns.new) result (cells_read A.writing number cells.entry names.old columns.old) }
 {
     let mut pieces = cells.pieces;
     for i in 0..columns.len() {
@@ -176,7 +175,7 @@ pub(crate) fn read_rows<'a, A: Arch>(
     names: &mut Places,
     columns: &mut [Column],
 ) -> Result<Text<'a>, ReadError>
-    ensures { GivesInMemory (λ rest. (among names.new (map column_seen columns.new), text_left rest)) result (rows_read A.writing 0 (among names.old (map column_seen columns.old)) (text_left text.entry)) }
+    ensures { GivesInMemory (columns_before names.new columns.new) result (rows_read A.writing 0 (columns_among names.old columns.old) (text_left text.entry)) }
 {
     let mut left = text;
     let mut rows = 0;

@@ -1,10 +1,9 @@
-ghost use Rattle.std.specs.Prelude.{◌≡◌, [], true, map};
-ghost use Rattle.final_cond.specs.Conditions.{AtPlace, left_view, term_view};
+ghost use Rattle.std.specs.Prelude.{◌≡◌, [], true};
+ghost use Rattle.final_cond.specs.Conditions.{AtPlace, left_view};
 ghost use Rattle.final_cond.specs.Reading.{has_form};
-ghost use Rattle.arch_trait.specs.Names.{number_added};
 ghost use Rattle.litmus_text.specs.Gives.{Gives};
-ghost use Rattle.litmus_text.specs.Condition.{place_put, left_put, line_of_rest, term_here, terms_here};
-ghost use Rattle.litmus_text.specs.Views.{setting_seen, mentioned_seen, term_read_seen, terms_read_seen};
+ghost use Rattle.litmus_text.specs.Condition.{name_put, left_put, line_of_rest, term_here};
+ghost use Rattle.litmus_text.specs.Views.{setting_seen, mentioned_seen, term_read_seen, all_terms_seen, terms_from, GivesMentioned};
 
 use crate::errors::{TestKind, TextError, bad};
 use crate::reading::joined::Joined;
@@ -46,7 +45,7 @@ fn put_place(
     mentioned: &mut Mentioned,
 ) -> Result<(), TextError>
     requires { has_form (AtPlace name.now.bytes) ≡ true }
-    ensures { Gives (λ _. mentioned_seen mentioned.new) result (place_put begins line (mentioned_seen mentioned.old) name.now.bytes (number_added mentioned.old.names name.now.bytes)) }
+    ensures { GivesMentioned mentioned.new result (name_put begins line (mentioned_seen mentioned.old) name.now.bytes) }
 {
     if mentioned
         .names
@@ -72,7 +71,7 @@ fn put_left<A: Arch>(
     mentioned: &mut Mentioned,
 ) -> Result<(), TextError>
     requires { has_form (left_view left.now) ≡ true }
-    ensures { Gives (λ _. mentioned_seen mentioned.new) result (left_put A.writing (setting_seen here.now) line (mentioned_seen mentioned.old) (left_view left.now)) }
+    ensures { GivesMentioned mentioned.new result (left_put A.writing (setting_seen here.now) line (mentioned_seen mentioned.old) (left_view left.now)) }
 {
     match left {
         Left::Register { thread, name } => {
@@ -121,7 +120,7 @@ pub(crate) fn read_terms<'a, A: Arch>(
     terms: &mut ArrayVec<Term, MAX_TERMS>,
 ) -> Result<&'a [u8], TextError>
     requires { terms.old.items ≡ [] }
-    ensures { Gives (λ rest. terms_read_seen (map term_view terms.new.items) mentioned.new rest.now) result (terms_here A.writing (setting_seen here.now) MAX_TERMS (mentioned_seen mentioned.old) text.now) }
+    ensures { Gives (all_terms_seen terms.new.items mentioned.new) result (terms_from A.writing here.now mentioned.old text.now) }
 {
     let mut rest = text;
     'terms: loop {

@@ -1,9 +1,8 @@
-ghost use Rattle.std.specs.Prelude.{◌≡◌, ◌≤◌, [], map, length, option_map, IfOk};
-ghost use Rattle.final_cond.specs.Conditions.{cond_view};
+ghost use Rattle.std.specs.Prelude.{◌≡◌, ◌≤◌, map, length, option_map, IfOk};
 ghost use Rattle.litmus_text.specs.Gives.{Gives, GivesInMemory};
 ghost use Rattle.litmus_text.specs.Runnable.{IsRunnable, NamesRegisters, AllNameRegisters, AllRunnable, ops_in};
 ghost use Rattle.litmus_text.specs.TestReading.{values_of, threads_of, lines_read, test_read, arch_in_text};
-ghost use Rattle.litmus_text.specs.Views.{rest_read, table_read, body_read, text_left, begun_seen, column_seen};
+ghost use Rattle.litmus_text.specs.Views.{rest_of, table_of, body_of, test_of_parts, only_values, text_left, column_seen};
 
 use crate::errors::{ReadError, TestKind, TextError, bad};
 use crate::limits::{MAX_TEXT, MAX_THREADS};
@@ -81,7 +80,7 @@ fn threads_of(
     requires few { length columns.now ≤ MAX_THREADS }
     requires registers { AllNameRegisters values.now }
     requires runnable { AllRunnable (map column_seen columns.now) }
-    ensures threads { IfOk result (λ threads. threads.items ≡ threads_of (record { names = []; values = values.now }) (map column_seen columns.now)) }
+    ensures threads { IfOk result (λ threads. threads.items ≡ threads_of (only_values values.now) (map column_seen columns.now)) }
     ensures count { IfOk result (λ threads. length threads.items ≡ length columns.now) }
 {
     let mut threads = Vec::new(alloc);
@@ -113,7 +112,7 @@ fn test_of<A: Arch>(
     requires few { length columns.now ≤ MAX_THREADS }
     requires registers { AllNameRegisters values.now }
     requires runnable { AllRunnable (map column_seen columns.now) }
-    ensures { IfOk result (λ t. t ≡ record { name = name.now; quoted = option_map (λ x. x.now) quoted.entry; places = places; threads = threads_of (record { names = []; values = values.now }) (map column_seen columns.now); cond = cond_view cond }) }
+    ensures { IfOk result (λ t. t ≡ test_of_parts name.now quoted.entry values.now columns.now cond places) }
 {
     let name = Vec::from_slice(alloc, name)?;
     let quoted = quoted_of(alloc, quoted)?;
@@ -141,7 +140,7 @@ fn read_rest<A: Arch>(
     requires few { length columns.now ≤ MAX_THREADS }
     requires registers { AllNameRegisters values.now }
     requires runnable { AllRunnable (map column_seen columns.now) }
-    ensures { GivesInMemory (λ test. test) result (rest_read A.writing head.entry.0.now (option_map (λ x. x.now) head.entry.1) (record { names = []; values = values.now }) (map column_seen columns.now) (length columns.now) names (text_left text.entry)) }
+    ensures { GivesInMemory (λ test. test) result (rest_of A.writing head.entry values.now columns.now names text.entry) }
 {
     let (name, quoted) = head;
     let text = after_locations(text);
@@ -161,7 +160,7 @@ fn read_table<A: Arch>(
 ) -> Result<ReadTest<A>, ReadError>
     requires few { threads ≤ MAX_THREADS }
     requires registers { AllNameRegisters begun.values.items }
-    ensures { GivesInMemory (λ test. test) result (table_read A.writing head.entry.0.now (option_map (λ x. x.now) head.entry.1) (begun_seen begun) threads (text_left text.entry)) }
+    ensures { GivesInMemory (λ test. test) result (table_of A.writing head.entry begun threads text.entry) }
 {
     let Begun { mut names, values } = begun;
     let mut columns = no_columns(alloc, threads)?;
@@ -177,7 +176,7 @@ fn read_body<A: Arch>(
     head: (&[u8], Option<&[u8]>),
     text: Text<'_>,
 ) -> Result<ReadTest<A>, ReadError>
-    ensures { GivesInMemory (λ test. test) result (body_read A.writing head.entry.0.now (option_map (λ x. x.now) head.entry.1) (text_left text.entry)) }
+    ensures { GivesInMemory (λ test. test) result (body_of A.writing head.entry text.entry) }
 {
     let mut begun = Begun::new(alloc);
     let text = read_initial::<A>(alloc, text, &mut begun)?;
