@@ -4,8 +4,7 @@ use Rattle.std.specs.Prelude.{Option, map, Ok, Err}
 use Rattle.std.proofs.lemmas.List.{take_all}
 use Rattle.diy_io.specs.Count.{Rose}
 use Rattle.diy_io.specs.Shelf.{Files, ShelfSeen}
-use Rattle.diy_io.specs.Wrote.{SinkSeen, Wrote}
-use Rattle.diy_io.specs.declared.errors.Failed.{Failed}
+use Rattle.diy_io.specs.Wrote.{SinkSeen}
 use Rattle.file_laws.specs.Opened.{IsFile, TookFiles, name_at}
 use Rattle.file_laws.proofs.NameLaws.{absent_before, file_before}
 use Rattle.file_laws.proofs.OpenedLaws.{took_no_more, took_one_more}
@@ -18,7 +17,7 @@ use Rattle.test_files.proofs.FileLaws.{failed_after}
 use Rattle.classified_files.specs.declared.errors.CycleFault.{CycleFault}
 use Rattle.classified_files.specs.declared.errors.CycleFault.TheVariants.{Missing, Device, Text}
 use Rattle.classified_files.specs.declared.errors.TextFault.TheVariants.{Wrong, NoMemory}
-use Rattle.classified_files.specs.FilesEnds.{Asked, said_on, AreNamed, SayCycles, ReadFiles, AllRead, FilesWritten, FilesUnwritten, IsAtPlace, FilesClassified}
+use Rattle.classified_files.specs.FilesEnds.{Asked, said_on, AreNamed, SayCycles, ReadFiles, AllRead, FilesSaid, IsAtPlace, FilesClassified}
 use Rattle.classified_files.specs.Read.{CycleTo, file_end}
 
 -- the files of the first places were read, and the names of their cycles are kept
@@ -150,22 +149,12 @@ all_read asked old new words places i families all s = record {
   no_fault = s.no_fault;
 }
 
--- and the families of their cycles are written
-pub files_written : (asked : Asked) (old new : ShelfSeen) (words : List (List ℕ)) (places : List ℕ) (i : ℕ) (families : List Entry) (a b : SinkSeen) (u : Unit {0})
+-- and this is done with the text of their families
+pub files_said : (asked : Asked) (old new : ShelfSeen) (words : List (List ℕ)) (places : List ℕ) (i : ℕ) (families : List Entry) (done : List ℕ → Type 0)
     → length places ≤ i → FilesSoFar asked old new words (take i places) families
-    → ((cycles : List (List Edge)) → Holds families cycles → Wrote a b (families_text cycles) (Ok u)) → FilesWritten asked old new words places a b
-files_written asked old new words places i families a b u all s wrote = record {
+    → ((cycles : List (List Edge)) → Holds families cycles → done (families_text cycles)) → FilesSaid asked old new words places done
+files_said asked old new words places i families done all s wrote = record {
   cycles = s.cycles;
   read = all_read asked old new words places i families all s;
-  wrote = (wrote s.cycles s.holds).ok;
-}
-
--- or a prefix of them
-pub files_unwritten : (asked : Asked) (old new : ShelfSeen) (words : List (List ℕ)) (places : List ℕ) (i : ℕ) (families : List Entry) (a b : SinkSeen) (e : Failed)
-    → length places ≤ i → FilesSoFar asked old new words (take i places) families
-    → ((cycles : List (List Edge)) → Holds families cycles → Wrote a b (families_text cycles) (Err e)) → FilesUnwritten asked old new words places a b
-files_unwritten asked old new words places i families a b e all s wrote = record {
-  cycles = s.cycles;
-  read = all_read asked old new words places i families all s;
-  wrote = (wrote s.cycles s.holds).failed;
+  wrote = wrote s.cycles s.holds;
 }

@@ -48,17 +48,11 @@ pub record AllRead (asked : Asked) (old new : ShelfSeen) (words : List (List ℕ
   pub took : TookFiles old new texts
   pub no_fault : new.faults ≡ old.faults
 
--- their families were written
-pub record FilesWritten (asked : Asked) (old new : ShelfSeen) (words : List (List ℕ)) (places : List ℕ) (out_old out_new : SinkSeen) : Type 0 where
+-- the files were read so, and this was done with the text of their families
+pub record FilesSaid (asked : Asked) (old new : ShelfSeen) (words : List (List ℕ)) (places : List ℕ) (done : List ℕ → Type 0) : Type 0 where
   pub cycles : List (List Edge)
   pub read : AllRead asked old new words places cycles
-  pub wrote : WroteAll out_old out_new (families_text cycles)
-
--- a prefix of that was written
-pub record FilesUnwritten (asked : Asked) (old new : ShelfSeen) (words : List (List ℕ)) (places : List ℕ) (out_old out_new : SinkSeen) : Type 0 where
-  pub cycles : List (List Edge)
-  pub read : AllRead asked old new words places cycles
-  pub wrote : WrotePart out_old out_new (families_text cycles)
+  pub wrote : done (families_text cycles)
 
 -- the files of the places before this one have these texts, and each says a cycle
 pub record IsAtPlace (asked : Asked) (files : Option Files) (words : List (List ℕ)) (places : List ℕ) (place : ℕ) (texts : List (List ℕ)) : Type 0 where
@@ -99,8 +93,8 @@ error_at line kind = record { line = line; kind = kind }
 
 -- how the classifying of the files of the words at these places ended
 abbrev pub FilesClassified : Asked → ShelfSeen → ShelfSeen → List (List ℕ) → List ℕ → SinkSeen → SinkSeen → FilesEnd → Type 0
-FilesClassified asked old new words places out_old out_new ends.Done = FilesWritten asked old new words places out_old out_new
-FilesClassified asked old new words places out_old out_new ends.OutFault = FilesUnwritten asked old new words places out_old out_new
+FilesClassified asked old new words places out_old out_new ends.Done = FilesSaid asked old new words places (WroteAll out_old out_new)
+FilesClassified asked old new words places out_old out_new ends.OutFault = FilesSaid asked old new words places (WrotePart out_old out_new)
 FilesClassified asked old new words places out_old out_new (ends.Wrong file line kind) =
     FileWrong asked old new words places file (error_at line kind) × (out_new ≡ out_old)
 FilesClassified asked old new words places out_old out_new (ends.NoFile word) = FileMissing asked old new words places word × (out_new ≡ out_old)

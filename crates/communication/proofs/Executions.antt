@@ -2,7 +2,15 @@
 use Rattle.std.proofs.Common.{◌≡◌, ℕ, zero, suc, ◌<◌, ◌≤◌, List, [], ◌∷◌, length, Some, None, refl, sym, ap, subst, arith, ◌∙◌, slice_get}
 use Rattle.relax_edges.specs.declared.kinds.Value.TheVariants.{Num, Place}
 use Rattle.relax_edges.specs.declared.kinds.Mark.TheVariants.{Plain, Acquire}
+use Rattle.relax_edges.specs.declared.kinds.Dir.{Dir}
+use Rattle.relax_edges.specs.declared.kinds.Dir.TheVariants as dirs
+use Rattle.relax_edges.specs.declared.kinds.Sd.TheVariants.{Diff}
+use Rattle.relax_edges.specs.declared.kinds.Reach.TheVariants.{External}
+use Rattle.relax_edges.specs.declared.kinds.Com.{Com}
+use Rattle.relax_edges.specs.declared.kinds.Com.TheVariants as coms
 use Rattle.relax_edges.specs.declared.edge.Edge.{Edge}
+use Rattle.relax_edges.specs.declared.edge.Edge.TheVariants as edges
+use Rattle.relax_edges.specs.EdgeTable.{source_of, target_of}
 use Rattle.micro_ops.specs.declared.operation.Micro.TheVariants as ops
 use Rattle.micro_ops.specs.declared.operation.Item.{Item}
 use Rattle.resolution_laws.specs.Resolution.{edge_at, thread_of, slot_of, event_after, events_in}
@@ -10,16 +18,18 @@ use Rattle.program_meaning.specs.Accesses.{Access, Visit, read, write, at_name, 
 use Rattle.program_meaning.specs.Executions.{Execution}
 use Rattle.program_meaning.specs.Coherence.{final_value}
 use Rattle.program_meaning.specs.Programs.{Program, IsCandidate, IsCoherentIn, accesses_in, items_in, register_in, visits_in}
-use Rattle.program_meaning.specs.Standing.{Named, AllStand, HasEvents, IsEvent, Stands, StartsFree, Observes, event_name}
+use Rattle.program_meaning.specs.declared.WriteAt.{WriteAt}
+use Rattle.program_meaning.specs.Standing.{Named, AllStand, Communicates, HasEvents, IsEvent, Stands, StartsFree, Observes, event_name}
 use Rattle.communication.proofs.Examples.{store_buffering, two_writes, W3O, name}
 use Rattle.communication.proofs.Decided.{some_is, candidate_means, coheres_means}
 
--- an access without a barrier or a dependency, by the name of event i
+-- an access without a barrier or a dependency
+abbrev plain : Access → Visit
+plain access = record { barriers = []; access = access; mark = Plain; address_mask = 0; data_mask = 0; control_mask = 0 }
+
+-- and by the name of event i
 abbrev free : List Edge → ℕ → Access → Named
-free es i access = record {
-  name = event_name es i;
-  visit = record { barriers = []; access = access; mark = Plain; address_mask = 0; data_mask = 0; control_mask = 0 };
-}
+free es i access = record { name = event_name es i; visit = plain access }
 
 -- the edge that leaves event i doesn't stand, though both its events are there
 record Fails (es : List Edge) (p : Program) (x : Execution) (i : ℕ) : Type 0 where
@@ -47,6 +57,98 @@ stands_at : (es : List Edge) (p : Program) (x : Execution) (i j : ℕ) (e f : Na
 stands_at es p x i j e f a b c d g h stands =
     subst (λ u. Stands (accesses_in p x) x (edge_at es i) u f) (event_is es (visits_in p x) i e a c g)
     (subst (λ u. Stands (accesses_in p x) x (edge_at es i) (free es i a) u) (event_is es (visits_in p x) j f b d h) stands)
+
+-- a cycle of two threads, each of which writes to one place and then accesses the other in direction d
+abbrev square : Dir → Com → List Edge
+square d c = edges.Po Diff dirs.W d ∷ edges.Com c External ∷ edges.Po Diff dirs.W d ∷ edges.Com c External ∷ []
+
+abbrev access_to : Dir → ℕ → ℕ → Access
+access_to d place value = record { dir = d; place = place; value = value }
+
+-- its accesses, with values u and v
+abbrev square_visits : Dir → ℕ → ℕ → List (List Visit)
+square_visits d u v = (plain (write 0 u) ∷ plain (access_to d 1 v) ∷ []) ∷ (plain (write 1 u) ∷ plain (access_to d 0 v) ∷ []) ∷ []
+
+-- a program makes these accesses, and what the cycle communicates is there
+record IsSquare (d : Dir) (c : Com) (u v : ℕ) (p : Program) (x : Execution) : Type 0 where
+  threads : 2 ≤ length p.threads
+  visits : visits_in p x ≡ square_visits d u v
+  ends : (k : ℕ) (made : List Item) → slice_get (items_in p x) k ≡ Some made → barriers_behind [] made ≡ []
+  leaves : source_of (edges.Com c External) ≡ d
+  enters : target_of (edges.Com c External) ≡ dirs.W
+  goes : Communicates c (accesses_in p x) x (record { name = name 0 1; access = access_to d 1 v }) (record { name = name 1 0; access = write 1 u })
+  returns : Communicates c (accesses_in p x) x (record { name = name 1 1; access = access_to d 0 v }) (record { name = name 0 0; access = write 0 u })
+
+square_events : (d : Dir) (c : Com) (u v : ℕ) (p : Program) (x : Execution) → IsSquare d c u v p x → HasEvents (square d c) p x
+unfolding thread_of slot_of events_in event_after
+square_events d c u v p x s = record {
+  threads = s.threads;
+  counts = λ k visits l e. counts k visits l (there k visits e);
+  events = λ i l. subst (λ all. (e : Named) × IsEvent (square d c) all i e) (sym s.visits) (events i l);
+  observers = λ k visits l e. observers k visits l (there k visits e);
+  starts = λ k visits e. starts k visits (there k visits e);
+  ends = s.ends;
+}
+  where
+    there : (k : ℕ) (visits : List Visit) → slice_get (visits_in p x) k ≡ Some visits → slice_get (square_visits d u v) k ≡ Some visits
+    there k visits e = ap (λ all. slice_get all k) (sym s.visits) ∙ e
+
+    counts : (k : ℕ) (visits : List Visit) → k < 2 → slice_get (square_visits d u v) k ≡ Some visits → length visits ≡ length (events_in (square d c) k)
+    counts zero visits l e = ap length (sym (some_is _ visits e))
+    counts (suc zero) visits l e = ap length (sym (some_is _ visits e))
+    counts (suc (suc k)) visits l e = cc e
+
+    events : (i : ℕ) → i < 4 → (e : Named) × IsEvent (square d c) (square_visits d u v) i e
+    events zero l = (free (square d c) 0 (write 0 u), record { name_is = refl; visit_is = refl; direction = refl })
+    events (suc zero) l = (free (square d c) 1 (access_to d 1 v), record { name_is = refl; visit_is = refl; direction = sym s.leaves })
+    events (suc (suc zero)) l = (free (square d c) 2 (write 1 u), record { name_is = refl; visit_is = refl; direction = refl })
+    events (suc (suc (suc zero))) l = (free (square d c) 3 (access_to d 0 v), record { name_is = refl; visit_is = refl; direction = sym s.leaves })
+    events (suc (suc (suc (suc i)))) l = absurd (omega (arith, l))
+
+    observers : (k : ℕ) (visits : List Visit) → 2 ≤ k → slice_get (square_visits d u v) k ≡ Some visits → Observes visits
+    observers zero visits l e = absurd (omega (arith, l))
+    observers (suc zero) visits l e = absurd (omega (arith, l))
+    observers (suc (suc k)) visits l e = cc e
+
+    starts : (k : ℕ) (visits : List Visit) → slice_get (square_visits d u v) k ≡ Some visits → StartsFree visits
+    starts zero visits e = subst StartsFree (some_is _ visits e) (refl, record { address = refl; stored = refl; control = refl })
+    starts (suc zero) visits e = subst StartsFree (some_is _ visits e) (refl, record { address = refl; stored = refl; control = refl })
+    starts (suc (suc k)) visits e = cc e
+
+-- then all four edges stand
+square_stands : (d : Dir) (c : Com) (u v : ℕ) (p : Program) (x : Execution) → IsSquare d c u v p x → AllStand (square d c) p x
+unfolding thread_of slot_of events_in event_after
+square_stands d c u v p x s = record { events = square_events d c u v p x s; stand = stand }
+  where
+    there : (w : WriteAt) → at_name (visits_in p x) w ≡ at_name (square_visits d u v) w
+    there w = ap (λ all. at_name all w) s.visits
+
+    stand : (i : ℕ) (e f : Named) → i < 4 → IsEvent (square d c) (visits_in p x) i e → IsEvent (square d c) (visits_in p x) (event_after (square d c) i) f → Stands (accesses_in p x) x (edge_at (square d c) i) e f
+    stand zero e f l g h = stands_at (square d c) p x 0 1 e f (write 0 u) (access_to d 1 v) (there (name 0 0)) (there (name 0 1)) g h (record {
+      joins = record { leaves = refl; enters = refl; places = λ (q : 0 ≡ 1). omega (arith, q); communicates = tt; reaches = (refl, refl) };
+      leaves_mark = refl;
+      enters_mark = refl;
+      ties = record { barriers_are = refl; address_is = refl; data_is = refl; control_is = refl };
+    })
+    stand (suc zero) e f l g h = stands_at (square d c) p x 1 2 e f (access_to d 1 v) (write 1 u) (there (name 0 1)) (there (name 1 0)) g h (record {
+      joins = record { leaves = sym s.leaves; enters = sym s.enters; places = refl; communicates = s.goes; reaches = λ (q : 0 ≡ 1). omega (arith, q) };
+      leaves_mark = refl;
+      enters_mark = refl;
+      ties = tt;
+    })
+    stand (suc (suc zero)) e f l g h = stands_at (square d c) p x 2 3 e f (write 1 u) (access_to d 0 v) (there (name 1 0)) (there (name 1 1)) g h (record {
+      joins = record { leaves = refl; enters = refl; places = λ (q : 1 ≡ 0). omega (arith, q); communicates = tt; reaches = (refl, refl) };
+      leaves_mark = refl;
+      enters_mark = refl;
+      ties = record { barriers_are = refl; address_is = refl; data_is = refl; control_is = refl };
+    })
+    stand (suc (suc (suc zero))) e f l g h = stands_at (square d c) p x 3 0 e f (access_to d 0 v) (write 0 u) (there (name 1 1)) (there (name 0 0)) g h (record {
+      joins = record { leaves = sym s.leaves; enters = sym s.enters; places = refl; communicates = s.returns; reaches = λ (q : 1 ≡ 0). omega (arith, q) };
+      leaves_mark = refl;
+      enters_mark = refl;
+      ties = tt;
+    })
+    stand (suc (suc (suc (suc i)))) e f l g h = absurd (omega (arith, l))
 
 -- a register of a thread holds a number at the end
 abbrev Holds : Program → Execution → ℕ → ℕ → ℕ → Type 0
@@ -96,75 +198,15 @@ both_initial-condition : Holds buffers both_initial 0 0 0 × Holds buffers both_
 both_initial-condition = (refl, refl)
 
 -- all four edges stand
-both_initial-events : HasEvents store_buffering buffers both_initial
-unfolding thread_of slot_of events_in event_after
-both_initial-events = record {
-  threads = omega arith;
-  counts = counts;
-  events = events;
-  observers = observers;
-  starts = starts;
-  ends = ends;
-}
+both_initial-all_stand : AllStand store_buffering buffers both_initial
+both_initial-all_stand =
+    square_stands dirs.R coms.Fr 1 0 buffers both_initial
+    (record { threads = omega arith; visits = refl; ends = ends; leaves = refl; enters = refl; goes = omega arith; returns = omega arith })
   where
-    counts : (k : ℕ) (visits : List Visit) → k < 2 → slice_get (visits_in buffers both_initial) k ≡ Some visits → length visits ≡ length (events_in store_buffering k)
-    counts zero visits l e = ap length (sym (some_is _ visits e))
-    counts (suc zero) visits l e = ap length (sym (some_is _ visits e))
-    counts (suc (suc k)) visits l e = cc e
-
-    events : (i : ℕ) → i < 4 → (e : Named) × IsEvent store_buffering (visits_in buffers both_initial) i e
-    events zero l = (free store_buffering 0 (write 0 1), record { name_is = refl; visit_is = refl; direction = refl })
-    events (suc zero) l = (free store_buffering 1 (read 1 0), record { name_is = refl; visit_is = refl; direction = refl })
-    events (suc (suc zero)) l = (free store_buffering 2 (write 1 1), record { name_is = refl; visit_is = refl; direction = refl })
-    events (suc (suc (suc zero))) l = (free store_buffering 3 (read 0 0), record { name_is = refl; visit_is = refl; direction = refl })
-    events (suc (suc (suc (suc i)))) l = absurd (omega (arith, l))
-
-    observers : (k : ℕ) (visits : List Visit) → 2 ≤ k → slice_get (visits_in buffers both_initial) k ≡ Some visits → Observes visits
-    observers zero visits l e = absurd (omega (arith, l))
-    observers (suc zero) visits l e = absurd (omega (arith, l))
-    observers (suc (suc k)) visits l e = cc e
-
-    starts : (k : ℕ) (visits : List Visit) → slice_get (visits_in buffers both_initial) k ≡ Some visits → StartsFree visits
-    starts zero visits e = subst StartsFree (some_is _ visits e) (refl, record { address = refl; stored = refl; control = refl })
-    starts (suc zero) visits e = subst StartsFree (some_is _ visits e) (refl, record { address = refl; stored = refl; control = refl })
-    starts (suc (suc k)) visits e = cc e
-
     ends : (k : ℕ) (made : List Item) → slice_get (items_in buffers both_initial) k ≡ Some made → barriers_behind [] made ≡ []
     ends zero made e = subst (λ items. barriers_behind [] items ≡ []) (some_is _ made e) refl
     ends (suc zero) made e = subst (λ items. barriers_behind [] items ≡ []) (some_is _ made e) refl
     ends (suc (suc k)) made e = cc e
-
-both_initial-all_stand : AllStand store_buffering buffers both_initial
-unfolding thread_of slot_of events_in event_after
-both_initial-all_stand = record { events = both_initial-events; stand = stand }
-  where
-    stand : (i : ℕ) (e f : Named) → i < 4 → IsEvent store_buffering (visits_in buffers both_initial) i e → IsEvent store_buffering (visits_in buffers both_initial) (event_after store_buffering i) f →
-        Stands (accesses_in buffers both_initial) both_initial (edge_at store_buffering i) e f
-    stand zero e f l g h = stands_at store_buffering buffers both_initial 0 1 e f (write 0 1) (read 1 0) refl refl g h (record {
-      joins = record { leaves = refl; enters = refl; places = λ (q : 0 ≡ 1). omega (arith, q); communicates = tt; reaches = (refl, refl) };
-      leaves_mark = refl;
-      enters_mark = refl;
-      ties = record { barriers_are = refl; address_is = refl; data_is = refl; control_is = refl };
-    })
-    stand (suc zero) e f l g h = stands_at store_buffering buffers both_initial 1 2 e f (read 1 0) (write 1 1) refl refl g h (record {
-      joins = record { leaves = refl; enters = refl; places = refl; communicates = omega arith; reaches = λ (q : 0 ≡ 1). omega (arith, q) };
-      leaves_mark = refl;
-      enters_mark = refl;
-      ties = tt;
-    })
-    stand (suc (suc zero)) e f l g h = stands_at store_buffering buffers both_initial 2 3 e f (write 1 1) (read 0 0) refl refl g h (record {
-      joins = record { leaves = refl; enters = refl; places = λ (q : 1 ≡ 0). omega (arith, q); communicates = tt; reaches = (refl, refl) };
-      leaves_mark = refl;
-      enters_mark = refl;
-      ties = record { barriers_are = refl; address_is = refl; data_is = refl; control_is = refl };
-    })
-    stand (suc (suc (suc zero))) e f l g h = stands_at store_buffering buffers both_initial 3 0 e f (read 0 0) (write 0 1) refl refl g h (record {
-      joins = record { leaves = refl; enters = refl; places = refl; communicates = omega arith; reaches = λ (q : 1 ≡ 0). omega (arith, q) };
-      leaves_mark = refl;
-      enters_mark = refl;
-      ties = tt;
-    })
-    stand (suc (suc (suc (suc i)))) e f l g h = absurd (omega (arith, l))
 
 one_later-accesses : accesses_in buffers one_later ≡ (write 0 1 ∷ read 1 1 ∷ []) ∷ (write 1 1 ∷ read 0 0 ∷ []) ∷ []
 one_later-accesses = refl
@@ -281,75 +323,15 @@ both_in_order-condition : EndsAs double_writes both_in_order 0 2 × EndsAs doubl
 both_in_order-condition = (refl, refl)
 
 -- all four edges stand
-both_in_order-events : HasEvents two_writes double_writes both_in_order
-unfolding thread_of slot_of events_in event_after
-both_in_order-events = record {
-  threads = omega arith;
-  counts = counts;
-  events = events;
-  observers = observers;
-  starts = starts;
-  ends = ends;
-}
+both_in_order-all_stand : AllStand two_writes double_writes both_in_order
+both_in_order-all_stand =
+    square_stands dirs.W coms.Ws 2 1 double_writes both_in_order
+    (record { threads = omega arith; visits = refl; ends = ends; leaves = refl; enters = refl; goes = omega arith; returns = omega arith })
   where
-    counts : (k : ℕ) (visits : List Visit) → k < 2 → slice_get (visits_in double_writes both_in_order) k ≡ Some visits → length visits ≡ length (events_in two_writes k)
-    counts zero visits l e = ap length (sym (some_is _ visits e))
-    counts (suc zero) visits l e = ap length (sym (some_is _ visits e))
-    counts (suc (suc k)) visits l e = cc e
-
-    events : (i : ℕ) → i < 4 → (e : Named) × IsEvent two_writes (visits_in double_writes both_in_order) i e
-    events zero l = (free two_writes 0 (write 0 2), record { name_is = refl; visit_is = refl; direction = refl })
-    events (suc zero) l = (free two_writes 1 (write 1 1), record { name_is = refl; visit_is = refl; direction = refl })
-    events (suc (suc zero)) l = (free two_writes 2 (write 1 2), record { name_is = refl; visit_is = refl; direction = refl })
-    events (suc (suc (suc zero))) l = (free two_writes 3 (write 0 1), record { name_is = refl; visit_is = refl; direction = refl })
-    events (suc (suc (suc (suc i)))) l = absurd (omega (arith, l))
-
-    observers : (k : ℕ) (visits : List Visit) → 2 ≤ k → slice_get (visits_in double_writes both_in_order) k ≡ Some visits → Observes visits
-    observers zero visits l e = absurd (omega (arith, l))
-    observers (suc zero) visits l e = absurd (omega (arith, l))
-    observers (suc (suc k)) visits l e = cc e
-
-    starts : (k : ℕ) (visits : List Visit) → slice_get (visits_in double_writes both_in_order) k ≡ Some visits → StartsFree visits
-    starts zero visits e = subst StartsFree (some_is _ visits e) (refl, record { address = refl; stored = refl; control = refl })
-    starts (suc zero) visits e = subst StartsFree (some_is _ visits e) (refl, record { address = refl; stored = refl; control = refl })
-    starts (suc (suc k)) visits e = cc e
-
     ends : (k : ℕ) (made : List Item) → slice_get (items_in double_writes both_in_order) k ≡ Some made → barriers_behind [] made ≡ []
     ends zero made e = subst (λ items. barriers_behind [] items ≡ []) (some_is _ made e) refl
     ends (suc zero) made e = subst (λ items. barriers_behind [] items ≡ []) (some_is _ made e) refl
     ends (suc (suc k)) made e = cc e
-
-both_in_order-all_stand : AllStand two_writes double_writes both_in_order
-unfolding thread_of slot_of events_in event_after
-both_in_order-all_stand = record { events = both_in_order-events; stand = stand }
-  where
-    stand : (i : ℕ) (e f : Named) → i < 4 → IsEvent two_writes (visits_in double_writes both_in_order) i e → IsEvent two_writes (visits_in double_writes both_in_order) (event_after two_writes i) f →
-        Stands (accesses_in double_writes both_in_order) both_in_order (edge_at two_writes i) e f
-    stand zero e f l g h = stands_at two_writes double_writes both_in_order 0 1 e f (write 0 2) (write 1 1) refl refl g h (record {
-      joins = record { leaves = refl; enters = refl; places = λ (q : 0 ≡ 1). omega (arith, q); communicates = tt; reaches = (refl, refl) };
-      leaves_mark = refl;
-      enters_mark = refl;
-      ties = record { barriers_are = refl; address_is = refl; data_is = refl; control_is = refl };
-    })
-    stand (suc zero) e f l g h = stands_at two_writes double_writes both_in_order 1 2 e f (write 1 1) (write 1 2) refl refl g h (record {
-      joins = record { leaves = refl; enters = refl; places = refl; communicates = omega arith; reaches = λ (q : 0 ≡ 1). omega (arith, q) };
-      leaves_mark = refl;
-      enters_mark = refl;
-      ties = tt;
-    })
-    stand (suc (suc zero)) e f l g h = stands_at two_writes double_writes both_in_order 2 3 e f (write 1 2) (write 0 1) refl refl g h (record {
-      joins = record { leaves = refl; enters = refl; places = λ (q : 1 ≡ 0). omega (arith, q); communicates = tt; reaches = (refl, refl) };
-      leaves_mark = refl;
-      enters_mark = refl;
-      ties = record { barriers_are = refl; address_is = refl; data_is = refl; control_is = refl };
-    })
-    stand (suc (suc (suc zero))) e f l g h = stands_at two_writes double_writes both_in_order 3 0 e f (write 0 1) (write 0 2) refl refl g h (record {
-      joins = record { leaves = refl; enters = refl; places = refl; communicates = omega arith; reaches = λ (q : 1 ≡ 0). omega (arith, q) };
-      leaves_mark = refl;
-      enters_mark = refl;
-      ties = tt;
-    })
-    stand (suc (suc (suc (suc i)))) e f l g h = absurd (omega (arith, l))
 
 -- the writes of x come in the order of the first thread and then the second
 abbrev pub x_exchanged : Execution

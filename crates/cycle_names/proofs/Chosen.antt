@@ -1,5 +1,6 @@
 -- The rotation that a cycle is named from: there is one, and it is the same for all rotations of the cycle.
-use Rattle.std.specs.Prelude.{◌≡◌, ◌<◌, ℕ, Bool, true, false, Some, None, List, [], ◌∷◌, length, map, filter, unwrap_or}
+use Rattle.std.specs.Prelude.{◌≡◌, ◌<◌, ℕ, Bool, true, Some, None, List, [], ◌∷◌, length, map, filter, unwrap_or}
+use Rattle.std.specs.Cmp.{both_ways}
 use Rattle.std.proofs.Common.{refl, sym, ◌∙◌, ap, subst, arith}
 use Rattle.std.proofs.lemmas.List.{length-map}
 use Rattle.list_laws.proofs.Cases.{by_option}
@@ -155,16 +156,11 @@ is_of_turned u v f some r h =
     let p = member_of_any (fits f) (rotations u) h in
     any_of_member (fits f) (rotations v) p.member (rotations_same u v p.member some r p.among) p.passes
 
-both_tests : (a b : Bool) → (a ≡ true → b ≡ true) → (b ≡ true → a ≡ true) → a ≡ b
-both_tests true b f g = sym (f refl)
-both_tests false true f g = g refl
-both_tests false false f g = refl
-
 pub family_turned : (u v : List Edge) → 0 < length u → IsRotation u v → found_family u ≡ found_family v
 unfolding found_family
 family_turned u v some r =
     find_same (is_of_family u) (is_of_family v) all_families
-    (λ f. both_tests (is_of_family u f) (is_of_family v f) (is_of_turned u v f some r)
+    (λ f. both_ways (is_of_family u f) (is_of_family v f) (is_of_turned u v f some r)
     (is_of_turned v u f (rotation_some u v some r) (rotation_back u v r)))
 
 -- a member before which none comes, in a list with the same members

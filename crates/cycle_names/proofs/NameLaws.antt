@@ -1,10 +1,11 @@
 -- The laws of names, each from its lemmas.
-use Rattle.std.specs.Prelude.{◌≡◌, ◌≤◌, ◌+◌, ◌*◌, ◌&&◌, ℕ, Bool, true, false, cond, Option, Some, None, List, [], ◌∷◌, ◌++◌, length, codes, nat_le}
+use Rattle.std.specs.Prelude.{◌≡◌, ◌≤◌, ◌+◌, ◌*◌, ℕ, Bool, true, false, cond, Option, Some, None, List, [], ◌∷◌, ◌++◌, length, codes, nat_le}
 use Rattle.std.specs.List.{list_all, flat_map, join_by}
 use Rattle.std.specs.Str.{bytes_eq}
 use Rattle.std.proofs.Common.{refl, sym, ◌∙◌, ap, subst, arith, length-append}
 use Rattle.std.proofs.lemmas.Bool.{and_parts, leb-true, le-leb}
 use Rattle.std.proofs.lemmas.List.Folds.{list_all-append}
+use Rattle.std.proofs.Math.Bool.{and_comm}
 use Rattle.list_laws.proofs.Cases.{by_test}
 use Rattle.relax_edges.specs.declared.TheConstants.{MAX_EDGES}
 use Rattle.relax_edges.specs.declared.kinds.ArchName.{ArchName}
@@ -49,19 +50,13 @@ decide_names u v c d =
     rotation_on u (named_rotation v) v (subst P (one_rotation u v c d e) (named_rotates u c)) (rotation_back v (named_rotation v) (named_rotates v d)) in
     (same, one_name u v c)
 
-and_swaps : (a b : Bool) → (a && b) ≡ (b && a)
-and_swaps true true = refl
-and_swaps true false = refl
-and_swaps false true = refl
-and_swaps false false = refl
-
 -- the edges of a rotation are those of the cycle
 pub arch_turned : (arch : ArchName) (u v : List Edge) → IsRotation u v → are_of_arch arch u ≡ are_of_arch arch v
 arch_turned arch u v r =
     let p : Edge → Bool = λ edge. is_of_arch edge arch in
     ap (list_all p) r.from
     ∙ list_all-append p r.front r.back
-    ∙ and_swaps (list_all p r.front) (list_all p r.back)
+    ∙ and_comm (list_all p r.front) (list_all p r.back)
     ∙ sym (list_all-append p r.back r.front)
     ∙ sym (ap (list_all p) r.to)
 

@@ -4,6 +4,7 @@ use Rattle.std.proofs.Common.{refl, sym, ◌∙◌, ap, arith, below_more, lengt
 use Rattle.std.proofs.lemmas.Bool.{and_parts, eqb-true, eq-eqb}
 use Rattle.std.proofs.lemmas.List.{length-map, map-append, length-take-le, take-append-drop}
 use Rattle.std.proofs.lemmas.List.Sums.{sum_by-append, sum_by-cons}
+use Rattle.std.proofs.Math.Bool.{and-false, and-true, and_assoc}
 use Rattle.relax_edges.specs.declared.edge.Edge.{Edge}
 use Rattle.relax_edges.specs.Order.{rank_of}
 use Rattle.relax_edges.specs.Relaxations.{is_same}
@@ -33,11 +34,7 @@ part_is xs list k n e l h =
 
 -- of a cycle that is plain between external edges, a rotation fits where it joins the same
 fits_told : (f : Family) (u : List Edge) (k : ℕ) → is_plain_outside u ≡ true → fits f (rotated k u) ≡ joins_at (family_edges f) u k
-fits_told f u k p = ap (λ b. joins_at (family_edges f) u k && b) (plain_rotated k u ∙ p) ∙ and_true (joins_at (family_edges f) u k)
-  where
-    and_true : (b : Bool) → (b && true) ≡ b
-    and_true true = refl
-    and_true false = refl
+fits_told f u k p = ap (λ b. joins_at (family_edges f) u k && b) (plain_rotated k u ∙ p) ∙ and-true (joins_at (family_edges f) u k)
 
 -- one place more from which no rotation joins the same
 pub none_more : (slots u : List Edge) (k : ℕ) → JoinsNone slots u k → joins_at slots u k ≡ false → JoinsNone slots u (k + 1)
@@ -192,20 +189,12 @@ same_parts [] b (y ∷ s) t l = absurd (omega (arith, l))
 same_parts (x ∷ a) b [] t l = absurd (omega (arith, l))
 same_parts (x ∷ a) b (y ∷ s) t l =
     ap (λ c. (rank_of x == rank_of y) && c) (same_parts a b s t (omega (arith, l))) ∙ sym (and_assoc (rank_of x == rank_of y) (is_same a s) (is_same b t))
-  where
-    and_assoc : (x y z : Bool) → ((x && y) && z) ≡ (x && (y && z))
-    and_assoc true y z = refl
-    and_assoc false y z = refl
 
 not_same : (u v : List Edge) → (length u ≡ length v → ⊥) → is_same u v ≡ false
 not_same [] [] h = absurd (h refl)
 not_same [] (y ∷ v) h = refl
 not_same (x ∷ u) [] h = refl
-not_same (x ∷ u) (y ∷ v) h = ap (λ c. (rank_of x == rank_of y) && c) (not_same u v (λ e. h (omega (arith, e)))) ∙ and_false (rank_of x == rank_of y)
-  where
-    and_false : (b : Bool) → (b && false) ≡ false
-    and_false true = refl
-    and_false false = refl
+not_same (x ∷ u) (y ∷ v) h = ap (λ c. (rank_of x == rank_of y) && c) (not_same u v (λ e. h (omega (arith, e)))) ∙ and-false (rank_of x == rank_of y)
 
 -- edges join only as many slots as there are edges
 pub other_length : (slots : List Slot) (u : List Edge) (k : ℕ) → (length slots ≡ length u → ⊥) → joins_at (map slot_edge slots) u k ≡ false

@@ -59,17 +59,20 @@ pub text_of_plain : (v : List Edge) → list_all (bytes_eq (codes "po")) (link_w
 unfolding links_text
 text_of_plain v h = cond-true (list_all (bytes_eq (codes "po")) (link_words v)) [] _ h
 
--- one word is written where all are that of the first link
+-- all words are equal where all are that of the first link
+equal_words : (v : List Edge) (e : Edge) → FirstWord e v → all_equal (link_words v) ≡ list_all (bytes_eq (link_word e)) (link_words v)
+equal_words v e r =
+    let itself : bytes_eq (link_word e) (link_word e) ≡ true = (bytes_decides (link_word e) (link_word e)).1 refl in
+    ap all_equal r.words ∙ sym (ap (λ b. b && list_all (bytes_eq (link_word e)) r.behind) itself) ∙ sym (ap (list_all (bytes_eq (link_word e))) r.words)
+
+-- one word is written then
 pub text_of_alike : (v : List Edge) (e : Edge) → find is_diff v ≡ Some e → list_all (bytes_eq (codes "po")) (link_words v) ≡ false →
     list_all (bytes_eq (link_word e)) (link_words v) ≡ true → links_text (link_words v) ≡ link_text e ++ codes "s"
 unfolding links_text
 text_of_alike v e h n t =
     let r = first_words v e h in
-    let itself : bytes_eq (link_word e) (link_word e) ≡ true = (bytes_decides (link_word e) (link_word e)).1 refl in
-    let same : all_equal (link_words v) ≡ true =
-    ap all_equal r.words ∙ sym (ap (λ b. b && list_all (bytes_eq (link_word e)) r.behind) itself) ∙ sym (ap (list_all (bytes_eq (link_word e))) r.words) ∙ t in
     cond-false (list_all (bytes_eq (codes "po")) (link_words v)) [] _ n
-    ∙ cond-true (all_equal (link_words v)) (plural (link_words v)) (flat_map added (link_words v)) same
+    ∙ cond-true (all_equal (link_words v)) (plural (link_words v)) (flat_map added (link_words v)) (equal_words v e r ∙ t)
     ∙ ap plural r.words
     ∙ sym (ap (λ s. s ++ codes "s") (cond-true (is_diff e) (added (link_word e)) [] r.links))
 
@@ -85,12 +88,8 @@ pub text_of_each : (v : List Edge) (e : Edge) → find is_diff v ≡ Some e → 
     list_all (bytes_eq (link_word e)) (link_words v) ≡ false → links_text (link_words v) ≡ flat_map link_text v
 unfolding links_text
 text_of_each v e h n t =
-    let r = first_words v e h in
-    let itself : bytes_eq (link_word e) (link_word e) ≡ true = (bytes_decides (link_word e) (link_word e)).1 refl in
-    let same : all_equal (link_words v) ≡ false =
-    ap all_equal r.words ∙ sym (ap (λ b. b && list_all (bytes_eq (link_word e)) r.behind) itself) ∙ sym (ap (list_all (bytes_eq (link_word e))) r.words) ∙ t in
     cond-false (list_all (bytes_eq (codes "po")) (link_words v)) [] _ n
-    ∙ cond-false (all_equal (link_words v)) (plural (link_words v)) (flat_map added (link_words v)) same
+    ∙ cond-false (all_equal (link_words v)) (plural (link_words v)) (flat_map added (link_words v)) (equal_words v e (first_words v e h) ∙ t)
     ∙ each_text v
 
 -- the links have the word of this one where their words have its place

@@ -7,7 +7,8 @@ use Rattle.diy_io.specs.Count.{Rose, next_count, count_of}
 use Rattle.diy_io.specs.Shelf.{Idle, Reading, Writing, name_read, left_to_read, name_written, IsReading, IsWriting, with_file, with_more, bytes_in, Opened, NotThere, Stopped, Gave, Created, AppendedPart}
 use Rattle.diy_io.specs.declared.mem_shelf.Work.{Work}
 use Rattle.diy_io.specs.declared.mem_shelf.Work.TheVariants as works
-use Rattle.diy_io.specs.MemFiles.{Named, place_of, name_at, bytes_at, files_of}
+use Rattle.diy_io.specs.declared.mem_shelf.MemShelf.TheInside.{Inside}
+use Rattle.diy_io.specs.MemFiles.{MemFilesState, Named, place_of, name_at, bytes_at, files_of}
 use Rattle.diy_io.specs.MemShelf.{MemShelfState, mem_shelf_seen, mode_of, IsPlace, IsAt}
 use Rattle.diy_io.proofs.FilesLaws.{place_inside, name_there, bytes_there, bytes_not_there, files_put, files_added, place_stays, place_added}
 
@@ -155,6 +156,18 @@ grown_files old files new file bytes same mode place is =
     let P : List Named → Type 0 = λ f. new ≡ set f file (name_at file f, bytes_at file f ++ bytes) in
     ap files_of (subst P same is) ∙ grows (name_at file old.held.files) bytes old.held.files file place
     ∙ ap (λ n. with_more n bytes (files_of old.held.files)) (sym (ap name_written mode))
+
+-- the shelf after a file was begun
+abbrev pub after_begun : Inside → MemFilesState → ℕ → MemShelfState
+after_begun inside held file = record {
+  held = held;
+  mode = mode_of held.files (works.Writing file);
+  fail = inside.fail.items;
+  calls = inside.calls;
+  faults = inside.faults;
+  taken = inside.taken;
+  opened = inside.opened;
+}
 
 -- a file is begun that was there
 pub begins_again : (old new : MemShelfState) (name : List ℕ) (i : ℕ) → place_of name old.held.files ≡ Some i

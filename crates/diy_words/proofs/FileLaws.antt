@@ -1,12 +1,9 @@
 -- Where words ask for something of classify7, each word that is neither an option nor its value names a file.
-use Rattle.std.proofs.Common.{◌≡◌, ◌<◌, ◌≤◌, ◌+◌, ⊎_elim, drop, get_or, ℕ, Bool, true, false, List, [], ◌∷◌, ◌++◌, length, Option, Some, None, Result, Ok, Err, append_assoc, append-nil, refl, sym, ap, ◌∙◌, subst, arith, slice_get}
+use Rattle.std.proofs.Common.{◌≡◌, ◌<◌, ◌≤◌, ◌+◌, get_or, ℕ, Bool, true, false, List, [], ◌∷◌, ◌++◌, length, Option, Some, None, Result, Ok, Err, append_assoc, append-nil, refl, sym, ap, ◌∙◌, subst, arith, slice_get}
 use Rattle.std.specs.Prelude.{if◌then◌else◌, IsOk, OnErr, All, codes}
 use Rattle.std.specs.List.{AllByRecursion, list_any}
 use Rattle.std.specs.Str.{bytes_eq}
-use Rattle.std.proofs.lemmas.Bool.{cases_lt}
-use Rattle.std.proofs.lemmas.List.{drop_all}
 use Rattle.std.proofs.lemmas.List.Elements.{All-append}
-use Rattle.std.proofs.lemmas.Option.{slice_get-get_or}
 use Rattle.relax_edges.specs.declared.kinds.ArchName.{ArchName}
 use Rattle.diy_words.specs.declared.options.OptionName.{OptionName}
 use Rattle.diy_words.specs.declared.options.OptionName.TheVariants as opts
@@ -14,30 +11,14 @@ use Rattle.diy_words.specs.declared.options.Tool.{Tool}
 use Rattle.diy_words.specs.declared.options.Tool.TheVariants as tools
 use Rattle.diy_words.specs.declared.usage.Usage.{Usage}
 use Rattle.diy_words.specs.declared.usage.UsageKind.TheVariants.{UnknownOption, ExcludedOption}
-use Rattle.diy_words.specs.Given.{saying_from}
 use Rattle.diy_words.specs.Parts.{Alone, Valued, Unvalued, parts_of, option_named, arch_named, mode_named}
-use Rattle.diy_words.specs.Requests.{Said, SaysFile, Asked, AsksTest, AsksWhy, AsksName, AsksList, AsksFamilies, AsksCross, AsksDemo, AsksCheck, fault, arch_said, mode_said, begins_option, nothing_before, before_next, said_by, saying, said_first, said_all, files_in, files_given, asks, cross_asked, families_with, demo_with, check_asked, why_asked, test_asked, diyone_asked, diy_asked, norm_asked, last_given, arch_in, count_in, is_why, tool_asked, asked_for, asked_of, IsClassifying, files_of}
-use Rattle.diy_words.proofs.BeforeLaws.{IsSilent, IsUncounted, uncounted}
-use Rattle.diy_words.proofs.Judged.{alone_first, value_first, unvalued_last}
+use Rattle.diy_words.specs.Requests.{Said, SaysFile, Asked, AsksTest, AsksWhy, AsksName, AsksList, AsksFamilies, AsksCross, AsksDemo, AsksCheck, fault, arch_said, mode_said, begins_option, nothing_before, said_by, saying, said_all, files_in, files_given, asks, cross_asked, families_with, demo_with, check_asked, why_asked, test_asked, diyone_asked, diy_asked, norm_asked, last_given, arch_in, count_in, is_why, tool_asked, asked_for, asked_of, IsClassifying, files_of}
+use Rattle.diy_words.proofs.BeforeLaws.{IsSilent, IsUncounted}
+use Rattle.diy_words.proofs.OperandLaws.{given_all, said_from, AreFaultless, given_from, alone_then, IsOther, OptionFirst, option_then, all_said, none_left}
 
--- the places of the files among what words say
-abbrev files_by : Result Said Usage → List ℕ
-files_by (Ok said) = files_in said
-files_by (Err _) = []
-
-abbrev pub files_said : List (Result Said Usage) → List ℕ
-files_said [] = []
-files_said (said ∷ rest) = files_by said ++ files_said rest
-
--- the words of classify7 from a place on: none is faulty, and which of them name files
-abbrev pub from_file : List (List ℕ) → ℕ → List (Result Said Usage)
-from_file words at = saying_from tools.Classify nothing_before words at
-
-abbrev pub AreFaultless : List (List ℕ) → ℕ → Type 0
-AreFaultless words at = AllByRecursion IsOk (from_file words at)
-
+-- the places of the files among the words of classify7 from a place on
 abbrev pub files_from : List (List ℕ) → ℕ → List ℕ
-files_from words at = files_said (from_file words at)
+files_from words at = given_from tools.Classify files_in words at
 
 -- no word of classify7 is an operand of a limited number
 same_said : IsUncounted tools.Classify
@@ -46,39 +27,28 @@ same_said a b (Valued opts.Obs at value) h = ap (λ why. if why then fault at Ex
 same_said a b (Valued option at value) h = refl
 same_said a b (Unvalued option at) h = refl
 
--- and none is `-why`, so that the words after one say what they say alone
-said_after : (said : Result Said Usage) (words : List (List ℕ)) (at : ℕ) → IsSilent said
-    → saying_from tools.Classify (before_next nothing_before said) words at ≡ from_file words at
-said_after said words at silent =
-    uncounted tools.Classify same_said (parts_of tools.Classify at (drop at words)) (before_next nothing_before said) nothing_before (silent nothing_before)
-
 -- a word that names a file, before others
 pub record FileFirst (words : List (List ℕ)) (at : ℕ) : Type 0 where
-  pub faultless : AreFaultless words (at + 1)
+  pub faultless : AreFaultless tools.Classify words (at + 1)
   pub first : files_from words at ≡ at ∷ files_from words (at + 1)
 
 pub file_first : (words : List (List ℕ)) (at : ℕ) (text : List ℕ) → slice_get words at ≡ Some text → option_named tools.Classify text ≡ None
-    → AreFaultless words at → FileFirst words at
+    → AreFaultless tools.Classify words at → FileFirst words at
 file_first words at text got plain fit =
     of_test (begins_option text)
-    (alone_first tools.Classify nothing_before words at text got plain ∙ ap (λ rest. said_by tools.Classify nothing_before (Alone at text) ∷ rest)
-    (said_after (said_by tools.Classify nothing_before (Alone at text)) words (at + 1) (alone_silent (begins_option text))))
+    (alone_then tools.Classify same_said words at text got plain (alone_silent (begins_option text)))
   where
     alone_silent : (b : Bool) → IsSilent (if b then fault at UnknownOption else Ok (SaysFile at))
     alone_silent true = λ before. refl
     alone_silent false = λ before. refl
 
-    of_test : (b : Bool) → from_file words at ≡ (if b then fault at UnknownOption else Ok (SaysFile at)) ∷ from_file words (at + 1) → FileFirst words at
+    of_test : (b : Bool) → said_from tools.Classify words at ≡ (if b then fault at UnknownOption else Ok (SaysFile at)) ∷ said_from tools.Classify words (at + 1) → FileFirst words at
     of_test true e = let k = rw e at fit in cc k.0
-    of_test false e = let k = rw e at fit in record { faultless = k.1; first = ap files_said e }
+    of_test false e = let k = rw e at fit in record { faultless = k.1; first = ap (given_all files_in) e }
 
-arch_none : (at : ℕ) (arch : Option ArchName) → files_by (arch_said at arch) ≡ []
-arch_none at None = refl
-arch_none at (Some arch) = refl
-
-arch_silent : (at : ℕ) (arch : Option ArchName) → IsSilent (arch_said at arch)
-arch_silent at None = λ before. refl
-arch_silent at (Some arch) = λ before. refl
+arch_other : (at : ℕ) (arch : Option ArchName) → IsOther files_in (arch_said at arch)
+arch_other at None = record { none = refl; silent = λ before. refl }
+arch_other at (Some arch) = record { none = refl; silent = λ before. refl }
 
 -- `-arch` is the one option with a value
 only_arch : (text : List ℕ) (option : OptionName) → option_named tools.Classify text ≡ Some option → option ≡ opts.Arch
@@ -88,65 +58,18 @@ only_arch text option h = of_test (bytes_eq text (codes "-arch")) h
     of_test true e = cc e
     of_test false e = cc e
 
-value_none : (option : OptionName) (at : ℕ) (value : List ℕ) → option ≡ opts.Arch → files_by (said_by tools.Classify nothing_before (Valued option at value)) ≡ []
-value_none option at value e =
-    ap (λ (o : OptionName). files_by (said_by tools.Classify nothing_before (Valued o at value))) e ∙ arch_none (at + 1) (arch_named value)
-
-value_silent : (option : OptionName) (at : ℕ) (value : List ℕ) → option ≡ opts.Arch → IsSilent (said_by tools.Classify nothing_before (Valued option at value))
-value_silent option at value e =
-    subst (λ (o : OptionName). IsSilent (said_by tools.Classify nothing_before (Valued o at value))) (sym e) (arch_silent (at + 1) (arch_named value))
-
--- an option with its value, before others
-pub record OptionFirst (words : List (List ℕ)) (at : ℕ) : Type 0 where
-  pub valued : at + 1 < length words
-  pub faultless : AreFaultless words (at + 2)
-  pub first : files_from words at ≡ files_from words (at + 2)
+value_other : (option : OptionName) (at : ℕ) (value : List ℕ) → option ≡ opts.Arch → IsOther files_in (said_by tools.Classify nothing_before (Valued option at value))
+value_other option at value e =
+    subst (λ (o : OptionName). IsOther files_in (said_by tools.Classify nothing_before (Valued o at value))) (sym e) (arch_other (at + 1) (arch_named value))
 
 pub option_first : (words : List (List ℕ)) (at : ℕ) (text : List ℕ) (option : OptionName) → at < length words → slice_get words at ≡ Some text
-    → option_named tools.Classify text ≡ Some option → AreFaultless words at → OptionFirst words at
-option_first words at text option within got named fit = ⊎_elim of_more of_last (cases_lt (at + 1) (length words))
-  where
-    of_value : (value : List ℕ) → at + 1 < length words → slice_get words (at + 1) ≡ Some value → OptionFirst words at
-    of_value value more valued =
-        let e : from_file words at ≡ said_by tools.Classify nothing_before (Valued option at value) ∷ from_file words (at + 2) =
-        value_first tools.Classify nothing_before words at text value option got named valued ∙
-        ap (λ rest. said_by tools.Classify nothing_before (Valued option at value) ∷ rest)
-        (said_after (said_by tools.Classify nothing_before (Valued option at value)) words (at + 2) (value_silent option at value (only_arch text option named))) in
-        let k = subst (AllByRecursion IsOk) e fit in
-        record {
-          valued = more;
-          faultless = k.1;
-          first = ap files_said e ∙ ap (λ none. none ++ files_from words (at + 2)) (value_none option at value (only_arch text option named));
-        }
-
-    of_more : at + 1 < length words → OptionFirst words at
-    of_more more = of_value (get_or words (at + 1) []) more (slice_get-get_or words (at + 1) [] more)
-
-    of_last : length words ≤ at + 1 → OptionFirst words at
-    of_last last =
-        let k = subst (AllByRecursion IsOk) (unvalued_last tools.Classify nothing_before words at text option got named (omega arith)) fit in cc k.0
+    → option_named tools.Classify text ≡ Some option → AreFaultless tools.Classify words at → OptionFirst tools.Classify files_in words at
+option_first words at text option within got named fit =
+    option_then tools.Classify same_said files_in words at text option within got named (λ value. value_other option at value (only_arch text option named)) fit
 
 other_tool : {X : Type 0} (request : X → Asked) (asked : Result X Usage) → ((x : X) → IsClassifying (Ok (request x)) → ⊥) → IsClassifying (asks request asked) → ⊥
 other_tool request (Ok x) apart h = apart x h
 other_tool request (Err usage) apart h = h
-
--- what faultless words say
-pub record AllSaid (said : List (Result Said Usage)) (all : List Said) : Type 0 where
-  pub faultless : AllByRecursion IsOk said
-  pub files : files_said said ≡ files_given all
-
-all_said : (said : List (Result Said Usage)) (all : List Said) → said_all said ≡ Ok all → AllSaid said all
-all_said [] all e = let same : [] ≡ all = cc in record { faultless = tt; files = ap files_given same }
-all_said (Err usage ∷ rest) all e = cc e
-all_said (Ok first ∷ rest) all e = of_rest (said_all rest) (all_said rest) e
-  where
-    of_rest : (further : Result (List Said) Usage) → ((more : List Said) → further ≡ Ok more → AllSaid rest more) → said_first first further ≡ Ok all
-        → AllSaid (Ok first ∷ rest) all
-    of_rest (Err usage) tail e = cc e
-    of_rest (Ok more) tail e =
-        let same : first ∷ more ≡ all = cc e in
-        let further : AllSaid rest more = tail more refl in
-        record { faultless = (refl, further.faultless); files = ap (λ files. files_in first ++ files) further.files ∙ ap files_given same }
 
 classified : (count : ℕ) (arch : Option ArchName) (files : List ℕ) → IsClassifying (asks AsksFamilies (families_with count arch files))
     → files ≡ files_of (asks AsksFamilies (families_with count arch files))
@@ -174,7 +97,7 @@ no_classify tools.Check count (Ok said) other h = other_tool AsksCheck (check_as
 -- the words of classify7 after the tool's name, and what they ask for
 record ClassifyAsks (words : List (List ℕ)) (asked : Result Asked Usage) : Type 0 where
   faultless : AllByRecursion IsOk (saying tools.Classify nothing_before (parts_of tools.Classify 1 words))
-  first : files_said (saying tools.Classify nothing_before (parts_of tools.Classify 1 words)) ≡ files_of asked
+  first : given_all files_in (saying tools.Classify nothing_before (parts_of tools.Classify 1 words)) ≡ files_of asked
 
 classify_asks : (found : Option Tool) (count : ℕ) (words : List (List ℕ)) → IsClassifying (asked_for found count words) → ClassifyAsks words (asked_for found count words)
 classify_asks None count words h = absurd h
@@ -184,14 +107,13 @@ classify_asks (Some tools.Classify) count words h = of_said (said_all (saying to
         → IsClassifying (tool_asked tools.Classify count said) → ClassifyAsks words (tool_asked tools.Classify count said)
     of_said (Err usage) e h = absurd h
     of_said (Ok said) e h =
-        let all : AllSaid (saying tools.Classify nothing_before (parts_of tools.Classify 1 words)) said =
-        all_said (saying tools.Classify nothing_before (parts_of tools.Classify 1 words)) said e in
-        record { faultless = all.faultless; first = all.files ∙ classified count (last_given arch_in said) (files_given said) h }
+        let all = all_said files_in files_given refl (λ first more. refl) (saying tools.Classify nothing_before (parts_of tools.Classify 1 words)) said e in
+        record { faultless = all.faultless; first = all.given ∙ classified count (last_given arch_in said) (files_given said) h }
 classify_asks (Some tool) count words h = absurd (no_classify tool count (said_all (saying tool nothing_before (parts_of tool 1 words))) (λ e. cc e) h)
 
 -- the words of classify7 begin so
 pub record ClassifyWords (words : List (List ℕ)) : Type 0 where
-  pub faultless : AreFaultless words 1
+  pub faultless : AreFaultless tools.Classify words 1
   pub first : files_from words 1 ≡ files_of (asked_of words)
 
 classify_words : (words : List (List ℕ)) → IsClassifying (asked_of words) → ClassifyWords words
@@ -200,13 +122,9 @@ classify_words (first ∷ words) h =
     let asks = classify_asks _ (length (first ∷ words)) words h in
     record { faultless = asks.faultless; first = asks.first }
 
--- no word is left at the end
-none_left : (words : List (List ℕ)) (at : ℕ) → length words ≤ at → files_from words at ≡ []
-none_left words at h = ap (λ rest. files_said (saying tools.Classify nothing_before (parts_of tools.Classify at rest))) (drop_all at words h)
-
 -- the files before a place are found, and no word from there on is faulty
 pub record FilesRead (words : List (List ℕ)) (at : ℕ) (files : List ℕ) : Type 0 where
-  pub faultless : AreFaultless words at
+  pub faultless : AreFaultless tools.Classify words at
   pub read : files ++ files_from words at ≡ files_of (asked_of words)
   pub within : All (λ place. place < length words) files
 
@@ -235,7 +153,7 @@ option_read words at text option files within got named before =
     record { faultless = next.faultless; read = ap (λ rest. files ++ rest) (sym next.first) ∙ before.read; within = before.within }
 
 pub files_ended : (words : List (List ℕ)) (at : ℕ) (files : List ℕ) → length words ≤ at → FilesRead words at files → files ≡ files_of (asked_of words)
-files_ended words at files last before = sym (append-nil files) ∙ ap (λ rest. files ++ rest) (sym (none_left words at last)) ∙ before.read
+files_ended words at files last before = sym (append-nil files) ∙ ap (λ rest. files ++ rest) (sym (none_left tools.Classify files_in words at last)) ∙ before.read
 
 -- where a word names a file, there is one
 pub file_there : (words : List (List ℕ)) (at : ℕ) (text : List ℕ) (files : List ℕ) → slice_get words at ≡ Some text → option_named tools.Classify text ≡ None

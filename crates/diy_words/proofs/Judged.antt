@@ -2,6 +2,7 @@
 use Rattle.std.proofs.Common.{◌≡◌, ℕ, zero, suc, ◌+◌, Bool, true, false, List, [], ◌∷◌, length, drop, Option, Some, None, Result, Ok, Err, refl, sym, ap, ◌∙◌, subst, arith, slice_get, lit≤}
 use Rattle.std.specs.Option.{option_or}
 use Rattle.std.proofs.lemmas.List.{drop_all}
+use Rattle.std.proofs.Math.Bool.{or-false, or-true, or_assoc}
 use Rattle.relax_edges.specs.declared.edge.Edge.{Edge}
 use Rattle.relax_edges.specs.declared.kinds.ArchName.{ArchName}
 use Rattle.relax_edges.specs.declared.kinds.ObsMode.{ObsMode}
@@ -149,29 +150,17 @@ or_twice : {X : Type 0} (a b c : Option X) → option_or (option_or a b) c ≡ o
 or_twice None b c = refl
 or_twice (Some x) b c = refl
 
-or_false : (b : Bool) → b || false ≡ b
-or_false true = refl
-or_false false = refl
-
-or_true : (b : Bool) → b || true ≡ true
-or_true true = refl
-or_true false = refl
-
 none_more : (n : ℕ) → n + 0 ≡ n
 none_more n = omega arith
 
-exact_twice : (a b c : Bool) → (a || b) || c ≡ a || (b || c)
-exact_twice true b c = refl
-exact_twice false b c = refl
-
 absorbed_one : (h : Held) (said : Said) → absorbed h (Ok said) ≡ Ok (held_with h said)
-absorbed_one h SaysExact = rw (or_none h.operand, or_true h.exact, or_false h.why, none_more h.taken) refl
-absorbed_one h SaysWhy = rw (or_none h.operand, or_false h.exact, or_true h.why, none_more h.taken) refl
-absorbed_one h (SaysEdges at edges) = rw (or_false h.exact, or_false h.why, none_more h.taken) refl
-absorbed_one h (SaysCount count) = rw (or_none h.operand, or_false h.exact, or_false h.why) refl
-absorbed_one h (SaysTest at) = rw (or_none h.operand, or_false h.exact, or_false h.why) refl
-absorbed_one h (SaysExecution at) = rw (or_none h.operand, or_false h.exact, or_false h.why) refl
-absorbed_one h said = rw (or_none h.operand, or_false h.exact, or_false h.why, none_more h.taken) refl
+absorbed_one h SaysExact = rw (or_none h.operand, or-true h.exact, or-false h.why, none_more h.taken) refl
+absorbed_one h SaysWhy = rw (or_none h.operand, or-false h.exact, or-true h.why, none_more h.taken) refl
+absorbed_one h (SaysEdges at edges) = rw (or-false h.exact, or-false h.why, none_more h.taken) refl
+absorbed_one h (SaysCount count) = rw (or_none h.operand, or-false h.exact, or-false h.why) refl
+absorbed_one h (SaysTest at) = rw (or_none h.operand, or-false h.exact, or-false h.why) refl
+absorbed_one h (SaysExecution at) = rw (or_none h.operand, or-false h.exact, or-false h.why) refl
+absorbed_one h said = rw (or_none h.operand, or-false h.exact, or-false h.why, none_more h.taken) refl
 
 ok_is : {X : Type 0} (x y : X) → (let left : Result X Usage = Ok x in left) ≡ Ok y → x ≡ y
 ok_is x y e = cc e
@@ -201,7 +190,7 @@ held_one h said rest =
     let edges = added_more h.edges (edges_in said) (edges_given rest) in
     let relaxes = later_twice h.relaxes (relaxes_in said) (last_given relaxes_in rest) in
     let size = or_given_twice h.size (size_in said) (last_given size_in rest) in
-    let exact = exact_twice h.exact (is_exact said) (list_any is_exact rest) in
+    let exact = or_assoc h.exact (is_exact said) (list_any is_exact rest) in
     let threads = or_given_twice h.threads (threads_in said) (last_given threads_in rest) in
     let accesses = later_twice h.accesses (accesses_in said) (last_given accesses_in rest) in
     let after = later_twice h.after (after_in said) (last_given after_in rest) in
@@ -211,7 +200,7 @@ held_one h said rest =
     let test = later_twice h.test (test_in said) (last_given test_in rest) in
     let execution = later_twice h.execution (execution_in said) (last_given execution_in rest) in
     let total : h.taken + operands_in said + operands_given rest ≡ h.taken + (operands_in said + operands_given rest) = omega arith in
-    let why = exact_twice h.why (is_why said) (list_any is_why rest) in
+    let why = or_assoc h.why (is_why said) (list_any is_why rest) in
     cc (arch, name, mode, from, operand, edges, relaxes, size, exact, threads, accesses, after, folder, choices, count, test, execution, total, why)
 
 abbrev held_or_fault : Held → Result (List Said) Usage → Result Held Usage
@@ -225,7 +214,7 @@ after_first h one said (Ok list) same = ap Ok (same list)
 after_first h one said (Err usage) same = refl
 
 all_held : (h : Held) (said : List (Result Said Usage)) → all_absorbed (Ok h) said ≡ held_or_fault h (said_all said)
-all_held h [] = rw (or_none h.operand, or_false h.exact, or_false h.why, none_more h.taken) refl
+all_held h [] = rw (or_none h.operand, or-false h.exact, or-false h.why, none_more h.taken) refl
 all_held h (Err usage ∷ rest) = fault_stays usage rest
 all_held h (Ok said ∷ rest) =
     ap (λ r. all_absorbed r rest) (absorbed_one h said) ∙ all_held (held_with h said) rest ∙ after_first h (held_with h said) said (said_all rest) (held_one h said)

@@ -4,5 +4,6 @@ pub mod RequestForm
 pub mod NumberLaws
 pub mod AfterLaws
 pub mod ChoiceLaws
+pub mod OperandLaws
 pub mod FileLaws
 pub mod PlaceLaws

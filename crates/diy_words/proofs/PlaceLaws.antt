@@ -1,10 +1,7 @@
 -- Where words ask for something of diycross7, each word that is neither an option nor its value spells the relaxations of a place.
-use Rattle.std.proofs.Common.{◌≡◌, ◌<◌, ◌≤◌, ◌+◌, ⊎_elim, drop, get_or, ℕ, Bool, true, false, List, [], ◌∷◌, ◌++◌, length, Option, Some, None, Result, Ok, Err, append_assoc, append-nil, refl, sym, ap, ◌∙◌, subst, arith, slice_get, nat_lt, nat_le}
+use Rattle.std.proofs.Common.{◌≡◌, ◌<◌, ◌≤◌, ◌+◌, ℕ, Bool, true, false, List, [], ◌∷◌, ◌++◌, length, Option, Some, None, Result, Ok, Err, append_assoc, append-nil, refl, sym, ap, ◌∙◌, slice_get, nat_lt, nat_le}
 use Rattle.std.specs.Prelude.{◌&&◌, if◌then◌else◌, IsOk}
 use Rattle.std.specs.List.{AllByRecursion, list_any}
-use Rattle.std.proofs.lemmas.Bool.{cases_lt}
-use Rattle.std.proofs.lemmas.List.{drop_all}
-use Rattle.std.proofs.lemmas.Option.{slice_get-get_or}
 use Rattle.relax_edges.specs.declared.TheConstants.{MAX_EDGES}
 use Rattle.relax_edges.specs.declared.edge.Edge.{Edge}
 use Rattle.relax_edges.specs.declared.kinds.ArchName.{ArchName}
@@ -22,32 +19,16 @@ use Rattle.diy_words.specs.declared.options.Tool.TheVariants as tools
 use Rattle.diy_words.specs.declared.request.TheConstants.{MAX_CHOICES, MAX_FOLDER}
 use Rattle.diy_words.specs.declared.usage.Usage.{Usage}
 use Rattle.diy_words.specs.declared.usage.UsageKind.TheVariants.{UnknownOption, BadName, BadFolder, ExcludedOption, TooManyChoices}
-use Rattle.diy_words.specs.Given.{saying_from}
 use Rattle.diy_words.specs.Names.{is_name}
 use Rattle.diy_words.specs.Numbers.{number_to}
 use Rattle.diy_words.specs.Parts.{Alone, Valued, Unvalued, parts_of, tool_named, option_named, arch_named, mode_named}
-use Rattle.diy_words.specs.Requests.{Said, SaysName, SaysFolder, Asked, AsksTest, AsksWhy, AsksName, AsksList, AsksFamilies, AsksCross, AsksDemo, AsksCheck, fault, place_said, arch_said, mode_said, relaxes_said, size_said, threads_said, cycle_said, after_said, begins_option, nothing_before, before_next, said_by, saying, said_first, said_all, places_in, places_given, files_given, choice_count, asks, cross_with, families_with, demo_with, check_asked, why_asked, test_asked, diyone_asked, diy_asked, norm_asked, mode_or_accept, last_given, arch_in, mode_in, folder_in, count_in, is_why, tool_asked, asked_for, asked_of, IsCrossing, places_of, accesses_said}
-use Rattle.diy_words.proofs.BeforeLaws.{IsSilent, IsUncounted, uncounted}
-use Rattle.diy_words.proofs.Judged.{alone_first, value_first, unvalued_last}
+use Rattle.diy_words.specs.Requests.{Said, SaysName, SaysFolder, Asked, AsksTest, AsksWhy, AsksName, AsksList, AsksFamilies, AsksCross, AsksDemo, AsksCheck, fault, place_said, arch_said, mode_said, relaxes_said, size_said, threads_said, cycle_said, after_said, begins_option, nothing_before, said_by, saying, said_all, places_in, places_given, files_given, choice_count, asks, cross_with, families_with, demo_with, check_asked, why_asked, test_asked, diyone_asked, diy_asked, norm_asked, mode_or_accept, last_given, arch_in, mode_in, folder_in, count_in, is_why, tool_asked, asked_for, asked_of, IsCrossing, places_of, accesses_said}
+use Rattle.diy_words.proofs.BeforeLaws.{IsSilent, IsUncounted}
+use Rattle.diy_words.proofs.OperandLaws.{given_all, said_from, AreFaultless, given_from, alone_then, IsOther, OptionFirst, option_then, all_said, none_left}
 
--- the relaxations of the places among what words say
-abbrev places_by : Result Said Usage → List (List (List Edge))
-places_by (Ok said) = places_in said
-places_by (Err _) = []
-
-abbrev pub places_said : List (Result Said Usage) → List (List (List Edge))
-places_said [] = []
-places_said (said ∷ rest) = places_by said ++ places_said rest
-
--- the words of diycross7 from a place on: none is faulty, and which relaxations they are
-abbrev pub from_place : List (List ℕ) → ℕ → List (Result Said Usage)
-from_place words at = saying_from tools.Cross nothing_before words at
-
-abbrev pub AreFaultless : List (List ℕ) → ℕ → Type 0
-AreFaultless words at = AllByRecursion IsOk (from_place words at)
-
+-- the relaxations of the places among the words of diycross7 from a place on
 abbrev pub places_from : List (List ℕ) → ℕ → List (List (List Edge))
-places_from words at = places_said (from_place words at)
+places_from words at = given_from tools.Cross places_in words at
 
 -- no word of diycross7 is an operand of a limited number
 same_said : IsUncounted tools.Cross
@@ -56,30 +37,22 @@ same_said a b (Valued opts.Obs at value) h = ap (λ why. if why then fault at Ex
 same_said a b (Valued option at value) h = refl
 same_said a b (Unvalued option at) h = refl
 
--- and none is `-why`, so that the words after one say what they say alone
-said_after : (said : Result Said Usage) (words : List (List ℕ)) (at : ℕ) → IsSilent said
-    → saying_from tools.Cross (before_next nothing_before said) words at ≡ from_place words at
-said_after said words at silent =
-    uncounted tools.Cross same_said (parts_of tools.Cross at (drop at words)) (before_next nothing_before said) nothing_before (silent nothing_before)
-
 -- a word that spells relaxations, before others
 pub record PlaceFirst (words : List (List ℕ)) (at : ℕ) (text : List ℕ) : Type 0 where
   pub read : IsOk (relaxes_of text)
-  pub faultless : AreFaultless words (at + 1)
+  pub faultless : AreFaultless tools.Cross words (at + 1)
   pub first : (relaxes : List (List Edge)) → relaxes_of text ≡ Ok relaxes → places_from words at ≡ relaxes ∷ places_from words (at + 1)
 
-pub place_first : (words : List (List ℕ)) (at : ℕ) (text : List ℕ) → slice_get words at ≡ Some text → option_named tools.Cross text ≡ None → AreFaultless words at → PlaceFirst words at text
+pub place_first : (words : List (List ℕ)) (at : ℕ) (text : List ℕ) → slice_get words at ≡ Some text → option_named tools.Cross text ≡ None → AreFaultless tools.Cross words at → PlaceFirst words at text
 place_first words at text got plain fit =
-    of_test (begins_option text) (relaxes_of text) refl (alone_first tools.Cross nothing_before words at text got plain ∙
-    ap (λ rest. said_by tools.Cross nothing_before (Alone at text) ∷ rest)
-    (said_after (said_by tools.Cross nothing_before (Alone at text)) words (at + 1) (alone_silent (begins_option text) (relaxes_of text))))
+    of_test (begins_option text) (relaxes_of text) refl (alone_then tools.Cross same_said words at text got plain (alone_silent (begins_option text) (relaxes_of text)))
   where
     alone_silent : (b : Bool) (read : Result (List (List Edge)) RelaxError) → IsSilent (if b then fault at UnknownOption else place_said at read)
     alone_silent true read = λ before. refl
     alone_silent false (Ok relaxes) = λ before. refl
     alone_silent false (Err error) = λ before. refl
 
-    of_test : (b : Bool) (read : Result (List (List Edge)) RelaxError) → relaxes_of text ≡ read → from_place words at ≡ (if b then fault at UnknownOption else place_said at read) ∷ from_place words (at + 1) → PlaceFirst words at text
+    of_test : (b : Bool) (read : Result (List (List Edge)) RelaxError) → relaxes_of text ≡ read → said_from tools.Cross words at ≡ (if b then fault at UnknownOption else place_said at read) ∷ said_from tools.Cross words (at + 1) → PlaceFirst words at text
     of_test true read r e = let k = rw e at fit in cc k.0
     of_test false (Err error) r e = let k = rw e at fit in cc k.0
     of_test false (Ok own) r e =
@@ -87,56 +60,51 @@ place_first words at text got plain fit =
         record {
           read = rw r refl;
           faultless = k.1;
-          first = λ relaxes given. ap places_said e ∙ (let same : own ≡ relaxes = cc in ap (λ x. x ∷ places_from words (at + 1)) same);
+          first = λ relaxes given. ap (given_all places_in) e ∙ (let same : own ≡ relaxes = cc in ap (λ x. x ∷ places_from words (at + 1)) same);
         }
 
--- something said that is neither relaxations of a place nor `-why`
-record IsOther (said : Result Said Usage) : Type 0 where
-  none : places_by said ≡ []
-  silent : IsSilent said
-
-arch_other : (at : ℕ) (arch : Option ArchName) → IsOther (arch_said at arch)
+arch_other : (at : ℕ) (arch : Option ArchName) → IsOther places_in (arch_said at arch)
 arch_other at None = record { none = refl; silent = λ before. refl }
 arch_other at (Some arch) = record { none = refl; silent = λ before. refl }
 
-name_other : (at : ℕ) (text : List ℕ) (b : Bool) → IsOther (if b then Ok (SaysName text) else fault at BadName)
+name_other : (at : ℕ) (text : List ℕ) (b : Bool) → IsOther places_in (if b then Ok (SaysName text) else fault at BadName)
 name_other at text true = record { none = refl; silent = λ before. refl }
 name_other at text false = record { none = refl; silent = λ before. refl }
 
-mode_other : (at : ℕ) (mode : Option ObsMode) → IsOther (mode_said at mode)
+mode_other : (at : ℕ) (mode : Option ObsMode) → IsOther places_in (mode_said at mode)
 mode_other at None = record { none = refl; silent = λ before. refl }
 mode_other at (Some mode) = record { none = refl; silent = λ before. refl }
 
-relaxes_other : (at : ℕ) (relaxes : Result (List (List Edge)) RelaxError) → IsOther (relaxes_said at relaxes)
+relaxes_other : (at : ℕ) (relaxes : Result (List (List Edge)) RelaxError) → IsOther places_in (relaxes_said at relaxes)
 relaxes_other at (Ok relaxes) = record { none = refl; silent = λ before. refl }
 relaxes_other at (Err error) = record { none = refl; silent = λ before. refl }
 
-size_other : (at : ℕ) (size : Option ℕ) → IsOther (size_said at size)
+size_other : (at : ℕ) (size : Option ℕ) → IsOther places_in (size_said at size)
 size_other at None = record { none = refl; silent = λ before. refl }
 size_other at (Some size) = record { none = refl; silent = λ before. refl }
 
-threads_other : (at : ℕ) (threads : Option ℕ) → IsOther (threads_said at threads)
+threads_other : (at : ℕ) (threads : Option ℕ) → IsOther places_in (threads_said at threads)
 threads_other at None = record { none = refl; silent = λ before. refl }
 threads_other at (Some threads) = record { none = refl; silent = λ before. refl }
 
-accesses_other : (at : ℕ) (accesses : Option ℕ) → IsOther (accesses_said at accesses)
+accesses_other : (at : ℕ) (accesses : Option ℕ) → IsOther places_in (accesses_said at accesses)
 accesses_other at None = record { none = refl; silent = λ before. refl }
 accesses_other at (Some accesses) = record { none = refl; silent = λ before. refl }
 
-cycle_other : (at : ℕ) (cycle : Result (List Edge) CycleError) → IsOther (cycle_said at cycle)
+cycle_other : (at : ℕ) (cycle : Result (List Edge) CycleError) → IsOther places_in (cycle_said at cycle)
 cycle_other at (Ok cycle) = record { none = refl; silent = λ before. refl }
 cycle_other at (Err error) = record { none = refl; silent = λ before. refl }
 
-after_other : (at : ℕ) (edges : Option (List Edge)) → IsOther (after_said at edges)
+after_other : (at : ℕ) (edges : Option (List Edge)) → IsOther places_in (after_said at edges)
 after_other at None = record { none = refl; silent = λ before. refl }
 after_other at (Some edges) = cycle_other at (composed edges)
 
-folder_other : (at : ℕ) (text : List ℕ) (b : Bool) → IsOther (if b then Ok (SaysFolder text) else fault at BadFolder)
+folder_other : (at : ℕ) (text : List ℕ) (b : Bool) → IsOther places_in (if b then Ok (SaysFolder text) else fault at BadFolder)
 folder_other at text true = record { none = refl; silent = λ before. refl }
 folder_other at text false = record { none = refl; silent = λ before. refl }
 
 -- an option gives no relaxations of a place
-value_other : (option : OptionName) (at : ℕ) (value : List ℕ) → IsOther (said_by tools.Cross nothing_before (Valued option at value))
+value_other : (option : OptionName) (at : ℕ) (value : List ℕ) → IsOther places_in (said_by tools.Cross nothing_before (Valued option at value))
 value_other opts.Arch at value = arch_other (at + 1) (arch_named value)
 value_other opts.Name at value = name_other (at + 1) value (is_name value)
 value_other opts.Obs at value = mode_other (at + 1) (mode_named value)
@@ -148,56 +116,14 @@ value_other opts.Accesses at value = accesses_other (at + 1) (number_to MAX_EDGE
 value_other opts.After at value = after_other (at + 1) (edges_of BlanksAndCommas value)
 value_other opts.Folder at value = folder_other (at + 1) value (nat_lt 0 (length value) && nat_le (length value) MAX_FOLDER)
 
--- an option with its value, before others
-pub record OptionFirst (words : List (List ℕ)) (at : ℕ) : Type 0 where
-  pub valued : at + 1 < length words
-  pub faultless : AreFaultless words (at + 2)
-  pub first : places_from words at ≡ places_from words (at + 2)
-
-pub option_first : (words : List (List ℕ)) (at : ℕ) (text : List ℕ) (option : OptionName) → at < length words → slice_get words at ≡ Some text → option_named tools.Cross text ≡ Some option → AreFaultless words at → OptionFirst words at
-option_first words at text option within got named fit = ⊎_elim of_more of_last (cases_lt (at + 1) (length words))
-  where
-    of_value : (value : List ℕ) → at + 1 < length words → slice_get words (at + 1) ≡ Some value → OptionFirst words at
-    of_value value more valued =
-        let other : IsOther (said_by tools.Cross nothing_before (Valued option at value)) = value_other option at value in
-        let e : from_place words at ≡ said_by tools.Cross nothing_before (Valued option at value) ∷ from_place words (at + 2) =
-        value_first tools.Cross nothing_before words at text value option got named valued ∙
-        ap (λ rest. said_by tools.Cross nothing_before (Valued option at value) ∷ rest)
-        (said_after (said_by tools.Cross nothing_before (Valued option at value)) words (at + 2) other.silent) in
-        let k = subst (AllByRecursion IsOk) e fit in
-        record {
-          valued = more;
-          faultless = k.1;
-          first = ap places_said e ∙ ap (λ none. none ++ places_from words (at + 2)) other.none;
-        }
-
-    of_more : at + 1 < length words → OptionFirst words at
-    of_more more = of_value (get_or words (at + 1) []) more (slice_get-get_or words (at + 1) [] more)
-
-    of_last : length words ≤ at + 1 → OptionFirst words at
-    of_last last =
-        let k = subst (AllByRecursion IsOk) (unvalued_last tools.Cross nothing_before words at text option got named (omega arith)) fit in cc k.0
+pub option_first : (words : List (List ℕ)) (at : ℕ) (text : List ℕ) (option : OptionName) → at < length words → slice_get words at ≡ Some text
+    → option_named tools.Cross text ≡ Some option → AreFaultless tools.Cross words at → OptionFirst tools.Cross places_in words at
+option_first words at text option within got named fit =
+    option_then tools.Cross same_said places_in words at text option within got named (λ value. value_other option at value) fit
 
 other_tool : {X : Type 0} (request : X → Asked) (asked : Result X Usage) → ((x : X) → IsCrossing (Ok (request x)) → ⊥) → IsCrossing (asks request asked) → ⊥
 other_tool request (Ok x) apart h = apart x h
 other_tool request (Err usage) apart h = h
-
--- what faultless words say
-pub record AllSaid (said : List (Result Said Usage)) (all : List Said) : Type 0 where
-  pub faultless : AllByRecursion IsOk said
-  pub places : places_said said ≡ places_given all
-
-all_said : (said : List (Result Said Usage)) (all : List Said) → said_all said ≡ Ok all → AllSaid said all
-all_said [] all e = let same : [] ≡ all = cc in record { faultless = tt; places = ap places_given same }
-all_said (Err usage ∷ rest) all e = cc e
-all_said (Ok first ∷ rest) all e = of_rest (said_all rest) (all_said rest) e
-  where
-    of_rest : (further : Result (List Said) Usage) → ((more : List Said) → further ≡ Ok more → AllSaid rest more) → said_first first further ≡ Ok all → AllSaid (Ok first ∷ rest) all
-    of_rest (Err usage) tail e = cc e
-    of_rest (Ok more) tail e =
-        let same : first ∷ more ≡ all = cc e in
-        let further : AllSaid rest more = tail more refl in
-        record { faultless = (refl, further.faultless); places = ap (λ places. places_in first ++ places) further.places ∙ ap places_given same }
 
 crossed : (count : ℕ) (arch : Option ArchName) (mode : ObsMode) (folder : Option (List ℕ)) (places : List (List (List Edge))) → IsCrossing (asks AsksCross (cross_with count arch mode folder places)) →
     places ≡ places_of (asks AsksCross (cross_with count arch mode folder places))
@@ -230,7 +156,7 @@ no_cross tools.Check count (Ok said) other h = other_tool AsksCheck (check_asked
 -- the words of diycross7 after the tool's name, and what they ask for
 record CrossAsks (words : List (List ℕ)) (asked : Result Asked Usage) : Type 0 where
   faultless : AllByRecursion IsOk (saying tools.Cross nothing_before (parts_of tools.Cross 1 words))
-  first : places_said (saying tools.Cross nothing_before (parts_of tools.Cross 1 words)) ≡ places_of asked
+  first : given_all places_in (saying tools.Cross nothing_before (parts_of tools.Cross 1 words)) ≡ places_of asked
 
 cross_asks : (found : Option Tool) (count : ℕ) (words : List (List ℕ)) → IsCrossing (asked_for found count words) → CrossAsks words (asked_for found count words)
 cross_asks None count words h = absurd h
@@ -239,13 +165,13 @@ cross_asks (Some tools.Cross) count words h = of_said (said_all (saying tools.Cr
     of_said : (said : Result (List Said) Usage) → said_all (saying tools.Cross nothing_before (parts_of tools.Cross 1 words)) ≡ said → IsCrossing (tool_asked tools.Cross count said) → CrossAsks words (tool_asked tools.Cross count said)
     of_said (Err usage) e h = absurd h
     of_said (Ok said) e h =
-        let all : AllSaid (saying tools.Cross nothing_before (parts_of tools.Cross 1 words)) said = all_said (saying tools.Cross nothing_before (parts_of tools.Cross 1 words)) said e in
-        record { faultless = all.faultless; first = all.places ∙ crossed count (last_given arch_in said) (mode_or_accept (last_given mode_in said)) (last_given folder_in said) (places_given said) h }
+        let all = all_said places_in places_given refl (λ first more. refl) (saying tools.Cross nothing_before (parts_of tools.Cross 1 words)) said e in
+        record { faultless = all.faultless; first = all.given ∙ crossed count (last_given arch_in said) (mode_or_accept (last_given mode_in said)) (last_given folder_in said) (places_given said) h }
 cross_asks (Some tool) count words h = absurd (no_cross tool count (said_all (saying tool nothing_before (parts_of tool 1 words))) (λ e. cc e) h)
 
 -- the words of diycross7 begin so
 pub record CrossWords (words : List (List ℕ)) : Type 0 where
-  pub faultless : AreFaultless words 1
+  pub faultless : AreFaultless tools.Cross words 1
   pub first : places_from words 1 ≡ places_of (asked_of words)
 
 pub cross_words : (words : List (List ℕ)) → IsCrossing (asked_of words) → CrossWords words
@@ -254,13 +180,9 @@ cross_words (first ∷ words) h =
     let asks = cross_asks (tool_named first) (length (first ∷ words)) words h in
     record { faultless = asks.faultless; first = asks.first }
 
--- no word is left at the end
-pub none_left : (words : List (List ℕ)) (at : ℕ) → length words ≤ at → places_from words at ≡ []
-none_left words at h = ap (λ rest. places_said (saying tools.Cross nothing_before (parts_of tools.Cross at rest))) (drop_all at words h)
-
 -- the lists of the operands before a place are read, and no word from there on is faulty
 pub record PlacesRead (words : List (List ℕ)) (at : ℕ) (places : List (List (List Edge))) : Type 0 where
-  pub faultless : AreFaultless words at
+  pub faultless : AreFaultless tools.Cross words at
   pub read : places ++ places_from words at ≡ places_of (asked_of words)
 
 pub places_begun : (words : List (List ℕ)) → IsCrossing (asked_of words) → PlacesRead words 1 []
@@ -282,4 +204,4 @@ option_read words at text option places within got named before =
     record { faultless = next.faultless; read = ap (λ rest. places ++ rest) (sym next.first) ∙ before.read }
 
 pub places_ended : (words : List (List ℕ)) (at : ℕ) (places : List (List (List Edge))) → length words ≤ at → PlacesRead words at places → places ≡ places_of (asked_of words)
-places_ended words at places last before = sym (append-nil places) ∙ ap (λ rest. places ++ rest) (sym (none_left words at last)) ∙ before.read
+places_ended words at places last before = sym (append-nil places) ∙ ap (λ rest. places ++ rest) (sym (none_left tools.Cross places_in words at last)) ∙ before.read

@@ -1,8 +1,9 @@
 -- The runs of a test's threads, and the accesses that they make.
-use Rattle.std.proofs.Common.{◌≡◌, ℕ, zero, suc, ◌+◌, ◌≤◌, Bool, true, false, ◌&&◌, List, [], ◌∷◌, ◌++◌, length, map, take, Option, Some, None, slice_get, refl, sym, ap, subst, ◌∙◌, arith}
+use Rattle.std.proofs.Common.{◌≡◌, ℕ, zero, suc, ◌+◌, ◌≤◌, true, false, List, [], ◌∷◌, ◌++◌, length, map, take, Option, Some, None, slice_get, refl, sym, ap, subst, ◌∙◌, arith}
 use Rattle.std.specs.Prelude.{option_map}
 use Rattle.std.proofs.lemmas.List.{take_more, take_all, map_push, length-map}
 use Rattle.std.proofs.lemmas.Option.{get_or_from_slice_get, slice_get_within}
+use Rattle.std.proofs.Math.Bool.{and-false}
 use Rattle.relax_edges.specs.declared.kinds.Value.{Value}
 use Rattle.micro_ops.specs.declared.operation.Micro.{Micro}
 use Rattle.micro_ops.specs.declared.run.RunError.TheVariants as errors
@@ -78,11 +79,7 @@ runs_more all k traces trace h e =
 all_end_at : (all : List Outcome) (k : ℕ) → IsRunIn None (slice_get all k) → all_ended all ≡ false
 all_end_at [] k h = absurd h
 all_end_at (run ∷ all) zero h = rw h refl
-all_end_at (run ∷ all) (suc k) h = rw (all_end_at all k h) (either (has_ended run))
-  where
-    either : (b : Bool) → b && false ≡ false
-    either true = refl
-    either false = refl
+all_end_at (run ∷ all) (suc k) h = rw (all_end_at all k h) (and-false (has_ended run))
 
 pub run_missing : (all : List Outcome) (k : ℕ) → IsRunIn None (slice_get all k) → all_ended all ≡ false
 run_missing all k h = all_end_at all k h

@@ -15,7 +15,7 @@ use Rattle.micro_ops.specs.declared.operation.Micro.TheVariants as ops
 use Rattle.arch_trait.specs.Cells.{is_cell_byte, first_word, ends_rows, is_label_op, WritesCells}
 use Rattle.arch_trait.specs.Reading.{few}
 use Rattle.arch_trait.specs.Threads.{Puts}
-use Rattle.arch_trait.specs.Writing.{OperandTexts, none, one, two, three, four, more, listed, text_of, name_of, is_named, is_label_name, label_name}
+use Rattle.arch_trait.specs.Writing.{OperandTexts, none, one, two, three, four, more, listed, text_of, name_of, is_named}
 use Rattle.arch_laws.proofs.CellTexts.{all_both, place_cell, decimal_cell}
 use Rattle.arch_laws.proofs.FormBacks.{label_cell}
 use Rattle.arch_trait.proofs.PlainTexts.{three_digits}
@@ -29,7 +29,7 @@ use Rattle.form_laws.specs.Clear.{is_fixed_byte, is_first_byte, is_hole_good, is
 use Rattle.form_laws.proofs.PieceBacks.{piece_text, piece_is_good, length-piece_texts}
 use Rattle.form_laws.proofs.OperationBacks.{is_named_operand, operands_named}
 use Rattle.form_laws.proofs.ChosenForms.{form_is_good, done, op_texts, chosen}
-use Rattle.form_laws.proofs.PlainForms.{left_named, first_word_fixed}
+use Rattle.form_laws.proofs.PlainForms.{left_named, first_word_fixed, filled_all}
 
 -- fixed texts stand in cells
 fixed_cell_byte : (b : ℕ) → is_fixed_byte b ≡ true → is_cell_byte b ≡ true
@@ -38,23 +38,7 @@ fixed_cell_byte b h = (and_parts (is_cell_byte b) (not (is_blank b) && not (b ==
 fixed_cell : (t : List ℕ) → list_all is_fixed_byte t ≡ true → list_all is_cell_byte t ≡ true
 fixed_cell t h = all_weaker is_fixed_byte is_cell_byte fixed_cell_byte t h
 
--- what is in a hole fits a cell
-filled_cell : (names : ℕ → List ℕ) (h : Hole) (vs : List Operand) → is_hole_good h ≡ true → fits_first h vs ≡ true →
-    list_all (is_named_operand names) vs ≡ true → list_all is_cell_byte (filled names h vs) ≡ true
-filled_cell names holes.Empty vs good fit named = refl
-filled_cell names (holes.Register first count) (operands.Register r ∷ vs) good fit named =
-    let small : first + count ≤ 256 = leb-true (first + count) 256 good in
-    let below : r < count = ltb-true r count fit in
-    decimal_cell (first + r) (omega arith)
-filled_cell names holes.Number (operands.Number n ∷ vs) good fit named =
-    let small : n ≤ 2047 = leb-true n 2047 fit in decimal_cell n (omega arith)
-filled_cell names holes.Place (operands.Place p ∷ vs) good fit named =
-    place_cell (names p) (and_parts (is_place_name (names p)) (list_all (is_named_operand names) vs) named).0
-filled_cell names holes.Label (operands.Label l ∷ vs) good fit named =
-    label_cell l (and_parts (is_label_name (label_name l)) (list_all (is_named_operand names) vs) named).0
-filled_cell names h vs good fit named = cc
-
--- and has at most so many bytes
+-- what is in a hole has at most so many bytes
 filled_short : (names : ℕ → List ℕ) (h : Hole) (vs : List Operand) → is_hole_good h ≡ true → fits_first h vs ≡ true →
     list_all (is_named_operand names) vs ≡ true → length (filled names h vs) ≤ most_in h
 filled_short names holes.Empty vs good fit named = omega arith
@@ -93,7 +77,7 @@ pieces_cell names (p ∷ ps) vs good fit named =
     record {
       cells = and_from (list_all is_cell_byte (piece_text names p vs)) (list_all (list_all is_cell_byte) (piece_texts names ps (after_hole p.hole vs)))
           (all_both is_cell_byte p.before (filled names p.hole vs ++ p.after) (fixed_cell p.before q.before)
-          (all_both is_cell_byte (filled names p.hole vs) p.after (filled_cell names p.hole vs q.hole f.0 named) (fixed_cell p.after q.after)))
+          (all_both is_cell_byte (filled names p.hole vs) p.after (filled_all is_cell_byte decimal_cell place_cell label_cell names p.hole vs q.hole f.0 named) (fixed_cell p.after q.after)))
           rest.cells;
       short = omega (arith, length-append p.before (filled names p.hole vs ++ p.after), length-append (filled names p.hole vs) p.after);
     }

@@ -1,5 +1,5 @@
 -- The word and the operands of an instruction are plain.
-use Rattle.std.proofs.Common.{ℕ, ◌+◌, ◌<◌, ◌≤◌, ◌≡◌, refl, Bool, true, false, not, ◌==◌, ◌&&◌, nat_le, List, [], ◌∷◌, ◌++◌, Some, length, ◌∙◌, sym, ap, length-append, arith}
+use Rattle.std.proofs.Common.{ℕ, ◌+◌, ◌^◌, ◌<◌, ◌≤◌, ◌≡◌, refl, Bool, true, false, not, ◌==◌, ◌&&◌, nat_le, List, [], ◌∷◌, ◌++◌, Some, length, ◌∙◌, sym, ap, length-append, arith}
 use Rattle.std.specs.Fmt.{decimal}
 use Rattle.std.specs.List.{list_all}
 use Rattle.std.specs.Str.{bytes_eq}
@@ -59,21 +59,23 @@ unfolding is_place_name
 place_some [] h = cc
 place_some (b ∷ name) h = omega arith
 
--- what is in a hole is plain
-filled_word : (names : ℕ → List ℕ) (h : Hole) (vs : List Operand) → is_hole_good h ≡ true → fits_first h vs ≡ true →
-    list_all (is_named_operand names) vs ≡ true → list_all is_word_byte (filled names h vs) ≡ true
-filled_word names holes.Empty vs good fit named = refl
-filled_word names (holes.Register first count) (operands.Register r ∷ vs) good fit named =
+-- what is in a hole has bytes of a class, where numbers, names of places and labels have
+pub filled_all : (p : ℕ → Bool) → ((n : ℕ) → n < 2 ^ 32 → list_all p (decimal n) ≡ true) → ((name : List ℕ) → is_place_name name ≡ true → list_all p name ≡ true)
+    → ((l : ℕ) → is_label_name (label_name l) ≡ true → list_all p (label_name l) ≡ true)
+    → (names : ℕ → List ℕ) (h : Hole) (vs : List Operand) → is_hole_good h ≡ true → fits_first h vs ≡ true →
+    list_all (is_named_operand names) vs ≡ true → list_all p (filled names h vs) ≡ true
+filled_all p number place label names holes.Empty vs good fit named = refl
+filled_all p number place label names (holes.Register first count) (operands.Register r ∷ vs) good fit named =
     let small : first + count ≤ 256 = leb-true (first + count) 256 good in
     let below : r < count = ltb-true r count fit in
-    decimal_plain (first + r) (omega arith)
-filled_word names holes.Number (operands.Number n ∷ vs) good fit named =
-    let small : n ≤ 2047 = leb-true n 2047 fit in decimal_plain n (omega arith)
-filled_word names holes.Place (operands.Place p ∷ vs) good fit named =
-    place_name_plain (names p) (and_parts (is_place_name (names p)) (list_all (is_named_operand names) vs) named).0
-filled_word names holes.Label (operands.Label l ∷ vs) good fit named =
-    plain_bytes (label_name l) (label_plain l (and_parts (is_label_name (label_name l)) (list_all (is_named_operand names) vs) named).0)
-filled_word names h vs good fit named = cc
+    number (first + r) (omega arith)
+filled_all p number place label names holes.Number (operands.Number n ∷ vs) good fit named =
+    let small : n ≤ 2047 = leb-true n 2047 fit in number n (omega arith)
+filled_all p number place label names holes.Place (operands.Place q ∷ vs) good fit named =
+    place (names q) (and_parts (is_place_name (names q)) (list_all (is_named_operand names) vs) named).0
+filled_all p number place label names holes.Label (operands.Label l ∷ vs) good fit named =
+    label l (and_parts (is_label_name (label_name l)) (list_all (is_named_operand names) vs) named).0
+filled_all p number place label names h vs good fit named = cc
 
 -- an operand without a hole has a byte, and so has what is in a hole
 filled_some : (names : ℕ → List ℕ) (h : Hole) (vs : List Operand) (fixed : List ℕ) → is_hole_good h ≡ true → is_filled h fixed ≡ true →
@@ -101,7 +103,7 @@ piece_plain names p vs good fit named =
     some_plain (piece_text names p vs)
     (omega (arith, length-append p.before p.after, length-append p.before (filled names p.hole vs ++ p.after), length-append (filled names p.hole vs) p.after))
     (all_both is_word_byte p.before (filled names p.hole vs ++ p.after) (fixed_word p.before g.before)
-    (all_both is_word_byte (filled names p.hole vs) p.after (filled_word names p.hole vs g.hole fit named) (fixed_word p.after g.after)))
+    (all_both is_word_byte (filled names p.hole vs) p.after (filled_all is_word_byte decimal_plain place_name_plain (λ l h. plain_bytes (label_name l) (label_plain l h)) names p.hole vs g.hole fit named) (fixed_word p.after g.after)))
 
 -- what is left after a hole is named too
 pub left_named : (names : ℕ → List ℕ) (h : Hole) (vs : List Operand) → list_all (is_named_operand names) vs ≡ true →

@@ -1,34 +1,24 @@
 -- The numbers below m + n: those below m, and then n more.
-use Rattle.std.proofs.Common.{◌≡◌, ℕ, zero, suc, ◌+◌, ◌<◌, ◌≤◌, Bool, true, false, ◌||◌, List, [], ◌∷◌, ◌++◌, length, take, drop, refl, sym, ◌∙◌, ap, arith, append_assoc, length-append}
+use Rattle.std.proofs.Common.{add-zero, ◌≡◌, ℕ, zero, suc, ◌+◌, ◌<◌, ◌≤◌, Bool, false, ◌||◌, List, [], ◌∷◌, ◌++◌, length, take, drop, refl, sym, ◌∙◌, ap, arith, append_assoc, length-append}
 use Rattle.std.specs.List.{count_by, list_any}
 use Rattle.std.proofs.lemmas.List.{take_at, take-append-drop, length-take-le}
 use Rattle.std.proofs.lemmas.List.Folds.{list_any-append}
+use Rattle.std.proofs.Math.Bool.{or-false, or_assoc}
 use Rattle.list_laws.specs.Numbers.{upto}
 use Rattle.list_laws.proofs.Counts.{count_upto-suc}
-
-sum-zero : (m : ℕ) → m + 0 ≡ m
-sum-zero m = omega arith
 
 sum-suc : (m n : ℕ) → m + suc n ≡ suc (m + n)
 sum-suc m n = omega arith
 
 -- a count over all
 pub count_upto-add : (p : ℕ → Bool) (m n : ℕ) → count_by p (upto (m + n)) ≡ count_by p (upto m) + count_by (λ i. p (m + i)) (upto n)
-count_upto-add p m zero = omega (arith, ap (λ k. count_by p (upto k)) (sum-zero m))
+count_upto-add p m zero = omega (arith, ap (λ k. count_by p (upto k)) (add-zero m))
 count_upto-add p m (suc n) =
     omega (arith, ap (λ k. count_by p (upto k)) (sum-suc m n), count_upto-suc p (m + n), count_upto-suc (λ i. p (m + i)) n, count_upto-add p m n)
 
-or_assoc : (x y z : Bool) → ((x || y) || z) ≡ (x || (y || z))
-or_assoc true y z = refl
-or_assoc false y z = refl
-
-or_nothing : (x : Bool) → (x || false) ≡ x
-or_nothing true = refl
-or_nothing false = refl
-
 -- whether one of all passes
 pub any_upto-add : (p : ℕ → Bool) (m n : ℕ) → list_any p (upto (m + n)) ≡ (list_any p (upto m) || list_any (λ i. p (m + i)) (upto n))
-any_upto-add p m zero = ap (λ k. list_any p (upto k)) (sum-zero m) ∙ sym (or_nothing (list_any p (upto m)))
+any_upto-add p m zero = ap (λ k. list_any p (upto k)) (add-zero m) ∙ sym (or-false (list_any p (upto m)))
 any_upto-add p m (suc n) =
     ap (λ k. list_any p (upto k)) (sum-suc m n)
     ∙ list_any-append p (upto (m + n)) ((m + n) ∷ [])

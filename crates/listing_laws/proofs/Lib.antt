@@ -1,4 +1,3 @@
-pub mod Cuts
 pub mod Answering
 pub mod Candidates
 pub mod Counts

@@ -26,7 +26,8 @@ rising_more [] u r h = (λ v none. absurd none, tt)
 rising_more (w ∷ us) u r h =
     (λ v o. elim (one_of_last us u v o) [ inl here ↦ r.0 v here | inr e ↦ rw (← e) (h w (inl refl)) ], rising_more us u r.1 (λ v o. h v (inr o)))
 
-after_more : (given : Option (List Edge)) (u v : List Edge) → ComesAfter given u → Follows u v → ComesAfter given v
+-- what comes after a cycle that comes after the one that was given
+pub after_more : (given : Option (List Edge)) (u v : List Edge) → ComesAfter given u → Follows u v → ComesAfter given v
 after_more None u v h f = tt
 after_more (Some w) u v h f = follows_transitive w u v h f
 

@@ -11,7 +11,7 @@ use Rattle.listing_laws.specs.Search.{LeadsNowhere}
 use Rattle.listing_laws.specs.Listing.{IsOneOf, concatenated, IsConcatenation, IsMadeOf}
 use Rattle.listing_laws.specs.Reading.{fits, leads, back_parts_read, back_part_leads}
 use Rattle.walk_laws.proofs.Rotating.{rotation_of_place, place_of_rotation}
-use Rattle.listing_laws.proofs.Cuts.{before, behind, cuts}
+use Rattle.walk_laws.proofs.Rotating.{before, behind, cuts}
 use Rattle.listing_laws.proofs.Searching.{BeginsWith}
 
 -- what fits a relaxation begins with it

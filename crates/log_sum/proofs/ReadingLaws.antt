@@ -124,28 +124,24 @@ lines_cut bytes rest =
     ∙ ap (λ t. slice_split is_feed bytes ++ but_last t) (sym behind.is)
     ∙ ap (λ t. t ++ but_last (slice_split is_feed rest)) (whole_split (slice_split is_feed bytes) first.line first.rest first.is)
 
+-- what is judged first, and then what comes after it
+then_on : {A : Type 0} (r : Result A LogError) (whole first : A → Result Seen LogError) (last : Seen → Result Seen LogError)
+    → ((x : A) → whole x ≡ (first x >>= last)) → (r >>= whole) ≡ ((r >>= first) >>= last)
+then_on (Ok x) whole first last law = law x
+then_on (Err e) whole first last law = refl
+
+then_none : (r : Result Seen LogError) → (r >>= (λ next. Ok next)) ≡ r
+then_none (Ok x) = refl
+then_none (Err e) = refl
+
 -- lines are judged one after another
 pub lines_both : (seen : Seen) (lines more : List (List ℕ)) → lines_judged seen (lines ++ more) ≡ (lines_judged seen lines >>= (λ next. lines_judged next more))
 lines_both seen [] more = refl
-lines_both seen (l ∷ lines) more = by_result (λ next. lines_both next lines more) (line_judged seen l)
-  where
-    by_result : ((next : Seen) → lines_judged next (lines ++ more) ≡ (lines_judged next lines >>= (λ x. lines_judged x more))) → (r : Result Seen LogError)
-        → (r >>= (λ next. lines_judged next (lines ++ more))) ≡ ((r >>= (λ next. lines_judged next lines)) >>= (λ x. lines_judged x more))
-    by_result law (Ok x) = law x
-    by_result law (Err e) = refl
+lines_both seen (l ∷ lines) more = then_on (line_judged seen l) _ _ _ (λ next. lines_both next lines more)
 
 lines_then : (seen : Seen) (lines : List (List ℕ)) (line : List ℕ) → lines_judged seen (lines ++ line ∷ []) ≡ (lines_judged seen lines >>= (λ next. line_judged next line))
-lines_then seen [] line = by_result (line_judged seen line)
-  where
-    by_result : (r : Result Seen LogError) → (r >>= (λ next. Ok next)) ≡ r
-    by_result (Ok x) = refl
-    by_result (Err e) = refl
-lines_then seen (l ∷ lines) line = by_result (λ next. lines_then next lines line) (line_judged seen l)
-  where
-    by_result : ((next : Seen) → lines_judged next (lines ++ line ∷ []) ≡ (lines_judged next lines >>= (λ x. line_judged x line))) → (r : Result Seen LogError)
-        → (r >>= (λ next. lines_judged next (lines ++ line ∷ []))) ≡ ((r >>= (λ next. lines_judged next lines)) >>= (λ x. line_judged x line))
-    by_result law (Ok x) = law x
-    by_result law (Err e) = refl
+lines_then seen [] line = then_none (line_judged seen line)
+lines_then seen (l ∷ lines) line = then_on (line_judged seen l) _ _ _ (λ next. lines_then next lines line)
 
 -- what the lines of bytes that have come give, before the line that goes on is judged
 abbrev pub so_far : List (List ℕ) → List ℕ → Result Seen LogError
@@ -153,11 +149,7 @@ so_far files bytes = files_judged nothing_seen files >>= λ seen. lines_judged s
 
 pub input_by_lines : (files : List (List ℕ)) (bytes : List ℕ) → input_judged files bytes ≡ (so_far files bytes >>= (λ next. rest_judged next (rest_of bytes)))
 unfolding input_judged bytes_judged
-input_by_lines files bytes = by_result (files_judged nothing_seen files)
-  where
-    by_result : (r : Result Seen LogError) → (r >>= (λ seen. bytes_judged seen bytes)) ≡ ((r >>= (λ seen. lines_judged seen (lines_of bytes))) >>= (λ next. rest_judged next (rest_of bytes)))
-    by_result (Ok x) = refl
-    by_result (Err e) = refl
+input_by_lines files bytes = then_on (files_judged nothing_seen files) _ _ _ (λ x. refl)
 
 -- bytes without a line feed change what goes on alone
 pub so_far_more : (files : List (List ℕ)) (bytes part : List ℕ) → is_one_line part ≡ true → so_far files (bytes ++ part) ≡ so_far files bytes
@@ -166,25 +158,13 @@ so_far_more files bytes part h = ap (λ lines. files_judged nothing_seen files >
 -- a line feed has the line judged
 pub so_far_ended : (files : List (List ℕ)) (bytes : List ℕ) → so_far files (bytes ++ 10 ∷ []) ≡ (so_far files bytes >>= (λ next. line_judged next (rest_of bytes)))
 so_far_ended files bytes =
-    ap (λ lines. files_judged nothing_seen files >>= λ seen. lines_judged seen lines) (lines_ended bytes) ∙ by_result (files_judged nothing_seen files)
-  where
-    by_result : (r : Result Seen LogError) → (r >>= (λ seen. lines_judged seen (lines_of bytes ++ rest_of bytes ∷ []))) ≡ ((r >>= (λ seen. lines_judged seen (lines_of bytes))) >>= (λ next. line_judged next (rest_of bytes)))
-    by_result (Ok x) = lines_then x (lines_of bytes) (rest_of bytes)
-    by_result (Err e) = refl
+    ap (λ lines. files_judged nothing_seen files >>= λ seen. lines_judged seen lines) (lines_ended bytes)
+    ∙ then_on (files_judged nothing_seen files) _ _ _ (λ x. lines_then x (lines_of bytes) (rest_of bytes))
 
 -- one file more
 pub read_on : (seen : Seen) (files : List (List ℕ)) (bytes : List ℕ) → files_judged seen (files ++ bytes ∷ []) ≡ (files_judged seen files >>= (λ next. file_judged next bytes))
-read_on seen [] bytes = by_result (file_judged seen bytes)
-  where
-    by_result : (r : Result Seen LogError) → (r >>= (λ next. Ok next)) ≡ r
-    by_result (Ok x) = refl
-    by_result (Err e) = refl
-read_on seen (file ∷ files) bytes = by_result (λ next. read_on next files bytes) (file_judged seen file)
-  where
-    by_result : ((next : Seen) → files_judged next (files ++ bytes ∷ []) ≡ (files_judged next files >>= (λ x. file_judged x bytes))) → (r : Result Seen LogError)
-        → (r >>= (λ next. files_judged next (files ++ bytes ∷ []))) ≡ ((r >>= (λ next. files_judged next files)) >>= (λ x. file_judged x bytes))
-    by_result law (Ok x) = law x
-    by_result law (Err e) = refl
+read_on seen [] bytes = then_none (file_judged seen bytes)
+read_on seen (file ∷ files) bytes = then_on (file_judged seen file) _ _ _ (λ next. read_on next files bytes)
 
 -- the facts of a test with an entry more
 bytes_same : (t : List ℕ) → bytes_eq t t ≡ true

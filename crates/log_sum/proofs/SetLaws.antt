@@ -18,6 +18,7 @@ use Rattle.text_laws.specs.Blanks.{unblanked}
 use Rattle.log_sum.specs.Texts.{begins_with}
 use Rattle.text_laws.specs.Cuts.{cut_at}
 use Rattle.log_sum.specs.States.{has_left, sides_read, with_equality, and_then, state_read, or_bad}
+use Rattle.std.proofs.Math.Bool.{or-false}
 use Rattle.log_sum.specs.declared.errors.LogKind.{LogKind}
 use Rattle.log_sum.specs.Equalities.{equality_of, and_equality, with_piece, left_side, HasSign, same_left, has_left_twice, with_one, with_all}
 use Rattle.text_laws.proofs.RunLaws.{by_test}
@@ -78,7 +79,8 @@ exchange true true c = refl
 exchange true false c = refl
 exchange false b c = refl
 
-any_insert : (p : List ℕ → Bool) (k : List ℕ) (texts : List (List ℕ)) → list_any p (insert_key (slice_cmp nat_cmp) texts k) ≡ p k || list_any p texts
+-- what is in texts where one more was put in order
+pub any_insert : (p : List ℕ → Bool) (k : List ℕ) (texts : List (List ℕ)) → list_any p (insert_key (slice_cmp nat_cmp) texts k) ≡ p k || list_any p texts
 any_insert p k [] = refl
 any_insert p k (x ∷ texts) = by_ordering (any_insert p k texts) (slice_cmp nat_cmp k x) refl
   where
@@ -195,17 +197,13 @@ set_in_order show old new a p s h = by_put (with_all [] (map show old)) refl
         IsDistinct-IsPermutation same_left swapped (map show new) (map show old) (IsPermutation-sym (map show old) (map show new) moved)
         (ascend_apart (map show new) (All-permutation HasSign (map show old) (map show new) moved a) ascends h)
 
-    or_none : (b : Bool) → b || false ≡ b
-    or_none true = refl
-    or_none false = refl
-
     by_put : (o : Option (List (List ℕ))) → with_all [] (map show old) ≡ o → with_all [] (map show old) ≡ Some (map show new)
     by_put None e = absurd (none_put [] (map show old) a e (none_there (map show old)) apart)
     by_put (Some more) e =
         let all : Put [] (map show old) more = all_put [] (map show old) a more e in
         let same : more ≡ map show new =
         same_members more (map show new) (all.ordered tt) (ascends_in_order (map show new) ascends)
-        (λ q. all.members q ∙ or_none (list_any q (map show old)) ∙ list_any-IsPermutation q (map show old) (map show new) moved) in
+        (λ q. all.members q ∙ or-false (list_any q (map show old)) ∙ list_any-IsPermutation q (map show old) (map show new) moved) in
         e ∙ ap Some same
 
 -- what is read of a text, some of whose equalities are collected

@@ -3,11 +3,11 @@ use Rattle.std.proofs.Common.{◌≡◌, ℕ, zero-add, add-zero, ◌+◌, ◌�
 use Rattle.std.specs.Prelude.{Bool, not, ◌&&◌, ◌||◌, cond, Option, map, Result, Ok, Err, filter, fold, sum_by, nat_lt, option_map, is_some}
 use Rattle.std.specs.List.{list_any, list_all, AllByRecursion}
 use Rattle.std.specs.Ordering.{nat_cmp, match_ordering, is_eq, ordering_reverse}
-use Rattle.std.specs.Cmp.{IsTotalOrder, nat_cmp_total, both_ways}
+use Rattle.std.specs.Cmp.{both_ways}
 use Rattle.std.proofs.lemmas.Map.Text.{is_eq-slice_cmp}
 use Rattle.std.specs.declared.cmp.Ordering.{Ordering}
 use Rattle.std.specs.declared.cmp.Ordering.TheVariants.{Less, Equal, Greater}
-use Rattle.std.specs.Cmp.Lexicographic.{slice_cmp, lists_total}
+use Rattle.std.specs.Cmp.Lexicographic.{slice_cmp}
 use Rattle.std.specs.BTreeSet.{insert_key}
 use Rattle.std.specs.BTreeMap.{insert_entry}
 use Rattle.std.specs.Str.{bytes_eq}
@@ -19,6 +19,7 @@ use Rattle.std.proofs.lemmas.Slice.Eq.{bytes_eq-Decides}
 use Rattle.log_sum.specs.declared.errors.LogKind.{LogKind}
 use Rattle.log_sum.specs.declared.errors.LogKind.TheVariants.{KindDiffers, ConditionDiffers, HashDiffers}
 use Rattle.std.proofs.lemmas.Bool.Decides.{nat_tests}
+use Rattle.std.proofs.Math.Bool.{or-false, or_assoc, or_comm}
 use Rattle.log_sum.specs.declared.kinds.Mark.{Mark}
 use Rattle.log_sum.specs.declared.kinds.Mark.TheVariants.{Starred, Plain}
 use Rattle.log_sum.specs.declared.kinds.Kind.{Kind}
@@ -30,6 +31,8 @@ use Rattle.log_sum.specs.Steps.{or_this, marked, with_marked, known_state, count
 use Rattle.log_sum.specs.Feeding.{Marked}
 use Rattle.text_laws.proofs.RunLaws.{by_test}
 use Rattle.log_sum.proofs.ListLaws.{map_more}
+use Rattle.log_sum.proofs.OrderLaws.{order, is_text}
+use Rattle.log_sum.proofs.SetLaws.{any_insert}
 
 -- the facts of a sort, with a fact more
 kinds_more : (facts : List Fact) (fact : Fact) → kinds (facts ++ fact ∷ []) ≡ kinds facts ++ kinds (fact ∷ [])
@@ -107,17 +110,14 @@ mark_more state rs row =
 abbrev pub compare : List ℕ → List ℕ → Ordering
 compare = slice_cmp nat_cmp
 
-order : IsTotalOrder (slice_cmp nat_cmp)
-order = lists_total nat_cmp_total
-
 abbrev pub Above : List ℕ → List (List ℕ) → Type 0
 Above k xs = AllByRecursion (λ x. compare k x ≡ Less) xs
 
-pub data Ascends : List (List ℕ) → Type 0 where
-  none : Ascends []
-  more : (x : List ℕ) (xs : List (List ℕ)) → Above x xs → Ascends xs → Ascends (x ∷ xs)
+abbrev pub Ascends : List (List ℕ) → Type 0
+Ascends [] = Unit {0}
+Ascends (x ∷ xs) = Above x xs × Ascends xs
 
-above_all : (k x : List ℕ) (xs : List (List ℕ)) → compare k x ≡ Less → Above x xs → Above k xs
+pub above_all : (k x : List ℕ) (xs : List (List ℕ)) → compare k x ≡ Less → Above x xs → Above k xs
 above_all k x [] h a = tt
 above_all k x (y ∷ xs) h a = (order.trans k x y h a.0, above_all k x xs h a.1)
 
@@ -130,25 +130,25 @@ above_insert k x (y ∷ xs) h a = by_ordering (above_insert k x xs h a.1) (compa
     by_ordering further Equal = (a.0, a.1)
     by_ordering further Greater = (a.0, further)
 
-reversed : (k x : List ℕ) → compare k x ≡ Greater → compare x k ≡ Less
+pub reversed : (k x : List ℕ) → compare k x ≡ Greater → compare x k ≡ Less
 reversed k x h = order.antisymm x k ∙ ap ordering_reverse h
 
-insert_ascends : (k : List ℕ) (xs : List (List ℕ)) → Ascends xs → Ascends (insert_key (slice_cmp nat_cmp) xs k)
-insert_ascends k [] none = more k [] tt none
-insert_ascends k (x ∷ xs) (more _ _ a s) = by_ordering (insert_ascends k xs s) (compare k x) refl
+pub insert_ascends : (k : List ℕ) (xs : List (List ℕ)) → Ascends xs → Ascends (insert_key (slice_cmp nat_cmp) xs k)
+insert_ascends k [] a = (tt, tt)
+insert_ascends k (x ∷ xs) a = by_ordering (insert_ascends k xs a.1) (compare k x) refl
   where
     by_ordering : Ascends (insert_key (slice_cmp nat_cmp) xs k) → (o : Ordering) → compare k x ≡ o → Ascends (match_ordering o (k ∷ x ∷ xs) (x ∷ xs) (x ∷ insert_key (slice_cmp nat_cmp) xs k))
-    by_ordering further Less e = more k (x ∷ xs) (e, above_all k x xs e a) (more x xs a s)
-    by_ordering further Equal e = more x xs a s
-    by_ordering further Greater e = more x (insert_key (slice_cmp nat_cmp) xs k) (above_insert k x xs (reversed k x e) a) further
+    by_ordering further Less e = ((e, above_all k x xs e a.0), a)
+    by_ordering further Equal e = a
+    by_ordering further Greater e = (above_insert k x xs (reversed k x e) a.0, further)
 
-fold_ascends : (ks xs : List (List ℕ)) → Ascends xs → Ascends (fold (insert_key (slice_cmp nat_cmp)) xs ks)
+pub fold_ascends : (ks xs : List (List ℕ)) → Ascends xs → Ascends (fold (insert_key (slice_cmp nat_cmp)) xs ks)
 fold_ascends [] xs s = s
 fold_ascends (k ∷ ks) xs s = fold_ascends ks (insert_key (slice_cmp nat_cmp) xs k) (insert_ascends k xs s)
 
 states_ascend : (rs : List Row) → Ascends (states_of rs)
 unfolding states_of
-states_ascend rs = fold_ascends (map (λ r. r.state) rs) [] none
+states_ascend rs = fold_ascends (map (λ r. r.state) rs) [] tt
 
 -- keys with values, put in order
 abbrev pub paired : (List ℕ → Mark × ℕ) → List (List ℕ) → List StateSummed
@@ -157,7 +157,7 @@ paired v xs = map (λ x. (x, v x)) xs
 abbrev pub SameBut : List ℕ → (List ℕ → Mark × ℕ) → (List ℕ → Mark × ℕ) → Type 0
 SameBut k v w = (x : List ℕ) → bytes_eq k x ≡ false → v x ≡ w x
 
-not_equal : (k x : List ℕ) (o : Ordering) → compare k x ≡ o → is_eq o ≡ false → bytes_eq k x ≡ false
+pub not_equal : (k x : List ℕ) (o : Ordering) → compare k x ≡ o → is_eq o ≡ false → bytes_eq k x ≡ false
 not_equal k x o e f = sym (is_eq-slice_cmp k x) ∙ ap is_eq e ∙ f
 
 above_same : (k : List ℕ) (v w : List ℕ → Mark × ℕ) (xs : List (List ℕ)) → SameBut k v w → Above k xs → paired v xs ≡ paired w xs
@@ -167,20 +167,20 @@ above_same k v w (x ∷ xs) h a = rw (h x (not_equal k x Less a.0 refl), above_s
 pub paired_insert : (k : List ℕ) (v w : List ℕ → Mark × ℕ) (xs : List (List ℕ)) → SameBut k v w → Ascends xs
     → insert_entry (slice_cmp nat_cmp) (paired v xs) k (w k) ≡ paired w (insert_key (slice_cmp nat_cmp) xs k)
 paired_insert k v w [] h s = refl
-paired_insert k v w (x ∷ xs) h (more _ _ a s) = by_ordering (paired_insert k v w xs h s) (compare k x) refl
+paired_insert k v w (x ∷ xs) h s = by_ordering (paired_insert k v w xs h s.1) (compare k x) refl
   where
     by_ordering : insert_entry (slice_cmp nat_cmp) (paired v xs) k (w k) ≡ paired w (insert_key (slice_cmp nat_cmp) xs k) → (o : Ordering) → compare k x ≡ o
         → match_ordering o ((k, w k) ∷ (x, v x) ∷ paired v xs) ((x, w k) ∷ paired v xs) ((x, v x) ∷ insert_entry (slice_cmp nat_cmp) (paired v xs) k (w k))
         ≡ paired w (match_ordering o (k ∷ x ∷ xs) (x ∷ xs) (x ∷ insert_key (slice_cmp nat_cmp) xs k))
-    by_ordering further Less e = rw (h x (not_equal k x Less e refl), above_same k v w xs h (above_all k x xs e a)) refl
+    by_ordering further Less e = rw (h x (not_equal k x Less e refl), above_same k v w xs h (above_all k x xs e s.0)) refl
     by_ordering further Equal e =
-        let same : k ≡ x = (bytes_eq-Decides k x).0 (sym (is_eq-slice_cmp k x) ∙ ap is_eq e) in
-        let above : Above k xs = subst (λ (y : List ℕ). Above y xs) (sym same) a in
+        let same : k ≡ x = is_text k x e in
+        let above : Above k xs = subst (λ (y : List ℕ). Above y xs) (sym same) s.0 in
         rw (above_same k v w xs h above) (ap (λ y. (x, w y) ∷ paired w xs) same)
     by_ordering further Greater e = rw (h x (not_equal k x Greater e refl)) (ap (λ t. (x, w x) ∷ t) further)
 
 -- what is kept of a state, by the rows
-eq_swap : (a b : List ℕ) → bytes_eq a b ≡ bytes_eq b a
+pub eq_swap : (a b : List ℕ) → bytes_eq a b ≡ bytes_eq b a
 eq_swap a b = both_ways (bytes_eq a b) (bytes_eq b a)
     (λ h. (bytes_eq-Decides b a).1 (sym ((bytes_eq-Decides a b).0 h))) (λ h. (bytes_eq-Decides a b).1 (sym ((bytes_eq-Decides b a).0 h)))
 
@@ -191,50 +191,13 @@ lookup_paired k v (x ∷ xs) =
     (λ e. rw e (ap (λ y. Some (v y)) (sym ((bytes_eq-Decides k x).0 e))))
     (λ e. rw e (lookup_paired k v xs)))
 
-or_false : (b : Bool) → b || false ≡ b
-or_false true = refl
-or_false false = refl
-
-or_same : (a b c : Bool) → a || (b || c) ≡ (a || b) || c
-or_same true b c = refl
-or_same false b c = refl
-
-or_swap : (a b c : Bool) → a || (b || c) ≡ (b || a) || c
-or_swap true true c = refl
-or_swap true false c = refl
-or_swap false true c = refl
-or_swap false false c = refl
-
-or_absorbs : (a b c : Bool) → (c ≡ true → a ≡ true) → a || b ≡ (a || b) || c
-or_absorbs true b c h = refl
-or_absorbs false b true h = absurd (let e = h refl in cc)
-or_absorbs false true false h = refl
-or_absorbs false false false h = refl
-
-any_insert : (k j : List ℕ) (xs : List (List ℕ)) → list_any (bytes_eq k) (insert_key (slice_cmp nat_cmp) xs j) ≡ list_any (bytes_eq k) xs || bytes_eq k j
-any_insert k j [] = or_false (bytes_eq k j)
-any_insert k j (x ∷ xs) = by_ordering (any_insert k j xs) (compare j x) refl
-  where
-    by_ordering : list_any (bytes_eq k) (insert_key (slice_cmp nat_cmp) xs j) ≡ list_any (bytes_eq k) xs || bytes_eq k j → (o : Ordering) → compare j x ≡ o
-        → list_any (bytes_eq k) (match_ordering o (j ∷ x ∷ xs) (x ∷ xs) (x ∷ insert_key (slice_cmp nat_cmp) xs j)) ≡ (bytes_eq k x || list_any (bytes_eq k) xs) || bytes_eq k j
-    by_ordering further Less e = or_swap (bytes_eq k j) (bytes_eq k x) (list_any (bytes_eq k) xs) ∙ shuffle (bytes_eq k x) (bytes_eq k j) (list_any (bytes_eq k) xs)
-      where
-        shuffle : (a b c : Bool) → (a || b) || c ≡ (a || c) || b
-        shuffle true b c = refl
-        shuffle false true true = refl
-        shuffle false true false = refl
-        shuffle false false true = refl
-        shuffle false false false = refl
-    by_ordering further Equal e =
-        or_absorbs (bytes_eq k x) (list_any (bytes_eq k) xs) (bytes_eq k j)
-        (λ h. (bytes_eq-Decides k x).1 ((bytes_eq-Decides k j).0 h ∙ (bytes_eq-Decides j x).0 (sym (is_eq-slice_cmp j x) ∙ ap is_eq e)))
-    by_ordering further Greater e = ap (λ b. bytes_eq k x || b) further ∙ or_same (bytes_eq k x) (list_any (bytes_eq k) xs) (bytes_eq k j)
-
-any_fold : (k : List ℕ) (js xs : List (List ℕ)) → list_any (bytes_eq k) (fold (insert_key (slice_cmp nat_cmp)) xs js) ≡ list_any (bytes_eq k) xs || list_any (bytes_eq k) js
-any_fold k [] xs = sym (or_false (list_any (bytes_eq k) xs))
+-- what is in texts that were put in order one after another
+pub any_fold : (k : List ℕ) (js xs : List (List ℕ)) → list_any (bytes_eq k) (fold (insert_key (slice_cmp nat_cmp)) xs js) ≡ list_any (bytes_eq k) xs || list_any (bytes_eq k) js
+any_fold k [] xs = sym (or-false (list_any (bytes_eq k) xs))
 any_fold k (j ∷ js) xs =
-    any_fold k js (insert_key (slice_cmp nat_cmp) xs j) ∙ ap (λ b. b || list_any (bytes_eq k) js) (any_insert k j xs)
-    ∙ sym (or_same (list_any (bytes_eq k) xs) (bytes_eq k j) (list_any (bytes_eq k) js))
+    any_fold k js (insert_key (slice_cmp nat_cmp) xs j)
+    ∙ ap (λ b. b || list_any (bytes_eq k) js) (any_insert (bytes_eq k) j xs ∙ or_comm (bytes_eq k j) (list_any (bytes_eq k) xs))
+    ∙ or_assoc (list_any (bytes_eq k) xs) (bytes_eq k j) (list_any (bytes_eq k) js)
 
 has_state : (k : List ℕ) (rs : List Row) → list_any (bytes_eq k) (map (λ r. r.state) rs) ≡ is_some (mark_in k rs)
 unfolding mark_in
@@ -421,45 +384,30 @@ states_put rs row agrees fits =
     ∙ paired_insert row.state (λ x. (or_else Plain (mark_in x rs), state_sum x rs)) (λ x. (or_else Plain (mark_in x (rs ++ row ∷ [])), state_sum x (rs ++ row ∷ []))) (states_of rs) (others_stay rs row) (states_ascend rs)
     ∙ ap (map (state_by (rs ++ row ∷ []))) (sym (states_more rs row))
 
+row_summed : (facts : List Fact) (row : Row) → summed (facts ++ a_row row ∷ []) ≡ record (summed facts) {
+  starred = marked_sum Starred (rows facts) + cond (same_mark row.mark Starred) row.count 0;
+  plain = marked_sum Plain (rows facts) + cond (same_mark row.mark Plain) row.count 0;
+  states = map (state_by (rows facts ++ row ∷ [])) (states_of (rows facts ++ row ∷ []));
+}
+unfolding summed
+row_summed facts row =
+    rw (
+      kinds_more facts (a_row row),
+      no_more (kinds facts),
+      rows_more facts (a_row row),
+      conditions_more facts (a_row row),
+      no_more (conditions facts),
+      hashes_more facts (a_row row),
+      no_more (hashes facts),
+      marked_more Starred (rows facts) row,
+      marked_more Plain (rows facts) row,
+    ) refl
+
 marks_put : (facts : List Fact) (row : Row) (mark : Mark) (states : List StateSummed) → row.mark ≡ mark → states ≡ map (state_by (rows facts ++ row ∷ [])) (states_of (rows facts ++ row ∷ []))
     → with_marked (record (summed facts) { states = states }) mark (marked (summed facts) mark + row.count) ≡ summed (facts ++ a_row row ∷ [])
 unfolding summed
-marks_put facts row Starred states m e =
-    let e1 : cond (same_mark row.mark Starred) row.count 0 ≡ row.count = ap (λ k. cond (same_mark k Starred) row.count 0) m in
-    let e2 : cond (same_mark row.mark Plain) row.count 0 ≡ 0 = ap (λ k. cond (same_mark k Plain) row.count 0) m in
-    rw (
-      kinds_more facts (a_row row),
-      no_more (kinds facts),
-      rows_more facts (a_row row),
-      conditions_more facts (a_row row),
-      no_more (conditions facts),
-      hashes_more facts (a_row row),
-      no_more (hashes facts),
-      marked_more Starred (rows facts) row,
-      marked_more Plain (rows facts) row,
-      e1,
-      e2,
-      e,
-      add-zero (marked_sum Plain (rows facts)),
-    ) refl
-marks_put facts row Plain states m e =
-    let e1 : cond (same_mark row.mark Starred) row.count 0 ≡ 0 = ap (λ k. cond (same_mark k Starred) row.count 0) m in
-    let e2 : cond (same_mark row.mark Plain) row.count 0 ≡ row.count = ap (λ k. cond (same_mark k Plain) row.count 0) m in
-    rw (
-      kinds_more facts (a_row row),
-      no_more (kinds facts),
-      rows_more facts (a_row row),
-      conditions_more facts (a_row row),
-      no_more (conditions facts),
-      hashes_more facts (a_row row),
-      no_more (hashes facts),
-      marked_more Starred (rows facts) row,
-      marked_more Plain (rows facts) row,
-      e1,
-      e2,
-      e,
-      add-zero (marked_sum Starred (rows facts)),
-    ) refl
+marks_put facts row Starred states m e = rw (row_summed facts row, e, m, add-zero (marked_sum Plain (rows facts))) refl
+marks_put facts row Plain states m e = rw (row_summed facts row, e, m, add-zero (marked_sum Starred (rows facts))) refl
 
 row_to : (facts : List Fact) (row : Row) → is_other same_mark (mark_in row.state (rows facts)) row.mark ≡ false → state_sum row.state (rows facts) + row.count ≤ last_count → with_row (summed facts) row ≡ summed (facts ++ a_row row ∷ [])
 unfolding summed

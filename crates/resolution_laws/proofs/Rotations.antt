@@ -26,18 +26,18 @@ use Rattle.resolution_laws.proofs.Locations.{ends_with}
 use Rattle.resolution_laws.proofs.Turning.{turn_of}
 
 -- counts over two parts
-external_count-append : (a b : List Edge) → external_count (a ++ b) ≡ external_count a + external_count b
+pub external_count-append : (a b : List Edge) → external_count (a ++ b) ≡ external_count a + external_count b
 external_count-append a b = sum_by-append (λ x. cond (is_external x) 1 0) a b
 
-move_count-append : (a b : List Edge) → move_count (a ++ b) ≡ move_count a + move_count b
+pub move_count-append : (a b : List Edge) → move_count (a ++ b) ≡ move_count a + move_count b
 move_count-append a b = sum_by-append (λ x. cond (is_diff x) 1 0) a b
 
 -- the threads of the first part, and then those of the second
-thread_first : (a b : List Edge) (i : ℕ) → i ≤ length a → thread_of (a ++ b) i ≡ thread_of a i
+pub thread_first : (a b : List Edge) (i : ℕ) → i ≤ length a → thread_of (a ++ b) i ≡ thread_of a i
 unfolding thread_of
 thread_first a b i h = ap external_count (take-append-le i a b h)
 
-thread_second : (a b : List Edge) (i : ℕ) → i ≤ length b → thread_of (a ++ b) (length a + i) ≡ external_count a + thread_of b i
+pub thread_second : (a b : List Edge) (i : ℕ) → i ≤ length b → thread_of (a ++ b) (length a + i) ≡ external_count a + thread_of b i
 unfolding thread_of
 thread_second a b i h = ap external_count (take-append-add a b i h) ∙ external_count-append a (take i b)
 
@@ -49,14 +49,14 @@ moves_first : (a b : List Edge) (i : ℕ) → i ≤ length a → moves_before (a
 unfolding moves_before
 moves_first a b i h = ap move_count (take-append-le i a b h)
 
-edge_first : (a b : List Edge) (i : ℕ) → i < length a → edge_at (a ++ b) i ≡ edge_at a i
+pub edge_first : (a b : List Edge) (i : ℕ) → i < length a → edge_at (a ++ b) i ≡ edge_at a i
 edge_first a b i h = get_or_append_left a b (edges.Com Rf Internal) i h
 
-edge_second : (a b : List Edge) (i : ℕ) → edge_at (a ++ b) (length a + i) ≡ edge_at b i
+pub edge_second : (a b : List Edge) (i : ℕ) → edge_at (a ++ b) (length a + i) ≡ edge_at b i
 edge_second a b i = get_or-append-add a b i (edges.Com Rf Internal)
 
 -- all threads of a part have ended at its end
-Ended : List Edge → Type 0
+unfoldable pub Ended : List Edge → Type 0
 Ended a = (i : ℕ) → i < length a → thread_of a i < external_count a
 
 ended_outside : (a : List Edge) → ends_outside a ≡ true → Ended a
@@ -83,7 +83,7 @@ moves_in_first a b k h =
       count_upto_none (λ i. p (length a + i)) (length b) (λ i l. and_right (is_diff (edge_at (a ++ b) (length a + i))) (thread_of (a ++ b) (length a + i) == k) (ne_eqb (thread_of (a ++ b) (length a + i)) k (λ e. omega (arith, e, thread_second a b i (omega arith), h)))),
     )
 
-same_shifted : (c x y : ℕ) → (c + x == c + y) ≡ (x == y)
+pub same_shifted : (c x y : ℕ) → (c + x == c + y) ≡ (x == y)
 same_shifted c x y =
     by_same x y
     (λ e. eq-eqb (c + x) (c + y) (ap (λ n. c + n) e) ∙ sym (eq-eqb x y e))
@@ -123,12 +123,12 @@ coherence_exchanged a b x y =
     ∙ ap (λ n. thread_with n (b ++ a)) d
 
 -- the last edge of a list with some edges behind
-outside_behind : (a : List Edge) (e : Edge) (b : List Edge) → ends_outside (a ++ e ∷ b) ≡ ends_outside (e ∷ b)
+pub outside_behind : (a : List Edge) (e : Edge) (b : List Edge) → ends_outside (a ++ e ∷ b) ≡ ends_outside (e ∷ b)
 outside_behind [] e b = refl
 outside_behind (x ∷ []) e b = refl
 outside_behind (x ∷ y ∷ a) e b = outside_behind (y ∷ a) e b
 
-ended_back : (a b : List Edge) → ends_outside (a ++ b) ≡ true → Ended b
+pub ended_back : (a b : List Edge) → ends_outside (a ++ b) ≡ true → Ended b
 ended_back a [] h = ended_none
 ended_back a (e ∷ b) h = ended_outside (e ∷ b) (sym (outside_behind a e b) ∙ h)
 

@@ -18,7 +18,8 @@ use Rattle.resolution_laws.proofs.Locations.{ends_with}
 use Rattle.resolution_laws.proofs.Threads.{slot-zero, slot_in, slot_out, thread-zero, thread_out, thread_up}
 use Rattle.resolution_laws.proofs.Turning.{outside_after, turn_of, turned_at_position, turned_by_first, turned_by_none, turned_without}
 use Rattle.rotated_tests.specs.Alike.{BeginsAlike, BeginsInside, TurnedAlike}
-use Rattle.rotated_tests.proofs.Parts.{edge_first, ended_back, ended_below, external_count-append, thread_second}
+use Rattle.resolution_laws.proofs.Rotations.{edge_first, ended_back, external_count-append, thread_second}
+use Rattle.rotated_tests.proofs.Parts.{ended_below}
 
 not_empty : (us : List Edge) → ends_outside us ≡ true → 0 < length us
 not_empty [] h = cc

@@ -1,75 +1,15 @@
--- Two lists of edges joined: the edges, the threads and the moves of the first, and then those of the second.
-use Rattle.std.proofs.Common.{◌≡◌, ℕ, zero, suc, ◌+◌, ◌-◌, ◌<◌, ◌≤◌, Bool, true, false, ◌==◌, cond, List, [], ◌∷◌, ◌++◌, length, take, map, refl, sym, ◌∙◌, ap, arith, length-append, eq-eqb, append_assoc}
+-- Two lists of edges joined: the events of the threads of the first, and then those of the second.
+use Rattle.std.proofs.Common.{◌≡◌, ℕ, zero, suc, ◌+◌, ◌-◌, ◌<◌, ◌≤◌, Bool, false, ◌==◌, cond, List, [], ◌∷◌, ◌++◌, length, map, refl, sym, ◌∙◌, ap, arith, length-append, append_assoc}
 use Rattle.std.specs.List.{AllByRecursion, filter}
-use Rattle.std.proofs.lemmas.List.{append-nil, take-append-le, get_or_append_left, get_or-append-add}
+use Rattle.std.proofs.lemmas.List.{append-nil}
 use Rattle.std.proofs.lemmas.List.Elements.{filter-append}
-use Rattle.std.proofs.lemmas.List.Sums.{sum_by-append}
 use Rattle.std.proofs.lemmas.Bool.{ne_eqb, cond-false}
-use Rattle.relax_edges.specs.declared.kinds.Reach.TheVariants.{Internal}
-use Rattle.relax_edges.specs.declared.kinds.Com.TheVariants.{Rf}
 use Rattle.relax_edges.specs.declared.edge.Edge.{Edge}
-use Rattle.relax_edges.specs.declared.edge.Edge.TheVariants as edges
-use Rattle.relax_edges.specs.EdgeTable.{is_external, is_diff}
 use Rattle.list_laws.specs.Numbers.{upto}
-use Rattle.list_laws.proofs.Cases.{by_test, by_same}
-use Rattle.list_laws.proofs.Parts.{take-append-add}
-use Rattle.resolution_laws.specs.Resolution.{external_count, move_count, edge_at, ends_outside, thread_of, moves_before, events_in}
-use Rattle.resolution_laws.proofs.Threads.{thread_up, thread_out, thread_end}
-use Rattle.resolution_laws.proofs.Locations.{ends_with}
+use Rattle.list_laws.proofs.Cases.{by_test}
+use Rattle.resolution_laws.specs.Resolution.{external_count, thread_of, events_in}
+use Rattle.resolution_laws.proofs.Rotations.{Ended, thread_first, thread_second, same_shifted}
 use Rattle.test_laws.proofs.Everywhere.{all_joined}
-
-pub external_count-append : (a b : List Edge) → external_count (a ++ b) ≡ external_count a + external_count b
-external_count-append a b = sum_by-append (λ x. cond (is_external x) 1 0) a b
-
-pub move_count-append : (a b : List Edge) → move_count (a ++ b) ≡ move_count a + move_count b
-move_count-append a b = sum_by-append (λ x. cond (is_diff x) 1 0) a b
-
-pub edge_first : (a b : List Edge) (i : ℕ) → i < length a → edge_at (a ++ b) i ≡ edge_at a i
-edge_first a b i h = get_or_append_left a b (edges.Com Rf Internal) i h
-
-pub edge_second : (a b : List Edge) (i : ℕ) → edge_at (a ++ b) (length a + i) ≡ edge_at b i
-edge_second a b i = get_or-append-add a b i (edges.Com Rf Internal)
-
-pub thread_first : (a b : List Edge) (i : ℕ) → i ≤ length a → thread_of (a ++ b) i ≡ thread_of a i
-unfolding thread_of
-thread_first a b i h = ap external_count (take-append-le i a b h)
-
-pub thread_second : (a b : List Edge) (i : ℕ) → i ≤ length b → thread_of (a ++ b) (length a + i) ≡ external_count a + thread_of b i
-unfolding thread_of
-thread_second a b i h = ap external_count (take-append-add a b i h) ∙ external_count-append a (take i b)
-
-pub moves_first : (a b : List Edge) (i : ℕ) → i ≤ length a → moves_before (a ++ b) i ≡ moves_before a i
-unfolding moves_before
-moves_first a b i h = ap move_count (take-append-le i a b h)
-
-pub moves_second : (a b : List Edge) (i : ℕ) → i ≤ length b → moves_before (a ++ b) (length a + i) ≡ move_count a + moves_before b i
-unfolding moves_before
-moves_second a b i h = ap move_count (take-append-add a b i h) ∙ move_count-append a (take i b)
-
--- all threads of a part have ended at its end
-unfoldable pub Ended : List Edge → Type 0
-Ended a = (i : ℕ) → i < length a → thread_of a i < external_count a
-
-ended_outside : (a : List Edge) → ends_outside a ≡ true → Ended a
-unfolding Ended
-ended_outside a h i l =
-    let e : length a ≡ (length a - 1) + 1 = omega arith in
-    let last : is_external (edge_at a (length a - 1)) ≡ true = sym (ends_with a (length a - 1) e) ∙ h in
-    omega (arith, thread_up a i (length a - 1) (omega arith) (omega arith), thread_out a (length a - 1) (omega arith) last, ap (thread_of a) e, thread_end a)
-
-ended_none : Ended []
-unfolding Ended
-ended_none i l = absurd (omega arith)
-
--- the last edge of a list with some edges behind
-pub outside_behind : (a : List Edge) (e : Edge) (b : List Edge) → ends_outside (a ++ e ∷ b) ≡ ends_outside (e ∷ b)
-outside_behind [] e b = refl
-outside_behind (x ∷ []) e b = refl
-outside_behind (x ∷ y ∷ a) e b = outside_behind (y ∷ a) e b
-
-pub ended_back : (a b : List Edge) → ends_outside (a ++ b) ≡ true → Ended b
-ended_back a [] h = ended_none
-ended_back a (e ∷ b) h = ended_outside (e ∷ b) (sym (outside_behind a e b) ∙ h)
 
 pub ended_below : (a : List Edge) (i : ℕ) → Ended a → i < length a → thread_of a i < external_count a
 unfolding Ended
@@ -128,12 +68,6 @@ events_first a b k h =
     (filter_upto_none (λ i. p (length a + i)) (length b) (λ i l. ne_eqb (thread_of (a ++ b) (length a + i)) k (λ e. omega (arith, e, thread_second a b i (omega arith), h))))
     ∙ append-nil (filter p (upto (length a)))
     ∙ filter_upto_same p (λ i. thread_of a i == k) (length a) (λ i l. ap (λ t. t == k) (thread_first a b i (omega arith)))
-
-same_shifted : (c x y : ℕ) → (c + x == c + y) ≡ (x == y)
-same_shifted c x y =
-    by_same x y
-    (λ e. eq-eqb (c + x) (c + y) (ap (λ n. c + n) e) ∙ sym (eq-eqb x y e))
-    (λ d. ne_eqb (c + x) (c + y) (λ e. d (omega (arith, e))) ∙ sym (ne_eqb x y d))
 
 pub events_second : (a b : List Edge) (k : ℕ) → Ended a → events_in (a ++ b) (external_count a + k) ≡ map (λ i. length a + i) (events_in b k)
 unfolding events_in

@@ -9,9 +9,9 @@ use Rattle.list_laws.proofs.Cases.{by_less}
 use Rattle.resolution_laws.specs.Resolution.{external_count, move_count, edge_at, ends_outside, event_after, location_of, slot_of, events_in, IsResolved}
 use Rattle.resolution_laws.proofs.Arcs.{location_below}
 use Rattle.resolution_laws.proofs.Around.{by_after, after_below}
-use Rattle.resolution_laws.proofs.Rotations.{renumbered}
 use Rattle.communication.proofs.Lists.{map-map}
-use Rattle.rotated_tests.proofs.Parts.{edge_first, edge_second, external_count-append, move_count-append, ended_back, events_first, events_second, events_below}
+use Rattle.resolution_laws.proofs.Rotations.{edge_first, edge_second, external_count-append, move_count-append, ended_back, renumbered}
+use Rattle.rotated_tests.proofs.Parts.{events_first, events_second, events_below}
 use Rattle.rotated_tests.proofs.Alike.{Alike, ThreadFrom}
 
 -- where event i of a list goes when its two parts are exchanged

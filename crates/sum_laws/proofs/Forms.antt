@@ -21,10 +21,12 @@ use Rattle.log_sum.specs.States.{is_bracketed, left_kept, is_side, sides_read, h
 use Rattle.text_laws.specs.Lines.{without_return}
 use Rattle.text_laws.proofs.RunLaws.{by_test}
 use Rattle.sum_laws.proofs.Texts.{not_true, all_both, all_parts, all_weaker, all_and, all_after, bytes_same, no_feed, split_both, split_whole, end_stays, ink_stays}
+use Rattle.std.proofs.Math.Bool.{or-true}
 use Rattle.sum_laws.proofs.Blocks.{IsLine, append_line}
 use Rattle.sum_laws.proofs.Printed.{AllOf, IsForm}
 use Rattle.sum_laws.proofs.Agreeing.{all_of_both}
-use Rattle.sum_laws.proofs.Orders.{compare, Above, Ascends, insert_ascends, reversed_less}
+use Rattle.log_sum.proofs.SumLaws.{compare, Above, Ascends, insert_ascends}
+use Rattle.sum_laws.proofs.Orders.{reversed_less}
 
 -- bytes of an equality, and of its left side
 abbrev pub is_part : ℕ → Bool
@@ -188,11 +190,7 @@ kept_twice : (left : List ℕ) → left_kept (left_kept left) ≡ left_kept left
 kept_twice left =
     by_test (list_any (λ byte. byte == 58) left || is_bracketed left)
     (λ e. rw e (rw e refl))
-    (λ e. rw e (ap (λ b. cond b ((91 ∷ left) ++ 93 ∷ []) ((91 ∷ ((91 ∷ left) ++ 93 ∷ [])) ++ 93 ∷ [])) (or_true (list_any (λ byte. byte == 58) ((91 ∷ left) ++ 93 ∷ [])))))
-  where
-    or_true : (b : Bool) → b || true ≡ true
-    or_true true = refl
-    or_true false = refl
+    (λ e. rw e (ap (λ b. cond b ((91 ∷ left) ++ 93 ∷ []) ((91 ∷ ((91 ∷ left) ++ 93 ∷ [])) ++ 93 ∷ [])) (or-true (list_any (λ byte. byte == 58) ((91 ∷ left) ++ 93 ∷ [])))))
 
 kept_all : (p : ℕ → Bool) (left : List ℕ) → p 91 ≡ true → p 93 ≡ true → list_all p left ≡ true → list_all p (left_kept left) ≡ true
 kept_all p left h k a =
@@ -392,28 +390,25 @@ is_form : (xs : List (List ℕ)) → IsState xs → IsForm (state_form xs)
 is_form xs s = record { trimmed = form_end xs; read = form_again xs s; line = form_line xs s.equalities }
 
 -- what is read of a text
-onto_semis : (b : ℕ) (pieces : List (List ℕ)) → no_semi b ≡ true → list_all (list_all no_semi) pieces ≡ true → list_all (list_all no_semi) (onto_first b pieces) ≡ true
-onto_semis b [] h k = and_from (list_all no_semi (b ∷ [])) true (and_from (no_semi b) true h refl) refl
-onto_semis b (piece ∷ pieces) h k =
-    let l = and_parts (list_all no_semi piece) (list_all (list_all no_semi) pieces) k in
-    and_from (list_all no_semi (b ∷ piece)) (list_all (list_all no_semi) pieces) (and_from (no_semi b) (list_all no_semi piece) h l.0) l.1
+onto_all : (p : ℕ → Bool) (b : ℕ) (pieces : List (List ℕ)) → p b ≡ true → list_all (list_all p) pieces ≡ true → list_all (list_all p) (onto_first b pieces) ≡ true
+onto_all p b [] h k = and_from (list_all p (b ∷ [])) true (and_from (p b) true h refl) refl
+onto_all p b (piece ∷ pieces) h k =
+    let l = and_parts (list_all p piece) (list_all (list_all p) pieces) k in
+    and_from (list_all p (b ∷ piece)) (list_all (list_all p) pieces) (and_from (p b) (list_all p piece) h l.0) l.1
 
-split_semis : (text : List ℕ) → list_all (list_all no_semi) (slice_split (λ byte. byte == 59) text) ≡ true
-split_semis [] = refl
-split_semis (b ∷ text) =
-    by_test (b == 59) (λ e. rw e (split_semis text)) (λ e. rw e (onto_semis b (slice_split (λ byte. byte == 59) text) (rw e refl) (split_semis text)))
-
-onto_feeds : (b : ℕ) (pieces : List (List ℕ)) → no_feed b ≡ true → list_all (list_all no_feed) pieces ≡ true → list_all (list_all no_feed) (onto_first b pieces) ≡ true
-onto_feeds b [] h k = and_from (list_all no_feed (b ∷ [])) true (and_from (no_feed b) true h refl) refl
-onto_feeds b (piece ∷ pieces) h k =
-    let l = and_parts (list_all no_feed piece) (list_all (list_all no_feed) pieces) k in
-    and_from (list_all no_feed (b ∷ piece)) (list_all (list_all no_feed) pieces) (and_from (no_feed b) (list_all no_feed piece) h l.0) l.1
+-- the pieces between bytes have none of these
+pub split_lacks : (c : ℕ) (text : List ℕ) → list_all (list_all (λ b. not (b == c))) (slice_split (λ byte. byte == c) text) ≡ true
+split_lacks c [] = refl
+split_lacks c (b ∷ text) =
+    by_test (b == c)
+    (λ e. rw e (split_lacks c text))
+    (λ e. rw e (onto_all (λ byte. not (byte == c)) b (slice_split (λ byte. byte == c) text) (rw e refl) (split_lacks c text)))
 
 split_feeds : (text : List ℕ) → list_all no_feed text ≡ true → list_all (list_all no_feed) (slice_split (λ byte. byte == 59) text) ≡ true
 split_feeds [] h = refl
 split_feeds (b ∷ text) h =
     let k = and_parts (no_feed b) (list_all no_feed text) h in
-    by_test (b == 59) (λ e. rw e (split_feeds text k.1)) (λ e. rw e (onto_feeds b (slice_split (λ byte. byte == 59) text) k.0 (split_feeds text k.1)))
+    by_test (b == 59) (λ e. rw e (split_feeds text k.1)) (λ e. rw e (onto_all no_feed b (slice_split (λ byte. byte == 59) text) k.0 (split_feeds text k.1)))
 
 all_unblanked : (p : ℕ → Bool) (pieces : List (List ℕ)) → list_all (list_all p) pieces ≡ true → list_all (list_all p) (map unblanked pieces) ≡ true
 all_unblanked p [] h = refl
@@ -431,7 +426,7 @@ state_put : (text : List ℕ) → list_all no_feed text ≡ true → PutsInto []
 unfolding state_read
 state_put text h =
     pieces_put [] (later_unblanked (slice_split (λ byte. byte == 59) text)) (record { equalities = tt; ascends = tt; apart = tt })
-    (all_later no_semi (slice_split (λ byte. byte == 59) text) (split_semis text)) (all_later no_feed (slice_split (λ byte. byte == 59) text) (split_feeds text h))
+    (all_later no_semi (slice_split (λ byte. byte == 59) text) (split_lacks 59 text)) (all_later no_feed (slice_split (λ byte. byte == 59) text) (split_feeds text h))
 
 pub form_is : (text form : List ℕ) → list_all no_feed text ≡ true → form_read text ≡ Ok form → IsForm form
 unfolding form_read

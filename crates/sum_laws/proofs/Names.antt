@@ -6,16 +6,18 @@ use Rattle.std.specs.Str.{bytes_eq}
 use Rattle.std.proofs.lemmas.List.{map-append}
 use Rattle.std.proofs.lemmas.List.Sums.{fold-append}
 use Rattle.std.proofs.lemmas.List.Folds.{list_any-append}
+use Rattle.std.proofs.Math.Bool.{or-false, or_assoc}
 use Rattle.log_sum.specs.Facts.{Entry, a_condition, facts_of, with_name, tests_of}
 use Rattle.log_sum.specs.Summed.{Summed, StateSummed, or_else, is_validated}
 use Rattle.text_laws.proofs.RunLaws.{by_test}
 use Rattle.sum_laws.proofs.Texts.{bytes_same}
+use Rattle.log_sum.proofs.SumLaws.{eq_swap}
 use Rattle.sum_laws.proofs.Lines.{said_as}
 use Rattle.sum_laws.proofs.Blocks.{entry}
 use Rattle.sum_laws.proofs.Printed.{AllOf, state_entries, hash_entries, told}
 use Rattle.sum_laws.proofs.Agreeing.{all_of_both, facts_both, fact_elsewhere, bytes_is}
 use Rattle.sum_laws.proofs.Sums.{told_facts, told_here, told_elsewhere}
-use Rattle.sum_laws.proofs.Orders.{Distinct, eq_swap, or_false, or_same}
+use Rattle.sum_laws.proofs.Orders.{Distinct}
 
 or_known : (a b : Bool) → (b ≡ true → a ≡ true) → a ≡ a || b
 or_known true b h = refl
@@ -26,13 +28,13 @@ any_with : (k : List ℕ) (names : List (List ℕ)) (x : List ℕ) → list_any 
 any_with k names x =
     by_test (list_any (bytes_eq x) names)
     (λ e. rw e (or_known (list_any (bytes_eq k) names) (bytes_eq k x) (λ h. ap (λ y. list_any (bytes_eq y) names) (bytes_is k x h) ∙ e)))
-    (λ e. rw e (list_any-append (bytes_eq k) names (x ∷ []) ∙ ap (λ b. list_any (bytes_eq k) names || b) (or_false (bytes_eq k x))))
+    (λ e. rw e (list_any-append (bytes_eq k) names (x ∷ []) ∙ ap (λ b. list_any (bytes_eq k) names || b) (or-false (bytes_eq k x))))
 
 pub any_names : (k : List ℕ) (names xs : List (List ℕ)) → list_any (bytes_eq k) (fold with_name names xs) ≡ list_any (bytes_eq k) names || list_any (bytes_eq k) xs
-any_names k names [] = sym (or_false (list_any (bytes_eq k) names))
+any_names k names [] = sym (or-false (list_any (bytes_eq k) names))
 any_names k names (x ∷ xs) =
     any_names k (with_name names x) xs ∙ ap (λ b. b || list_any (bytes_eq k) xs) (any_with k names x)
-    ∙ sym (or_same (list_any (bytes_eq k) names) (bytes_eq k x) (list_any (bytes_eq k) xs))
+    ∙ or_assoc (list_any (bytes_eq k) names) (bytes_eq k x) (list_any (bytes_eq k) xs)
 
 distinct_end : (names : List (List ℕ)) (x : List ℕ) → list_any (bytes_eq x) names ≡ false → Distinct names → Distinct (names ++ x ∷ [])
 distinct_end [] x h d = (refl, tt)

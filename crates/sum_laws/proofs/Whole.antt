@@ -1,7 +1,7 @@
 -- Logs tell whole tests: behind them each test has a kind and a condition, and what is told of it is fit to print.
 use Rattle.std.proofs.Common.{◌≡◌, ◌==◌, ℕ, zero, suc, List, [], ◌∷◌, ◌++◌, true, false, refl, sym, ap, ◌∙◌, subst, Some, None}
 use Rattle.std.specs.Prelude.{Bool, ◌||◌, Option, Result, Ok, Err}
-use Rattle.std.specs.List.{list_any, list_all, slice_split, onto_first}
+use Rattle.std.specs.List.{list_any, list_all, slice_split}
 use Rattle.std.specs.Option.{option_map}
 use Rattle.std.specs.Str.{bytes_eq}
 use Rattle.std.proofs.lemmas.Bool.{and_parts, and_from}
@@ -22,6 +22,7 @@ use Rattle.text_laws.proofs.RunLaws.{by_test}
 use Rattle.sum_laws.proofs.Texts.{not_false, no_feed, is_word, bytes_same}
 use Rattle.sum_laws.proofs.Blocks.{seen_at, entry}
 use Rattle.sum_laws.proofs.Printed.{AllOf, IsForm, IsCondition}
+use Rattle.sum_laws.proofs.Forms.{split_lacks}
 use Rattle.sum_laws.proofs.Scans.{end_is}
 use Rattle.sum_laws.proofs.Agreeing.{all_of_both, kinds_both, conditions_both, or_first, first_both, facts_both, fact_here, none_if, kind_is, bytes_is}
 use Rattle.sum_laws.proofs.Alike.{Complete}
@@ -328,17 +329,6 @@ end_keeps s t k e =
     by_stand p name (running inside same) = not_both (is_outside s.place) (ap is_outside p) inside
 
 -- lines have no line feed
-onto_lines : (b : ℕ) (pieces : List (List ℕ)) → no_feed b ≡ true → list_all (list_all no_feed) pieces ≡ true → list_all (list_all no_feed) (onto_first b pieces) ≡ true
-onto_lines b [] h k = and_from (list_all no_feed (b ∷ [])) true (and_from (no_feed b) true h refl) refl
-onto_lines b (piece ∷ pieces) h k =
-    let l = and_parts (list_all no_feed piece) (list_all (list_all no_feed) pieces) k in
-    and_from (list_all no_feed (b ∷ piece)) (list_all (list_all no_feed) pieces) (and_from (no_feed b) (list_all no_feed piece) h l.0) l.1
-
-split_lines : (bytes : List ℕ) → list_all (list_all no_feed) (slice_split (λ byte. byte == 10) bytes) ≡ true
-split_lines [] = refl
-split_lines (b ∷ bytes) =
-    by_test (b == 10) (λ e. rw e (split_lines bytes)) (λ e. rw e (onto_lines b (slice_split (λ byte. byte == 10) bytes) (rw e refl) (split_lines bytes)))
-
 but_last_lines : (lines : List (List ℕ)) → list_all (list_all no_feed) lines ≡ true → list_all (list_all no_feed) (but_last lines) ≡ true
 but_last_lines [] h = refl
 but_last_lines (line ∷ []) h = refl
@@ -362,8 +352,8 @@ file_keeps bytes s t k e = by_lines (lines_judged s (lines_of bytes)) refl e
     by_lines : (r : Result Seen LogError) → lines_judged s (lines_of bytes) ≡ r → ((r >>= (λ next. last_judged next (rest_of bytes))) >>= end_judged) ≡ Ok t → Keeps t
     by_lines (Err error) f g = absurd (cc)
     by_lines (Ok u) f g =
-        let i : Keeps u = lines_keep (lines_of bytes) s u (but_last_lines (slice_split (λ byte. byte == 10) bytes) (split_lines bytes)) k f in
-        by_last (last_judged u (rest_of bytes)) (λ v h. last_keeps (rest_of bytes) u v (last_line (slice_split (λ byte. byte == 10) bytes) (split_lines bytes)) i h) g
+        let i : Keeps u = lines_keep (lines_of bytes) s u (but_last_lines (slice_split (λ byte. byte == 10) bytes) (split_lacks 10 bytes)) k f in
+        by_last (last_judged u (rest_of bytes)) (λ v h. last_keeps (rest_of bytes) u v (last_line (slice_split (λ byte. byte == 10) bytes) (split_lacks 10 bytes)) i h) g
 
 pub files_keep : (files : List (List ℕ)) (s t : Seen) → Keeps s → files_judged s files ≡ Ok t → Keeps t
 files_keep [] s t k e = let same : s ≡ t = cc in subst Keeps same k

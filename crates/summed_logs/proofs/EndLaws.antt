@@ -1,32 +1,24 @@
 -- How a call that sums logs ended.
-use Rattle.std.proofs.Common.{◌≡◌, [], ◌∷◌, refl, None}
-use Rattle.std.specs.Prelude.{Ok, Err}
+use Rattle.std.proofs.Common.{◌≡◌, ℕ, List, [], ◌∷◌, refl, None}
+use Rattle.std.specs.Prelude.{Ok}
 use Rattle.diy_io.specs.Taken.{SourceSeen}
 use Rattle.diy_io.specs.Wrote.{SinkSeen}
-use Rattle.diy_io.specs.declared.errors.Failed.{Failed}
+use Rattle.log_sum.specs.Standing.{logs_text}
 use Rattle.summed_logs.specs.declared.feeding.Feeding.{Feeding}
 use Rattle.summed_logs.specs.declared.feeding.LogFault.{LogFault}
 use Rattle.summed_logs.specs.declared.feeding.LogFault.TheVariants.{Wrong, TooMuch, NoMemory}
 use Rattle.summed_logs.specs.declared.sum_end.SumEnd.TheVariants as ends
 use Rattle.summed_logs.specs.Faults.{end_at}
-use Rattle.summed_logs.specs.Feeding.{LogSummed, LogFaulty, LogFailed, SumWrote}
-use Rattle.summed_logs.specs.SumEnds.{InputWritten, InputUnwritten, InputSummed}
+use Rattle.summed_logs.specs.Feeding.{LogSummed, LogFaulty, LogFailed}
+use Rattle.summed_logs.specs.SumEnds.{InputSaid, InputSummed}
 
--- the sum of an input was written
-pub input_written : (old new : SourceSeen) (a b : SinkSeen) (feeding : Feeding) (u : Unit {0})
-    → (s : LogSummed old new feeding []) → SumWrote (s.log ∷ []) a b (Ok u) → InputWritten old new a b
-input_written old new a b feeding u s w = record {
-  sum = w.sum;
-  read = record { log = s.log; text = s.text; at_end = s.at_end; short = s.short; taken = s.taken; no_fault = s.no_fault; is = w.is };
-  wrote = w.wrote.ok;
-}
-
-pub input_unwritten : (old new : SourceSeen) (a b : SinkSeen) (feeding : Feeding) (e : Failed)
-    → (s : LogSummed old new feeding []) → SumWrote (s.log ∷ []) a b (Err e) → InputUnwritten old new a b
-input_unwritten old new a b feeding e s w = record {
-  sum = w.sum;
-  read = record { log = s.log; text = s.text; at_end = s.at_end; short = s.short; taken = s.taken; no_fault = s.no_fault; is = w.is };
-  wrote = w.wrote.failed;
+-- this was done with the sum of an input
+pub input_said : (old new : SourceSeen) (done : List ℕ → Type 0) (feeding : Feeding)
+    → (s : LogSummed old new feeding []) → (sum : List ℕ) → logs_text (s.log ∷ []) ≡ Ok sum → done sum → InputSaid old new done
+input_said old new done feeding s sum is wrote = record {
+  sum = sum;
+  read = record { log = s.log; text = s.text; at_end = s.at_end; short = s.short; taken = s.taken; no_fault = s.no_fault; is = is };
+  wrote = wrote;
 }
 
 -- an input with a fault

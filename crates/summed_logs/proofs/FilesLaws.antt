@@ -5,7 +5,7 @@ use Rattle.std.proofs.lemmas.List.Elements.{All-append}
 use Rattle.diy_io.specs.Count.{Rose}
 use Rattle.diy_io.specs.Shelf.{Files, ShelfSeen, Opened, NotThere, Stopped}
 use Rattle.diy_io.specs.Wrote.{SinkSeen}
-use Rattle.diy_io.specs.declared.errors.Failed.{Failed}
+use Rattle.log_sum.specs.Standing.{logs_text}
 use Rattle.summed_logs.specs.declared.feeding.Feeding.{Feeding}
 use Rattle.summed_logs.specs.declared.feeding.LogFault.TheVariants.{Wrong, TooMuch, NoMemory}
 use Rattle.summed_logs.specs.declared.feeding.ReadFault.{ReadFault}
@@ -13,11 +13,11 @@ use Rattle.summed_logs.specs.declared.feeding.ReadFault.TheVariants.{Log, Device
 use Rattle.summed_logs.specs.declared.files.FileFault.{FileFault}
 use Rattle.summed_logs.specs.declared.files.FileFault.TheVariants.{Missing, Read}
 use Rattle.summed_logs.specs.Logs.{IsShort}
-use Rattle.summed_logs.specs.Feeding.{Reads, LogSummed, ClosedTo, SumWrote}
+use Rattle.summed_logs.specs.Feeding.{Reads, LogSummed, ClosedTo}
 use Rattle.file_laws.specs.Opened.{IsFile}
 use Rattle.file_laws.proofs.NameLaws.{absent_before, file_before}
 use Rattle.file_laws.proofs.OpenedLaws.{opened_text, opened_took, took_nothing, took_one_more, took_no_more}
-use Rattle.summed_logs.specs.SumEnds.{AreLogs, IsBegun, IsAtWord, FilesWritten, FilesUnwritten, FilesSummed}
+use Rattle.summed_logs.specs.SumEnds.{AreLogs, IsBegun, IsAtWord, FilesSaid, FilesSummed}
 use Rattle.summed_logs.specs.Files.{log_seen, FileSummed, FileTo, FilesSoFar, file_end}
 use Rattle.summed_logs.proofs.LogLaws.{are_right}
 
@@ -187,20 +187,11 @@ files_refused old mid new a feeding after words first place name (Read (Log (Too
 )
 files_refused old mid new a feeding after words first place name (Read (Log NoMemory)) s files word f = refl
 
--- the sum of the files was written
-pub files_written : (old new : ShelfSeen) (a b : SinkSeen) (feeding : Feeding) (words : List (List ℕ)) (first place : ℕ) (u : Unit {0})
-    → (s : FilesSoFar old new feeding words first place) → place ≡ length words → SumWrote s.logs a b (Ok u) → FilesWritten old new words first a b
-files_written old new a b feeding words first place u s all w = record {
-  sum = w.sum;
-  read = record { logs = s.logs; all = sym s.count ∙ all; are = s.are; no_fault = s.no_fault; took = s.took; is = w.is };
-  wrote = w.wrote.ok;
-}
-
--- or a prefix of it
-pub files_unwritten : (old new : ShelfSeen) (a b : SinkSeen) (feeding : Feeding) (words : List (List ℕ)) (first place : ℕ) (e : Failed)
-    → (s : FilesSoFar old new feeding words first place) → place ≡ length words → SumWrote s.logs a b (Err e) → FilesUnwritten old new words first a b
-files_unwritten old new a b feeding words first place e s all w = record {
-  sum = w.sum;
-  read = record { logs = s.logs; all = sym s.count ∙ all; are = s.are; no_fault = s.no_fault; took = s.took; is = w.is };
-  wrote = w.wrote.failed;
+-- this was done with the sum of the files
+pub files_said : (old new : ShelfSeen) (done : List ℕ → Type 0) (feeding : Feeding) (words : List (List ℕ)) (first place : ℕ)
+    → (s : FilesSoFar old new feeding words first place) → place ≡ length words → (sum : List ℕ) → logs_text s.logs ≡ Ok sum → done sum → FilesSaid old new words first done
+files_said old new done feeding words first place s all sum is wrote = record {
+  sum = sum;
+  read = record { logs = s.logs; all = sym s.count ∙ all; are = s.are; no_fault = s.no_fault; took = s.took; is = is };
+  wrote = wrote;
 }

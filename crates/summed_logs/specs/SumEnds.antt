@@ -24,17 +24,11 @@ pub record InputRead (old new : SourceSeen) (sum : List ℕ) : Type 0 where
   pub no_fault : new.faults ≡ old.faults
   pub is : logs_text (log ∷ []) ≡ Ok sum
 
--- its sum was written
-pub record InputWritten (old new : SourceSeen) (out_old out_new : SinkSeen) : Type 0 where
+-- the input was read so, and this was done with its sum
+pub record InputSaid (old new : SourceSeen) (done : List ℕ → Type 0) : Type 0 where
   pub sum : List ℕ
   pub read : InputRead old new sum
-  pub wrote : WroteAll out_old out_new sum
-
--- a prefix of its sum was written
-pub record InputUnwritten (old new : SourceSeen) (out_old out_new : SinkSeen) : Type 0 where
-  pub sum : List ℕ
-  pub read : InputRead old new sum
-  pub wrote : WrotePart out_old out_new sum
+  pub wrote : done sum
 
 -- the input is a log with this first fault, and no more was taken
 pub record InputWrong (old new : SourceSeen) (error : LogError) : Type 0 where
@@ -59,8 +53,8 @@ error_at line kind = record { line = line; kind = kind }
 
 -- how the summing of an input ended
 abbrev pub InputSummed : SourceSeen → SourceSeen → SinkSeen → SinkSeen → SumEnd → Type 0
-InputSummed old new out_old out_new ends.Done = InputWritten old new out_old out_new
-InputSummed old new out_old out_new ends.OutFault = InputUnwritten old new out_old out_new
+InputSummed old new out_old out_new ends.Done = InputSaid old new (WroteAll out_old out_new)
+InputSummed old new out_old out_new ends.OutFault = InputSaid old new (WrotePart out_old out_new)
 InputSummed old new out_old out_new (ends.Wrong None line kind) = InputWrong old new (error_at line kind) × (out_new ≡ out_old)
 InputSummed old new out_old out_new (ends.TooMuch None line) = InputTooMuch old new line × (out_new ≡ out_old)
 InputSummed old new out_old out_new ends.InputFault = ReadFailed old new [] × (out_new ≡ out_old)
@@ -84,17 +78,11 @@ pub record FilesRead (old new : ShelfSeen) (words : List (List ℕ)) (first : �
   pub took : TookFiles old new logs
   pub is : logs_text logs ≡ Ok sum
 
--- their sum was written
-pub record FilesWritten (old new : ShelfSeen) (words : List (List ℕ)) (first : ℕ) (out_old out_new : SinkSeen) : Type 0 where
+-- the files were read so, and this was done with their sum
+pub record FilesSaid (old new : ShelfSeen) (words : List (List ℕ)) (first : ℕ) (done : List ℕ → Type 0) : Type 0 where
   pub sum : List ℕ
   pub read : FilesRead old new words first sum
-  pub wrote : WroteAll out_old out_new sum
-
--- a prefix of their sum was written
-pub record FilesUnwritten (old new : ShelfSeen) (words : List (List ℕ)) (first : ℕ) (out_old out_new : SinkSeen) : Type 0 where
-  pub sum : List ℕ
-  pub read : FilesRead old new words first sum
-  pub wrote : WrotePart out_old out_new sum
+  pub wrote : done sum
 
 -- the word at a place is this name, and the words before it name these logs
 pub record IsAtWord (files : Option Files) (words : List (List ℕ)) (first place : ℕ) (before : List (List ℕ)) (name : List ℕ) : Type 0 where
@@ -154,8 +142,8 @@ pub record ShelfFailed (old new : ShelfSeen) (words : List (List ℕ)) (first : 
 
 -- how the summing of files ended
 abbrev pub FilesSummed : ShelfSeen → ShelfSeen → List (List ℕ) → ℕ → SinkSeen → SinkSeen → SumEnd → Type 0
-FilesSummed old new words first out_old out_new ends.Done = FilesWritten old new words first out_old out_new
-FilesSummed old new words first out_old out_new ends.OutFault = FilesUnwritten old new words first out_old out_new
+FilesSummed old new words first out_old out_new ends.Done = FilesSaid old new words first (WroteAll out_old out_new)
+FilesSummed old new words first out_old out_new ends.OutFault = FilesSaid old new words first (WrotePart out_old out_new)
 FilesSummed old new words first out_old out_new (ends.Wrong (Some file) line kind) =
     FileWrong old new words first file (error_at line kind) × (out_new ≡ out_old)
 FilesSummed old new words first out_old out_new (ends.TooMuch (Some file) line) = FileTooMuch old new words first file line × (out_new ≡ out_old)

@@ -1,9 +1,9 @@
 -- The executions that a cycle's test asks for are the outcomes of its program.
-use Rattle.std.proofs.Common.{◌≡◌, ℕ, ◌<◌, Bool, true, false, not, List, length, map, Option, Some, slice_get, refl, sym, ◌∙◌, ap, subst, arith}
+use Rattle.std.proofs.Common.{◌≡◌, ℕ, ◌<◌, true, not, List, length, map, Option, Some, slice_get, sym, ◌∙◌, ap, subst, arith}
 use Rattle.std.specs.Prelude.{nat_le}
 use Rattle.std.specs.List.{AllByRecursion, count_by, filter}
 use Rattle.std.specs.Option.{option_map, option_and_then}
-use Rattle.std.proofs.lemmas.Bool.{and_from, and_parts, leb-true, le-leb}
+use Rattle.std.proofs.lemmas.Bool.{and_from, and_parts, leb-true, le-leb, not-true}
 use Rattle.std.proofs.lemmas.Option.{slice_get_within}
 use Rattle.relax_edges.specs.declared.kinds.Value.{Value}
 use Rattle.relax_edges.specs.declared.kinds.Value.TheVariants.{Num}
@@ -134,8 +134,4 @@ asked_ends a es mode number names register_number x t n named asked =
     let p = and_parts (nat_le 2 (write_count es i.element)) (not (is_observed es mode i.element)) q.passes in
     subst (IsMet (final_state (cycle_program a es mode number) names register_number x)) i.image
     (place_shows a es mode number names register_number x i.element t n named q.below
-    ∙ ap (λ v. Some (Num v)) (asked i.element q.below (unobserved (is_observed es mode i.element) p.1) (leb-true 2 (write_count es i.element) p.0))))
-  where
-    unobserved : (b : Bool) → not b ≡ true → b ≡ false
-    unobserved true h = cc
-    unobserved false h = refl
+    ∙ ap (λ v. Some (Num v)) (asked i.element q.below (not-true (is_observed es mode i.element) p.1) (leb-true 2 (write_count es i.element) p.0))))

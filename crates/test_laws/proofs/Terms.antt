@@ -6,6 +6,7 @@ use Rattle.std.proofs.lemmas.Bool.{leb-true}
 use Rattle.std.proofs.lemmas.List.{length-map, take-append-drop, take_more}
 use Rattle.std.proofs.lemmas.List.Sums.{sum_by-cons, sum_by-append, count_by-le-length, length-filter}
 use Rattle.std.proofs.lemmas.Slice.Zip.{length-zip}
+use Rattle.std.proofs.Math.Bool.{and_comm}
 use Rattle.relax_edges.specs.declared.kinds.Dir.{Dir}
 use Rattle.relax_edges.specs.declared.kinds.Dir.TheVariants as dirs
 use Rattle.relax_edges.specs.declared.kinds.ObsMode.{ObsMode}
@@ -106,12 +107,6 @@ either_passes : (p q : ℕ → Bool) (n : ℕ) → ((i : ℕ) → q i ≡ not (p
 either_passes p q zero h = refl
 either_passes p q (suc n) h = omega (arith, count_upto-suc p n, count_upto-suc q n, either_passes p q n h, one_passes (p n) (q n) (h n))
 
-and_turned : (a b : Bool) → (a && b) ≡ (b && a)
-and_turned true true = refl
-and_turned true false = refl
-and_turned false true = refl
-and_turned false false = refl
-
 -- event i is a read
 abbrev is_load : List Edge → ℕ → Bool
 is_load es i = is_load_dir (source_of (edge_at es i))
@@ -129,7 +124,7 @@ unfolding events_in
 thread_loads es number k =
     sum_map (λ (s : Step). cond (is_load_dir s.dir) 1 0) (event_step es number) (events_in es k)
     ∙ count_filter (is_load es) (λ i. thread_of es i == k) (upto (length es))
-    ∙ count_upto_same (λ i. (thread_of es i == k) && is_load es i) (λ i. is_load es i && (thread_of es i == k)) (length es) (λ i l. and_turned (thread_of es i == k) (is_load es i))
+    ∙ count_upto_same (λ i. (thread_of es i == k) && is_load es i) (λ i. is_load es i && (thread_of es i == k)) (length es) (λ i l. and_comm (thread_of es i == k) (is_load es i))
 
 -- and so all threads of the cycle have as many loads as it has reads
 cycle_loads : (es : List Edge) (number : ℕ → ℕ) → IsResolved es → sum_by (λ k. loads_in (thread_steps es number k)) (upto (external_count es)) ≡ count_by (is_load es) (upto (length es))

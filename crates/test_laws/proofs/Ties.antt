@@ -1,5 +1,6 @@
 -- What an edge asks for between two accesses is what its link makes.
 use Rattle.std.proofs.Common.{◌≡◌, ℕ, ◌<◌, ◌^◌, Bool, true, false, ◌==◌, ◌&&◌, cond, List, map, refl, sym, ◌∙◌, ap, subst}
+use Rattle.std.proofs.Math.Bool.{and-false}
 use Rattle.std.specs.Int.{bit_at}
 use Rattle.list_laws.proofs.Cases.{by_test}
 use Rattle.relax_edges.specs.declared.kinds.Dir.TheVariants as dirs
@@ -37,14 +38,10 @@ in_control kind threads e f k c h link =
     one_if true = refl
     one_if false = refl
 
-and_false : (b : Bool) → (b && false) ≡ false
-and_false true = refl
-and_false false = refl
-
 -- where the link doesn't branch
 off : (kind : Kind) (threads : List (List Access)) (e f : Named) (k c : ℕ) → Follows kind threads e f k c → branches (kind_link kind) ≡ false → is_in_mask threads e f.visit.control_mask ≡ false
 off kind threads e f k c h b =
-    ap (is_in_mask threads e) h.control ∙ in_control kind threads e f k c h (kind_link kind) ∙ ap (λ t. is_read e.visit.access && t) b ∙ and_false (is_read e.visit.access)
+    ap (is_in_mask threads e) h.control ∙ in_control kind threads e f k c h (kind_link kind) ∙ ap (λ t. is_read e.visit.access && t) b ∙ and-false (is_read e.visit.access)
 
 -- what a dependency leaves is a read
 leaves_read : (kind : Kind) (threads : List (List Access)) (e f : Named) (k c : ℕ) → Follows kind threads e f k c → kind_source kind ≡ dirs.R → is_read e.visit.access ≡ true

@@ -6,6 +6,7 @@ use Rattle.std.specs.Option.{option_map, option_or, is_some}
 use Rattle.std.proofs.lemmas.List.Elements.{filter_map-append}
 use Rattle.std.proofs.lemmas.List.Folds.{find-append}
 use Rattle.std.proofs.lemmas.Bool.{and_parts, and_right, lt-ltb, le-ltb, ltb-true}
+use Rattle.std.proofs.Math.Bool.{and-true}
 use Rattle.relax_edges.specs.declared.edge.Edge.{Edge}
 use Rattle.relax_edges.specs.EdgeTable.{is_external}
 use Rattle.list_laws.specs.Numbers.{upto}
@@ -53,11 +54,7 @@ none_found p w (suc n) h =
 
 -- a write that isn't the last one is an inner one, where it isn't the first and an external edge enters it
 inner_test : (es : List Edge) (l k i : ℕ) → k + 1 < write_count es l → Write es l k i → is_inner_entry es l i ≡ is_later_entry es i
-inner_test es l k i h w = rw (w.writes, lt-ltb (value_of es i) (write_count es l) (omega (arith, h, w.value))) (and_true (is_external (edge_into es i) && nat_lt 1 (value_of es i)))
-  where
-    and_true : (b : Bool) → (b && true) ≡ b
-    and_true true = refl
-    and_true false = refl
+inner_test es l k i h w = rw (w.writes, lt-ltb (value_of es i) (write_count es l) (omega (arith, h, w.value))) (and-true (is_external (edge_into es i) && nat_lt 1 (value_of es i)))
 
 -- the last write isn't an inner one
 last_isnt : (es : List Edge) (l k i : ℕ) → k + 1 ≡ write_count es l → Write es l k i → is_inner_entry es l i ≡ false

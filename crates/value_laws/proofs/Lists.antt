@@ -9,6 +9,7 @@ use Rattle.std.proofs.lemmas.List.Kept.{AllPairs-cons}
 use Rattle.std.proofs.lemmas.List.Sums.{sum_by-cons}
 use Rattle.std.proofs.lemmas.Bool.{cond-true, cond-false, and_left, and_right, ne_eqb, le-leb, lt-leb, lt-ltb, le-ltb}
 use Rattle.std.proofs.lemmas.Option.{slice_get-get_or, slice_get_within, get_or_from_slice_get}
+use Rattle.std.proofs.Math.Bool.{and-true}
 use Rattle.list_laws.specs.Numbers.{upto}
 use Rattle.list_laws.proofs.Cases.{by_test, by_less, by_same}
 use Rattle.list_laws.proofs.Counts.{counted, count_upto_past, count_upto_same, count_upto_stays}
@@ -109,12 +110,8 @@ count_along f p xs k x grows h =
     (λ m a b. and_right (p (get_or xs m 0)) (nat_le (f (get_or xs m 0)) (f x)) (lt-leb (f (get_or xs m 0)) (f x) (omega (arith, grows k m 0 (omega arith) b, ap f here))))
     ∙ count_upto_same (λ m. p (get_or xs m 0) && nat_le (f (get_or xs m 0)) (f x)) (λ m. p (get_or xs m 0)) (k + 1)
     (λ m a. let low : f (get_or xs m 0) ≤ f x = by_less m k (λ l. omega (arith, grows m k 0 l within, ap f here)) (λ g. let e : m ≡ k = omega arith in omega (arith, ap (λ n. f (get_or xs n 0)) e, ap f here)) in
-    rw (le-leb (f (get_or xs m 0)) (f x) low) (and_true (p (get_or xs m 0))))
+    rw (le-leb (f (get_or xs m 0)) (f x) low) (and-true (p (get_or xs m 0))))
     ∙ sym (count_take p xs 0 (k + 1) (omega arith))
-  where
-    and_true : (b : Bool) → (b && true) ≡ b
-    and_true true = refl
-    and_true false = refl
 
 -- a filter that passes nothing, and one that passes everything
 filter_nothing : (p : ℕ → Bool) (xs : List ℕ) → All (λ x. p x ≡ false) xs → filter p xs ≡ []

@@ -1,22 +1,13 @@
 -- Laws of composable lists: parts, rotations, the first break.
-use Rattle.std.proofs.Common.{◌≡◌, ℕ, suc, ◌-◌, ◌+◌, ◌<◌, ◌≤◌, Bool, true, false, ◌&&◌, cond, List, [], ◌∷◌, ◌++◌, length, take, drop, Option, Some, None, refl, sym, ◌∙◌, ap, arith, append_assoc, length-append, slice_get, get_or}
+use Rattle.std.proofs.Common.{◌≡◌, ℕ, suc, ◌-◌, ◌+◌, ◌<◌, ◌≤◌, true, false, ◌&&◌, cond, List, [], ◌∷◌, ◌++◌, length, take, drop, Option, Some, None, refl, sym, ◌∙◌, ap, arith, append_assoc, length-append, slice_get, get_or}
 use Rattle.std.proofs.lemmas.List.{append-nil, take-append-drop}
 use Rattle.std.proofs.lemmas.Bool.{and_parts, and_from}
+use Rattle.std.proofs.Math.Bool.{and-true, and_assoc, and_comm}
 use Rattle.relax_edges.specs.declared.TheConstants.{MAX_EDGES}
 use Rattle.relax_edges.specs.declared.edge.Edge.{Edge}
 use Rattle.relax_edges.specs.EdgeTable.{joins_to}
 use Rattle.walk_laws.specs.Composable.{joins_first, is_joined, is_closed, IsPath, IsCycle, first_break, one_later, last_joins}
 use Rattle.walk_laws.specs.Rotation.{rotated}
-
-and_assoc : (x y z : Bool) → ((x && y) && z) ≡ (x && (y && z))
-and_assoc true y z = refl
-and_assoc false y z = refl
-
-and_comm : (x y : Bool) → (x && y) ≡ (y && x)
-and_comm true true = refl
-and_comm true false = refl
-and_comm false true = refl
-and_comm false false = refl
 
 joins_first_front : (e m : Edge) (a b : List Edge) → joins_first e (a ++ m ∷ b) ≡ joins_first e (a ++ m ∷ [])
 joins_first_front e m [] b = refl
@@ -127,11 +118,7 @@ one_joined (e ∷ u) = refl
 -- a list closes where it is joined and its last edge joins its first
 pub closed_parts : (u : List Edge) → is_closed u ≡ (is_joined u && last_joins u u)
 closed_parts u =
-    joined_parts u (take 1 u) ∙ ap (λ b. is_joined u && b) (ap (λ b. last_joins u (take 1 u) && b) (one_joined u) ∙ and_true (last_joins u (take 1 u)) ∙ last_joins_one u u)
-  where
-    and_true : (b : Bool) → (b && true) ≡ b
-    and_true true = refl
-    and_true false = refl
+    joined_parts u (take 1 u) ∙ ap (λ b. is_joined u && b) (ap (λ b. last_joins u (take 1 u) && b) (one_joined u) ∙ and-true (last_joins u (take 1 u)) ∙ last_joins_one u u)
 
 -- what the last edge of a list and the first of another say
 pub last_joins_at : (u v : List Edge) (d e : Edge) → 0 < length u → 0 < length v → last_joins u v ≡ joins_to (get_or u (length u - 1) d) (get_or v 0 e)

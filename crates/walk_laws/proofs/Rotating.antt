@@ -17,11 +17,11 @@ pub rotation_back : (u v : List Edge) → IsRotation u v → IsRotation v u
 rotation_back u v r = record { front = r.back; back = r.front; from = r.to; to = r.from }
 
 -- two ways to cut one list: the first cut comes first, with a part between the two, or the second does
-data Cuts (a b c d : List Edge) : Type 0 where
+pub data Cuts (a b c d : List Edge) : Type 0 where
   before : (between : List Edge) → c ≡ a ++ between → b ≡ between ++ d → Cuts a b c d
   behind : (between : List Edge) → a ≡ c ++ between → d ≡ between ++ b → Cuts a b c d
 
-cuts : (a b c d : List Edge) → a ++ b ≡ c ++ d → Cuts a b c d
+pub cuts : (a b c d : List Edge) → a ++ b ≡ c ++ d → Cuts a b c d
 cuts [] b c d e = before c refl e
 cuts (x ∷ a) b [] d e = behind (x ∷ a) refl (sym e)
 cuts (x ∷ a) b (y ∷ c) d e =

@@ -3,7 +3,7 @@ use Rattle.diy_io.specs.Shelf.{ShelfSeen}
 use Rattle.diy_io.specs.Wrote.{SinkSeen}
 use Rattle.classified_files.specs.declared.errors.FilesEnd.{FilesEnd}
 use Rattle.classified_files.specs.FilesEnds.{Asked, FilesClassified}
-use Rattle.classified_files.proofs.FilesLaws.{none_so_far, one_more, next_so_far, files_refused, files_written, files_unwritten}
+use Rattle.classified_files.proofs.FilesLaws.{none_so_far, one_more, next_so_far, files_refused, files_said}
 use Rattle.classified_files.proofs.files.classify_files.Goals as goal
 
 pub loop-place-init : goal.loop-place-init
@@ -43,10 +43,10 @@ loop-place-preserved g c =
 
 pub returns-in-Ok-write-clause-classified : goal.returns-in-Ok-write-clause-classified
 returns-in-Ok-write-clause-classified g c =
-    files_written (record { arch = g.A.Arch.NAME; writing = g.A.Arch.writing }) _ _ c.args.words.now c.args.places.now c.loop-place.place-index _ _ _ c.in-Ok-write.field-0
-    (omega arith) c.loop-place.invariant.so_far c.in-Ok-write.ensures
+    files_said (record { arch = g.A.Arch.NAME; writing = g.A.Arch.writing }) _ _ c.args.words.now c.args.places.now c.loop-place.place-index _ _
+    (omega arith) c.loop-place.invariant.so_far (λ cycles holds. (c.in-Ok-write.ensures cycles holds).ok)
 
 pub returns-clause-classified : goal.returns-clause-classified
 returns-clause-classified g c =
-    files_unwritten (record { arch = g.A.Arch.NAME; writing = g.A.Arch.writing }) _ _ c.args.words.now c.args.places.now c.loop-place.place-index _ _ _ c.in-Err-write.field-0
-    (omega arith) c.loop-place.invariant.so_far c.in-Err-write.ensures
+    files_said (record { arch = g.A.Arch.NAME; writing = g.A.Arch.writing }) _ _ c.args.words.now c.args.places.now c.loop-place.place-index _ _
+    (omega arith) c.loop-place.invariant.so_far (λ cycles holds. (c.in-Err-write.ensures cycles holds).failed)

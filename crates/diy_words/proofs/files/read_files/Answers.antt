@@ -1,5 +1,5 @@
 use Rattle.std.proofs.Common.{arith, ◌∙◌, sym, subst}
-use Rattle.diy_words.proofs.FileLaws.{FilesRead, OptionFirst, files_begun, file_read, file_there, where_err, option_first, option_read, files_ended}
+use Rattle.diy_words.proofs.FileLaws.{FilesRead, files_begun, file_read, file_there, where_err, option_first, option_read, files_ended}
 use Rattle.diy_words.proofs.files.read_files.Goals as goal
 
 pub loop-at-init : goal.loop-at-init
@@ -7,8 +7,7 @@ loop-at-init c = subst (FilesRead c.args.words.now 1) (sym c.new-files.ensures.i
 
 pub overflow_add-at : goal.overflow_add-at
 overflow_add-at c =
-    let first : OptionFirst c.args.words.now c.loop-at.at =
-    option_first c.args.words.now c.loop-at.at c.get.result.now c.in-Some.field-0 (omega arith) c.get.ensures (sym c.option_named.ensures ∙ c.in-Some.is) c.loop-at.invariant.faultless in
+    let first = option_first c.args.words.now c.loop-at.at c.get.result.now c.in-Some.field-0 (omega arith) c.get.ensures (sym c.option_named.ensures ∙ c.in-Some.is) c.loop-at.invariant.faultless in
     omega (arith, first.valued)
 
 pub loop-at-preserved-in-Some : goal.loop-at-preserved-in-Some

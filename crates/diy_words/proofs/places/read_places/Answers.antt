@@ -1,5 +1,5 @@
 use Rattle.std.proofs.Common.{arith, ◌∙◌, sym, subst}
-use Rattle.diy_words.proofs.PlaceLaws.{PlacesRead, OptionFirst, places_begun, place_first, place_read, option_first, option_read, places_ended}
+use Rattle.diy_words.proofs.PlaceLaws.{PlacesRead, places_begun, place_first, place_read, option_first, option_read, places_ended}
 use Rattle.diy_words.proofs.places.read_places.Goals as goal
 
 pub loop-at-init : goal.loop-at-init
@@ -7,8 +7,7 @@ loop-at-init c = subst (PlacesRead c.args.words.now 1) (sym c.new-places.ensures
 
 pub overflow_add-at : goal.overflow_add-at
 overflow_add-at c =
-    let first : OptionFirst c.args.words.now c.loop-at.at =
-    option_first c.args.words.now c.loop-at.at c.get-word.result.now c.in-Some.field-0 (omega arith) c.get-word.ensures (sym c.option_named.ensures ∙ c.in-Some.is) c.loop-at.invariant.faultless in
+    let first = option_first c.args.words.now c.loop-at.at c.get-word.result.now c.in-Some.field-0 (omega arith) c.get-word.ensures (sym c.option_named.ensures ∙ c.in-Some.is) c.loop-at.invariant.faultless in
     omega (arith, first.valued)
 
 pub loop-at-preserved-in-Some : goal.loop-at-preserved-in-Some

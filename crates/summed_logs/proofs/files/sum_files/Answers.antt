@@ -2,7 +2,7 @@ use Rattle.std.proofs.Common.{◌∙◌, sym, subst, arith}
 use Rattle.diy_io.specs.Wrote.{SinkSeen}
 use Rattle.summed_logs.specs.declared.sum_end.SumEnd.{SumEnd}
 use Rattle.summed_logs.specs.SumEnds.{FilesSummed}
-use Rattle.summed_logs.proofs.FilesLaws.{one_more, files_refused, files_written, files_unwritten}
+use Rattle.summed_logs.proofs.FilesLaws.{one_more, files_refused, files_said}
 use Rattle.summed_logs.proofs.files.sum_files.Goals as goal
 
 pub returns-in-Err-clause-summed : goal.returns-in-Err-clause-summed
@@ -29,10 +29,12 @@ loop-word-preserved g c = record {
 
 pub returns-in-Ok-write_sum-clause-summed : goal.returns-in-Ok-write_sum-clause-summed
 returns-in-Ok-write_sum-clause-summed g c =
-    files_written (g.H.Shelf.seen c.args.shelf.now) (g.H.Shelf.seen c.loop-word.shelf) _ _ c.loop-word.feeding c.args.words.now c.args.first c.loop-word.word c.in-Ok-write_sum.field-0
-    c.loop-word.invariant.so_far (omega arith) (c.in-Ok-write_sum.ensures _ c.loop-word.invariant.so_far.reads)
+    let w = c.in-Ok-write_sum.ensures _ c.loop-word.invariant.so_far.reads in
+    files_said (g.H.Shelf.seen c.args.shelf.now) (g.H.Shelf.seen c.loop-word.shelf) _ c.loop-word.feeding c.args.words.now c.args.first c.loop-word.word
+    c.loop-word.invariant.so_far (omega arith) w.sum w.is w.wrote.ok
 
 pub returns-clause-summed : goal.returns-clause-summed
 returns-clause-summed g c =
-    files_unwritten (g.H.Shelf.seen c.args.shelf.now) (g.H.Shelf.seen c.loop-word.shelf) _ _ c.loop-word.feeding c.args.words.now c.args.first c.loop-word.word c.in-Err-write_sum.field-0
-    c.loop-word.invariant.so_far (omega arith) (c.in-Err-write_sum.ensures _ c.loop-word.invariant.so_far.reads)
+    let w = c.in-Err-write_sum.ensures _ c.loop-word.invariant.so_far.reads in
+    files_said (g.H.Shelf.seen c.args.shelf.now) (g.H.Shelf.seen c.loop-word.shelf) _ c.loop-word.feeding c.args.words.now c.args.first c.loop-word.word
+    c.loop-word.invariant.so_far (omega arith) w.sum w.is w.wrote.failed

@@ -4,18 +4,20 @@ use Rattle.diy_io.specs.Wrote.{SinkSeen}
 use Rattle.summed_logs.specs.declared.sum_end.SumEnd.{SumEnd}
 use Rattle.summed_logs.specs.SumEnds.{InputSummed}
 use Rattle.summed_logs.proofs.LogLaws.{summed_refused}
-use Rattle.summed_logs.proofs.EndLaws.{input_written, input_unwritten, input_faulty}
+use Rattle.summed_logs.proofs.EndLaws.{input_said, input_faulty}
 use Rattle.summed_logs.proofs.input.sum_input.Goals as goal
 
 pub returns-in-Ok-write_sum : goal.returns-in-Ok-write_sum
 returns-in-Ok-write_sum g c =
     let summed = c.in-Ok-sum_source.ensures [] c.in-Ok.ensures in
-    input_written _ _ _ _ c.sum_source.new.feeding c.in-Ok-write_sum.field-0 summed (c.in-Ok-write_sum.ensures _ summed.reads)
+    let w = c.in-Ok-write_sum.ensures _ summed.reads in
+    input_said _ _ _ c.sum_source.new.feeding summed w.sum w.is w.wrote.ok
 
 pub returns-in-Ok-sum_source : goal.returns-in-Ok-sum_source
 returns-in-Ok-sum_source g c =
     let summed = c.in-Ok-sum_source.ensures [] c.in-Ok.ensures in
-    input_unwritten _ _ _ _ c.sum_source.new.feeding c.in-Err.field-0 summed (c.in-Err.ensures _ summed.reads)
+    let w = c.in-Err.ensures _ summed.reads in
+    input_said _ _ _ c.sum_source.new.feeding summed w.sum w.is w.wrote.failed
 
 pub returns-in-Err-Log : goal.returns-in-Err-Log
 returns-in-Err-Log g c =

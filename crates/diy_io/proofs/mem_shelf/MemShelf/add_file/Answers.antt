@@ -1,23 +1,10 @@
 use Rattle.std.proofs.Common.{◌≡◌, ap, sym, ◌∙◌, subst}
-use Rattle.std.specs.Prelude.{ℕ, None, length, ◌++◌, ◌∷◌, []}
-use Rattle.diy_io.specs.MemFiles.{MemFilesState, place_of}
-use Rattle.diy_io.specs.MemShelf.{MemShelfState, mode_of, IsPlace}
+use Rattle.std.specs.Prelude.{None, length, ◌++◌, ◌∷◌, []}
+use Rattle.diy_io.specs.MemFiles.{place_of}
+use Rattle.diy_io.specs.MemShelf.{mode_of, IsPlace}
 use Rattle.diy_io.specs.declared.mem_shelf.Work.TheVariants as works
-use Rattle.diy_io.specs.declared.mem_shelf.MemShelf.TheInside.{Inside}
-use Rattle.diy_io.proofs.ShelfLaws.{begins, begins_at}
+use Rattle.diy_io.proofs.ShelfLaws.{after_begun, begins, begins_at}
 use Rattle.diy_io.proofs.mem_shelf.MemShelf.add_file.Goals as goal
-
--- the shelf after a file was begun
-abbrev after_begun : Inside → MemFilesState → ℕ → MemShelfState
-after_begun inside held file = record {
-  held = held;
-  mode = mode_of held.files (works.Writing file);
-  fail = inside.fail.items;
-  calls = inside.calls;
-  faults = inside.faults;
-  taken = inside.taken;
-  opened = inside.opened;
-}
 
 pub invariant_of-self : goal.invariant_of-self
 invariant_of-self c =

@@ -1,25 +1,9 @@
 use Rattle.std.proofs.Common.{◌≡◌, ap, sym, ◌∙◌, refl, [], Some, set}
-use Rattle.std.specs.Prelude.{ℕ}
 use Rattle.diy_io.specs.Count.{next_count}
-use Rattle.diy_io.specs.MemFiles.{MemFilesState, place_of, name_at}
-use Rattle.diy_io.specs.MemShelf.{MemShelfState, mode_of}
-use Rattle.diy_io.specs.declared.mem_shelf.Work.TheVariants as works
-use Rattle.diy_io.specs.declared.mem_shelf.MemShelf.TheInside.{Inside}
+use Rattle.diy_io.specs.MemFiles.{place_of, name_at}
 use Rattle.diy_io.proofs.EntriesLaws.{on_ok_is}
-use Rattle.diy_io.proofs.ShelfLaws.{is_place, stays_at, begins_again}
+use Rattle.diy_io.proofs.ShelfLaws.{after_begun, is_place, stays_at, begins_again}
 use Rattle.diy_io.proofs.mem_shelf.MemShelfShelf.create.Goals as goal
-
--- the shelf after a file was begun
-abbrev after_begun : Inside → MemFilesState → ℕ → MemShelfState
-after_begun inside held file = record {
-  held = held;
-  mode = mode_of held.files (works.Writing file);
-  fail = inside.fail.items;
-  calls = inside.calls;
-  faults = inside.faults;
-  taken = inside.taken;
-  opened = inside.opened;
-}
 
 pub invariant_of-self : goal.invariant_of-self
 invariant_of-self c =
