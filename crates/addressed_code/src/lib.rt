@@ -1,4 +1,4 @@
-//! The code of a thread on architectures whose accesses name a register with the address, made once
+//! The code of a thread on architectures whose accesses name a register that holds the address, made once
 //! for all of them.
 #![tactic(auto)]
 

@@ -5,8 +5,8 @@ ghost use Rattle.arch_trait.specs.Addressed.{Instructions};
 use arch_trait::{Instrs, MAX_INSTRS};
 use micro_ops::Micro;
 
-/// The instructions of its own of an architecture whose accesses name a register with the address.
-/// All else of the code of a thread is alike for these architectures.
+/// The own instructions of an architecture whose accesses name a register that holds the address.
+/// The rest of the code of a thread is the same for all these architectures.
 pub trait OwnInstructions {
     ghost own: { Instructions };
 

@@ -1,4 +1,4 @@
--- AArch64's instructions stand in the cells of a table, and each of its loads and stores is one of them.
+-- AArch64's instructions fit in the cells of a table, and each of its loads and stores is one of them.
 use Rattle.arch_trait.specs.Cells.{WritesCells, MakesOneAccess}
 use Rattle.arch_trait.specs.Forms.{register_names}
 use Rattle.form_laws.proofs.InCells as tables
@@ -8,8 +8,10 @@ use Rattle.arch_aarch64.specs.Table.{table, numbered, writing}
 use Rattle.arch_aarch64.specs.Clear.{is_clear_table}
 use Rattle.arch_aarch64.specs.Laws.{own_code}
 
+-- the instructions of AArch64 fit in the cells of a table
 pub writes_cells : WritesCells puts writing
 writes_cells = tables.writes_cells puts table (register_names numbered) is_clear_table (λ op h. h)
 
+-- the code of each access of AArch64 makes one access
 pub makes_one_access : MakesOneAccess puts
 makes_one_access = own_code_once instructions own_code

@@ -10,6 +10,7 @@ use Rattle.form_laws.proofs.OwnCode.{HasOwnCode, tests, indexed, sums, own_code_
 use Rattle.arch_aarch64.specs.Table.{forms, table}
 use Rattle.arch_aarch64.specs.Puts.{puts, instructions}
 
+-- AArch64's own instructions are of the sorts that the laws ask for
 pub own_code : HasOwnCode instructions
 unfolding forms fits
 own_code = record {
@@ -35,5 +36,6 @@ own_code = record {
   };
 }
 
+-- AArch64 obeys the laws of architectures
 pub laws : IsArch puts
 laws = own_code_laws instructions own_code

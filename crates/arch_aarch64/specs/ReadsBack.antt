@@ -13,9 +13,11 @@ use Rattle.arch_aarch64.specs.Clear.{is_clear_table, few_registers}
 are_numbered : IsNumbered numbered
 are_numbered = record { letter = refl; small = omega arith }
 
+-- the name of a register is the one at its number
 pub name_is : (r : ℕ) → r < 28 → name_in writing.registers r ≡ register_name numbered r
 name_is r h = name_at numbered r h
 
+-- the instructions of AArch64 read back from their text
 pub reads_back : WritesBack puts writing
 reads_back = numbered_back puts table numbered is_clear_table (λ op h. h) are_numbered refl
 

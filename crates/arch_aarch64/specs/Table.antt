@@ -19,10 +19,11 @@ w = piece (codes "W") (holes.Register 0 28) []
 abbrev pub x : PieceText
 x = piece (codes "X") (holes.Register 0 28) []
 
--- the address in a register: [X0] to [X27]; and the first part of one with an index: [X0,W1,SXTW]
+-- the address in a register: [X0] to [X27]
 abbrev pub address : PieceText
 address = piece (codes "[X") (holes.Register 0 28) (codes "]")
 
+-- the first part of an address with an index: of [X0,W1,SXTW] it is [X0
 abbrev pub base : PieceText
 base = piece (codes "[X") (holes.Register 0 28) []
 
@@ -30,6 +31,7 @@ base = piece (codes "[X") (holes.Register 0 28) []
 abbrev pub immediate : PieceText
 immediate = piece (codes "#") holes.Number []
 
+-- a label
 abbrev pub label : PieceText
 label = piece [] holes.Label []
 
@@ -52,11 +54,11 @@ forms =
     form (codes "STLR") (w ∷ address ∷ []) kinds.StoreRelease ∷
     form (codes "ADD") (x ∷ x ∷ w ∷ fixed (codes "SXTW") ∷ []) kinds.Sum ∷ []
 
--- the table, in which labels stand too
+-- the table, with labels
 abbrev pub table : TableText
 table = record { forms = forms; labels = labels.Known }
 
--- the names of registers as they stand in conditions: X0 to X27
+-- the names of registers in conditions: X0 to X27
 abbrev pub numbered : Numbered
 numbered = record { letter = 88; first = 0; count = 28 }
 

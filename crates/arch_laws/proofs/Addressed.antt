@@ -37,7 +37,7 @@ writes_but r u w g h d x spare but = record {
   places = λ p a e. but.regs a (spare.free p a e) ∙ x.places p a e;
 }
 
--- a barrier behind the branch of a link
+-- a barrier after the branch of a link
 did_barrier : (code : List Micro) (kind : Barrier) (r : Run) (c : ℕ) → DidLink code r [] c →
     DidLink (code ++ ops.Barrier kind ∷ []) r (items.Barrier kind c ∷ []) c
 did_barrier code kind r c d = record {

@@ -33,6 +33,7 @@ pub record IsBut (d : ℕ) (r u : Run) : Type 0 where
   pub loads : u.state.loads ≡ r.state.loads
   pub reads : u.reads ≡ r.reads
 
+-- a run differs from itself in at most one register
 pub same_run : (d : ℕ) (r : Run) → IsBut d r r
 same_run d r = record {
   regs = λ s e. refl;
@@ -119,12 +120,14 @@ load_op_runs Plain fits v a p n mask vs r e reads = run_load v a p n mask vs r e
 load_op_runs Acquire fits v a p n mask vs r e reads = run_load_acquire v a p n mask vs r e reads
 load_op_runs Release fits v a p n mask vs r e reads = cc
 
+-- without a number to read, a load of a mark at the address in a register wants one
 pub load_op_wants : (mark : Mark) (v a p mask : ℕ) (r : Run) → r.state.regs a ≡ address p mask → r.reads ≡ [] →
     go (load_op mark v a) (At r) ≡ Wants r
 load_op_wants Plain v a p mask r e reads = run_load_wants v a p mask r e reads
 load_op_wants Acquire v a p mask r e reads = run_load_acquire_wants v a p mask r e reads
 load_op_wants Release v a p mask r e reads = run_load_wants v a p mask r e reads
 
+-- a store of a mark at the address in a register makes its access
 pub store_op_runs : (mark : Mark) → mark_fits dirs.W mark ≡ true → (v a p n mask data_mask : ℕ) (r : Run) →
     r.state.regs a ≡ address p mask → r.state.regs v ≡ num n data_mask →
     go (store_op mark v a) (At r) ≡ At (after_store mark r p n mask data_mask)
@@ -158,6 +161,7 @@ load_through_runs own keeps Acquire fits d v a p n mask vs r e g reads =
     }
 load_through_runs own keeps Release fits d v a p n mask vs r e g reads = cc
 
+-- without a number to read, a load of a mark at an address that depends on a register wants one
 pub load_through_wants : (own : Instructions) → KeepsInstructions own → (mark : Mark) (d v a p mask : ℕ) (r : Run) →
     r.state.regs a ≡ at_place p → r.state.regs d ≡ num 0 mask → r.reads ≡ [] →
     IsWanting (exec (load_through own mark d v a) (At r))
@@ -172,6 +176,7 @@ load_through_wants own keeps Acquire d v a p mask r e g reads =
           run_load_acquire_wants v d p mask u (written_same r.state.regs d (address p mask)) reads;
     }
 
+-- a store of a mark at an address that depends on a register makes its access
 pub store_through_runs : (own : Instructions) → KeepsInstructions own → (mark : Mark) → mark_fits dirs.W mark ≡ true →
     (d v a p n mask : ℕ) (r : Run) → r.state.regs a ≡ at_place p → r.state.regs d ≡ num 0 mask →
     r.state.regs v ≡ num n 0 → (v == d) ≡ false → StoresBy mark (store_through own mark d v a) r d p n mask
@@ -189,6 +194,7 @@ store_through_runs own keeps Release fits d v a p n mask r e g holds apart =
     }
 store_through_runs own keeps Acquire fits d v a p n mask r e g holds apart = cc
 
+-- the code of a load at an address that depends on a register is short
 pub load_through_short : (own : Instructions) → KeepsInstructions own → (mark : Mark) (d v a : ℕ) →
     IsShort (load_through own mark d v a)
 load_through_short own keeps Plain d v a = keeps.load_short d v a
@@ -196,6 +202,7 @@ load_through_short own keeps Release d v a = keeps.load_short d v a
 load_through_short own keeps Acquire d v a =
     record { room = omega arith; labels = refl; lands = refl; no_place = λ p. refl }
 
+-- the code of a store at an address that depends on a register is short
 pub store_through_short : (own : Instructions) → KeepsInstructions own → (mark : Mark) (d v a : ℕ) →
     IsShort (store_through own mark d v a)
 store_through_short own keeps Plain d v a = keeps.store_short d v a
@@ -203,6 +210,7 @@ store_through_short own keeps Acquire d v a = keeps.store_short d v a
 store_through_short own keeps Release d v a =
     record { room = omega arith; labels = refl; lands = refl; no_place = λ p. refl }
 
+-- the code of a load at the address in a register is short
 pub load_op_short : (mark : Mark) (v a : ℕ) → IsShort (load_op mark v a ∷ [])
 load_op_short Plain v a = record { room = omega arith; labels = refl; lands = refl; no_place = λ p. refl }
 load_op_short Acquire v a = record { room = omega arith; labels = refl; lands = refl; no_place = λ p. refl }
@@ -228,6 +236,7 @@ both_short first mark v a short =
           and_from _ _ (short.no_place p) (store.no_place p);
     }
 
+-- code that loads a number into a register is short
 pub imm_short : (d n : ℕ) → IsShort (ops.Imm d n ∷ [])
 imm_short d n = record { room = omega arith; labels = refl; lands = refl; no_place = λ p. refl }
 
@@ -238,18 +247,21 @@ release_acquire archs.PPC e = e
 release_acquire archs.AArch64 e = e
 release_acquire archs.RISCV e = e
 
+-- the architecture has the load of each of its marks at the address in a register
 pub load_op_has : (own : Instructions) → KeepsInstructions own → (mark : Mark) → mark_is_of mark own.name ≡ true →
     (v a : ℕ) → v < own.registers → a < own.registers → own.has (load_op mark v a) ≡ true
 load_op_has own keeps Plain e v a h k = keeps.plain_load_has v a h k
 load_op_has own keeps Acquire e v a h k = (keeps.marked_has e).acquire v a h k
 load_op_has own keeps Release e v a h k = keeps.plain_load_has v a h k
 
+-- the architecture has the store of each of its marks at the address in a register
 pub store_op_has : (own : Instructions) → KeepsInstructions own → (mark : Mark) → mark_is_of mark own.name ≡ true →
     (v a : ℕ) → v < own.registers → a < own.registers → own.has (store_op mark v a) ≡ true
 store_op_has own keeps Plain e v a h k = keeps.plain_store_has v a h k
 store_op_has own keeps Acquire e v a h k = keeps.plain_store_has v a h k
 store_op_has own keeps Release e v a h k = (keeps.marked_has (release_acquire own.name e)).release v a h k
 
+-- the architecture has the code of a load of each of its marks at an address that depends on a register
 pub load_through_has : (own : Instructions) → KeepsInstructions own → (mark : Mark) → mark_is_of mark own.name ≡ true →
     (d v a : ℕ) → d < own.registers → v < own.registers → a < own.registers →
     list_all own.has (load_through own mark d v a) ≡ true
@@ -259,6 +271,7 @@ load_through_has own keeps Acquire e d v a h k l =
     let has = keeps.marked_has e in
     and_from _ _ (has.sum d a h l) (and_from _ true (has.acquire v d k h) refl)
 
+-- the architecture has the code of a store of each of its marks at an address that depends on a register
 pub store_through_has : (own : Instructions) → KeepsInstructions own → (mark : Mark) → mark_is_of mark own.name ≡ true →
     (d v a : ℕ) → d < own.registers → v < own.registers → a < own.registers →
     list_all own.has (store_through own mark d v a) ≡ true

@@ -1,4 +1,4 @@
--- The parts of which the texts of instructions are made stand in cells.
+-- The parts of which the texts of instructions are made fit in cells.
 use Rattle.std.proofs.Common.{◌≡◌, ◌<◌, ◌^◌, ℕ, List, [], ◌∷◌, ◌++◌, true, refl, ◌∙◌, arith}
 use Rattle.std.specs.Prelude.{Bool}
 use Rattle.std.specs.Char.{is_ascii_digit}
@@ -11,6 +11,7 @@ use Rattle.text_laws.specs.Names.{is_place_name, is_place_byte}
 use Rattle.final_cond.proofs.BackLaws.{digits_of, place_bytes}
 use Rattle.arch_trait.specs.Cells.{is_cell_byte}
 
+-- what all bytes of two texts pass, all bytes of both together pass
 pub all_both : (p : ℕ → Bool) (xs ys : List ℕ) → list_all p xs ≡ true → list_all p ys ≡ true → list_all p (xs ++ ys) ≡ true
 all_both p xs ys h k = list_all-append p xs ys ∙ and_from (list_all p xs) (list_all p ys) h k
 

@@ -1,4 +1,4 @@
--- The names of labels stand in cells, and those of numbered registers have their form and stand once each.
+-- The names of labels fit in cells, and those of numbered registers have their form and occur once each.
 use Rattle.std.proofs.Common.{ℕ, zero, suc, ◌+◌, ◌<◌, ◌≤◌, ◌≡◌, refl, true, false, ◌&&◌, nat_le, List, [], ◌∷◌, map, length, get_or, drop, ◌∙◌, ap, arith}
 use Rattle.std.specs.Char.{is_ascii_alphabetic, is_ascii_alphanumeric, is_ascii_digit}
 use Rattle.std.specs.Fmt.{decimal}
@@ -37,7 +37,7 @@ letter_name_byte b h = grind (arith, nat_tests)
 digit_name_byte : (b : ℕ) → is_ascii_digit b ≡ true → is_ascii_alphanumeric b ≡ true
 digit_name_byte b h = grind (arith, nat_tests)
 
--- the name of a label that has its form is plain and stands in a cell
+-- the name of a label that has its form is plain and fits in a cell
 label_bytes : (name : List ℕ) → is_register_name name ≡ true → list_all is_ascii_alphanumeric name ≡ true
 unfolding is_register_name
 label_bytes [] h = cc
@@ -46,14 +46,17 @@ label_bytes (b ∷ bytes) h =
     let q = and_parts (is_ascii_alphabetic b) (list_all is_ascii_alphanumeric bytes) p.0 in
     and_from (is_ascii_alphanumeric b) (list_all is_ascii_alphanumeric bytes) (letter_name_byte b q.0) q.1
 
+-- the name of a label that has its form is plain
 pub label_plain : (l : ℕ) → is_label_name (label_name l) ≡ true → is_plain (label_name l) ≡ true
 label_plain l h = all_weaker is_ascii_alphanumeric is_word_byte name_byte_word (label_name l) (label_bytes (label_name l) h)
 
+-- so is the word that sets the label
 pub label_word_plain : (l : ℕ) → is_label_name (label_name l) ≡ true → is_plain (label_word l) ≡ true
 label_word_plain l h =
     list_all-append is_word_byte (label_name l) (58 ∷ []) ∙
     and_from (list_all is_word_byte (label_name l)) true (label_plain l h) refl
 
+-- the name of a label that has its form fits in a cell
 pub label_cell : (l : ℕ) → is_label_name (label_name l) ≡ true → list_all is_cell_byte (label_name l) ≡ true
 label_cell l h = all_weaker is_ascii_alphanumeric is_cell_byte name_byte_cell (label_name l) (label_bytes (label_name l) h)
 
@@ -72,6 +75,7 @@ names_from n from (suc count) zero h = ap (register_name n) (omega arith)
 names_from n from (suc count) (suc r) h =
     names_from n (from + 1) count r (omega arith) ∙ ap (register_name n) (omega arith)
 
+-- the name of a numbered register is the one at its number
 pub name_at : (n : Numbered) (r : ℕ) → r < n.count → name_in (register_names n) r ≡ register_name n r
 name_at n r h = names_from n 0 n.count r h ∙ ap (register_name n) (omega arith)
 
@@ -82,6 +86,7 @@ formed n r h s =
     (all_weaker is_ascii_digit is_ascii_alphanumeric digit_name_byte (decimal (n.first + r)) (digits_of (n.first + r) (omega arith)).all))
     (le-leb (length (register_name n r)) 16 (omega (arith, three_digits (n.first + r) s)))
 
+-- the names of numbered registers have the form of registers' names
 pub names_formed : (n : Numbered) → IsNumbered n → list_all is_register_name (register_names n) ≡ true
 names_formed n h = from 0 n.count (let s = h.small in omega arith)
   where
@@ -97,6 +102,7 @@ differ n a b s t h = by_test (bytes_eq (register_name n a) (register_name n b))
     absurd (omega arith))
     (λ e. e)
 
+-- the names of numbered registers differ
 pub names_once : (n : Numbered) → IsNumbered n → IsDistinct bytes_eq (register_names n)
 unfolding IsDistinct
 names_once n h = from 0 n.count (let s = h.small in omega arith)

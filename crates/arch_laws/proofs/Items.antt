@@ -18,7 +18,7 @@ use Rattle.arch_trait.specs.Links.{branches, depends, link_control, link_items}
 use Rattle.arch_trait.specs.Threads.{FitSteps, is_load_dir, loads_in, loads_after, first_of, left_after, access_item, thread_items, control_after}
 use Rattle.arch_trait.proofs.Taking.{by_test}
 
--- the numbers left after an access are those behind the ones that it read
+-- the numbers left after an access are those after the ones that it read
 left_is : (d : Dir) (vs : List ℕ) → left_after d vs ≡ drop (cond (is_load_dir d) 1 0) vs
 left_is dirs.R [] = refl
 left_is dirs.R (v ∷ vs) = refl

@@ -32,7 +32,7 @@ ordered_append count (op ∷ xs) ys h k =
     let parts = both (is_next count op) (labels_ordered (labels_after count op) xs) h in
     both_are (is_next count op) (labels_ordered (labels_after count op) (xs ++ ys)) parts.0 (ordered_append (labels_after count op) xs ys parts.1 k)
 
--- a label that stands is one of the labels
+-- a label that occurs is one of the labels
 stands_passes : (p : ℕ → Bool) (label : ℕ) (code : List Micro) → list_all p (labels_of code) ≡ true → stands label code ≡ true → p label ≡ true
 stands_passes p label [] h s = absurd (cc)
 stands_passes p label (ops.Label k ∷ code) h s =
@@ -88,7 +88,7 @@ one_ordered count n (ops.StoreRel r b ∷ code) low small l h = one_ordered coun
 one_ordered count n (ops.Cmp a b ∷ code) low small l h = one_ordered count n code low small l h
 one_ordered count n (ops.Barrier k ∷ code) low small l h = one_ordered count n code low small l h
 
--- the count of labels grows, and covers each label that stands
+-- the count of labels grows, and covers each label that occurs
 labels_grow : (count : ℕ) (code : List Micro) → count ≤ labels_in count code
 labels_grow count [] = omega arith
 labels_grow count (op ∷ code) = let more = labels_grow (labels_after count op) code in let here = after_grows op in omega arith
@@ -236,5 +236,6 @@ pub compiled_ordered : (a : Puts) → IsArch a → (ss : List Step) → FitSteps
 unfolding IsGiven
 compiled_ordered a laws ss fit few = thread_ordered a laws false (setting_out a.registers) ss 0 fit (λ e. cc) (omega arith) (omega arith)
 
+-- the code of a thread makes as many accesses as the thread has steps
 pub compiled_accesses : (a : Puts) → MakesOneAccess a → (ss : List Step) → accesses_in (compiled a ss).instrs ≡ length ss
 compiled_accesses a one ss = thread_accesses a one (setting_out a.registers) ss

@@ -108,5 +108,6 @@ links_kept : (l : List (ℕ × ℕ)) → map (λ link. (link.0, link.1)) l ≡ l
 links_kept [] = refl
 links_kept (link ∷ l) = ap (λ r. link ∷ r) (links_kept l)
 
+-- code whose places keep their numbers is as it was
 pub renumbered_same : (code : ThreadCode) → renumbered (λ p. p) code ≡ code
 renumbered_same code = λ i. record { instrs = ops_kept code.instrs i; links = links_kept code.links i; loads = code.loads }

@@ -10,6 +10,7 @@ use Rattle.form_laws.proofs.OwnCode.{HasOwnCode, compares, indexed, sums, own_co
 use Rattle.arch_power.specs.Table.{forms, table}
 use Rattle.arch_power.specs.Puts.{puts, instructions}
 
+-- Power's own instructions are of the sorts that the laws ask for
 pub own_code : HasOwnCode instructions
 unfolding forms fits
 own_code = record {
@@ -31,5 +32,6 @@ own_code = record {
   marked_has = λ e. cc;
 }
 
+-- Power obeys the laws of architectures
 pub laws : IsArch puts
 laws = own_code_laws instructions own_code

@@ -19,9 +19,11 @@ register = piece (codes "r") (holes.Register 1 28) []
 abbrev pub address : PieceText
 address = piece (codes "0(r") (holes.Register 1 28) (codes ")")
 
+-- a number
 abbrev pub immediate : PieceText
 immediate = piece [] holes.Number []
 
+-- a label
 abbrev pub label : PieceText
 label = piece [] holes.Label []
 
@@ -42,11 +44,11 @@ forms =
     form (codes "eieio") [] (kinds.Order (barriers.Fence fences.Eieio)) ∷
     form (codes "isync") [] (kinds.Order (barriers.Fence fences.ISync)) ∷ []
 
--- the table, in which labels stand too
+-- the table, with labels
 abbrev pub table : TableText
 table = record { forms = forms; labels = labels.Known }
 
--- the names of registers as they stand in conditions: r1 to r28
+-- the names of registers in conditions: r1 to r28
 abbrev pub numbered : Numbered
 numbered = record { letter = 114; first = 1; count = 28 }
 

@@ -1,4 +1,4 @@
--- RISC-V's instructions stand in the cells of a table, and each of its loads and stores is one of them.
+-- RISC-V's instructions fit in the cells of a table, and each of its loads and stores is one of them.
 use Rattle.arch_trait.specs.Cells.{WritesCells, MakesOneAccess}
 use Rattle.arch_trait.specs.Forms.{register_names}
 use Rattle.form_laws.proofs.InCells as tables
@@ -8,8 +8,10 @@ use Rattle.arch_riscv.specs.Table.{table, numbered, writing}
 use Rattle.arch_riscv.specs.Clear.{is_clear_table}
 use Rattle.arch_riscv.specs.Laws.{own_code}
 
+-- the instructions of RISC-V fit in the cells of a table
 pub writes_cells : WritesCells puts writing
 writes_cells = tables.writes_cells puts table (register_names numbered) is_clear_table (λ op h. h)
 
+-- the code of each access of RISC-V makes one access
 pub makes_one_access : MakesOneAccess puts
 makes_one_access = own_code_once instructions own_code

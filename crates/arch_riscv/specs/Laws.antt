@@ -10,6 +10,7 @@ use Rattle.form_laws.proofs.OwnCode.{HasOwnCode, tests, added, ors, own_code_law
 use Rattle.arch_riscv.specs.Table.{forms, table}
 use Rattle.arch_riscv.specs.Puts.{puts, instructions}
 
+-- RISC-V's own instructions are of the sorts that the laws ask for
 pub own_code : HasOwnCode instructions
 unfolding forms fits
 own_code = record {
@@ -31,5 +32,6 @@ own_code = record {
   marked_has = λ e. cc;
 }
 
+-- RISC-V obeys the laws of architectures
 pub laws : IsArch puts
 laws = own_code_laws instructions own_code

@@ -12,10 +12,11 @@ use Rattle.form_laws.specs.declared.form.Labels.TheVariants as labels
 use Rattle.form_laws.specs.declared.kind.Kind.TheVariants as kinds
 use Rattle.form_laws.specs.Tables.{PieceText, FormText, TableText, piece, fixed, form, table_writing}
 
--- a register: x5 to x31; and the one that holds 0
+-- a register: x5 to x31
 abbrev pub register : PieceText
 register = piece (codes "x") (holes.Register 5 27) []
 
+-- the register that holds 0
 abbrev pub zero : PieceText
 zero = fixed (codes "x0")
 
@@ -23,9 +24,11 @@ zero = fixed (codes "x0")
 abbrev pub address : PieceText
 address = piece (codes "0(x") (holes.Register 5 27) (codes ")")
 
+-- a number
 abbrev pub immediate : PieceText
 immediate = piece [] holes.Number []
 
+-- a label
 abbrev pub label : PieceText
 label = piece [] holes.Label []
 
@@ -49,11 +52,11 @@ forms =
     form (codes "fence") (fixed (codes "rw") ∷ fixed (codes "w") ∷ []) (kinds.Order (barriers.Fence (fences.Fence picks.RW picks.W))) ∷
     form (codes "fence") (fixed (codes "rw") ∷ fixed (codes "rw") ∷ []) (kinds.Order (barriers.Fence (fences.Fence picks.RW picks.RW))) ∷ []
 
--- the table, in which labels stand too
+-- the table, with labels
 abbrev pub table : TableText
 table = record { forms = forms; labels = labels.Known }
 
--- the names of registers as they stand in conditions: x5 to x31
+-- the names of registers in conditions: x5 to x31
 abbrev pub numbered : Numbered
 numbered = record { letter = 120; first = 5; count = 27 }
 

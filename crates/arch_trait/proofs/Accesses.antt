@@ -24,6 +24,7 @@ pub record Writes (r u : ℕ → Held) (g h : Taken) : Type 0 where
   pub above : (s : ℕ) → h.next ≤ s → u s ≡ r s
   pub places : (p a : ℕ) → address_in h.links p ≡ Some a → u a ≡ at_place p
 
+-- registers that nothing writes to are as they were
 pub writes_none : (r : Run) (g h : Taken) → HoldsPlaces r h →
     Writes r.state.regs r.state.regs g h
 writes_none r g h places = record { below = λ s k. refl; above = λ s k. refl; places = places }
@@ -34,6 +35,7 @@ pub record IsSpare (g h : Taken) (d : ℕ) : Type 0 where
   pub below : d < h.next
   pub free : (p a : ℕ) → address_in h.links p ≡ Some a → (a == d) ≡ false
 
+-- a further write to a spare register writes no address register either
 pub writes_more : (r u : ℕ → Held) (g h : Taken) (d : ℕ) (held : Held) → Writes r u g h →
     IsSpare g h d → Writes r (written u d held) g h
 writes_more r u g h d held w spare = record {
@@ -44,11 +46,11 @@ writes_more r u g h d held w spare = record {
   places = λ p a e. let t = spare.free p a e in rw t (w.places p a e);
 }
 
--- a register after it was written, and another one
+-- a register that was written holds what was written
 pub written_same : (u : ℕ → Held) (d : ℕ) (held : Held) → written u d held d ≡ held
 written_same u d held = rw (eq-eqb d d refl) refl
 
--- where an access takes no address register
+-- a register taken by an access that takes no address register is spare
 pub spare_plain : (g h : Taken) (d : ℕ) → IsTaken g → h.links ≡ g.links → g.next ≤ d → d < h.next →
     IsSpare g h d
 spare_plain g h d t e above below = record {
@@ -59,7 +61,7 @@ spare_plain g h d t e above below = record {
       ne_eqb a d (λ s. omega (arith, k.1));
 }
 
--- where an access takes an address register for its place, if it has none, behind i
+-- a register taken before the address register of the access's place is spare
 pub spare_with : (g i : Taken) (p d : ℕ) → IsTaken g → i.count ≡ g.count → i.links ≡ g.links →
     g.next ≤ d → d < i.next → IsSpare g (with_address i p) d
 spare_with g i p d t c e above below = by_option (address_in i.links p)
@@ -96,7 +98,7 @@ address_is i p = by_option (address_in i.links p)
     (λ a e. rw (e, e) refl)
     (λ e. rw e (address_added i.links i.next p p e ∙ rw (eq-eqb p p refl) refl))
 
--- it was taken
+-- the address register of a place is one that was taken
 pub address_below : (g i : Taken) (p : ℕ) → IsTaken g → i.links ≡ g.links → g.next ≤ i.next →
     address_of i p < (with_address i p).next
 address_below g i p t e m = by_option (address_in i.links p)
@@ -104,7 +106,7 @@ address_below g i p t e m = by_option (address_in i.links p)
     rw f (omega (arith, b.1)))
     (λ f. rw f (omega arith))
 
--- a run that ends with a load into a spare register
+-- a run that ends with a load into a spare register does what a load does
 pub did_load : (mark : Mark) (code : List Micro) (r u : Run) (g h : Taken) (d p n mask : ℕ) (vs : List ℕ) →
     exec code (At r) ≡ At (after_load mark u d p n mask vs) → Writes r.state.regs u.state.regs g h →
     u.made ≡ r.made → u.state.control ≡ r.state.control → u.state.loads ≡ r.state.loads →
@@ -131,7 +133,7 @@ did_load mark code r u g h d p n mask vs ran w made control loads spare =
           written_same u.state.regs d (num n (bit u.state.loads)) ∙ ap (λ k. num n (bit k)) loads;
     }
 
--- a run that ends with a store
+-- a run that ends with a store does what a store does
 pub did_store : (mark : Mark) (code : List Micro) (r u : Run) (g h : Taken) (p n mask data_mask : ℕ) →
     exec code (At r) ≡ At (after_store mark u p n mask data_mask) →
     Writes r.state.regs u.state.regs g h → u.made ≡ r.made → u.state.control ≡ r.state.control →
@@ -152,7 +154,7 @@ did_store mark code r u g h p n mask data_mask ran w made control loads reads = 
   places = w.places;
 }
 
--- a link without code
+-- a link without code changes nothing
 pub did_nothing : (r : Run) → DidLink [] r [] r.state.control
 did_nothing r = record {
   after = r;
@@ -177,17 +179,17 @@ pub on_source : (r : Run) (from : Option ℕ) (k : ℕ) (P : Option ℕ → Type
     ((s v : ℕ) → r.state.regs s ≡ num v (bit k) → P (Some s)) → P from
 on_source r from k P h f = subst P (sym h.is) (f h.register h.value h.holds)
 
--- a register after another one was written
+-- a register holds what it held after another one was written
 pub written_other : (u : ℕ → Held) (d s : ℕ) (held : Held) → (s == d) ≡ false → written u d held s ≡ u s
 written_other u d s held e = rw e refl
 
--- the number 0 that depends on a load, whatever was read
+-- a register that is xored with itself is 0 and depends on the load, whatever was read
 pub xor_runs : (d s v k : ℕ) (r : Run) → r.state.regs s ≡ num v (bit k) →
     go (ops.Xor d s s) (At r) ≡ At (holding r d (num 0 (bit k)))
 xor_runs d s v k r e =
     run_xor d s r ∙ ap (λ m. At (holding r d (num 0 m))) (ap (λ (h : Held). h.mask) e)
 
--- address and data dependencies are dependencies, and differ
+-- an address dependency is a dependency
 pub addr_depends : (link : Link) → is_addr link ≡ true → depends link ≡ true
 addr_depends links.Addr e = refl
 addr_depends links.Plain e = cc
@@ -197,6 +199,7 @@ addr_depends links.Ctrl e = cc
 addr_depends links.CtrlIsync e = cc
 addr_depends links.CtrlIsb e = cc
 
+-- a data dependency is a dependency
 pub data_depends : (link : Link) → is_data link ≡ true → depends link ≡ true
 data_depends links.Data e = refl
 data_depends links.Plain e = cc
@@ -206,6 +209,7 @@ data_depends links.Ctrl e = cc
 data_depends links.CtrlIsync e = cc
 data_depends links.CtrlIsb e = cc
 
+-- an address dependency is no data dependency
 pub addr_no_data : (link : Link) → is_addr link ≡ true → is_data link ≡ false
 addr_no_data links.Addr e = refl
 addr_no_data links.Plain e = refl
@@ -215,11 +219,11 @@ addr_no_data links.Ctrl e = refl
 addr_no_data links.CtrlIsync e = refl
 addr_no_data links.CtrlIsb e = refl
 
--- the register after an address register was taken, if it had to be
+-- an address register takes one more register where the place has none
 pub address_next : (i : Taken) (p : ℕ) → (with_address i p).next ≡ i.next + cond (has_address i p) 0 1
 address_next i p = by_option (address_in i.links p) (λ a e. rw e (omega arith)) (λ e. rw e refl)
 
--- how many registers an access takes
+-- an access takes an address register where its location is new
 pub fresh_counts : (g : Taken) (p : ℕ) (is_new : Bool) → is_new ≡ not (has_address g p) →
     ◌≡◌ {A = ℕ} (cond (has_address g p) 0 1) (cond is_new 1 0)
 fresh_counts g p is_new e = of_test (has_address g p) is_new e

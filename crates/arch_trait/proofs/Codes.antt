@@ -1,4 +1,4 @@
--- What stands in a thread's code: its operations and labels, their number, and the registers of its
+-- What is in a thread's code: its operations and labels, their number, and the registers of its
 -- loads.
 use Rattle.std.proofs.Common.{◌⊎◌, inl, inr, eqb-true, eq-eqb, ℕ, suc, ◌+◌, ◌*◌, ◌<◌, ◌≤◌, ◌≡◌, ◌==◌, refl, Bool, true, false, cond, ◌||◌, List, [], ◌∷◌, ◌++◌, Option, Some, None, is_some, length, ◌∙◌, sym, ap, length-append, append-nil, arith}
 use Rattle.std.proofs.lemmas.Bool.{and_from, and_parts, or_left, or_right}
@@ -30,12 +30,13 @@ both_rooms links.Ctrl = omega arith
 both_rooms links.CtrlIsync = omega arith
 both_rooms links.CtrlIsb = omega arith
 
--- the laws of an access, of a load and a store alike
+-- each access keeps the laws of an access, a load and a store alike
 pub put_laws : (a : Puts) → IsArch a → (s : Step) → s.value < 256 → (d : Dir) →
     MakesAccess a d (λ g link mark from p. put_of a g from (record s { link = link; mark = mark; place = p }) d)
 put_laws a laws s v dirs.R = laws.loads.access
 put_laws a laws s v dirs.W = laws.stores.access s.value v
 
+-- an access and its link have at most six operations
 pub step_short : (a : Puts) → IsArch a → (w : Way) (s : Step) → s.value < 256 →
     length (step_code a w s) ≤ 6
 step_short a laws w s v =
@@ -60,7 +61,7 @@ thread_short a laws b w (s ∷ ss) fit =
       thread_short a laws (is_load_dir s.dir) (further a w s) ss fit.1,
     )
 
--- a dependency has its register
+-- a register is given where a dependency needs one
 abbrev pub IsGiven : Bool → Option ℕ → Type 0
 IsGiven b last = b ≡ true → is_some last ≡ true
 
@@ -69,6 +70,7 @@ given_from : (link : Link) (b : Bool) (last : Option ℕ) → (depends link ≡ 
 given_from link b last after given e =
     ap (λ d. is_some (cond d last None)) e ∙ given (after e)
 
+-- after a load the register of the load is given
 pub given_after : (a : Puts) (w : Way) (s : Step) → IsGiven (is_load_dir s.dir) (next_filled a w s)
 given_after a w s = of_dir s.dir
   where
@@ -76,6 +78,7 @@ given_after a w s = of_dir s.dir
     of_dir dirs.R e = refl
     of_dir dirs.W e = cc
 
+-- the link of an access that fits is one of the architecture's, and its dependency has a register
 pub has_link : (a : Puts) (w : Way) (s : Step) (b : Bool) → FitStep a.name b s → IsGiven b w.last →
     HasLink a s.link (from_of s.link w.last)
 has_link a w s b fit given = record {
@@ -121,7 +124,7 @@ step_lands a laws w s v =
     (laws.links.jumps s.link from w.label)
     ((put_laws a laws s v s.dir).no_jump w.regs s.link s.mark from s.place)
 
--- each branch of a thread has its label behind it
+-- each branch of a thread has its label after it
 pub thread_lands : (a : Puts) → IsArch a → (b : Bool) (w : Way) (ss : List Step) →
     FitSteps a.name b ss → lands (thread_code a w ss) ≡ true
 thread_lands a laws b w [] fit = refl
@@ -273,6 +276,7 @@ visits_all ss = each ss (λ q e. e)
         (h t.place (or_left (t.place == t.place) (visits t.place ts) (eq-eqb t.place t.place refl)))
         (each ts (λ q e. h q (or_right (t.place == q) (visits q ts) e)))
 
+-- the registers that loads fill are among those that the thread takes
 pub thread_loads_below : (a : Puts) → IsArch a → (b : Bool) (w : Way) (ss : List Step) →
     FitSteps a.name b ss → AllBelow (thread_regs a w ss).next (thread_loads a w ss)
 thread_loads_below a laws b w [] fit = tt
@@ -287,6 +291,7 @@ thread_loads_below a laws b w (s ∷ ss) fit =
     of_filled None h qs n rest m = rest
     of_filled (Some q) h qs n rest m = (omega (arith, h.1), rest)
 
+-- a thread fills as many registers as it has loads
 pub thread_loads_length : (a : Puts) (w : Way) (ss : List Step) →
     length (thread_loads a w ss) ≡ loads_in ss
 thread_loads_length a w [] = refl

@@ -12,7 +12,7 @@ use Rattle.arch_trait.proofs.Runs.{step_grew, thread_grew}
 use Rattle.arch_trait.proofs.Codes.{step_short}
 use Rattle.arch_trait.proofs.Shapes.{need_is}
 
--- the walk has come to access i: what it appended and what it has still to append are the code of the
+-- the walk has come to access i: what it has appended and what it is still to append are the code of the
 -- thread
 pub record Compiling (a : Puts) (ss : List Step) (i : ℕ) (w : Way) (instrs : List Micro)
     (loads : List ℕ) : Type 0 where
@@ -25,6 +25,7 @@ pub record Compiling (a : Puts) (ss : List Step) (i : ℕ) (w : Way) (instrs : L
   pub few : length loads ≤ i
   pub label : w.label ≤ i
 
+-- at the beginning of a thread the walk has come to its first access
 pub sets_out : (a : Puts) (ss : List Step) → FitSteps a.name false ss →
     Compiling a ss 0 (setting_out a.registers) [] []
 sets_out a ss fit = record {
@@ -58,7 +59,7 @@ next_is : (ss : List Step) (i : ℕ) (d : Step) → i < length ss →
     drop i ss ≡ get_or ss i d ∷ drop (i + 1) ss
 next_is ss i d h = rw add-one (drop-cons ss i d h)
 
--- the next access fits, and the registers that it takes are left
+-- the next access fits
 pub next_fits : (a : Puts) (ss : List Step) (i : ℕ) (w : Way) (instrs : List Micro) (loads : List ℕ)
     (d : Step) → Compiling a ss i w instrs loads → i < length ss →
     FitStep a.name (is_some w.last) (get_or ss i d)
@@ -66,6 +67,7 @@ next_fits a ss i w instrs loads d c h =
     let P : List Step → Type 0 = FitSteps a.name (is_some w.last) in
     (subst P (next_is ss i d h) c.fit).0
 
+-- the registers that the next access takes are left
 pub next_left : (a : Puts) → IsArch a → (ss : List Step) (i : ℕ) (w : Way) (instrs : List Micro)
     (loads : List ℕ) (d : Step) → FitSteps a.name false ss → a.need (shape_of ss) ≤ a.registers →
     Compiling a ss i w instrs loads → i < length ss →
@@ -79,6 +81,7 @@ next_left a laws ss i w instrs loads d fit enough c h =
     sym (ap (λ l. thread_regs a w l) (next_is ss i d h)) ∙ c.regs in
     omega (arith, more, ap (λ g. g.next) whole, need_is a laws a.registers ss fit, enough, c.count)
 
+-- after the next access the walk has come to the one after it
 pub goes_on : (a : Puts) → IsArch a → (ss : List Step) (i : ℕ) (w : Way) (instrs : List Micro)
     (loads : List ℕ) (d : Step) → Compiling a ss i w instrs loads → i < length ss →
     Compiling a ss (i + 1) (further a w (get_or ss i d)) (instrs ++ step_code a w (get_or ss i d))
@@ -124,6 +127,7 @@ pub record Done (a : Puts) (ss : List Step) (w : Way) (instrs : List Micro) (loa
   pub code : instrs ≡ thread_code a (setting_out a.registers) ss
   pub filled : loads ≡ thread_loads a (setting_out a.registers) ss
 
+-- the walk that has come past the last access has the code of the thread
 pub arrives : (a : Puts) (ss : List Step) (w : Way) (instrs : List Micro) (loads : List ℕ) →
     Compiling a ss (length ss) w instrs loads → Done a ss w instrs loads
 arrives a ss w instrs loads c =

@@ -20,13 +20,14 @@ kind_link_of (kinds.Dep deps.CtrlIsync sd to) arch = refl
 kind_link_of (kinds.Dep deps.CtrlIsb sd to) arch = refl
 kind_link_of (kinds.Data sd) arch = refl
 
--- what an architecture has that has an edge: the marks of the accesses that the edge leaves and
+-- what an architecture with an edge has: the marks of the accesses that the edge leaves and
 -- enters, and its link
 pub record HasEdge (edge : Edge) (arch : ArchName) : Type 0 where
   pub source : mark_is_of (source_mark edge) arch ≡ true
   pub target : mark_is_of (target_mark edge) arch ≡ true
   pub link : link_is_of (edge_link edge) arch ≡ true
 
+-- an architecture that has an edge has the edge's marks and its link
 pub has_edge : (edge : Edge) (arch : ArchName) → is_of_arch edge arch ≡ true → HasEdge edge arch
 has_edge edge arch h =
     let p = and_parts _ _ h in

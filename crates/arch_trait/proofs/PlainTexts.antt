@@ -21,6 +21,7 @@ unfolding immediate
 immediate_back n h =
     ap (at_most 2047) (number_of-decimal n (omega arith)) ∙ rw (le-leb n 2047 h) refl
 
+-- a number below 1000 has at most three digits
 pub three_digits : (n : ℕ) → n < 1000 → length (decimal n) ≤ 3
 three_digits n h = length-decimal-le 3 n (omega arith) (omega arith) (omega arith)
 
@@ -34,6 +35,7 @@ first_place_byte b h = grind (arith, nat_tests)
 digit_word_byte : (b : ℕ) → is_ascii_digit b ≡ true → is_word_byte b ≡ true
 digit_word_byte b h = grind (arith, nat_tests)
 
+-- the name of a place has neither blanks nor commas
 pub place_name_plain : (name : List ℕ) → is_place_name name ≡ true → list_all is_word_byte name ≡ true
 unfolding is_place_name
 place_name_plain [] h = cc
@@ -47,6 +49,7 @@ place_name_plain (b ∷ bytes) h =
 own : IsNumeralModel (λ ds. list_all is_ascii_digit ds ≡ true) (digits_value 10)
 own = numerals_by_value _ (search rules)
 
+-- a number in decimal has neither blanks nor commas
 pub decimal_plain : (n : ℕ) → n < 2 ^ 32 → list_all is_word_byte (decimal n) ≡ true
 decimal_plain n h =
     all_weaker is_ascii_digit is_word_byte digit_word_byte (decimal n) (digits_decimal own n (omega arith))

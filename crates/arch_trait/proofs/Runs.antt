@@ -167,14 +167,17 @@ put_grew : (a : Puts) → IsArch a → (g : Taken) (from : Option ℕ) (s : Step
 put_grew a laws g from s dirs.R v = laws.loads.access.takes g s.link s.mark from s.place
 put_grew a laws g from s dirs.W v = (laws.stores.access s.value v).takes g s.link s.mark from s.place
 
+-- an access takes registers for it alone, one of them perhaps the address register of its place
 pub step_takes : (a : Puts) → IsArch a → (w : Way) (s : Step) → s.value < 256 →
     Takes w.regs (further a w s).regs s.place
 step_takes a laws w s v = put_grew a laws w.regs (from_of s.link w.last) s s.dir v
 
+-- after an access the registers are those before it and some more
 pub step_grew : (a : Puts) → IsArch a → (w : Way) (s : Step) → s.value < 256 →
     Grew w.regs (further a w s).regs
 step_grew a laws w s v = grew w.regs (further a w s).regs s.place (step_takes a laws w s v)
 
+-- after a thread the registers are those before it and some more
 pub thread_grew : (a : Puts) → IsArch a → (b : Bool) (w : Way) (ss : List Step) →
     FitSteps a.name b ss → Grew w.regs (thread_regs a w ss)
 thread_grew a laws b w [] fit = grew_refl w.regs
@@ -193,6 +196,7 @@ put_filled : (a : Puts) → IsArch a → (g : Taken) (from : Option ℕ) (s : St
 put_filled a laws g from s dirs.R = laws.loads.fills g s.link s.mark from s.place
 put_filled a laws g from s dirs.W = tt
 
+-- the register that a load fills is one that the load takes
 pub step_filled : (a : Puts) → IsArch a → (w : Way) (s : Step) →
     IsWithin w.regs.next (further a w s).regs.next (next_filled a w s)
 step_filled a laws w s = put_filled a laws w.regs (from_of s.link w.last) s s.dir
@@ -287,7 +291,7 @@ filled_none : (a : Puts) (g : Taken) (from : Option ℕ) (s : Step) (d : Dir) �
 filled_none a g from s dirs.R e = cc
 filled_none a g from s dirs.W e = refl
 
--- the architecture half: the code of a thread, from a run that is ready for it, makes each access in
+-- the architecture's half: the code of a thread, from a run that is ready for it, makes each access in
 -- turn with the barriers and the dependencies of its link, and leaves what was read in the loads'
 -- registers
 pub thread_runs : (a : Puts) → IsArch a → (ss : List Step) (w : Way) (after_load : Bool) (r : Run)
@@ -401,7 +405,7 @@ fewer dirs.R [] n h first = absurd (nil_cons (first refl))
 fewer dirs.R (v ∷ vs) n h first = omega arith
 fewer dirs.W vs n h first = omega arith
 
--- what is to be shown of the accesses that follow
+-- a thread wants a number on any numbers that are fewer than its loads
 abbrev pub Wanting : Puts → Way → List Step → Bool → Type 0
 Wanting a w ss b = (r : Run) (vs : List ℕ) → Begins a w ss b r → length vs < loads_in ss →
     r.reads ≡ vs → IsWanting (exec (thread_code a w ss) (At r))

@@ -34,6 +34,7 @@ pub record IsWord (t : List ℕ) : Type 0 where
   pub is : t ≡ first ∷ rest
   pub bytes : list_all is_word_byte t ≡ true
 
+-- a plain text is a word
 pub word_is : (t : List ℕ) → is_plain t ≡ true → IsWord t
 word_is [] h = cc
 word_is (b ∷ t) h = record { first = b; rest = t; is = refl; bytes = h }
@@ -73,7 +74,7 @@ after_all (b ∷ t) h =
     let q = (byte_is b p.0).inked in
     rw q (after_all t p.1)
 
--- a text that begins with a word has no blank at its front, and one more blank before it goes
+-- a text that begins with a word has no blank at its beginning, and one more blank before it goes
 unblanked_word : (t rest : List ℕ) → IsWord t → unblanked (t ++ rest) ≡ t ++ rest
 unfolding after_run
 unblanked_word t rest w = ap (λ l. unblanked (l ++ rest)) w.is ∙
@@ -131,7 +132,7 @@ trimmed_word t w =
     ap before_blanks (ap unblanked (sym (append-nil t)) ∙ (unblanked_word t [] w ∙ append-nil t)) ∙
     before_word t w.bytes
 
--- a text of words between commas, behind a blank
+-- a text of words between commas, after a blank
 trimmed_words : (t a u : List ℕ) → IsWord t → IsWord u →
     trimmed (32 ∷ (t ++ (a ++ u))) ≡ t ++ (a ++ u)
 trimmed_words t a u w x =
@@ -235,7 +236,7 @@ operands_back (four a b c d) h =
     (some_operands a (44 ∷ (b ++ 44 ∷ (c ++ 44 ∷ d))) u ∙ four_pieces a b c d u v w x)))
 operands_back more h = cc
 
--- the operands stand behind a blank, or there are none
+-- the operands come after a blank, or there are none
 word_back : (word : List ℕ) (o : OperandTexts) → IsWord word → all_plain o ≡ true →
     (run_of is_inked (word ++ listed o) ≡ word) × (after_run is_inked (word ++ listed o) ≡ listed o)
 word_back word none w h = (
@@ -268,7 +269,7 @@ written_back x h k =
     made : List ℕ → OperandTexts → Written
     made word o = record { word = word; operands = o }
 
--- an operation of an architecture reads back from its text: raw, and with its numbers
+-- an operation of an architecture reads back from its text, raw
 pub raw_back : (a : Puts) (w : Writing) → WritesBack a w → (names : ℕ → List ℕ) (op : Micro) →
     a.has op ≡ true → is_named (name_of names op) ≡ true →
     w.raw (written_in (op_text w names op)) ≡ Some (raw_of names op)
@@ -277,6 +278,7 @@ raw_back a w laws names op has named =
     (laws.operands names op has named)) ∙
     laws.back names op has named
 
+-- an operation of an architecture reads back from its text, and its name gets its number
 pub instr_back : (a : Puts) (w : Writing) → WritesBack a w → (names : ℕ → List ℕ) (op : Micro)
     (places labels : List (List ℕ)) → a.has op ≡ true → is_named (name_of names op) ≡ true →
     instr_read w (op_text w names op) places labels ≡

@@ -16,6 +16,7 @@ distinct_none : IsDistinct bytes_eq []
 unfolding IsDistinct
 distinct_none = tt
 
+-- a list without names is a table
 pub no_names : (names : List (List ℕ)) → names ≡ [] → IsTable names
 no_names names e =
     let P : List (List ℕ) → Type 0 = IsTable in
@@ -47,6 +48,7 @@ distinct_push [] name d h = (tt, tt)
 distinct_push (x ∷ names) name d h =
     (all_push (λ y. bytes_eq x y ≡ false) names name d.0 h.0, distinct_push names name d.1 h.1)
 
+-- a table to which a new name is added is a table, where there is room
 pub one_name : (names : List (List ℕ)) (name : List ℕ) (after : List (List ℕ)) → IsTable names →
     is_place_name name ≡ true → number_in names name ≡ None → length names < 64 →
     after ≡ names ++ name ∷ [] → IsTable after
@@ -91,12 +93,15 @@ new_at (suc n) k e h =
     none_is None e = refl
     none_is (Some i) e = cc
 
+-- the name of each location that a cycle may have is new
 pub location_new : (k : ℕ) → k < MAX_STEPS → IsNew k
 location_new k h = new_at MAX_STEPS k all_new h
 
+-- one location more has its name after those of the others
 pub letters_more : (n : ℕ) → letters (n + 1) ≡ letters n ++ location_name n ∷ []
 letters_more n = map-range_with_len_more location_name 0 n n (omega arith)
 
+-- there are as many names as locations
 pub length-letters : (n : ℕ) → length (letters n) ≡ n
 length-letters n = length-map-range_with_len location_name 0 n
 
@@ -104,6 +109,7 @@ length-letters n = length-map-range_with_len location_name 0 n
 all_ascii : list_all (λ b. nat_lt b 128) location_letters ≡ true
 all_ascii = refl
 
+-- the letter of a location is ASCII
 pub letter_ascii : (k : ℕ) → get_or location_letters k 0 < 128
 letter_ascii k = at k location_letters all_ascii
   where
@@ -112,11 +118,12 @@ letter_ascii k = at k location_letters all_ascii
     at zero (b ∷ bytes) e = ltb-true b 128 (and_parts (nat_lt b 128) (list_all (λ b. nat_lt b 128) bytes) e).0
     at (suc k) (b ∷ bytes) e = at k bytes (and_parts (nat_lt b 128) (list_all (λ b. nat_lt b 128) bytes) e).1
 
--- the name of a location without a mark, and with one
+-- the name of one of the first 26 locations is a letter
 pub name_plain : (k : ℕ) → k / 26 ≡ 0 → location_name k ≡ get_or location_letters (k % 26) 0 ∷ []
 unfolding location_name
 name_plain k e = rw e refl
 
+-- the name of a later location is a letter and a mark
 pub name_marked : (k : ℕ) → 0 < k / 26 →
     location_name k ≡ get_or location_letters (k % 26) 0 ∷ 95 ∷ (48 + k / 26) ∷ []
 unfolding location_name

@@ -15,6 +15,7 @@ in_order_le low [] high h = h
 in_order_le low (link ∷ links) high h =
     omega (arith, h.0, in_order_le (link.0 + 1) links high h.1)
 
+-- an address register is within the bounds
 pub address_bounds : (low : ℕ) (links : List (ℕ × ℕ)) (high p a : ℕ) → InOrder low links high →
     address_in links p ≡ Some a → (low ≤ a) × (a < high)
 address_bounds low [] high p a h e = cc
@@ -65,6 +66,7 @@ begins_at low (link ∷ links) high p a h e = by_test (link.1 == p)
     let g : (a == link.0) ≡ false = ne_eqb a link.0 (λ e. omega (arith, k.0)) in
     rw g (begins_at (link.0 + 1) links high p a h.1 f))
 
+-- address registers in order are within wider bounds too
 pub in_order_more : (low : ℕ) (links : List (ℕ × ℕ)) (high top : ℕ) → InOrder low links high →
     high ≤ top → InOrder low links top
 in_order_more low [] high top h m = let k : low ≤ high = h in omega arith
@@ -77,7 +79,7 @@ in_order_add low [] high a p top h m b = let k : low ≤ high = h in (omega arit
 in_order_add low (link ∷ links) high a p top h m b =
     (h.0, in_order_add (link.0 + 1) links high a p top h.1 m b)
 
--- the address register of a place after one was added
+-- a place that has an address register keeps it when one is added
 pub address_kept : (links : List (ℕ × ℕ)) (b q p a : ℕ) → address_in links p ≡ Some a →
     address_in (links ++ (b, q) ∷ []) p ≡ Some a
 address_kept [] b q p a e = cc
@@ -86,6 +88,7 @@ address_kept (link ∷ links) b q p a e = by_test (link.1 == p)
     (λ t. rw t (address_kept links b q p a
     (sym (ap (λ c. cond c (Some link.0) (address_in links p)) t) ∙ e)))
 
+-- a place without an address register has one when it is added for it
 pub address_added : (links : List (ℕ × ℕ)) (b q p : ℕ) → address_in links p ≡ None →
     address_in (links ++ (b, q) ∷ []) p ≡ cond (q == p) (Some b) None
 address_added [] b q p e = refl
@@ -109,6 +112,7 @@ pub record Grew (g h : Taken) : Type 0 where
       (address_in g.links p ≡ Some a) ⊎ (g.next ≤ a)
   pub taken : IsTaken g → IsTaken h
 
+-- where no address register was added, registers are those before and some more
 pub grew_same : (g h : Taken) → h.count ≡ g.count → g.next ≤ h.next → h.links ≡ g.links → Grew g h
 grew_same g h c m e = record {
   count = c;
@@ -120,6 +124,7 @@ grew_same g h c m e = record {
   };
 }
 
+-- where an address register was added, registers are those before and some more
 pub grew_added : (g h : Taken) (p : ℕ) → h.count ≡ g.count → AddsAddress g h p → Grew g h
 grew_added g h p c d = record {
   count = c;
@@ -149,6 +154,7 @@ grew_added g h p c d = record {
         (λ t. let s : None ≡ Some a =
         sym (ap (λ c. cond c (Some d.register) None) t) ∙ (sym k ∙ f) in cc))
 
+-- after an access the registers are those before it and some more
 pub grew : (g h : Taken) (p : ℕ) → Takes g h p → Grew g h
 grew g h p t = either t.links
   where
@@ -156,9 +162,11 @@ grew g h p t = either t.links
     either (inl e) = grew_same g h t.count t.more e
     either (inr d) = grew_added g h p t.count d
 
+-- no call changes no registers
 pub grew_refl : (g : Taken) → Grew g g
 grew_refl g = grew_same g g refl (omega arith) refl
 
+-- registers after some calls and some more are those before them all and some more
 pub grew_trans : (g h i : Taken) → Grew g h → Grew h i → Grew g i
 grew_trans g h i s t = record {
   count = t.count ∙ s.count;
@@ -201,7 +209,7 @@ tracks g h p t e q = either t.links
         (λ u. rw u refl)
         (λ u. rw (u, f) refl))))
 
--- the address register of a place is taken, where it had none
+-- an access takes the address register of its place, where it had none
 pub takes_address : (g h : Taken) (p : ℕ) → h.count ≡ g.count → h.links ≡ g.links →
     g.next ≤ h.next → Takes g (with_address h p) p
 takes_address g h p c l m = by_option (address_in h.links p)

@@ -54,7 +54,7 @@ thread_ends a laws ss vs fit count =
       loaded = numbers_held f.after.state.regs (compiled a ss).loads vs 0 f.loaded;
     }
 
--- on fewer it wants more
+-- on fewer numbers than it has loads, a thread wants more
 pub thread_short_of : (a : Puts) → IsArch a → (ss : List Step) (vs : List ℕ) →
     FitSteps a.name false ss → length vs < loads_in ss →
     runs (compiled a ss).instrs (initial (compiled a ss).links) vs ≡ ReadsShort
@@ -62,7 +62,7 @@ thread_short_of a laws ss vs fit few =
     ap outcome (thread_wants a laws ss (setting_out a.registers) false
     (beginning (initial (compiled a ss).links) vs) vs fit (begins_whole a laws ss vs fit) few refl).is
 
--- on more it leaves some
+-- on more numbers than it has loads, a thread leaves some
 pub thread_leaves : (a : Puts) → IsArch a → (ss : List Step) (vs : List ℕ) →
     FitSteps a.name false ss → loads_in ss < length vs →
     runs (compiled a ss).instrs (initial (compiled a ss).links) vs ≡ ReadsLeft
@@ -89,7 +89,7 @@ makes_steps a laws ss fit = record {
   leaves = λ vs e. thread_leaves a laws ss vs fit e;
 }
 
--- where registers are enough, it is well formed
+-- where registers are enough, the code of a thread is well formed
 pub is_formed : (a : Puts) → IsArch a → (ss : List Step) → FitSteps a.name false ss →
     a.need (shape_of ss) ≤ a.registers → IsFormed a ss (compiled a ss)
 is_formed a laws ss fit enough =
@@ -114,7 +114,7 @@ is_formed a laws ss fit enough =
     all_below_more [] m n h k = tt
     all_below_more (q ∷ qs) m n h k = (omega (arith, h.0), all_below_more qs m n h.1 k)
 
--- the same of code that was compared with it
+-- code of a thread by its parts
 abbrev pub made : List Micro → List (ℕ × ℕ) → List ℕ → ThreadCode
 made instrs links loads = record { instrs = instrs; links = links; loads = loads }
 
@@ -124,6 +124,7 @@ same_code instrs links loads code e f g =
     ap (λ x. made x code.links code.loads) (sym e) ∙
     (ap (λ x. made instrs x code.loads) (sym f) ∙ ap (λ x. made instrs links x) (sym g))
 
+-- code whose parts are those of the thread's code makes its accesses
 pub made_so : (a : Puts) → IsArch a → (ss : List Step) (instrs : List Micro) (links : List (ℕ × ℕ))
     (loads : List ℕ) → FitSteps a.name false ss → instrs ≡ (compiled a ss).instrs →
     links ≡ (compiled a ss).links → loads ≡ (compiled a ss).loads →
@@ -132,6 +133,7 @@ made_so a laws ss instrs links loads fit e f g =
     let P : ThreadCode → Type 0 = MakesSteps ss in
     subst P (same_code instrs links loads (compiled a ss) e f g) (makes_steps a laws ss fit)
 
+-- code whose parts are those of the thread's code is well formed where registers are enough
 pub formed_so : (a : Puts) → IsArch a → (ss : List Step) (instrs : List Micro)
     (links : List (ℕ × ℕ)) (loads : List ℕ) → FitSteps a.name false ss →
     a.need (shape_of ss) ≤ a.registers → instrs ≡ (compiled a ss).instrs →

@@ -1,5 +1,5 @@
--- The code of architectures whose accesses name a register with the address: the order in which
--- registers are taken, and where each architecture's own instructions stand.
+-- The code of architectures whose accesses name a register that holds the address: the order in which
+-- registers are taken, and where each architecture's own instructions come.
 -- Source: the diy tools' tests for Power, Arm and RISC-V.
 use Rattle.std.specs.Prelude.{ℕ, ◌+◌, Bool, true, List, [], ◌∷◌, ◌++◌, Option, Some, None}
 use Rattle.relax_edges.specs.declared.kinds.ArchName.{ArchName}
@@ -29,26 +29,28 @@ pub record Instructions : Type 0 where
   pub store : ℕ → ℕ → ℕ → List Micro
   pub joins : ℕ → ℕ → Micro
 
--- a branch on a register to the label right behind it, and what stands behind the label
+-- a branch on a register to the label right after it, and what comes after the label
 abbrev pub branch_code : Instructions → Option ℕ → ℕ → List Micro → List Micro
 branch_code own (Some s) n rest = own.branch s n ++ ops.Label n ∷ rest
 branch_code own None n rest = []
 
--- a load of a mark at the address in register a, and a store
+-- a load of a mark at the address in register a
 abbrev pub load_op : Mark → ℕ → ℕ → Micro
 load_op Acquire v a = ops.LoadAcq v a
 load_op _ v a = ops.Load v a None
 
+-- a store of a mark at the address in register a
 abbrev pub store_op : Mark → ℕ → ℕ → Micro
 store_op Release v a = ops.StoreRel v a
 store_op _ v a = ops.Store v a None
 
--- the same at an address that depends on register d, which holds 0: where the access has a mark, the
+-- a load at an address that depends on register d, which holds 0: where it has a mark, the
 -- address in register a is added to register d first
 abbrev pub load_through : Instructions → Mark → ℕ → ℕ → ℕ → List Micro
 load_through own Acquire d v a = ops.Add d a d ∷ ops.LoadAcq v d ∷ []
 load_through own _ d v a = own.load d v a
 
+-- a store at such an address, where one that has a mark adds the address to register d first
 abbrev pub store_through : Instructions → Mark → ℕ → ℕ → ℕ → List Micro
 store_through own Release d v a = ops.Add d a d ∷ ops.StoreRel v d ∷ []
 store_through own _ d v a = own.store d v a
@@ -73,6 +75,7 @@ load_on own g mark None place = record {
   regs = with_address (took g 1) place;
 }
 
+-- the register that a load fills
 abbrev pub filled_on : Taken → Option ℕ → ℕ
 filled_on g (Some s) = g.next + 1
 filled_on g None = g.next

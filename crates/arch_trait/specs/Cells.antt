@@ -1,5 +1,5 @@
--- How the texts of instructions stand in the table of a test.
--- Source: the litmus format of the herdtools, whose cells stand between bars and whose rows end at a semicolon.
+-- How the texts of instructions fit into the table of a test.
+-- Source: the litmus format of the herdtools, whose cells are divided by bars and whose rows end at a semicolon.
 use Rattle.std.specs.Prelude.{ℕ, ◌≤◌, ◌==◌, ◌≡◌, Bool, true, false, not, ◌&&◌, ◌||◌, nat_le, List, [], ◌∷◌, ◌++◌, codes, length, Option, count_by}
 use Rattle.std.specs.List.{list_all, list_any}
 use Rattle.std.specs.Str.{bytes_eq}

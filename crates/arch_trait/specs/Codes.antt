@@ -12,7 +12,7 @@ use Rattle.arch_trait.specs.Taking.{initial}
 use Rattle.arch_trait.specs.Threads.{Puts, ThreadCode, thread_items, loads_in, branches_in, visits, HoldNumbers}
 use Rattle.arch_trait.specs.Laws.{InOrder}
 
--- what the code of a thread holds
+-- what the code sees of the code of a thread
 abbrev pub thread_of : Code → ThreadCode
 thread_of code = record {
   instrs = code.instrs.items;
@@ -48,7 +48,7 @@ AllBelow n [] = Unit {0}
 AllBelow n (q ∷ qs) = (q < n) × AllBelow n qs
 
 -- the code of a thread is well formed: its operations are the architecture's, each branch has its
--- label behind it, labels are numbered in order, the places are those of the accesses, and its
+-- label after it, labels are numbered in order, the places are those of the accesses, and its
 -- registers are the architecture's, each address register for one place
 pub record IsFormed (a : Puts) (ss : List Step) (code : ThreadCode) : Type 0 where
   pub has : list_all a.has code.instrs ≡ true

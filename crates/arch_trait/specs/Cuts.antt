@@ -4,7 +4,7 @@ use Rattle.std.specs.Prelude.{ℕ, ◌≡◌, ◌==◌, List, [], ◌∷◌, Opt
 use Rattle.std.specs.List.{slice_split}
 use Rattle.std.specs.Borrow.{Bor}
 
--- the piece before the first comma and the text behind it, or one piece alone
+-- the piece before the first comma and the text after it, or one piece alone
 abbrev pub Cut : Option (Bor (List ℕ) × Bor (List ℕ)) → List ℕ → Type 0
 Cut (Some parts) text =
     slice_split (λ x. x == 44) text ≡ parts.0.now ∷ slice_split (λ x. x == 44) parts.1.now

@@ -1,14 +1,15 @@
--- The names of numbered registers, and labels that stand alone.
+-- The names of numbered registers, and labels that are alone in their cell.
 -- Source: the litmus format of the herdtools, and the instruction manuals of Power, Arm and RISC-V.
 use Rattle.std.specs.Prelude.{ℕ, List, Option, None, map}
 use Rattle.std.specs.List.{range_with_len}
 use Rattle.arch_trait.specs.declared.numbered.Numbered.{Numbered}
 use Rattle.arch_trait.specs.Writing.{OperandTexts, none, RawInstr, label_raw, register_text}
 
--- the name of a numbered register, and the names of all, in order
+-- the name of a numbered register
 abbrev pub register_name : Numbered → ℕ → List ℕ
 register_name n r = register_text n.letter n.first r
 
+-- the names of all numbered registers, in order
 abbrev pub register_names : Numbered → List (List ℕ)
 register_names n = map (register_name n) (range_with_len 0 n.count)
 

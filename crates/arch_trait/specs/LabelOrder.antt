@@ -11,6 +11,7 @@ labels_after count (ops.BranchNz a label) = max count (label + 1)
 labels_after count (ops.Label label) = max count (label + 1)
 labels_after count op = count
 
+-- how many labels have numbers after the operations of a thread
 abbrev pub labels_in : ℕ → List Micro → ℕ
 labels_in count [] = count
 labels_in count (op ∷ code) = labels_in (labels_after count op) code

@@ -61,7 +61,7 @@ pub record Ready (r : Run) (g h : Taken) (link : Link) (from : Option ℕ) (k : 
   pub source : depends link ≡ true → HasSource r from k
 
 -- a run of code comes to its end: it makes the items, leaves the control mask, the number of loads
--- and the reads as told, writes only registers that were taken in it, and no address register
+-- and the reads as given, writes only registers that were taken in it, and no address register
 pub record Did (code : List Micro) (r : Run) (g h : Taken) (made : List Item) (control loads : ℕ)
     (reads : List ℕ) : Type 0 where
   pub after : Run
@@ -74,7 +74,7 @@ pub record Did (code : List Micro) (r : Run) (g h : Taken) (made : List Item) (c
   pub above : (s : ℕ) → h.next ≤ s → after.state.regs s ≡ r.state.regs s
   pub places : HoldsPlaces after h
 
--- the same for a load: its register holds the number read, which depends on this load alone
+-- a load's run of code comes to its end: its register holds the number read, which depends on this load alone
 pub record DidLoad (code : List Micro) (r : Run) (g h : Taken) (made : List Item)
     (control loads : ℕ) (reads : List ℕ) (register value : ℕ) : Type 0 where
   pub did : Did code r g h made control loads reads
@@ -95,10 +95,11 @@ pub record IsWanting (p : Point) : Type 0 where
   pub run : Run
   pub is : p ≡ Wants run
 
--- the most operations of a link, and of an access
+-- the most operations of a link
 abbrev pub link_room : Link → ℕ
 link_room link = cond (branches link) 4 (cond (depends link) 0 1)
 
+-- the most operations of an access
 abbrev pub access_room : Link → ℕ
 access_room link = cond (is_addr link || is_data link) 4 2
 
@@ -152,7 +153,7 @@ pub record HasLink (a : Puts) (link : Link) (from : Option ℕ) : Type 0 where
   pub given : depends link ≡ true → is_some from ≡ true
 
 -- the code of a link makes exactly the link's barriers, and the branches before the access then
--- depend on the load of a control link; it has its branch's label, once and behind the branch
+-- depend on the load of a control link; it has its branch's label, once and after the branch
 pub record MakesLinks (a : Puts) : Type 0 where
   pub runs : (link : Link) (from : Option ℕ) (n : ℕ) (r : Run) (k : ℕ) →
       link_is_of link a.name ≡ true → (depends link ≡ true → HasSource r from k) →

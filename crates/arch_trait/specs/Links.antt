@@ -46,7 +46,7 @@ depends links.Plain = false
 depends (links.Fence _) = false
 depends _ = true
 
--- a branch stands before the access
+-- a branch comes before the access
 abbrev pub branches : Link → Bool
 branches links.Ctrl = true
 branches links.CtrlIsync = true
@@ -72,7 +72,7 @@ abbrev pub mask_if : Bool → ℕ → ℕ
 mask_if on k = cond on (bit k) 0
 
 -- the loads that branches depended on, after those of a link: before them they are c, and load
--- number k stands before the link
+-- number k comes before the link
 abbrev pub link_control : Link → ℕ → ℕ → ℕ
 link_control link k c = cond (branches link) (bit_or c (bit k)) c
 

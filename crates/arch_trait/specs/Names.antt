@@ -9,7 +9,7 @@ use Rattle.text_laws.specs.Names.{is_place_name}
 abbrev pub location_letters : List ℕ
 location_letters = codes "xyzabcdefghijklmnopqrstuvw"
 
--- what stands behind the letter of a location, where all letters were used so many times before
+-- what follows the letter of a location, where all letters were used so many times before
 abbrev pub lap_mark : ℕ → List ℕ
 lap_mark zero = []
 lap_mark (suc lap) = 95 ∷ (suc lap + 48) ∷ []
@@ -22,18 +22,18 @@ location_name k = get_or location_letters (k % 26) 0 ∷ lap_mark (k / 26)
 abbrev pub letters : ℕ → List (List ℕ)
 letters n = map location_name (range_with_len 0 n)
 
--- a table of names: each has the form of a place's name and stands once, and there are at most 64
+-- a table of names: each has the form of a place's name and is in it once, and there are at most 64
 pub record IsTable (names : List (List ℕ)) : Type 0 where
   pub formed : list_all is_place_name names ≡ true
   pub once : IsDistinct bytes_eq names
   pub few : length names ≤ 64
 
--- the number of a name: where it stands
+-- the number of a name: its place in the table
 abbrev pub number_in : List (List ℕ) → List ℕ → Option ℕ
 number_in names name = position_from (λ x. bytes_eq x name) 0 names
 
--- the number of a name once it is in the table: where it stands, or where it stands when it is added
--- last, if there is room
+-- the number of a name once it is in the table: its place in the table, or the place that it gets when
+-- it is added last, if there is room
 abbrev pub number_or_next : Option ℕ → ℕ → Option ℕ
 number_or_next (Some i) _ = Some i
 number_or_next None count = cond (nat_lt count 64) (Some count) None
@@ -43,9 +43,10 @@ abbrev pub with_name : Option ℕ → List (List ℕ) → List ℕ → List (Lis
 with_name (Some _) names _ = names
 with_name None names name = cond (nat_lt (length names) 64) (names ++ name ∷ []) names
 
--- the same by the name
+-- the number of a name in a table to which it is added if it is new
 abbrev pub number_added : List (List ℕ) → List ℕ → Option ℕ
 number_added names name = number_or_next (number_in names name) (length names)
 
+-- the table to which a name is added if it is new
 abbrev pub names_added : List (List ℕ) → List ℕ → List (List ℕ)
 names_added names name = with_name (number_in names name) names name

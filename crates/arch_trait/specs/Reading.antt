@@ -1,5 +1,5 @@
 -- How an instruction is read from the text of its cell, and its name gets a number.
--- Source: the litmus format of the herdtools; where blanks may stand is own.
+-- Source: the litmus format of the herdtools; where blanks may be is own.
 use Rattle.std.specs.Prelude.{ℕ, ◌≡◌, ◌==◌, true, cond, List, [], ◌∷◌, Option, Some, None, Result, Ok, Err, map}
 use Rattle.std.specs.List.{slice_split}
 use Rattle.text_laws.specs.Names.{is_place_name}
@@ -22,17 +22,18 @@ few (a ∷ b ∷ c ∷ []) = three a b c
 few (a ∷ b ∷ c ∷ d ∷ []) = four a b c d
 few (a ∷ b ∷ c ∷ d ∷ e ∷ rest) = more
 
--- the operands in the text behind the first word: none where it is blank, else those between its
+-- the operands of a text without blanks at its ends: none where it is empty, else those between its
 -- commas, without the blanks around them
 abbrev pub operands_if : List ℕ → OperandTexts
 operands_if [] = none
 operands_if (b ∷ text) = few (map trimmed (slice_split (λ x. x == 44) (b ∷ text)))
 
+-- the operands in the text after the first word
 unfoldable pub operands_in : List ℕ → OperandTexts
 operands_in text = operands_if (trimmed text)
 
--- an instruction as it is written in a text: blanks may stand at both ends and around commas, and one
--- or more stand behind the first word
+-- an instruction as it is written in a text: blanks may be at both ends and around commas, and one
+-- or more come after the first word
 abbrev pub written_in : List ℕ → Written
 written_in text = record {
   word = run_of is_inked (unblanked text);
@@ -45,12 +46,13 @@ pub record ReadInstr : Type 0 where
   pub places : List (List ℕ)
   pub labels : List (List ℕ)
 
--- the operation with the number of its place, or of its label, if there is one
+-- the operation with the number of its place, if there was room for it
 abbrev pub with_place : Micro → Option ℕ → List (List ℕ) → List (List ℕ) → Result ReadInstr InstrError
 with_place op (Some i) places labels =
     Ok (record { op = with_number op i; places = places; labels = labels })
 with_place op None places labels = Err errors.TooManyPlaces
 
+-- the operation with the number of its label, if there was room for it
 abbrev pub with_label : Micro → Option ℕ → List (List ℕ) → List (List ℕ) → Result ReadInstr InstrError
 with_label op (Some i) places labels =
     Ok (record { op = with_number op i; places = places; labels = labels })
@@ -66,7 +68,7 @@ numbered op (label name) places labels = cond (is_label_name name)
     (with_label op (number_added labels name) places (names_added labels name))
     (Err errors.BadInstruction)
 
--- what was read raw, with its number
+-- an instruction that was read raw, with the number of its name
 abbrev pub number_raw : Option RawInstr → List (List ℕ) → List (List ℕ) → Result ReadInstr InstrError
 number_raw None places labels = Err errors.BadInstruction
 number_raw (Some raw) places labels = numbered raw.op raw.name places labels

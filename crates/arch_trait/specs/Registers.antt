@@ -2,7 +2,7 @@
 -- Source: own.
 use Rattle.std.specs.Prelude.{ℕ, ◌≤◌, List, length}
 
--- as many are taken as there are, and each address register was taken
+-- no more registers are taken than there are, and no more hold addresses than were taken
 pub record AreWithin (count next : ℕ) (links : List (ℕ × ℕ)) : Type 0 where
   pub few : count ≤ 32
   pub taken : next ≤ count

@@ -9,7 +9,7 @@ use Rattle.arch_trait.specs.Threads.{ThreadCode}
 abbrev pub step_at : (ℕ → ℕ) → Step → Step
 step_at number s = record { dir = s.dir; mark = s.mark; place = number s.place; value = s.value; link = s.link }
 
--- the code of a thread so
+-- the code of a thread, its places under the numbers that `number` gives them
 abbrev pub renumbered : (ℕ → ℕ) → ThreadCode → ThreadCode
 renumbered number code = record {
   instrs = map (op_at number) code.instrs;

@@ -52,7 +52,7 @@ after_address None g place = take_address g place
 abbrev pub address_of : Taken → ℕ → ℕ
 address_of g place = address_or_next (address_in g.links place) g
 
--- the registers after that
+-- the registers after the address register of a place was taken, where it had none
 abbrev pub with_address : Taken → ℕ → Taken
 with_address g place = after_address (address_in g.links place) g place
 

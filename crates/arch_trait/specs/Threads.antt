@@ -64,7 +64,7 @@ abbrev pub places_in : List Step → ℕ
 places_in [] = 0
 places_in (s ∷ ss) = cond (visits s.place ss) 0 1 + places_in ss
 
--- how many branches stand before the accesses
+-- how many branches come before the accesses
 abbrev pub branches_in : List Step → ℕ
 branches_in ss = count_by (λ s. branches s.link) ss
 
@@ -84,7 +84,7 @@ pub record Way : Type 0 where
   pub last : Option ℕ
   pub label : ℕ
 
--- the same as it is kept
+-- what the code sees of how far it has come
 abbrev pub way_seen : kept.Way → Way
 way_seen way = record { regs = way.regs; last = way.last; label = way.label }
 
@@ -106,10 +106,11 @@ abbrev pub filled_by : Puts → Taken → Option ℕ → Step → Dir → Option
 filled_by a g from s dirs.R = Some (a.filled g s.link from s.place)
 filled_by a g from s dirs.W = None
 
--- the same for the next access of a way
+-- the code of the next access of a way, and the registers after it
 abbrev pub next_put : Puts → Way → Step → Put
 next_put a w s = put_of a w.regs (from_of s.link w.last) s s.dir
 
+-- the register that the next access of a way fills, if it is a load
 abbrev pub next_filled : Puts → Way → Step → Option ℕ
 next_filled a w s = filled_by a w.regs (from_of s.link w.last) s s.dir
 
@@ -130,7 +131,7 @@ abbrev pub thread_code : Puts → Way → List Step → List Micro
 thread_code a w [] = []
 thread_code a w (s ∷ ss) = step_code a w s ++ thread_code a (further a w s) ss
 
--- the registers after them
+-- the registers after the accesses that follow on a way
 abbrev pub thread_regs : Puts → Way → List Step → Taken
 thread_regs a w [] = w.regs
 thread_regs a w (s ∷ ss) = thread_regs a (further a w s) ss
@@ -140,13 +141,13 @@ abbrev pub put_before : Option ℕ → List ℕ → List ℕ
 put_before (Some register) rest = register ∷ rest
 put_before None rest = rest
 
--- the registers that their loads fill, in order
+-- the registers that the loads of the accesses on a way fill, in order
 abbrev pub thread_loads : Puts → Way → List Step → List ℕ
 thread_loads a w [] = []
 thread_loads a w (s ∷ ss) = put_before (next_filled a w s) (thread_loads a (further a w s) ss)
 
 -- the item of an access: of a load with the number that it reads, of a store with its value. Load
--- number k stands before it, c are the loads that branches depended on
+-- number k comes before it, c are the loads that branches depended on
 abbrev pub access_item : Step → Dir → ℕ → ℕ → ℕ → Item
 access_item s dirs.R v k c = items.Access dirs.R s.mark s.place v (mask_if (is_addr s.link) k) 0 c
 access_item s dirs.W v k c =
@@ -213,6 +214,7 @@ pub record ThreadCode : Type 0 where
   pub links : List (ℕ × ℕ)
   pub loads : List ℕ
 
+-- the code of a whole thread that makes these accesses
 abbrev pub compiled : Puts → List Step → ThreadCode
 compiled a ss = record {
   instrs = thread_code a (setting_out a.registers) ss;

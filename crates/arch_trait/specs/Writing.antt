@@ -37,14 +37,14 @@ pub record RawInstr : Type 0 where
   pub op : Micro
   pub name : Name
 
--- how an architecture writes and reads its instructions, and the names of its registers as they stand
--- in conditions
+-- how an architecture writes and reads its instructions, and the names of its registers as they are
+-- written in conditions
 pub record Writing : Type 0 where
   pub written : (ℕ → List ℕ) → Micro → Written
   pub raw : Written → Option RawInstr
   pub registers : List (List ℕ)
 
--- operands behind a blank, with commas between
+-- operands after a blank, with commas between
 abbrev pub listed : OperandTexts → List ℕ
 listed none = []
 listed (one a) = 32 ∷ a
@@ -123,6 +123,7 @@ abbrev pub is_plain : List ℕ → Bool
 is_plain [] = false
 is_plain (b ∷ text) = list_all (λ x. not (is_blank x) && not (x == 44)) (b ∷ text)
 
+-- all operands are plain
 abbrev pub all_plain : OperandTexts → Bool
 all_plain none = true
 all_plain (one a) = is_plain a
@@ -131,22 +132,25 @@ all_plain (three a b c) = is_plain a && (is_plain b && is_plain c)
 all_plain (four a b c d) = is_plain a && (is_plain b && (is_plain c && is_plain d))
 all_plain more = false
 
--- an immediate: a number of at most 2,047 in decimal
+-- a number that is at most the limit
 abbrev pub at_most : ℕ → Option ℕ → Option ℕ
 at_most limit None = None
 at_most limit (Some n) = cond (nat_le n limit) (Some n) None
 
+-- an immediate: a number of at most 2,047 in decimal
 unfoldable pub immediate : List ℕ → Option ℕ
 immediate digits = at_most 2047 (number_of digits)
 
--- a text in square brackets, and what stands in them
+-- a text in square brackets
 abbrev pub bracketed : List ℕ → List ℕ
 bracketed text = 91 ∷ (text ++ 93 ∷ [])
 
+-- a text begins and ends with square brackets
 abbrev pub has_brackets : List ℕ → Bool
 has_brackets text =
     nat_le 2 (length text) && (get_or text 0 0 == 91 && get_or text (length text - 1) 0 == 93)
 
+-- the text inside square brackets
 unfoldable pub inside_brackets : List ℕ → Option (List ℕ)
 inside_brackets text = cond (has_brackets text) (Some (take (length text - 2) (drop 1 text))) None
 

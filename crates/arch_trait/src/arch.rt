@@ -61,7 +61,7 @@ pub trait Arch {
     fn need(shape: &Shape) -> u32
         ensures { result ≡ puts.need shape.now };
 
-    /// Appends the code that stands before an access for its link. `from` is the register that a
+    /// Appends the code that comes before an access for its link. `from` is the register that a
     /// dependency is on, `label` the number of the label that a branch goes to.
     fn put_link(link: Link, from: Option<u8>, label: u8, out: &mut Instrs)
         requires of_arch { link_is_of link puts.name ≡ true }
@@ -120,7 +120,7 @@ pub trait Arch {
     fn read_raw<'a>(word: &'a [u8], operands: Operands<'a>) -> Option<Raw<'a>>
         ensures { raw_seen result ≡ writing.raw (record { word = word.now; operands = texts_of operands.entry }) };
 
-    /// Makes `out` the name of a register, as it stands in conditions.
+    /// Makes `out` the name of a register, as it is written in conditions.
     fn register_name(r: u8, out: &mut RegName)
         requires { r < REGISTERS }
         ensures { out.new.bytes ≡ name_in writing.registers r };
@@ -139,7 +139,7 @@ pub trait Arch {
         register_named::<Self>(name.as_bytes())
     }
 
-    /// The instruction that the text of a cell is, with blanks at both ends, behind the first word
+    /// The instruction that the text of a cell is, with blanks at both ends, after the first word
     /// and around commas. Its place and its label get the numbers of their names in the tables, to
     /// which new names are added last. After a fault both tables are as they were.
     final fn read_instr(

@@ -67,7 +67,7 @@ fn number_label(op: Micro, name: &[u8], labels: &mut Places) -> Result<Micro, In
     }
 }
 
-/// The operation with another place or label.
+/// The operation with this number for its place or label.
 fn with_number(op: Micro, i: u8) -> Micro
     ensures { result ≡ with_number op i }
 {

@@ -15,11 +15,11 @@ pub enum Link {
     Addr,
     /// The value that the access stores depends on the load before it.
     Data,
-    /// A branch on the load before stands between them.
+    /// A branch on the load before is between them.
     Ctrl,
-    /// The same, with an `isync` behind the branch.
+    /// The same, with an `isync` after the branch.
     CtrlIsync,
-    /// The same, with an `ISB` behind the branch.
+    /// The same, with an `ISB` after the branch.
     CtrlIsb,
 }
 
@@ -48,7 +48,7 @@ impl Link {
         !matches!(self, Link::Plain | Link::Fence(_))
     }
 
-    /// Whether a branch stands before the access.
+    /// Whether a branch comes before the access.
     pub fn branches(self) -> bool
         ensures { result ≡ branches self }
     {

@@ -23,7 +23,7 @@ pub fn immediate(digits: &[u8]) -> Option<u32>
     }
 }
 
-/// A label as an instruction of its own, where the word ends with a colon and stands alone.
+/// A label as an instruction of its own, where the word ends with a colon and is alone.
 pub fn read_label_alone<'a>(word: &'a [u8], operands: Operands<'a>) -> Option<Raw<'a>>
     ensures { raw_seen result ≡ label_alone word.now (texts_of operands.entry) }
 {

@@ -13,8 +13,8 @@ pub const MAX_PLACES: usize = 64;
 
 const LETTERS: &[u8; 26] = b"xyzabcdefghijklmnopqrstuvw";
 
-/// A table of names, of places or of labels: each has the form of a place's name and stands once.
-/// The number of a name is where it stands.
+/// A table of names, of places or of labels: each has the form of a place's name and is in it once.
+/// The number of a name is its place in the table.
 #[derive(Debug, Drop)]
 pub struct Places {
     names: ArrayVec<PlaceName, MAX_PLACES>,
@@ -93,7 +93,7 @@ impl Places {
         self.add_bytes(name.as_bytes())
     }
 
-    /// The same of a name's bytes.
+    /// The number of the name that these bytes are, as `add` gives it.
     pub fn add_bytes(&mut self, name: &[u8]) -> Option<u8>
         requires { is_place_name name.now ≡ true }
         ensures number { result ≡ number_added self.old name.now }

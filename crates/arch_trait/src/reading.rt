@@ -63,7 +63,7 @@ impl Raw<'_> {
     }
 }
 
-/// The text before the first comma, and the one behind it.
+/// The text before the first comma, and the one after it.
 #[tactic(auto, using(crate::proofs::Commas::cut_none, crate::proofs::Commas::cut_some))]
 fn cut_comma(text: &[u8]) -> Option<(&[u8], &[u8])>
     ensures { Cut result text.now }
@@ -80,7 +80,7 @@ fn comma_in(text: &[u8]) -> Option<usize>
     text.iter().position(|byte| *byte == b',')
 }
 
-/// The operands in the text behind the first word.
+/// The operands in the text after the first word.
 pub(crate) fn operands_of(text: &[u8]) -> Operands<'_>
     ensures { texts_of result ≡ operands_in text.now }
 {

@@ -87,7 +87,7 @@ impl Regs {
         self.links.as_slice()
     }
 
-    /// The same, where the registers aren't needed any more.
+    /// The address registers with their places, where the registers aren't needed any more.
     pub fn into_links(self) -> Links
         ensures { result.items ≡ self.links }
     {

@@ -1,4 +1,4 @@
--- X86's instructions stand in the cells of a table, and each of its loads and stores is one of them.
+-- X86's instructions fit in the cells of a table, and each of its loads and stores is one of them.
 use Rattle.arch_trait.specs.Cells.{WritesCells, MakesOneAccess}
 use Rattle.form_laws.proofs.InCells as tables
 use Rattle.form_laws.proofs.Fenced.{fenced_once}
@@ -7,8 +7,10 @@ use Rattle.arch_x86.specs.Table.{table, register_names, writing}
 use Rattle.arch_x86.specs.Clear.{is_clear_table}
 use Rattle.arch_x86.specs.Laws.{is_fenced}
 
+-- the instructions of X86 fit in the cells of a table
 pub writes_cells : WritesCells puts writing
 writes_cells = tables.writes_cells puts table register_names is_clear_table (λ op h. h)
 
+-- the code of each access of X86 makes one access
 pub makes_one_access : MakesOneAccess puts
 makes_one_access = fenced_once puts is_fenced

@@ -35,5 +35,6 @@ is_fenced = record {
   store_has = λ p n h. grind (arith, nat_tests);
 }
 
+-- X86 obeys the laws of architectures
 pub laws : IsArch puts
 laws = fenced_laws puts is_fenced

@@ -23,6 +23,7 @@ link_code _ _ _ = []
 abbrev pub load : Taken → Link → Mark → Option ℕ → ℕ → Put
 load g _ _ _ place = record { code = ops.LoadAt g.next place ∷ []; regs = take_next g }
 
+-- the register that a load fills: the next one
 abbrev pub filled : Taken → Link → Option ℕ → ℕ → ℕ
 filled g _ _ _ = g.next
 

@@ -22,6 +22,7 @@ registers_once = search rules
 are_names : AreNames puts register_names
 are_names = record { count = refl; formed = registers_formed; once = registers_once }
 
+-- the instructions of X86 read back from their text
 pub reads_back : WritesBack puts writing
 reads_back = writes_back puts table register_names is_clear_table (λ op h. h) are_names
 

@@ -9,10 +9,11 @@ use Rattle.form_laws.specs.declared.form.Labels.TheVariants as labels
 use Rattle.form_laws.specs.declared.kind.Kind.TheVariants as kinds
 use Rattle.form_laws.specs.Tables.{PieceText, FormText, TableText, piece, fixed, form, table_writing}
 
--- the place in brackets, and a number after a dollar
+-- the place in brackets
 abbrev pub address : PieceText
 address = piece (codes "[") holes.Place (codes "]")
 
+-- a number after a dollar
 abbrev pub immediate : PieceText
 immediate = piece (codes "$") holes.Number []
 
@@ -28,7 +29,7 @@ forms =
     form (codes "MOV") (fixed (codes "ESI") ∷ address ∷ []) (kinds.LoadInto 4) ∷
     form (codes "MOV") (fixed (codes "EDI") ∷ address ∷ []) (kinds.LoadInto 5) ∷ []
 
--- the table, in which no labels stand
+-- the table, without labels
 abbrev pub table : TableText
 table = record { forms = forms; labels = labels.Unknown }
 

@@ -33,7 +33,7 @@ test_refused arch w old new words test exec a (faults.Wrong line kinds.WrongArch
 test_refused arch w old new words test exec a (faults.Wrong line (kinds.Exec kind)) h = absurd h
 test_refused arch w old new words test exec a faults.NoMemory h = refl
 
--- the test that a file is, by the files as they are told
+-- the test that a file is, by the files as they are shown
 test_is : (arch : ArchName) (w : Writing) (old new : ShelfSeen) (name : List ℕ) (read : TestRead) (f : FileIs (test_said arch w) old new name read)
     → IsTest arch w old.files name f.text read
 test_is arch w old new name read f = record { named = f.named; is = f.is }

@@ -31,7 +31,7 @@ executions_refuse_long : (test : TestRead) → RefusesLong (exec_told test) too_
 unfolding execution_read
 executions_refuse_long test text = refl
 
--- what a text tells as an execution of a test depends on its first bytes alone, one more than a test may have, and it isn't too long
+-- what a text says as an execution of a test depends on its first bytes alone, one more than a test may have, and it isn't too long
 pub executions_by_first_bytes : (test : TestRead) → JudgesFirstBytes (exec_told test)
 executions_by_first_bytes test =
     judges_first_bytes (exec_told test) (λ text. lines_read (length test.threads) test.places (lines_of text)) too_large (executions_refuse_long test)
@@ -98,7 +98,7 @@ checked_few arch w old new words test exec before after ends.ShelfFault h some m
     of_unread (inr unread) = of_exec unread unread.took
 checked_few arch w old new words test exec before after ends.NoMemory h some more = absurd (some refl)
 
--- a file that is told has one text
+-- a file that is shown has one text
 one_text : (seen : Option Files) (files : Files) (name a b : List ℕ) → seen ≡ Some files → files name ≡ Some a → IsFile seen name b → a ≡ b
 one_text seen files name a b told there named =
     let same : files name ≡ Some b = subst (λ (o : Option Files). IsFile o name b) told named in
@@ -137,7 +137,7 @@ exec_right arch w old new words test exec file error files h told right =
     not_both (exec_told h.read) right.told h.told right.x error
     (one_text old.files files (name_at words exec) right.told h.told told right.told_there h.named) is h.fault
 
--- where both files are told and right, and no device fails, the verdict is written, or there is no memory
+-- where both files are shown and right, and no device fails, the verdict is written, or there is no memory
 pub right_files_done : (arch : ArchName) (w : Writing) (old new : ShelfSeen) (words : List (List ℕ)) (test exec : ℕ) (before after : SinkSeen)
     (end : CheckEnd) (files : Files) → FilesChecked arch w old new words test exec before after end → old.files ≡ Some files
     → AreRight files arch w words test exec → (Rose old.faults new.faults → ⊥) → (Rose before.faults after.faults → ⊥)

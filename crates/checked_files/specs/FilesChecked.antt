@@ -24,7 +24,7 @@ use Rattle.checked_files.specs.declared.errors.CheckedKind.TheVariants as kinds
 use Rattle.checked_files.specs.declared.errors.CheckEnd.{CheckEnd}
 use Rattle.checked_files.specs.declared.errors.CheckEnd.TheVariants as ends
 
--- what a text tells as an execution of a test, or its first fault
+-- what a text says as an execution of a test, or its first fault
 abbrev pub exec_told : TestRead → List ℕ → Result Execution ExecFault
 exec_told test text = execution_read (length test.threads) test.places text
 
@@ -33,7 +33,7 @@ pub record IsTest (arch : ArchName) (w : Writing) (files : Option Files) (name t
   pub named : IsFile files name text
   pub is : test_said arch w text ≡ Ok test
 
--- a file has this text, and tells this execution of a test
+-- a file has this text, and holds this execution of a test
 pub record TellsExecution (test : TestRead) (files : Option Files) (name text : List ℕ) (x : Execution) : Type 0 where
   pub named : IsFile files name text
   pub tells : exec_told test text ≡ Ok x
@@ -91,7 +91,7 @@ IsWrong arch w old new words test exec file line (kinds.Test kind) = TestWrong a
 IsWrong arch w old new words test exec file line kinds.WrongArch = TestWrong arch w old new words test file (record { line = line; kind = tests.WrongArch })
 IsWrong arch w old new words test exec file line (kinds.Exec kind) = ExecWrong arch w old new words test exec file (record { line = line; kind = kind })
 
--- the word of the test names no file, where the files are told, and none was opened
+-- the word of the test names no file, where the files are shown, and none was opened
 pub record TestAbsent (old new : ShelfSeen) (words : List (List ℕ)) (test word : ℕ) : Type 0 where
   pub place_is : word ≡ test
   pub absent : MatchOption old.files (Rose old.faults new.faults) (λ there. there (name_at words test) ≡ None)
@@ -106,6 +106,7 @@ pub record ExecAbsent (arch : ArchName) (w : Writing) (old new : ShelfSeen) (wor
   pub absent : MatchOption old.files (Rose old.faults new.faults) (λ there. there (name_at words exec) ≡ None)
   pub took : TookFiles old new (text ∷ [])
 
+-- the word of the test or that of the execution names no file
 abbrev pub IsAbsent : ArchName → Writing → ShelfSeen → ShelfSeen → List (List ℕ) → ℕ → ℕ → ℕ → Type 0
 IsAbsent arch w old new words test exec word = TestAbsent old new words test word ⊎ ExecAbsent arch w old new words test exec word
 

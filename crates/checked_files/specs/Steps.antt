@@ -38,6 +38,7 @@ abbrev pub test_kind : TestFileKind → CheckedKind
 test_kind (tests.Test kind) = kinds.Test kind
 test_kind tests.WrongArch = kinds.WrongArch
 
+-- why a text gives no test, as why a file isn't what is wanted
 abbrev pub test_fault : NoTest → CheckFault
 test_fault (no_tests.Wrong error) = faults.Wrong error.line (test_kind error.kind)
 test_fault no_tests.NoMemory = faults.NoMemory
@@ -64,7 +65,7 @@ TestFileTo arch w old new name (Err (faults.Wrong line kinds.WrongArch)) = FileF
 TestFileTo arch w old new name (Err (faults.Wrong line (kinds.Exec kind))) = ⊥
 TestFileTo arch w old new name (Err faults.NoMemory) = ⊤
 
--- a file tells an execution of a test, and this is the verdict on it
+-- a file holds an execution of a test, and this is the verdict on it
 pub record FileVerdict (arch : ArchName) (w : Writing) (test : TestRead) (old new : ShelfSeen) (name : List ℕ) (v : Verdict) : Type 0 where
   pub x : Execution
   pub file : FileIs (exec_told test) old new name x

@@ -13,9 +13,9 @@ use test_files::{FileFault, NoTest, TestFileKind};
 pub enum CheckedKind {
     /// The file of the test has no header, or isn't a test of the architecture that the header names.
     Test(TestKind),
-    /// It is a test of another architecture than the one asked for. This is told at line 1.
+    /// It is a test of another architecture than the one asked for. The line is 1.
     WrongArch,
-    /// The file of the execution tells none of the test.
+    /// The file of the execution holds none of the test.
     Exec(ExecKind),
 }
 

@@ -11,7 +11,7 @@ use litmus_text::ReadTest;
 use std::alloc::Global;
 use test_files::{read_named_file, test_of_text};
 
-/// The test that the file is which the word at a place names. The file is read into `text`, in pieces as long as
+/// The test in the file that the word at a place names. The file is read into `text`, in pieces as long as
 /// `piece`. A fault of its text is the answer also where the closing fails.
 pub(crate) fn test_in_file<A: Arch, H: Shelf>(
     alloc: Global,
@@ -34,7 +34,7 @@ pub(crate) fn test_in_file<A: Arch, H: Shelf>(
     Ok(test)
 }
 
-/// The verdict on the execution of a test that such a file tells, in the same way.
+/// The verdict on the execution of a test that such a file holds, in the same way.
 pub(crate) fn verdict_in_file<A: Arch, H: Shelf>(
     alloc: Global,
     test: &ReadTest<A>,

@@ -56,7 +56,7 @@ more_said : (asked : Asked) (texts : List (List ℕ)) (cycles : List (List Edge)
 more_said asked texts cycles text cycle say says =
     map_more (said_on asked) texts text ∙ rw (say, says) (sym (map_more Ok cycles cycle))
 
--- one file more
+-- one more file
 pub one_more : (asked : Asked) (old mid new : ShelfSeen) (words : List (List ℕ)) (places : List ℕ) (place : ℕ) (cycle : List Edge) (before after : List Entry)
     (s : FilesSoFar asked old mid words places before) → mid.files ≡ old.files → FileIs (said_on asked) mid new (name_at words place) cycle
     → ((cycles : List (List Edge)) → Holds before cycles → Holds after (cycles ++ cycle ∷ [])) → FilesSoFar asked old new words (places ++ place ∷ []) after
@@ -88,6 +88,7 @@ take_more (p ∷ places) (suc i) place within is =
     let e : suc i + 1 ≡ suc (i + 1) = omega arith in
     ap (λ (k : ℕ). take k (p ∷ places)) e ∙ ap (λ rest. p ∷ rest) (take_more places i place (omega arith) is)
 
+-- the files of the first places and then that of the next one are those of one place more
 pub next_so_far : (asked : Asked) (old new : ShelfSeen) (words : List (List ℕ)) (places : List ℕ) (i place : ℕ) (families : List Entry) → i < length places
     → place ≡ get_or places i 0 → FilesSoFar asked old new words (take i places ++ place ∷ []) families → FilesSoFar asked old new words (take (i + 1) places) families
 next_so_far asked old new words places i place families within is s =

@@ -14,5 +14,6 @@ unfolding text_said
 said_by_first asked =
     judges_further (test_said asked.arch asked.writing) (cycle_said asked.arch) (λ error cycle h. cc h) (tests_by_first_bytes asked.arch asked.writing)
 
+-- a text that says a cycle has no more bytes than a test may have
 pub said_short : (asked : Asked) (text : List ℕ) (cycle : List Edge) → said_on asked text ≡ Ok cycle → length text ≤ MAX_TEXT
 said_short asked text cycle h = (said_by_first asked).short text cycle h

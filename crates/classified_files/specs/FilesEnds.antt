@@ -72,7 +72,7 @@ pub record FileWrong (asked : Asked) (old new : ShelfSeen) (words : List (List �
   pub fault : said_on asked text ≡ Err error
   pub took : TookFiles old new (texts ++ take (MAX_TEXT + 1) text ∷ [])
 
--- the word at a place names no file, where the files are told; those before it have no fault, and no more was opened
+-- the word at a place names no file, where the files are shown; those before it have no fault, and no more was opened
 pub record FileMissing (asked : Asked) (old new : ShelfSeen) (words : List (List ℕ)) (places : List ℕ) (place : ℕ) : Type 0 where
   pub texts : List (List ℕ)
   pub place_is : IsAtPlace asked old.files words places place texts
@@ -88,6 +88,7 @@ pub record ShelfFailed (asked : Asked) (old new : ShelfSeen) (words : List (List
   pub place_is : IsAtPlace asked old.files words places place texts
   pub took : TookFiles old new texts ⊎ ((bytes : List ℕ) × Begins old.files (name_at words place) bytes × TookFiles old new (texts ++ bytes ∷ []))
 
+-- a fault at a line of a file
 abbrev pub error_at : ℕ → FileKind → FileError
 error_at line kind = record { line = line; kind = kind }
 

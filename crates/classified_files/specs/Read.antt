@@ -28,7 +28,7 @@ CycleTo asked old new name (Err Device) = FileFailed old new name
 CycleTo asked old new name (Err (Text (Wrong error))) = FileFaulty (said_on asked) old new name error
 CycleTo asked old new name (Err (Text NoMemory)) = ⊤
 
--- why a file gives no cycle that isn't read
+-- why a file that isn't read gives no cycle
 abbrev pub file_fault : FileFault → CycleFault
 file_fault reads.Missing = Missing
 file_fault reads.Failed = Device

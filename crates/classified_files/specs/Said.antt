@@ -19,6 +19,7 @@ abbrev pub test_kind : TestFileKind → FileKind
 test_kind (tests.Test kind) = Test kind
 test_kind tests.WrongArch = WrongArch
 
+-- the fault of the text of a test as that of a file
 abbrev pub test_error : TestFileError → FileError
 test_error error = record { line = error.line; kind = test_kind error.kind }
 

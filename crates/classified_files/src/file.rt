@@ -11,7 +11,7 @@ use edge_algebra::Cycle;
 use std::alloc::Global;
 use test_files::read_named_file;
 
-/// The cycle that the test quotes which the file is that the word at a place names. The file is read into `text`, in
+/// The cycle that is quoted by the test in the file that the word at a place names. The file is read into `text`, in
 /// pieces as long as `piece`. A fault of its text is the answer also where the closing fails.
 pub(crate) fn cycle_of_file<A: Arch, H: Shelf>(
     alloc: Global,

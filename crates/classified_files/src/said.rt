@@ -13,7 +13,7 @@ use test_files::{NoTest, test_of_text};
 /// The line of a test that quotes its cycle.
 const QUOTED_LINE: u64 = 2;
 
-/// The cycle that the test quotes which a text is, or the text's first fault: those of a test, then that it quotes
+/// The cycle that a text quotes as a test, or the text's first fault: those of a test, then that it quotes
 /// no cycle.
 #[tactic(auto, unfolding(crate::specs::Said::text_said))]
 pub(crate) fn cycle_of_text<A: Arch>(alloc: Global, text: &[u8]) -> Result<Cycle, TextFault>

@@ -149,7 +149,7 @@ CoWR = record {
   );
 }
 
--- The same threads over no place at all: their write stands in no coherence order. So it has the coherence place of the
+-- The same threads over no place at all: their write is in no coherence order. So it has the coherence place of the
 -- initial value, and what is coherent by that has the cycle of CoWR.
 abbrev over_none : Program
 over_none = record { places = 0; threads = reads_after }

@@ -34,6 +34,7 @@ planned (b ∷ accesses) values (suc k) a h =
 directions_differ : dirs.R ≡ dirs.W → ⊥
 directions_differ d = cc d
 
+-- a program that makes the accesses of a cycle's test writes to its places alone
 pub writes_to_own : (es : List Edge) (mode : ObsMode) (number : ℕ → ℕ) (p : Program) (x : Execution) → Resolves es → IsNumbering es number → Makes es mode number p x → IsCandidate p x → WritesWithin (accesses_in p x) p.places
 writes_to_own es mode number p x resolved numbering makes candidate place w h =
     by_origin es mode number w plan.plan resolved named as_event as_load

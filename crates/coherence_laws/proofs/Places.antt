@@ -1,4 +1,4 @@
--- Where the accesses of an execution stand in the coherence orders.
+-- Where the accesses of an execution are in the coherence orders.
 use Rattle.std.proofs.Common.{◌≡◌, ℕ, zero, suc, ◌+◌, List, [], ◌∷◌, Option, Some, None, slice_get, take, refl, sym, ◌∙◌, ap, subst, arith}
 use Rattle.std.specs.Prelude.{unwrap_or}
 use Rattle.std.specs.List.{count_by, filter}
@@ -57,6 +57,7 @@ can_read threads places x h place value r e =
     ∙ m.got) in
     subst (λ o. CanRead threads (read place value) o) (sym s) m.can
 
+-- an execution whose writes are to its places has orders and reads of this form
 pub held : (threads : List (List Access)) (places : ℕ) (x : Execution) → IsExecutionOf threads places x → WritesWithin threads places → Held threads x
 held threads places x h within = record {
   writes = λ place k w e. listed x place k w e (λ order s f. (h.orders place order s).writes k w f);
@@ -70,24 +71,27 @@ held threads places x h within = record {
   reads = can_read threads places x h;
 }
 
--- a write stands in its order one place before its coherence place
+-- the coherence place of a write is one more than its place in the list, counted from 0
 pub place_in : (threads : List (List Access)) (x : Execution) (place k : ℕ) (w : WriteAt) → Held threads x → slice_get (order_at x place) k ≡ Some w → order_place (order_at x place) (Some w) ≡ k + 1
 place_in threads x place k w h e = order_place_at (order_at x place) k w e (λ i d. h.once place i k w d e)
 
--- the coherence place of an access, by its name
+-- the coherence place of what is found under a name, 0 where there is nothing
 abbrev pub level_of : List (List Access) → Execution → WriteAt → Option Access → ℕ
 level_of threads x e None = 0
 level_of threads x e (Some access) = coherence_place threads x e access
 
+-- the coherence place of an access, by its name
 abbrev pub level : List (List Access) → Execution → WriteAt → ℕ
 level threads x e = level_of threads x e (at_name threads e)
 
+-- the coherence place by a name is that of the access with the name
 pub level_is : (threads : List (List Access)) (x : Execution) (e : WriteAt) (a : Access) → at_name threads e ≡ Some a → level threads x e ≡ coherence_place threads x e a
 level_is threads x e a h = ap (level_of threads x e) h
 
--- of a write it is that of the write, of a read that of what it reads
+-- the coherence place of a write is its own
 pub level_write : (threads : List (List Access)) (x : Execution) (place : ℕ) (w : WriteAt) → IsWriteTo threads place w → level threads x w ≡ order_place (order_at x place) (Some w)
 level_write threads x place w h = level_is threads x w (write place h.0) h.1
 
+-- the coherence place of a read is that of what it reads
 pub level_read : (threads : List (List Access)) (x : Execution) (place : ℕ) (r : WriteAt) → IsReadOf threads place r → level threads x r ≡ order_place (order_at x place) (source_at threads x r)
 level_read threads x place r h = level_is threads x r (read place h.0) h.1

@@ -27,7 +27,7 @@ writes_ordered threads x place w v held p q l =
       before = omega (arith, l, place_in threads x place j.0 w held j.1, place_in threads x place k.0 v held k.1);
     }
 
--- of equal coherence place are no two writes
+-- no two writes to a place have the same coherence place
 writes_same : (threads : List (List Access)) (x : Execution) (place : ℕ) (w v : WriteAt) → Held threads x → IsWriteTo threads place w → IsWriteTo threads place v → spot x place (Some w) ≡ spot x place (Some v) → w ≡ v
 writes_same threads x place w v held p q e =
     let j = held.each place w p in
@@ -119,7 +119,7 @@ follows threads x place e f dirs.R dirs.W u v held acyclic po p q = CoRW threads
 follows threads x place e f dirs.W dirs.R u v held acyclic po p q = CoWR threads x place e f held acyclic po (u, p) (v, q)
 follows threads x place e f dirs.R dirs.R u v held acyclic po p q = CoRR threads x place e f held acyclic po (u, p) (v, q)
 
--- so an execution without a cycle is coherent
+-- an execution without a cycle is coherent
 pub coherent : (threads : List (List Access)) (x : Execution) → Held threads x → IsScPerLocation threads x → IsCoherent threads x
 coherent threads x held acyclic thread e f a b l p q same =
     let s : acts b.dir a.place b.value ≡ b = λ i. acts b.dir (same i) b.value in

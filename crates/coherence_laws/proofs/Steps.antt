@@ -136,6 +136,6 @@ path_rises threads x e [] f held coherent h = step_rises threads x e f held cohe
 path_rises threads x e (g ∷ between) f held coherent h =
     rises_on threads x e g f (step_rises threads x e g held coherent h.0) (path_rises threads x g between f held coherent h.1)
 
--- so a coherent execution has no cycle
+-- a coherent execution has no cycle
 pub no_cycle : (threads : List (List Access)) (x : Execution) → Held threads x → IsCoherent threads x → IsScPerLocation threads x
 no_cycle threads x held coherent e between path = never_rises threads x e (path_rises threads x e between e held coherent path)

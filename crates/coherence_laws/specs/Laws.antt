@@ -12,7 +12,7 @@ use Rattle.program_meaning.specs.Intended.{IsNumbering}
 use Rattle.communication.specs.Joining.{Makes}
 use Rattle.coherence_laws.specs.Relations.{IsWriteTo, IsScPerLocation}
 
--- each write is to one of so many places, so that it stands in a coherence order
+-- each write is to one of so many places, so that it is in a coherence order
 abbrev pub WritesWithin : List (List Access) → ℕ → Type 0
 WritesWithin threads places = (place : ℕ) (w : WriteAt) → IsWriteTo threads place w → place < places
 
@@ -22,14 +22,14 @@ CoherenceIsScPerLocation =
     (threads : List (List Access)) (places : ℕ) (x : Execution) → IsExecutionOf threads places x → WritesWithin threads places →
     IsCoherent threads x ↔ IsScPerLocation threads x
 
--- so is a candidate execution of a program
+-- a candidate execution of a program is coherent per location exactly where it is SC per location
 abbrev pub CandidatesAreScPerLocation : Type 0
 CandidatesAreScPerLocation =
     (p : Program) (x : Execution) → IsCandidate p x → WritesWithin (accesses_in p x) p.places →
     IsCoherentIn p x ↔ IsScPerLocation (accesses_in p x) x
 
--- a program that makes the accesses of a cycle's test writes to its places alone: so are its candidate executions, whatever
--- they read
+-- the same holds of each candidate execution of a program that makes the accesses of a cycle's test, whatever it reads: the
+-- program writes to its places alone
 abbrev pub CycleTestsAreScPerLocation : Type 0
 CycleTestsAreScPerLocation =
     (es : List Edge) (mode : ObsMode) (number : ℕ → ℕ) (p : Program) (x : Execution) → IsResolved es → IsNumbering es number → Makes es mode number p x → IsCandidate p x →

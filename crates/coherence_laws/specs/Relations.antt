@@ -1,6 +1,6 @@
 -- The four relations between the accesses of an execution, each access by its name, and their cycles.
 -- Source: SC per location ('uniproc') of Alglave, Maranget and Tautschnig, 'Herding Cats', 2014: program order at one place,
--- reads-from, coherence order and from-read together have no cycle. It is told there that this forbids the five shapes CoWW,
+-- reads-from, coherence order and from-read together have no cycle. It is said there that this forbids the five shapes CoWW,
 -- CoRW1, CoRW2, CoWR and CoRR.
 use Rattle.std.specs.Prelude.{ℕ, ◌≡◌, ◌<◌, List, [], ◌∷◌, Option, Some, None, slice_get}
 use Rattle.program_meaning.specs.declared.WriteAt.{WriteAt}
@@ -8,13 +8,15 @@ use Rattle.program_meaning.specs.Accesses.{Access, read, write, at_name}
 use Rattle.program_meaning.specs.Executions.{Execution}
 use Rattle.program_meaning.specs.Coherence.{order_at, source_at}
 
--- a write to a place, a read of it, and any access of it
+-- a write to a place, by its name
 abbrev pub IsWriteTo : List (List Access) → ℕ → WriteAt → Type 0
 IsWriteTo threads place w = (value : ℕ) × (at_name threads w ≡ Some (write place value))
 
+-- a read of a place, by its name
 abbrev pub IsReadOf : List (List Access) → ℕ → WriteAt → Type 0
 IsReadOf threads place r = (value : ℕ) × (at_name threads r ≡ Some (read place value))
 
+-- an access of a place, by its name
 abbrev pub IsAccessOf : List (List Access) → ℕ → WriteAt → Type 0
 IsAccessOf threads place e = (access : Access) × (at_name threads e ≡ Some access) × (access.place ≡ place)
 
@@ -32,7 +34,7 @@ pub record ReadsFrom (threads : List (List Access)) (x : Execution) (w r : Write
   pub reads : IsReadOf threads place r
   pub source : source_at threads x r ≡ Some w
 
--- coherence order (co): w stands before v in the list of a place
+-- coherence order (co): w comes before v in the list of a place
 pub record CoherenceOrder (x : Execution) (place : ℕ) (w v : WriteAt) : Type 0 where
   pub earlier : ℕ
   pub later : ℕ
@@ -46,13 +48,13 @@ abbrev pub IsBefore : List (List Access) → Execution → ℕ → Option WriteA
 IsBefore threads x place None w = IsWriteTo threads place w
 IsBefore threads x place (Some v) w = CoherenceOrder x place v w
 
--- from-read (fr): what r reads comes before w
+-- from-read (fr): what r reads comes before w in the coherence order of the place
 pub record FromRead (threads : List (List Access)) (x : Execution) (r w : WriteAt) : Type 0 where
   pub place : ℕ
   pub reads : IsReadOf threads place r
   pub before : IsBefore threads x place (source_at threads x r) w
 
--- a step from an access to another, by one of the four
+-- a step from an access to another, by one of the four relations
 pub data Step (threads : List (List Access)) (x : Execution) (e f : WriteAt) : Type 0 where
   Po : ProgramOrder threads e f → Step threads x e f
   Rf : ReadsFrom threads x e f → Step threads x e f

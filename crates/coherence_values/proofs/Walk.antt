@@ -33,7 +33,7 @@ arc_with arc event into out =
 abbrev pub writes_so_far : List Edge → ℕ → ℕ
 writes_so_far es i = cond (is_diff (edge_into es i)) 0 (value_of es (event_before es i))
 
--- only the event itself stands at its place
+-- the writes up to an event are those before it, and the event if it is one
 value_split : (es : List Edge) (i : ℕ) → i < length es → value_of es i ≡ writes_before es i + cond (is_write es i) 1 0
 unfolding value_of writes_before
 value_split es i h =
@@ -66,7 +66,7 @@ value_split es i h =
         and_left (is_write_at es (location_of es i) j) (nat_le (way_place es j) (way_place es i)) f
         ∙ sym (and_left (is_write_at es (location_of es i) j) (nat_lt (way_place es j) (way_place es i)) f)
 
--- so the writes before an event are those of the event before, on the same arc
+-- the writes of an arc before an event are those up to the event before it on the arc
 pub writes_before_is : (es : List Edge) (i : ℕ) → IsResolved es → i < length es → writes_before es i ≡ writes_so_far es i
 writes_before_is es i r h = omega (arith, value_split es i h, value_from es i r h)
 
@@ -154,7 +154,7 @@ arcs_more es i r h t =
     let whole : value_of es i ≡ write_count es (moves_before es i) = value_at_end es i r h t ∙ ap (write_count es) first in
     rw (on, whole, first) (map-upto_more (λ l. seen_of es l (write_count es l)) (moves_before es i))
 
--- and none more at any other edge
+-- no arc more is walked at any other edge
 pub arcs_same : (es : List Edge) (i : ℕ) → i < length es → is_diff (edge_at es i) ≡ false → map (λ l. seen_of es l (write_count es l)) (upto (moves_before es (i + 1))) ≡ map (λ l. seen_of es l (write_count es l)) (upto (moves_before es i))
 arcs_same es i h f = ap (λ n. map (λ l. seen_of es l (write_count es l)) (upto n)) (moves_kept es i h f)
 
@@ -178,15 +178,16 @@ writes_before_most es i =
     (λ t. rw t (omega arith))
     (λ f. rw f (omega (arith, value_most es (event_before es i), write_count_most es (location_of es (event_before es i)))))
 
--- an arc of which nothing is known yet
+-- an arc of which nothing was walked
 pub fresh_arc : (a : Arc) → (a.writes ≡ 0) × ((a.inner ≡ None) × (a.entered ≡ None)) → a ≡ record { writes = 0; inner = None; entered = None }
 fresh_arc a h = same_arc a.writes 0 a.inner None a.entered None h.0 h.1.0 h.1.1
 
--- an arc, read from the list of all
+-- an arc is read from the list of all
 pub record ArcRead (es : List Edge) (xs : List Arc) (k : ℕ) (d : Arc) : Type 0 where
   pub below : k < move_count es
   pub is : get_or xs k d ≡ seen_of es k (write_count es k)
 
+-- each arc of the list of all is that of its location
 pub arc_read : (es : List Edge) (xs : List Arc) (k : ℕ) (d : Arc) → xs ≡ all_seen es → k < length xs → ArcRead es xs k d
 arc_read es xs k d e h =
     let below : k < move_count es = omega (arith, h, ap length e, length-map-upto (λ l. seen_of es l (write_count es l)) (move_count es)) in

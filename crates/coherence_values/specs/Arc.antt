@@ -16,10 +16,11 @@ seen_of es location n = record { writes = n; inner = inner_entry es location n; 
 unfoldable pub writes_before : List Edge → ℕ → ℕ
 writes_before es i = count_by (λ j. is_write_at es (location_of es i) j && nat_lt (way_place es j) (way_place es i)) (upto (length es))
 
--- what is kept of the arc of event i before it, and of the arc up to it and with it
+-- what is kept of the arc of event i before it
 abbrev pub seen_before : List Edge → ℕ → Arc
 seen_before es i = seen_of es (location_of es i) (writes_before es i)
 
+-- what is kept of the arc of event i up to it and with it
 abbrev pub seen_with : List Edge → ℕ → Arc
 seen_with es i = seen_of es (location_of es i) (value_of es i)
 

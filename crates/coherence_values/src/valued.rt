@@ -15,7 +15,7 @@ use value_laws::NeedsObserver;
 struct Arc {
     /// How many there were.
     writes: u8,
-    /// The first one, but for the last one seen, that isn't the location's first write and that
+    /// The first one, the last one seen excepted, that isn't the location's first write and that
     /// an external edge enters.
     inner: Option<u8>,
     /// The last one seen, where it is such a write.
@@ -68,7 +68,7 @@ impl<'a> Model for Valued<'a> {
     ghost invariant = { λ v. IsKept v.resolved.now v.values.items v.arcs.items };
 }
 
-/// Gives each event of the cycle its value: along the arc of a location, which begins behind an
+/// Gives each event of the cycle its value: along the arc of a location, which begins after an
 /// edge to another location, a count grows by one at each write.
 ///
 /// In the mode `Avoid` the answer is `NeedsObserver` where a location has a write that is neither
@@ -120,7 +120,7 @@ struct Walk {
     arcs: ArrayVec<Arc, MAX_EDGES>,
 }
 
-/// Walks along all arcs, that of location 0 first, behind the last edge to another location.
+/// Walks along all arcs, that of location 0 first, after the last edge to another location.
 fn walked(edges: &[Edge]) -> Walk
     requires { IsResolved edges.now }
     ensures values { result.values.items ≡ values_of edges.now }
@@ -144,7 +144,7 @@ fn walked(edges: &[Edge]) -> Walk
     walk
 }
 
-/// The arc of location 0, as far as it lies behind the last edge to another location.
+/// The arc of location 0, as far as it lies after the last edge to another location.
 fn arc_behind(edges: &[Edge]) -> Arc
     requires { IsResolved edges.now }
     ensures { result ≡ seen_of edges.now 0 (writes_before edges.now 0) }
@@ -169,7 +169,7 @@ impl<'a> Valued<'a> {
         self.resolved
     }
 
-    /// The value that an event writes or reads: for a read, how many writes stand before it on
+    /// The value that an event writes or reads: for a read, how many writes come before it on
     /// its location's arc.
     pub fn value_of(&self, event: u8) -> u8
         requires { event < length self.now.edges }

@@ -1,5 +1,5 @@
--- Where each event of a cycle and each load of an observer stands among the accesses of the cycle's test, and that
--- nothing else stands there.
+-- Where each event of a cycle and each load of an observer is among the accesses of the cycle's test, and that these are
+-- all its accesses.
 use Rattle.std.proofs.Common.{◌≡◌, ℕ, ◌+◌, ◌-◌, ◌<◌, List, length, map, Option, Some, None, slice_get, refl, sym, ◌∙◌, ap, arith}
 use Rattle.std.proofs.lemmas.Option.{slice_get_within}
 use Rattle.relax_edges.specs.declared.kinds.ObsMode.{ObsMode}
@@ -23,13 +23,13 @@ thread_accesses es mode number k h =
     slice_get-append_left (map (λ thread. map (event_access es number) (events_in es thread)) (upto (external_count es))) (map (observer_accesses es number) (observed_locations es mode)) k (omega (arith, length-map-upto (λ thread. map (event_access es number) (events_in es thread)) (external_count es)))
     ∙ slice_get-map-upto (λ thread. map (event_access es number) (events_in es thread)) (external_count es) k h
 
--- the threads behind those of the cycle are the observers
+-- the threads after those of the cycle are the observers
 pub observer_thread : (es : List Edge) (mode : ObsMode) (number : ℕ → ℕ) (k o : ℕ) → k ≡ external_count es + o → slice_get (cycle_accesses es mode number) k ≡ slice_get (map (observer_accesses es number) (observed_locations es mode)) o
 unfolding cycle_accesses
 observer_thread es mode number k o h =
     slice_get-append_right (map (λ thread. map (event_access es number) (events_in es thread)) (upto (external_count es))) (map (observer_accesses es number) (observed_locations es mode)) k o (omega (arith, length-map-upto (λ thread. map (event_access es number) (events_in es thread)) (external_count es)))
 
--- event i stands at its name
+-- event i is the access under its name
 pub event_stands : (es : List Edge) (mode : ObsMode) (number : ℕ → ℕ) (i : ℕ) → Resolves es → i < length es → at_name (cycle_accesses es mode number) (event_name es i) ≡ Some (event_access es number i)
 event_stands es mode number i r h =
     ap (λ o. got_from o (slot_of es i)) (thread_accesses es mode number (thread_of es i) (r.thread i h))
@@ -39,6 +39,7 @@ event_stands es mode number i r h =
 pub observer_load : (es : List Edge) (number : ℕ → ℕ) (l k : ℕ) → k < write_count es l → slice_get (observer_accesses es number l) k ≡ Some (read (number l) (k + 1))
 observer_load es number l k h = slice_get-map-upto (λ k. read (number l) (k + 1)) (write_count es l) k h
 
+-- load number k of an observer is the access under its name
 pub observer_stands : (es : List Edge) (mode : ObsMode) (number : ℕ → ℕ) (o l k : ℕ) → slice_get (observed_locations es mode) o ≡ Some l → k < write_count es l → at_name (cycle_accesses es mode number) (record { thread = external_count es + o; access = k }) ≡ Some (read (number l) (k + 1))
 observer_stands es mode number o l k g h =
     ap (λ t. got_from t k) (observer_thread es mode number (external_count es + o) o refl ∙ got_map (observer_accesses es number) (observed_locations es mode) o l g)
@@ -52,7 +53,7 @@ pub record EventAt (es : List Edge) (number : ℕ → ℕ) (name : WriteAt) (acc
   pub slot : name.access ≡ slot_of es event
   pub access_is : event_access es number event ≡ access
 
--- an access of a thread behind those is an observer's load
+-- an access of a thread after those is an observer's load
 pub record LoadAt (es : List Edge) (mode : ObsMode) (number : ℕ → ℕ) (name : WriteAt) (access : Access) : Type 0 where
   pub observer : ℕ
   pub spot : ℕ
@@ -67,6 +68,7 @@ pub record GotFrom {X : Type 0} (o : Option (List X)) (k : ℕ) (x : X) : Type 0
   pub list_is : o ≡ Some list
   pub got : slice_get list k ≡ Some x
 
+-- what is got from a list that may be missing is an element of the list
 pub got_from_list : {X : Type 0} (o : Option (List X)) (k : ℕ) (x : X) → got_from o k ≡ Some x → GotFrom o k x
 got_from_list None k x h = cc
 got_from_list (Some xs) k x h = record { list = xs; list_is = refl; got = h }

@@ -97,7 +97,7 @@ has_events es mode number p x r m f = record {
         let i = image_of (observer_accesses es number) (observed_locations es mode) (k - external_count es) (accesses_of visits) (sym (observer_thread es mode number k (k - external_count es) e) ∙ made k visits g) in
         loads_read es number i.element (accesses_of visits) j visit.access i.image (got_map (λ v. v.access) visits j visit q)
 
--- all edges stand in it, where each joins its events
+-- all edges stand in such a program, where each joins its events
 pub joined_stand : (es : List Edge) (mode : ObsMode) (number : ℕ → ℕ) (p : Program) (x : Execution) → Resolves es → accesses_in p x ≡ cycle_accesses es mode number → AllJoin es mode number x → IsTiedUp es p x → AllStand es p x
 joined_stand es mode number p x r m j f = record {
   events = has_events es mode number p x r m f;
@@ -111,6 +111,6 @@ joined_stand es mode number p x r m j f = record {
   };
 }
 
--- and so where it meets the condition
+-- all edges stand in such a program, where the execution meets the condition
 pub all_stand : (es : List Edge) (mode : ObsMode) (number : ℕ → ℕ) (p : Program) (x : Execution) → Resolves es → EntersLast es mode → IsNumbering es number → accesses_in p x ≡ cycle_accesses es mode number → MeetsCondition es mode number x → IsTiedUp es p x → AllStand es p x
 all_stand es mode number p x r q n m c f = joined_stand es mode number p x r m (λ i h. edges_join es mode number x i r q n c h) f

@@ -16,6 +16,7 @@ use Rattle.communication.proofs.Orders.{same_write-refl, same_write-true}
 use Rattle.communication.proofs.Accesses.{got_from_list}
 use Rattle.communication.proofs.Examples.{name}
 
+-- elements that are there are equal where the options are
 pub some_is : {X : Type 0} (x y : X) → Some x ≡ Some y → x ≡ y
 some_is x y e = cc e
 
@@ -28,6 +29,7 @@ abbrev pub every : {X : Type 0} → (ℕ → X → Bool) → List X → Bool
 every p [] = true
 every p (x ∷ xs) = p 0 x && every (λ k. p (suc k)) xs
 
+-- where every element passes at its place, so does each one
 pub every_means : {X : Type 0} (p : ℕ → X → Bool) (xs : List X) → every p xs ≡ true → (k : ℕ) (x : X) → slice_get xs k ≡ Some x → p k x ≡ true
 every_means p [] h k x e = cc e
 every_means p (y ∷ ys) h zero x e = subst (λ v. p 0 v ≡ true) (some_is y x e) (and_parts (p 0 y) (every (λ j. p (suc j)) ys) h).0
@@ -67,7 +69,7 @@ writes_there_means : (place : ℕ) (o : Option Access) → writes_there place o 
 writes_there_means place None h = cc h
 writes_there_means place (Some a) h = (a.value, ap Some (writes_to_means place a h))
 
--- a write stands in an order
+-- a write is in an order
 abbrev is_in : List WriteAt → WriteAt → Bool
 is_in [] w = false
 is_in (v ∷ order) w = same_write v w || is_in order w
@@ -168,6 +170,7 @@ is_candidate p x =
     (every (λ k accesses. reads_pass (accesses_in p x) accesses (slice_get x.reads k)) (accesses_in p x) &&
     every (λ place order. is_order (accesses_in p x) place order) x.orders)))
 
+-- an execution that passes the test is a candidate
 pub candidate_means : (p : Program) (x : Execution) → length (accesses_in p x) ≡ length p.threads → is_candidate p x ≡ true → IsCandidate p x
 candidate_means p x count h =
     let a = and_parts (every (λ k run. ended run) (runs_of p.threads x.reads)) (lists && (places && (reads && orders))) h in
@@ -207,7 +210,7 @@ follow_means : (d : Dir) (m n : ℕ) → follow_by d m n ≡ true → MayFollow 
 follow_means dirs.R m n h = leb-true m n h
 follow_means dirs.W m n h = ltb-true m n h
 
--- one access stands before another in a thread, and they are at one place
+-- one access comes before another in a thread, and they are at one place
 abbrev are_ordered : WriteAt → Access → WriteAt → Access → Bool
 are_ordered u a w b = (u.thread == w.thread) && (nat_lt u.access w.access && (a.place == b.place))
 
@@ -216,6 +219,7 @@ abbrev pub coheres : List (List Access) → Execution → Bool
 coheres threads x =
     every_name (λ u a. every_name (λ w b. not (are_ordered u a w b) || follow_by b.dir (coherence_place threads x u a) (coherence_place threads x w b)) threads) threads
 
+-- an execution that passes the test is coherent
 pub coheres_means : (threads : List (List Access)) (x : Execution) → coheres threads x ≡ true → IsCoherent threads x
 coheres_means threads x h thread e f a b below d g same =
     follow_means b.dir (coherence_place threads x (name thread e) a) (coherence_place threads x (name thread f) b)

@@ -87,7 +87,7 @@ intended_joins es mode number i r n h = record {
     by_reach Internal p = r.stays i h p
     by_reach External p = λ s. r.leaves i h p (sym s)
 
--- and so in each execution that meets the condition
+-- each edge joins its events in each execution that meets the condition
 pub edges_join : (es : List Edge) (mode : ObsMode) (number : ℕ → ℕ) (x : Execution) (i : ℕ) → Resolves es → EntersLast es mode → IsNumbering es number → MeetsCondition es mode number x → i < length es → Joins (cycle_accesses es mode number) x (edge_at es i) (event_at es number i) (event_at es number (event_after es i))
 edges_join es mode number x i r q n c h =
     subst (λ (y : Execution). Joins (cycle_accesses es mode number) y (edge_at es i) (event_at es number i) (event_at es number (event_after es i)))

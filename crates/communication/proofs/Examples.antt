@@ -13,36 +13,47 @@ use Rattle.program_meaning.specs.declared.WriteAt.{WriteAt}
 use Rattle.program_meaning.specs.Accesses.{read, write}
 use Rattle.program_meaning.specs.Intended.{cycle_accesses, intended, location_order, location_numbered}
 
+-- program order to another location, from a write to a write
 abbrev pub PodWW : Edge
 PodWW = edges.Po Diff dirs.W dirs.W
 
+-- program order to another location, from a write to a read
 abbrev pub PodWR : Edge
 PodWR = edges.Po Diff dirs.W dirs.R
 
+-- an external coherence edge
 abbrev pub Wse : Edge
 Wse = edges.Com coms.Ws External
 
+-- an internal coherence edge
 abbrev pub Wsi : Edge
 Wsi = edges.Com coms.Ws Internal
 
+-- an external from-read edge
 abbrev pub Fre : Edge
 Fre = edges.Com coms.Fr External
 
+-- two threads that each write both of two locations, in opposite orders
 abbrev pub two_writes : List Edge
 two_writes = PodWW ∷ Wse ∷ PodWW ∷ Wse ∷ []
 
+-- store buffering
 abbrev pub store_buffering : List Edge
 store_buffering = PodWR ∷ Fre ∷ PodWR ∷ Fre ∷ []
 
+-- three writes of a location, two of them in one thread
 abbrev pub W3 : List Edge
 W3 = PodWW ∷ Wsi ∷ Wse ∷ PodWR ∷ Fre ∷ []
 
+-- three writes of a location in three threads, so that it needs an observer
 abbrev pub W3O : List Edge
 W3O = PodWW ∷ Wse ∷ Wse ∷ PodWR ∷ Fre ∷ []
 
+-- the numbering in which each location's place has the location's own number
 abbrev pub here : ℕ → ℕ
 here location = location
 
+-- the name of an access, by its thread and its number there
 abbrev pub name : ℕ → ℕ → WriteAt
 name thread access = record { thread = thread; access = access }
 

@@ -65,6 +65,7 @@ order_exchanged es number event l n h =
     ap (λ o. unwrap_or o []) (slice_get-map-upto (λ place. exchanged_order es event (location_numbered es number place)) (move_count es) (number l) (n.below l h))
     ∙ ap (exchanged_order es event) (location_of_number es number l n h)
 
+-- the exchanged execution has the reads of the intended one
 pub reads_exchanged : (es : List Edge) (number : ℕ → ℕ) (event : ℕ) → (exchanged es number event).reads ≡ (intended es Avoid number).reads
 unfolding exchanged
 reads_exchanged es number event = refl
@@ -86,7 +87,7 @@ orders_exchanged es number event place order r n q h =
     (subst (IsOrderOf (cycle_accesses es Avoid number) (number w.spot)) o
     (order_under_is es Avoid number w.spot (exchanged_value es event w.spot) r n w.below (exchanges es event w.spot q)))
 
--- the exchanged execution is one of these accesses
+-- the exchanged execution is an execution of the test's accesses
 pub exchanged_is_execution : (es : List Edge) (number : ℕ → ℕ) (event : ℕ) → Resolves es → IsNumbering es number → InnerEntry es event → IsExecutionOf (cycle_accesses es Avoid number) (move_count es) (exchanged es number event)
 exchanged_is_execution es number event r n q = record {
   read_lists = ap length (reads_exchanged es number event) ∙ reads-count es Avoid number;
@@ -95,7 +96,7 @@ exchanged_is_execution es number event r n q = record {
   orders = λ place order h. orders_exchanged es number event place order r n q h;
 }
 
--- the coherence place of an access in it
+-- the coherence place of an access in the exchanged execution
 place_exchanged : (es : List Edge) (number : ℕ → ℕ) (event : ℕ) (name : WriteAt) (access : Access) → Resolves es → IsNumbering es number → InnerEntry es event → at_name (cycle_accesses es Avoid number) name ≡ Some access → (p : IsPlaced es number access) → coherence_place (cycle_accesses es Avoid number) (exchanged es number event) name access ≡ exchanged_value es event p.spot access.value
 place_exchanged es number event name access r n q h p =
     ap (order_place (order_at (exchanged es number event) access.place)) (placed_write es Avoid number (exchanged es number event) name access r n (reads_exchanged es number event) h)
@@ -159,7 +160,7 @@ rises_at es i (suc m) v r h b t l below above =
     place : location_of es (suc m) ≡ location_of es m
     place = sym (ap (location_of es) after) ∙ r.keeps m (omega arith) run.0
 
--- so no thread has the write before an inner entry and then the entry's value
+-- no thread has the write before an inner entry and then the entry's value
 apart : (es : List Edge) (event i j : ℕ) → Resolves es → InnerEntry es event → i < j → j < length es → thread_of es i ≡ thread_of es j → location_of es i ≡ location_of es j → location_of es i ≡ location_of es event → value_of es i + 1 ≡ value_of es event → value_of es j ≡ value_of es event → ⊥
 apart es event i j r q h b t l s u v =
     let w = rises_at es i j (value_of es event) r h b t l (omega (arith, u)) (omega (arith, v)) in
@@ -229,7 +230,7 @@ empty_order : (es : List Edge) (l : ℕ) → write_count es l ≡ 0 → location
 unfolding location_order
 empty_order es l h = ap (λ n. filter_map (ordered_write es l) (upto n)) h
 
--- it has the same final values
+-- the exchanged execution has the final values of the intended one
 pub exchanged_ends : (es : List Edge) (number : ℕ → ℕ) (event place : ℕ) → Resolves es → IsNumbering es number → InnerEntry es event → place < move_count es → final_value (cycle_accesses es Avoid number) (exchanged es number event) place ≡ final_value (cycle_accesses es Avoid number) (intended es Avoid number) place
 exchanged_ends es number event place r n q h =
     ap (λ w. value_in (option_and_then (at_name (cycle_accesses es Avoid number)) w)) lasts
@@ -256,7 +257,7 @@ event_exchanged es number event i r n q h l =
     (record { spot = location_of es i; below = r.location i; place_is = refl; within = r.within i h })
     ∙ ap (λ (f : ℕ → ℕ). f (value_of es i)) (at_location es event (location_of es i) l)
 
--- the event before the entry comes behind it
+-- the event before the entry comes after it in the coherence order
 falls_back : (es : List Edge) (number : ℕ → ℕ) (event : ℕ) → Resolves es → IsNumbering es number → InnerEntry es event → place_of (edge_at es (event_before es event)) ≡ Same → coherence_place (cycle_accesses es Avoid number) (exchanged es number event) (event_name es (event_before es event)) (event_access es number (event_before es event)) < coherence_place (cycle_accesses es Avoid number) (exchanged es number event) (event_name es event) (event_access es number event) → ⊥
 falls_back es number event r n q p less =
     omega (arith, less, before_place, entry_place, q.second)
@@ -301,7 +302,7 @@ exchanged_breaks es number event r n q j =
     by_kind (kinds.Dep kind sd to) e c = let d : Internal ≡ External = sym (ap kind_reach e) ∙ q.outside in cc
     by_kind (kinds.Data sd) e c = let d : Internal ≡ External = sym (ap kind_reach e) ∙ q.outside in cc
 
--- so it meets the same condition
+-- the exchanged execution meets the condition of the mode avoid
 pub exchanged_meets : (es : List Edge) (number : ℕ → ℕ) (event : ℕ) → Resolves es → IsNumbering es number → InnerEntry es event → MeetsCondition es Avoid number (exchanged es number event)
 exchanged_meets es number event r n q =
     record {

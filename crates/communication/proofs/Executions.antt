@@ -188,9 +188,11 @@ no_source = record { reads = ((1, None) ∷ []) ∷ ((0, None) ∷ []) ∷ []; o
 both_initial-accesses : accesses_in buffers both_initial ≡ (write 0 1 ∷ read 1 0 ∷ []) ∷ (write 1 1 ∷ read 0 0 ∷ []) ∷ []
 both_initial-accesses = refl
 
+-- this execution is a candidate
 pub both_initial-candidate : IsCandidate buffers both_initial
 both_initial-candidate = candidate_means buffers both_initial refl refl
 
+-- this execution is coherent per location
 pub both_initial-coherent : IsCoherentIn buffers both_initial
 both_initial-coherent = coheres_means (accesses_in buffers both_initial) both_initial refl
 
@@ -283,13 +285,15 @@ double_writes = record {
 abbrev pub y_exchanged : Execution
 y_exchanged = record { reads = [] ∷ [] ∷ []; orders = (name 1 1 ∷ name 0 0 ∷ []) ∷ (name 1 0 ∷ name 0 1 ∷ []) ∷ [] }
 
+-- with the writes of y exchanged, the execution is a candidate
 pub y_exchanged-candidate : IsCandidate double_writes y_exchanged
 y_exchanged-candidate = candidate_means double_writes y_exchanged refl refl
 
+-- with the writes of y exchanged, the execution is coherent per location
 pub y_exchanged-coherent : IsCoherentIn double_writes y_exchanged
 y_exchanged-coherent = coheres_means (accesses_in double_writes y_exchanged) y_exchanged refl
 
--- it meets the term of x, and not that of y
+-- this execution meets the term of x, and not that of y
 y_exchanged-term_of_x : EndsAs double_writes y_exchanged 0 2
 y_exchanged-term_of_x = refl
 
@@ -343,7 +347,7 @@ x_exchanged-candidate = candidate_means double_writes x_exchanged refl refl
 pub x_exchanged-coherent : IsCoherentIn double_writes x_exchanged
 x_exchanged-coherent = coheres_means (accesses_in double_writes x_exchanged) x_exchanged refl
 
--- it meets the term of y, and not that of x
+-- this execution meets the term of y, and not that of x
 x_exchanged-term_of_x_fails : EndsAs double_writes x_exchanged 0 2 → ⊥
 x_exchanged-term_of_x_fails h = omega (arith, h)
 
@@ -382,15 +386,19 @@ in_order = record { reads = [] ∷ [] ∷ ((0, None) ∷ []) ∷ []; orders = (n
 abbrev pub exchanged : Execution
 exchanged = record { reads = [] ∷ [] ∷ ((0, None) ∷ []) ∷ []; orders = (name 0 0 ∷ []) ∷ (name 1 0 ∷ name 0 1 ∷ name 2 0 ∷ []) ∷ [] }
 
+-- in the order of the values, the execution is a candidate
 pub in_order-candidate : IsCandidate unobserved in_order
 in_order-candidate = candidate_means unobserved in_order refl refl
 
+-- in the order of the values, the execution is coherent per location
 pub in_order-coherent : IsCoherentIn unobserved in_order
 in_order-coherent = coheres_means (accesses_in unobserved in_order) in_order refl
 
+-- with the first two writes of y exchanged, the execution is a candidate
 pub exchanged-candidate : IsCandidate unobserved exchanged
 exchanged-candidate = candidate_means unobserved exchanged refl refl
 
+-- with the first two writes of y exchanged, the execution is coherent per location
 pub exchanged-coherent : IsCoherentIn unobserved exchanged
 exchanged-coherent = coheres_means (accesses_in unobserved exchanged) exchanged refl
 

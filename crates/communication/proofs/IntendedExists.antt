@@ -33,7 +33,7 @@ held_by_order : (es : List Edge) (l : ℕ) → Resolves es → Holds (location_o
 unfolding location_order
 held_by_order es l r = order_given (ordered_write es l) (write_count es l) (gives_writes es l r)
 
--- so it is an order of its place
+-- the order of a location is an order of its place
 is_order : (es : List Edge) (mode : ObsMode) (number : ℕ → ℕ) (l : ℕ) → Resolves es → IsNumbering es number → l < move_count es → IsOrderOf (cycle_accesses es mode number) (number l) (location_order es l)
 is_order es mode number l r n h =
     record {
@@ -55,6 +55,7 @@ is_order es mode number l r n h =
     g : Holds (location_order es l) (ordered_write es l) (write_count es l)
     g = held_by_order es l r
 
+-- the intended execution has an order for each location
 pub orders-count : (es : List Edge) (mode : ObsMode) (number : ℕ → ℕ) → length (intended es mode number).orders ≡ move_count es
 unfolding intended
 orders-count es mode number = length-map-upto (λ place. location_order es (location_numbered es number place)) (move_count es)
@@ -116,7 +117,7 @@ values_follow es mode number thread e f a b r n less h k p =
         let u : a.value ≤ b.value = omega (arith, v, w, less) in
         subst (λ (z : Dir). MayFollow z a.value b.value) d u
 
--- and it is coherent per location
+-- the intended execution is coherent per location
 pub intended_is_coherent : (es : List Edge) (mode : ObsMode) (number : ℕ → ℕ) → Resolves es → IsNumbering es number → IsCoherent (cycle_accesses es mode number) (intended es mode number)
 intended_is_coherent es mode number r n thread e f a b less h k p =
     subst (λ (z : ℕ × ℕ). MayFollow b.dir z.0 z.1)
@@ -131,7 +132,7 @@ last_of_order es l k r h =
     ap (λ n. slice_get (location_order es l) n) (let e : length (location_order es l) - 1 ≡ k = omega (arith, length-filter_map-upto (ordered_write es l) (write_count es l) g.some, h) in e)
     ∙ slice_get-filter_map-upto (ordered_write es l) (write_count es l) k g.some (omega arith)
 
--- and each location's place has its last value at the end
+-- each location's place has its last value at the end of the intended execution
 pub intended_ends : (es : List Edge) (mode : ObsMode) (number : ℕ → ℕ) (l k : ℕ) → Resolves es → IsNumbering es number → l < move_count es → write_count es l ≡ suc k → final_value (cycle_accesses es mode number) (intended es mode number) (number l) ≡ suc k
 intended_ends es mode number l k r n h c =
     let w = nth_write es l k r (omega arith) in
@@ -139,7 +140,7 @@ intended_ends es mode number l k r n h c =
     ∙ ap (λ o. value_in (option_and_then (at_name (cycle_accesses es mode number)) o)) (last_of_order es l k r c ∙ w.name_is)
     ∙ ap value_in (write_stands es mode number l k w.event r w.is_write)
 
--- so it meets the condition
+-- the intended execution meets the condition
 pub intended_meets : (es : List Edge) (mode : ObsMode) (number : ℕ → ℕ) → Resolves es → IsNumbering es number → MeetsCondition es mode number (intended es mode number)
 intended_meets es mode number r n = record {
   execution = intended_is_execution es mode number r n;

@@ -1,5 +1,5 @@
 -- The coherence order of a location's place: in an execution it holds the location's writes, and in the intended one
--- they stand in the order of their values, so that the coherence place of each access is its value.
+-- they come in the order of their values, so that the coherence place of each access is its value.
 use Rattle.std.proofs.Common.{◌≡◌, ℕ, zero, suc, ◌<◌, ◌≤◌, List, [], length, Some, slice_get, refl, sym, ◌∙◌, ap, subst, arith, add-one}
 use Rattle.std.specs.Prelude.{unwrap_or}
 use Rattle.relax_edges.specs.declared.kinds.Dir.{Dir}
@@ -54,10 +54,11 @@ order_of threads places place x c h =
     let e : g.element ≡ order_at x place = sym (ap (λ o. unwrap_or o []) g.got) in
     record { got = g.got ∙ ap Some e; orders = subst (IsOrderOf threads place) e (c.orders place g.element g.got) }
 
+-- the order of a place of an execution is there
 pub order_got : (threads : List (List Access)) (places place : ℕ) (x : Execution) → IsExecutionOf threads places x → place < places → slice_get x.orders place ≡ Some (order_at x place)
 order_got threads places place x c h = let o = order_of threads places place x c h in o.got
 
--- which holds the location's writes
+-- the order of a location's place holds the location's writes
 pub order_holds : (es : List Edge) (mode : ObsMode) (number : ℕ → ℕ) (l : ℕ) (x : Execution) → Resolves es → IsNumbering es number → IsExecutionOf (cycle_accesses es mode number) (move_count es) x → l < move_count es → Holds (order_at x (number l)) (ordered_write es l) (write_count es l)
 order_holds es mode number l x r n c h =
     record {

@@ -32,6 +32,7 @@ pub record IsPlaced (es : List Edge) (number : ℕ → ℕ) (access : Access) : 
   pub place_is : number spot ≡ access.place
   pub within : access.value ≤ write_count es spot
 
+-- each access is at the place of a location, and its value is one of that location's
 pub placed : (es : List Edge) (mode : ObsMode) (number : ℕ → ℕ) (name : WriteAt) (access : Access) → Resolves es → at_name (cycle_accesses es mode number) name ≡ Some access → IsPlaced es number access
 placed es mode number name access r h =
     by_origin es mode number name access r h
@@ -48,7 +49,7 @@ placed es mode number name access r h =
       within = let v : name.access + 1 ≡ access.value = ap (λ a. a.value) l.access_is in omega (arith, v, l.below);
     })
 
--- the access of a thread at an index
+-- the access of a thread with a number is the access under that name
 stands_at : (threads : List (List Access)) (k s : ℕ) (accesses : List Access) (access : Access) → slice_get threads k ≡ Some accesses → slice_get accesses s ≡ Some access → at_name threads (record { thread = k; access = s }) ≡ Some access
 stands_at threads k s accesses access t a = ap (λ o. got_from o s) t ∙ a
 
@@ -60,7 +61,7 @@ can_read_source es mode number name access r n h =
     subst (λ (l : ℕ). CanRead (cycle_accesses es mode number) access (write_of es l access.value)) e
     (can_read es mode number p.spot access.value access r p.place_is refl p.within)
 
--- and nothing else
+-- a read access of a thread can read nothing else
 reads_source : (es : List Edge) (mode : ObsMode) (number : ℕ → ℕ) (name : WriteAt) (access : Access) (w : Option WriteAt) → Resolves es → IsNumbering es number → at_name (cycle_accesses es mode number) name ≡ Some access → CanRead (cycle_accesses es mode number) access w → w ≡ source_for es number access
 reads_source es mode number name access w r n h c =
     let p = placed es mode number name access r h in
@@ -86,7 +87,7 @@ load_reads es number l n h =
     same : (k : ℕ) → ordered_write es l k ≡ write_of es (location_numbered es number (number l)) (k + 1)
     same k = rw (add-one, location_of_number es number l n h) refl
 
--- how many threads read
+-- the intended execution has a list of reads for each thread
 pub reads-count : (es : List Edge) (mode : ObsMode) (number : ℕ → ℕ) → length (intended es mode number).reads ≡ length (cycle_accesses es mode number)
 unfolding intended cycle_accesses
 reads-count es mode number =

@@ -10,13 +10,13 @@ use Rattle.std.proofs.lemmas.List.{length_push}
 use Rattle.list_laws.specs.Numbers.{upto}
 use Rattle.list_laws.proofs.Cases.{by_test, by_less}
 
--- the front part of two lists joined
+-- an element of the first of two joined lists
 pub slice_get-append_left : {X : Type 0} (xs ys : List X) (i : ℕ) → i < length xs → slice_get (xs ++ ys) i ≡ slice_get xs i
 slice_get-append_left [] ys i h = absurd (omega arith)
 slice_get-append_left (x ∷ xs) ys zero h = refl
 slice_get-append_left (x ∷ xs) ys (suc i) h = slice_get-append_left xs ys i (omega arith)
 
--- the back part of two lists joined
+-- an element of the second of two joined lists
 pub slice_get-append_right : {X : Type 0} (xs ys : List X) (i j : ℕ) → i ≡ length xs + j → slice_get (xs ++ ys) i ≡ slice_get ys j
 slice_get-append_right [] ys i j h = ap (slice_get ys) (omega arith)
 slice_get-append_right (x ∷ xs) ys zero j h = absurd (omega arith)
@@ -43,17 +43,19 @@ pub record Got {X : Type 0} (xs : List X) (k : ℕ) : Type 0 where
   pub element : X
   pub got : slice_get xs k ≡ Some element
 
+-- at a place below its length a list has an element
 pub got_below : {X : Type 0} (xs : List X) (k : ℕ) → k < length xs → Got xs k
 got_below [] k h = absurd (omega arith)
 got_below (x ∷ xs) zero h = record { element = x; got = refl }
 got_below (x ∷ xs) (suc k) h = let r = got_below xs k (omega arith) in record { element = r.element; got = r.got }
 
--- what stands in a map over a list stands there as the image of an element
+-- an element of a map over a list is the image of the list's element at that place
 pub record Image {X Y : Type 0} (f : X → Y) (xs : List X) (k : ℕ) (y : Y) : Type 0 where
   pub element : X
   pub got : slice_get xs k ≡ Some element
   pub image : f element ≡ y
 
+-- each element of a map over a list is such an image
 pub image_of : {X Y : Type 0} (f : X → Y) (xs : List X) (k : ℕ) (y : Y) → slice_get (map f xs) k ≡ Some y → Image f xs k y
 image_of f [] k y h = cc
 image_of f (x ∷ xs) zero y h = let s : f x ≡ y = cc in record { element = x; got = refl; image = s }
@@ -64,14 +66,17 @@ image_of f (x ∷ xs) (suc k) y h =
 pub got_map : {X Y : Type 0} (f : X → Y) (xs : List X) (k : ℕ) (x : X) → slice_get xs k ≡ Some x → slice_get (map f xs) k ≡ Some (f x)
 got_map f xs k x h = slice_get-map f xs k ∙ ap (option_map f) h
 
+-- maps of equal functions over a list are equal
 pub map_same : {X Y : Type 0} (f g : X → Y) (xs : List X) → ((x : X) → f x ≡ g x) → map f xs ≡ map g xs
 map_same f g [] h = refl
 map_same f g (x ∷ xs) h = let a : f x ≡ g x = h x in let r : map f xs ≡ map g xs = map_same f g xs h in cc
 
+-- a map over a map is the map of the one function after the other
 pub map-map : {X Y Z : Type 0} (f : X → Y) (g : Y → Z) (xs : List X) → map g (map f xs) ≡ map (λ x. g (f x)) xs
 map-map f g [] = refl
 map-map f g (x ∷ xs) = ap (λ l. g (f x) ∷ l) (map-map f g xs)
 
+-- a filter of a map over a list is the map over a filter of the list
 pub filter-map : {X Y : Type 0} (p : Y → Bool) (f : X → Y) (xs : List X) → filter p (map f xs) ≡ map f (filter (λ x. p (f x)) xs)
 filter-map p f [] = refl
 filter-map {X} {Y} p f (x ∷ xs) =
@@ -79,13 +84,14 @@ filter-map {X} {Y} p f (x ∷ xs) =
     (λ t. cond-true {A = List Y} (p (f x)) (f x ∷ filter p (map f xs)) (filter p (map f xs)) t ∙ ap (λ l. f x ∷ l) (filter-map p f xs) ∙ ap (map f) (sym (cond-true {A = List X} (p (f x)) (x ∷ filter (λ x. p (f x)) xs) (filter (λ x. p (f x)) xs) t)))
     (λ n. cond-false {A = List Y} (p (f x)) (f x ∷ filter p (map f xs)) (filter p (map f xs)) n ∙ filter-map p f xs ∙ ap (map f) (sym (cond-false {A = List X} (p (f x)) (x ∷ filter (λ x. p (f x)) xs) (filter (λ x. p (f x)) xs) n)))
 
--- a function that gives something for each number below n, over these numbers
+-- a function that gives something for each number below n gives n things
 pub length-filter_map-upto : {X : Type 0} (g : ℕ → Option X) (n : ℕ) → ((k : ℕ) → k < n → (x : X) × (g k ≡ Some x)) → length (filter_map g (upto n)) ≡ n
 length-filter_map-upto g zero h = refl
 length-filter_map-upto {X} g (suc n) h =
     let w = h n (omega arith) in
     ap length (filter_map-append g (upto n) (n ∷ [])) ∙ rw w.1 (omega (arith, length_push (filter_map g (upto n)) w.0, length-filter_map-upto g n (λ k l. h k (omega arith))))
 
+-- what such a function gives for number k is element k of what it gives
 pub slice_get-filter_map-upto : {X : Type 0} (g : ℕ → Option X) (n k : ℕ) → ((j : ℕ) → j < n → (x : X) × (g j ≡ Some x)) → k < n → slice_get (filter_map g (upto n)) k ≡ g k
 slice_get-filter_map-upto g zero k h l = absurd (omega arith)
 slice_get-filter_map-upto {X} g (suc n) k h l =
@@ -98,17 +104,18 @@ slice_get-filter_map-upto {X} g (suc n) k h l =
     (λ m. let s : k ≡ n = omega arith in
     slice_get-append_right (filter_map g (upto n)) (w.0 ∷ []) k 0 (omega arith) ∙ sym w.1 ∙ ap g (sym s)))
 
--- what a filter keeps all of, it leaves as it is
+-- a filter that all elements pass leaves the list as it is
 pub filter_all : {X : Type 0} (p : X → Bool) (xs : List X) → ((x : X) → p x ≡ true) → filter p xs ≡ xs
 filter_all p [] h = refl
 filter_all {X} p (x ∷ xs) h = cond-true {A = List X} (p x) (x ∷ filter p xs) (filter p xs) (h x) ∙ ap (λ l. x ∷ l) (filter_all p xs h)
 
--- what a filter keeps is an element that passes
+-- an element of a list that passes a filter
 pub record Kept {X : Type 0} (p : X → Bool) (xs : List X) (x : X) : Type 0 where
   pub index : ℕ
   pub got : slice_get xs index ≡ Some x
   pub passes : p x ≡ true
 
+-- what a filter keeps is an element of the list that passes
 pub kept : {X : Type 0} (p : X → Bool) (xs : List X) (k : ℕ) (x : X) → slice_get (filter p xs) k ≡ Some x → Kept p xs x
 kept p [] k x h = cc
 kept {X} p (y ∷ xs) k x h =
@@ -123,7 +130,7 @@ kept {X} p (y ∷ xs) k x h =
     first zero rest t g = let e : y ≡ x = cc in record { index = 0; got = g; passes = ap p (sym e) ∙ t }
     first (suc k) rest t g = later (rest k x g)
 
--- an element that passes stands in the filter behind as many as pass before it
+-- an element that passes comes in the filter after as many as pass before it
 pub rank_filter : {X : Type 0} (p : X → Bool) (xs : List X) (k : ℕ) (x : X) → slice_get xs k ≡ Some x → p x ≡ true → slice_get (filter p xs) (count_by p (take k xs)) ≡ Some x
 rank_filter p [] k x h t = cc
 rank_filter {X} p (y ∷ xs) zero x h t =

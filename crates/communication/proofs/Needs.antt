@@ -36,7 +36,7 @@ is_entry es l i w e o s n =
     (lt-ltb 1 (value_of es i) s))
     (lt-ltb (value_of es i) (write_count es l) n)
 
--- and what passes it is one
+-- what passes the test is an inner write that an external edge enters
 entry_is : (es : List Edge) (l i : ℕ) → i < length es → is_inner_entry es l i ≡ true → InnerEntry es i
 entry_is es l i h t =
     let a = and_parts (is_write_at es l i && is_external (edge_into es i) && nat_lt 1 (value_of es i)) (nat_lt (value_of es i) (write_count es l)) t in
@@ -146,7 +146,7 @@ force_few : (es : List Edge) (l : ℕ) → is_observed es Force l ≡ false → 
 unfolding is_observed
 force_few es l u = leb-false 2 (write_count es l) u
 
--- so where a mode serves a cycle, external edges enter first or last writes, or the location has an observer
+-- where a mode serves a cycle, external edges enter first or last writes, or the location has an observer
 pub enters_last : (es : List Edge) (mode : ObsMode) → Resolves es → IsServed es mode → EntersLast es mode
 enters_last es mode r s = record { last = λ i h w u e v. by_mode mode s i h w u e v }
   where

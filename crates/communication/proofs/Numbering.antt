@@ -48,7 +48,7 @@ taken-count es number (suc m) r l =
     others : (i : ℕ) → i < move_count es → (i ≡ number m → ⊥) → is_taken number (suc m) i ≡ is_taken number m i
     others i h d = is_taken-more number m i ∙ or_false (is_taken number m i) (number m == i) (ne_eqb (number m) i (λ e. d (sym e)))
 
--- the location of a place's number
+-- the location of a location's number is that location
 pub location_of_number : (es : List Edge) (number : ℕ → ℕ) (l : ℕ) → IsNumbering es number → l < move_count es → location_numbered es number (number l) ≡ l
 unfolding location_numbered
 location_of_number es number l r h =
@@ -61,7 +61,7 @@ pub record Numbers (es : List Edge) (number : ℕ → ℕ) (place : ℕ) : Type 
   pub number_is : number spot ≡ place
   pub read_back : location_numbered es number place ≡ spot
 
--- each number below the count of the locations is the number of one
+-- each number below the count of the locations is the number of a location
 pub numbering_onto : (es : List Edge) (number : ℕ → ℕ) (place : ℕ) → IsNumbering es number → place < move_count es → Numbers es number place
 numbering_onto es number place r h =
     let w = any_upto_passing (λ l. number l == place) (move_count es) (all_pass (is_taken number (move_count es)) (move_count es) place (taken-count es number (move_count es) r (omega arith)) h) in

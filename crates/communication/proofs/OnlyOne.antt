@@ -41,7 +41,7 @@ event_place es mode number x i r n s h =
     (placed_write es mode number x (event_name es i) (event_access es number i) r n s (event_stands es mode number i r h)
     ∙ ap (λ l. write_of es l (value_of es i)) (location_of_number es number (location_of es i) n (r.location i)))
 
--- and that of an observer's load is that of the write that it reads
+-- the coherence place of an observer's load is that of the write that it reads
 load_place : (es : List Edge) (mode : ObsMode) (number : ℕ → ℕ) (x : Execution) (o l k : ℕ) → Resolves es → IsNumbering es number → x.reads ≡ (intended es mode number).reads → l < move_count es → slice_get (observed_locations es mode) o ≡ Some l → k < write_count es l → coherence_place (cycle_accesses es mode number) x (record { thread = external_count es + o; access = k }) (read (number l) (k + 1)) ≡ order_place (order_at x (number l)) (ordered_write es l k)
 load_place es mode number x o l k r n s h g b =
     ap (order_place (order_at x (number l)))
@@ -49,7 +49,7 @@ load_place es mode number x o l k r n s h g b =
     ∙ ap (λ m. write_of es m (k + 1)) (location_of_number es number l n h)
     ∙ ap (write_of es l) (add-one k))
 
--- the edge into a write that isn't the first of its location comes from the value before
+-- an edge into a write of a location that comes from the value before the write's
 pub record FromBefore (es : List Edge) (l k : ℕ) : Type 0 where
   pub write : ℕ
   pub is_write : IsWrite es l (suc k) write
@@ -60,6 +60,7 @@ pub record FromBefore (es : List Edge) (l k : ℕ) : Type 0 where
   pub spot : location_of es from ≡ l
   pub value : value_of es from ≡ suc k
 
+-- the edge into a write that isn't the first of its location comes from the value before
 pub from_before : (es : List Edge) (l k i : ℕ) → Resolves es → IsWrite es l (suc k) i → FromBefore es l k
 from_before es l k i r w =
     by_place (place_of (edge_at es e.before)) refl
@@ -86,7 +87,7 @@ from_before es l k i r w =
     }
     by_place Diff p = absurd (omega (arith, r.begins e.before e.below p, one, reached))
 
--- an internal edge into a write: coherence of its thread puts the write behind the one before
+-- an internal edge into a write: by coherence in its thread the write comes after the one before
 internal_step : (es : List Edge) (mode : ObsMode) (number : ℕ → ℕ) (x : Execution) (l k : ℕ) → Resolves es → IsNumbering es number → x.reads ≡ (intended es mode number).reads → MeetsCondition es mode number x → (b : FromBefore es l k) → reach_of (edge_at es b.from) ≡ Internal → order_place (order_at x (number l)) (ordered_write es l k) < order_place (order_at x (number l)) (ordered_write es l (suc k))
 internal_step es mode number x l k r n s c b h =
     subst (λ (z : ℕ × ℕ). z.0 < z.1) (λ t. (source t, target t)) follows
@@ -217,7 +218,7 @@ write_step es mode number x l k r q n s c h b =
         (λ t. observed_step es mode number x l k r n s c h b t)
         (λ u. last_step es mode number x l k r n c h (is_last e u) u)
 
--- so the order is that of the values
+-- the order of a location's place is that of the values
 order_is_intended : (es : List Edge) (mode : ObsMode) (number : ℕ → ℕ) (x : Execution) (l : ℕ) → Resolves es → EntersLast es mode → IsNumbering es number → MeetsCondition es mode number x → l < move_count es → order_at x (number l) ≡ location_order es l
 unfolding location_order
 order_is_intended es mode number x l r q n c h =

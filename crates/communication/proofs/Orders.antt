@@ -11,9 +11,11 @@ use Rattle.program_meaning.specs.Executions.{same_write}
 use Rattle.program_meaning.specs.Coherence.{order_place, from_one}
 use Rattle.communication.proofs.Lists.{same_below, length-filter_map-upto, slice_get-filter_map-upto, got_below}
 
+-- a write has the name of itself
 pub same_write-refl : (w : WriteAt) → same_write w w ≡ true
 same_write-refl w = and_from (eqb w.thread w.thread) (eqb w.access w.access) (eq-eqb w.thread w.thread refl) (eq-eqb w.access w.access refl)
 
+-- writes that pass the test have one name
 pub same_write-true : (w v : WriteAt) → same_write w v ≡ true → w ≡ v
 same_write-true w v h =
     let p = and_parts (eqb w.thread v.thread) (eqb w.access v.access) h in
@@ -21,7 +23,7 @@ same_write-true w v h =
     let a : w.access ≡ v.access = eqb-true w.access v.access p.1 in
     λ i. record { thread = t i; access = a i }
 
--- the coherence place of a write that stands once in an order
+-- the coherence place of a write that is listed once in an order
 pub order_place_at : (order : List WriteAt) (j : ℕ) (w : WriteAt) → slice_get order j ≡ Some w → ((i : ℕ) → slice_get order i ≡ Some w → i ≡ j) → order_place order (Some w) ≡ j + 1
 order_place_at order j w h once =
     ap from_one (ap (λ k. cond (ltb k (length order)) (Some k) None) is ∙ cond-true (ltb j (length order)) (Some j) None (lt-ltb j (length order) within))
@@ -43,7 +45,7 @@ order_place_at order j w h once =
     is : position_or_len (same_write w) order ≡ j
     is = position_or_len_is (same_write w) order j w (omega (arith, within)) before (λ _. here)
 
--- numbers that rise by steps, and take each value below a bound, are in their places
+-- numbers that rise by steps, between 1 and a bound, and take each value up to it
 pub record Rises (place : ℕ → ℕ) (m n : ℕ) : Type 0 where
   pub steps : (k : ℕ) → k + 1 < m → place k < place (k + 1)
   pub first : (k : ℕ) → k < m → 0 < place k
@@ -69,9 +71,11 @@ fixed_below place m n (suc b) r k h l =
     (λ s. let e : w.0 ≡ k = omega (arith, s, at_least place m n w.0 r w.1, w.2) in
     ap place (sym e) ∙ w.2))
 
+-- numbers that rise so are in their places
 pub fixed_by_steps : (place : ℕ → ℕ) (m n : ℕ) → Rises place m n → (k : ℕ) → k < m → place k ≡ k + 1
 fixed_by_steps place m n r k l = fixed_below place m n (suc k) r k (omega arith) l
 
+-- numbers that rise so are as many as the bound
 pub filled_by_steps : (place : ℕ → ℕ) (m n : ℕ) → Rises place m n → n ≡ m
 filled_by_steps place m n r = same m n refl refl
   where
@@ -93,6 +97,7 @@ pub record Holds (order : List WriteAt) (g : ℕ → Option WriteAt) (m : ℕ) :
   pub only : (j : ℕ) (w : WriteAt) → slice_get order j ≡ Some w → (k : ℕ) × (k < m) × (g k ≡ Some w)
   pub once : (i j : ℕ) (w : WriteAt) → slice_get order i ≡ Some w → slice_get order j ≡ Some w → i ≡ j
 
+-- the coherence place of a write that an order holds
 pub place_held : (order : List WriteAt) (g : ℕ → Option WriteAt) (m j k : ℕ) (w : WriteAt) → Holds order g m → slice_get order j ≡ Some w → g k ≡ Some w → order_place order (g k) ≡ j + 1
 place_held order g m j k w r h e = ap (order_place order) e ∙ order_place_at order j w h (λ i s. r.once i j w s h)
 
@@ -105,6 +110,7 @@ rising order g m r s = record {
   covers = λ j l. let w = got_below order j l in let k = r.only j w.element w.got in (k.0, k.1, place_held order g m j k.0 w.element r w.got k.2);
 }
 
+-- an order in which each of these writes comes before the next is the list of these writes
 pub order_by_steps : (order : List WriteAt) (g : ℕ → Option WriteAt) (m : ℕ) → Holds order g m → ((k : ℕ) → k + 1 < m → order_place order (g k) < order_place order (g (k + 1))) → order ≡ filter_map g (upto m)
 order_by_steps order g m r s =
     same_below order (filter_map g (upto m)) m filled (length-filter_map-upto g m r.some)
@@ -120,11 +126,12 @@ order_by_steps order g m r s =
         let e : j.0 ≡ k = omega (arith, place_held order g m j.0 k w.0 r j.1 w.1, fixed_by_steps (λ k. order_place order (g k)) m (length order) (rising order g m r s) k l) in
         ap (slice_get order) (sym e) ∙ j.1 ∙ sym w.1
 
--- the writes that g gives, in order, where it gives none twice
+-- g gives a write for each number below m, and none twice
 pub record Gives (g : ℕ → Option WriteAt) (m : ℕ) : Type 0 where
   pub some : (k : ℕ) → k < m → (w : WriteAt) × (g k ≡ Some w)
   pub once : (j k : ℕ) (w : WriteAt) → j < m → k < m → g j ≡ Some w → g k ≡ Some w → j ≡ k
 
+-- the list of the writes that g gives holds them
 pub order_given : (g : ℕ → Option WriteAt) (m : ℕ) → Gives g m → Holds (filter_map g (upto m)) g m
 order_given g m r = record {
   some = r.some;
@@ -139,6 +146,7 @@ order_given g m r = record {
     from : (j : ℕ) (w : WriteAt) → slice_get (filter_map g (upto m)) j ≡ Some w → g j ≡ Some w
     from j w h = sym (slice_get-filter_map-upto g m j r.some (inside j w h)) ∙ h
 
+-- the write of number k is in place k + 1 of that list
 pub place_given : (g : ℕ → Option WriteAt) (m k : ℕ) → Gives g m → k < m → order_place (filter_map g (upto m)) (g k) ≡ k + 1
 place_given g m k r l =
     let w = r.some k l in

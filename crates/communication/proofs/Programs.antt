@@ -1,5 +1,5 @@
 -- From a program to its accesses: a candidate execution of a program that makes the accesses of the cycle's test and
--- meets its condition is an execution that the laws of this crate speak of.
+-- meets its condition is an execution of which the laws of this crate hold.
 use Rattle.std.proofs.Common.{◌≡◌, ℕ, suc, ◌<◌, List, [], ◌∷◌, length, map, Option, Some, slice_get, refl, sym, ◌∙◌, ap, subst, arith}
 use Rattle.std.specs.List.{filter}
 use Rattle.std.proofs.lemmas.List.{length-map}
@@ -41,6 +41,7 @@ runs-count [] reads = refl
 runs-count (thread ∷ threads) [] = ap suc (runs-count threads [])
 runs-count (thread ∷ threads) (r ∷ reads) = ap suc (runs-count threads reads)
 
+-- there are as many lists of accesses as threads
 pub accesses-count : (p : Program) (x : Execution) → length (accesses_in p x) ≡ length p.threads
 accesses-count p x =
     length-map (visits_in p x) accesses_of ∙ length-map (items_in p x) visits_of ∙ length-map (runs_of p.threads x.reads) made_in ∙ runs-count p.threads x.reads
@@ -62,7 +63,7 @@ makes_planned es mode number p x m v c =
 pub outcome_makes : (es : List Edge) (mode : ObsMode) (number : ℕ → ℕ) (p : Program) (x : Execution) → Makes es mode number p x → IsOutcome es mode number p x → accesses_in p x ≡ cycle_accesses es mode number
 outcome_makes es mode number p x m o = makes_planned es mode number p x m o.reads (o.candidate.execution.read_lists ∙ accesses-count p x)
 
--- so an outcome is coherent and meets the condition, by its accesses alone
+-- an outcome is coherent and meets the condition, by its accesses alone
 pub outcome_meets : (es : List Edge) (mode : ObsMode) (number : ℕ → ℕ) (p : Program) (x : Execution) → Makes es mode number p x → IsOutcome es mode number p x → MeetsCondition es mode number x
 outcome_meets es mode number p x m o =
     record {

@@ -12,13 +12,13 @@ use Rattle.communication.proofs.Lists.{rank_filter, got_map}
 abbrev pub reads_by_source : (Access → Option WriteAt) → List Access → List (ℕ × Option WriteAt)
 reads_by_source source accesses = map (λ access. (access.value, source access)) accesses
 
--- where each access can read what it is given, these are its thread's reads
+-- where each access can read what it is given, the reads that are given are its thread's reads
 pub reads_given : (threads : List (List Access)) (source : Access → Option WriteAt) (accesses : List Access) → ((k : ℕ) (access : Access) → slice_get accesses k ≡ Some access → CanRead threads access (source access)) → AreReadsOf threads accesses (reads_by_source source accesses)
 reads_given threads source [] h = tt
 reads_given threads source (access ∷ accesses) h =
     (refl, h 0 access refl, reads_given threads source accesses (λ k a e. h (suc k) a e))
 
--- where each access can read nothing else, a thread's reads are these
+-- where each access can read nothing else, a thread's reads are those that are given
 pub reads_fixed : (threads : List (List Access)) (source : Access → Option WriteAt) (accesses : List Access) (reads : List (ℕ × Option WriteAt)) → AreReadsOf threads accesses reads → ((k : ℕ) (access : Access) (w : Option WriteAt) → slice_get accesses k ≡ Some access → CanRead threads access w → w ≡ source access) → reads ≡ reads_by_source source accesses
 reads_fixed threads source [] [] a h = refl
 reads_fixed threads source [] (r ∷ reads) a h = absurd a

@@ -34,7 +34,7 @@ under es l f k = write_of es l (f (k + 1))
 abbrev pub order_under : List Edge → ℕ → (ℕ → ℕ) → List WriteAt
 order_under es l f = filter_map (under es l f) (upto (write_count es l))
 
--- a positive value is that of a write
+-- a value of a location has a write, which is an event
 pub record ValueWrite (es : List Edge) (l v : ℕ) : Type 0 where
   pub rank : ℕ
   pub event : ℕ
@@ -43,6 +43,7 @@ pub record ValueWrite (es : List Edge) (l v : ℕ) : Type 0 where
   pub is_write : IsWrite es l rank event
   pub name_is : write_of es l v ≡ Some (event_name es event)
 
+-- a positive value up to the count of the writes is that of a write
 pub value_write : (es : List Edge) (l v : ℕ) → Resolves es → 0 < v → v ≤ write_count es l → ValueWrite es l v
 value_write es l zero r h b = absurd (omega arith)
 value_write es l (suc k) r h b =
@@ -105,7 +106,7 @@ order_under_is es mode number l f r n h e =
     g : Holds (order_under es l f) (under es l f) (write_count es l)
     g = order_given (under es l f) (write_count es l) (gives_under es l f r e)
 
--- and its last write is that of the greatest value
+-- the last write of the order is that of the greatest value
 pub last_under : (es : List Edge) (l k : ℕ) (f : ℕ → ℕ) → Resolves es → Exchanges f (write_count es l) → write_count es l ≡ suc k → last_write (order_under es l f) ≡ ordered_write es l k
 last_under es l k f r e h =
     let g = gives_under es l f r e in

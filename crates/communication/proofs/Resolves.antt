@@ -32,7 +32,7 @@ abbrev pub written_by : Dir → ℕ
 written_by dirs.R = 0
 written_by dirs.W = 1
 
--- how the events of a cycle stand to one another in threads, at locations and by their values
+-- how the events of a cycle are related in threads, at locations and by their values
 pub record Resolves (es : List Edge) : Type 0 where
   pub locations : 0 < move_count es
   pub location : (i : ℕ) → location_of es i < move_count es
@@ -67,6 +67,7 @@ pub record Entered (es : List Edge) (i : ℕ) : Type 0 where
   pub next : event_after es before ≡ i
   pub edge : edge_into es i ≡ edge_at es before
 
+-- the edge into an event of the cycle leaves the event before it
 pub entered : (es : List Edge) (i : ℕ) → i < length es → Entered es i
 entered es i h = record { before = event_before es i; below = before_below es i h; next = after_before es i h; edge = refl }
 

@@ -9,14 +9,17 @@ use Rattle.program_meaning.specs.Coherence.{MayFollow}
 use Rattle.communication.specs.Exchange.{swapped}
 use Rattle.communication.proofs.Rearranged.{Exchanges}
 
+-- the greater of the two values becomes the one before it
 pub swapped_here : (value : ℕ) → swapped value value ≡ value - 1
 swapped_here value = cond-true {A = ℕ} (value == value) (value - 1) (cond (value + 1 == value) value value) (eq-eqb value value refl)
 
+-- the lesser of the two values becomes the greater
 pub swapped_before : (value v : ℕ) → v + 1 ≡ value → swapped value v ≡ value
 swapped_before value v h =
     cond-false {A = ℕ} (v == value) (value - 1) (cond (v + 1 == value) value v) (ne_eqb v value (λ e. omega (arith, e, h)))
     ∙ cond-true {A = ℕ} (v + 1 == value) value v (eq-eqb (v + 1) value h)
 
+-- any other value stays as it is
 pub swapped_other : (value v : ℕ) → (v ≡ value → ⊥) → (v + 1 ≡ value → ⊥) → swapped value v ≡ v
 swapped_other value v d e =
     cond-false {A = ℕ} (v == value) (value - 1) (cond (v + 1 == value) value v) (ne_eqb v value d)
@@ -31,6 +34,7 @@ by_swap value v here before other =
     (λ e. before e (swapped_before value v e))
     (λ e. other d e (swapped_other value v d e)))
 
+-- two inner values that are exchanged leave 0 and the greatest value as they are
 pub swap_exchanges : (value n : ℕ) → 1 < value → value < n → Exchanges (swapped value) n
 swap_exchanges value n h l = record {
   none = swapped_other value 0 (λ e. omega arith) (λ e. omega arith);
@@ -51,6 +55,7 @@ rises_still value u v h l d =
     (λ e s. by_swap value v (λ f t. absurd (d e f)) (λ f t. absurd (omega arith)) (λ f g t. omega arith))
     (λ e e' s. by_swap value v (λ f t. let n : u + 1 ≡ value → ⊥ = e' in by_same (u + 1) value (λ q. absurd (n q)) (λ q. omega arith)) (λ f t. omega arith) (λ f g t. omega arith))
 
+-- accesses whose values are not exchanged with each other may still follow each other
 pub follows_still : (d : Dir) (value u v : ℕ) → 1 < value → MayFollow d u v → (u + 1 ≡ value → v ≡ value → ⊥) → MayFollow d (swapped value u) (swapped value v)
 follows_still dirs.R value u v h l d =
     by_less u v

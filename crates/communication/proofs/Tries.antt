@@ -30,7 +30,7 @@ MFencedWR = edges.Fenced fences.MFence Diff dirs.W dirs.R
 abbrev R_mfence : List Edge
 R_mfence = PodWW ∷ Wse ∷ MFencedWR ∷ Fre ∷ []
 
--- an element put at each place of a list
+-- an element inserted at each place of a list
 abbrev inserted : {X : Type 0} → X → List X → List (List X)
 inserted x [] = (x ∷ []) ∷ []
 inserted x (y ∷ ys) = (x ∷ y ∷ ys) ∷ map (λ l. y ∷ l) (inserted x ys)

@@ -31,6 +31,7 @@ more_than : (n : ℕ) → 0 < n → (k : ℕ) × (n ≡ suc k)
 more_than zero h = absurd (omega arith)
 more_than (suc k) h = (k, refl)
 
+-- each write access is a write of a location, with its value
 pub write_event : (es : List Edge) (mode : ObsMode) (number : ℕ → ℕ) (w : WriteAt) (place value : ℕ) → Resolves es → at_name (cycle_accesses es mode number) w ≡ Some (write place value) → WriteEvent es number w place value
 write_event es mode number w place value r h =
     by_origin es mode number w (write place value) r h
@@ -49,7 +50,7 @@ write_event es mode number w place value r h =
     })
     (λ (l : LoadAt es mode number w (write place value)). let d : dirs.R ≡ dirs.W = ap (λ a. a.dir) l.access_is in cc)
 
--- write number k of a location stands at its name, with the value k + 1
+-- write number k of a location is the access under its name, with the value k + 1
 pub write_stands : (es : List Edge) (mode : ObsMode) (number : ℕ → ℕ) (l k i : ℕ) → Resolves es → IsWrite es l k i → at_name (cycle_accesses es mode number) (event_name es i) ≡ Some (write (number l) (suc k))
 write_stands es mode number l k i r w =
     event_stands es mode number i r w.below
@@ -59,12 +60,13 @@ write_stands es mode number l k i r w =
 pub ordered_write-is : (es : List Edge) (l k i : ℕ) → Resolves es → IsWrite es l k i → ordered_write es l k ≡ Some (event_name es i)
 ordered_write-is es l k i r w = ap (option_map (event_name es)) (r.found l k i w)
 
--- there is a write of each value up to the count of the writes
+-- a write of a location with this number
 pub record NthWrite (es : List Edge) (l k : ℕ) : Type 0 where
   pub event : ℕ
   pub is_write : IsWrite es l k event
   pub name_is : ordered_write es l k ≡ Some (event_name es event)
 
+-- there is a write of each number below the count of the writes
 pub nth_write : (es : List Edge) (l k : ℕ) → Resolves es → k < write_count es l → NthWrite es l k
 nth_write es l k r h =
     let w = r.written l k h in

@@ -1,4 +1,4 @@
--- The execution that no condition tells from the intended one: where an external edge enters an inner write of a
+-- The execution that no condition tells apart from the intended one: where an external edge enters an inner write of a
 -- location, that write and the write before it are exchanged in the coherence order. Source: own.
 use Rattle.std.specs.Prelude.{ℕ, ◌+◌, ◌-◌, ◌==◌, if◌then◌else◌, List, map}
 use Rattle.std.specs.List.{filter_map}
@@ -23,7 +23,7 @@ exchanged_value es event location v = if location == location_of es event then s
 unfoldable pub exchanged_order : List Edge → ℕ → ℕ → List WriteAt
 exchanged_order es event location = filter_map (λ k. write_of es location (exchanged_value es event location (k + 1))) (upto (write_count es location))
 
--- the intended execution, but with a write and the one before it exchanged in their place's order
+-- the intended execution, except that a write and the one before it are exchanged in their place's order
 unfoldable pub exchanged : List Edge → (ℕ → ℕ) → ℕ → Execution
 exchanged es number event = record {
   reads = (intended es Avoid number).reads;

@@ -1,4 +1,4 @@
--- What a program must do so that the laws of this crate speak of it: make the accesses of the cycle's test on any
+-- What a program must do so that the laws of this crate hold of it: make the accesses of the cycle's test on any
 -- values read, and mark and tie them as the edges say. `es` is the list of edges in which threads and locations are counted.
 use Rattle.std.specs.Prelude.{◌≡◌, ℕ, ◌<◌, ◌≤◌, false, List, [], ◌∷◌, length, map, filter, Option, Some, slice_get}
 use Rattle.relax_edges.specs.declared.kinds.Dir.{Dir}
@@ -24,7 +24,7 @@ value_taken dirs.R [] own = own
 value_taken dirs.R (value ∷ _) own = value
 value_taken dirs.W _ own = own
 
--- the values read that an access leaves to those behind it
+-- the values read that an access leaves to those after it
 abbrev pub values_left : Dir → List ℕ → List ℕ
 values_left dirs.R [] = []
 values_left dirs.R (_ ∷ values) = values
@@ -72,8 +72,8 @@ abbrev pub AreFree : List Visit → Type 0
 AreFree [] = Unit {0}
 AreFree (visit ∷ visits) = (visit.mark ≡ Plain) × (visit.barriers ≡ []) × IsFree visit × AreFree visits
 
--- the marks of the accesses of a program, and what stands between them, are what the edges of the cycle say, and else
--- there is nothing
+-- the marks of the accesses of a program, and what comes between them, are what the edges of the cycle say, and there is
+-- nothing else
 pub record IsTiedUp (es : List Edge) (p : Program) (x : Execution) : Type 0 where
   pub marks : (i : ℕ) (e : Named) → i < length es → IsEvent es (visits_in p x) i e → e.visit.mark ≡ source_mark (edge_at es i)
   pub ties : (i : ℕ) (e f : Named) → i < length es → IsEvent es (visits_in p x) i e → IsEvent es (visits_in p x) (event_after es i) f → TiesBy (kind_of (edge_at es i)) (accesses_in p x) e f

@@ -27,13 +27,13 @@ EdgesJoin =
     (es : List Edge) (mode : ObsMode) (number : ℕ → ℕ) (x : Execution) → IsResolved es → IsServed es mode → IsNumbering es number → MeetsCondition es mode number x →
     AllJoin es mode number x
 
--- there is one such execution alone, the intended one
+-- the intended execution alone is coherent and meets the condition
 abbrev pub OnlyTheIntended : Type 0
 OnlyTheIntended =
     (es : List Edge) (mode : ObsMode) (number : ℕ → ℕ) (x : Execution) → IsResolved es → IsServed es mode → IsNumbering es number → MeetsCondition es mode number x →
     x ≡ intended es mode number
 
--- and the intended execution is one
+-- the intended execution is coherent and meets the condition
 abbrev pub TheIntendedMeets : Type 0
 TheIntendedMeets =
     (es : List Edge) (mode : ObsMode) (number : ℕ → ℕ) → IsResolved es → IsNumbering es number →
@@ -69,7 +69,7 @@ OneOutcome =
     Makes es mode number p x → IsOutcome es mode number p x →
     x ≡ intended es mode number
 
--- and where its runs on the intended reads come to their ends, the intended execution is one
+-- where the runs of such a program on the intended reads come to their ends, the intended execution is an outcome
 abbrev pub AnOutcome : Type 0
 AnOutcome =
     (es : List Edge) (mode : ObsMode) (number : ℕ → ℕ) (p : Program) → IsResolved es → IsNumbering es number →

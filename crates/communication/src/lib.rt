@@ -11,7 +11,7 @@ pub fn edges_join()
     ensures { EdgesJoin }
 {}
 
-/// There is no other such execution than the intended one: every read reads the write of its
+/// The intended execution is the only such execution: every read reads the write of its
 /// value, and the writes of each location are in the order of their values.
 pub fn only_the_intended()
     ensures { OnlyTheIntended }

@@ -15,7 +15,7 @@ use Rattle.test_maker.specs.Made.{Accepts}
 use Rattle.test_maker.specs.Refusals.{refusal_of}
 use Rattle.crossed_cycles.specs.Choices.{is_accepted}
 
--- a cycle that edges make is these edges
+-- the cycle that a list of edges makes is that list
 pub composed_same : (u w : List Edge) → composed u ≡ Ok w → w ≡ u
 composed_same [] w h = cc
 composed_same (e ∷ u) w h = by (nat_lt MAX_EDGES (length (e ∷ u))) (first_break ((e ∷ u) ++ e ∷ [])) h
@@ -35,6 +35,7 @@ accepted_parts puts mode u h = by (composed u) (refusal_of puts u mode) refl ref
     by (Ok w) (Some refusal) m r k = cc
     by (Err error) refusal m r k = cc
 
+-- an accepted list isn't too long
 pub accepted_few : (puts : Puts) (mode : ObsMode) (u : List Edge) → is_accepted puts mode u ≡ true → length u ≤ MAX_EDGES
 accepted_few puts mode u h = (accepted_parts puts mode u h).0.few
 
@@ -47,7 +48,7 @@ said_accepted puts mode u w (Ok _) m a h =
     rw (m, n) (ap Some e)
 said_accepted puts mode u w (Err refusal) m a h = cc
 
--- a cycle that the call refuses isn't
+-- a cycle that the call refuses is not
 pub said_refused : (puts : Puts) (mode : ObsMode) (u w : List Edge) (said : Result (Unit {0}) MakeRefusal) →
     composed u ≡ Ok w → Accepts puts w mode said → is_ok said ≡ false → None ≡ cond (is_accepted puts mode u) (Some u) None
 said_refused puts mode u w (Ok _) m a h = cc

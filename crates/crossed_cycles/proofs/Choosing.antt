@@ -26,7 +26,7 @@ module _ (accepts : List Edge → Bool) where
   unfolding chosen chosen_first
   chosen_list joined first lists kept = refl
 
-  -- no relaxation gives nothing
+  -- where there is no relaxation, nothing is kept
   pub chosen_first_none : (joined : List Edge) (lists : List (List (List Edge))) (kept : List (List Edge)) →
       chosen_first accepts joined [] lists kept ≡ kept
   unfolding chosen_first
@@ -52,7 +52,7 @@ module _ (accepts : List Edge → Bool) where
   refused : (kept : List (List Edge)) (u : List Edge) → accepts u ≡ false → keep_accepted accepts kept u ≡ kept
   refused kept u t = rw t refl
 
-  -- nothing that begins with too many edges is accepted
+  -- no list that begins with too many edges is accepted
   pub chosen_too_long : (few : (u : List Edge) → accepts u ≡ true → length u ≤ MAX_EDGES) (joined : List Edge) (lists : List (List (List Edge))) (kept : List (List Edge)) →
       MAX_EDGES < length joined → chosen accepts joined lists kept ≡ kept
   unfolding chosen
@@ -65,7 +65,7 @@ module _ (accepts : List Edge → Bool) where
           (λ t. absurd (omega (arith, few (joined ++ concatenated choice) t, length-append joined (concatenated choice))))
           (λ t. ap (λ after. fold (keep_accepted accepts) after (map (λ choice. joined ++ concatenated choice) some)) (refused kept (joined ++ concatenated choice) t) ∙ stays some)
 
-  -- what is kept after all choices is the first of the accepted ones that are the same cycle
+  -- of accepted choices that are the same cycle, the first is kept
   pub all_chosen : (lists : List (List (List Edge))) → chosen accepts [] lists [] ≡ first_kept (filter accepts (map concatenated (choices lists)))
   unfolding chosen
   all_chosen lists = accepted_kept accepts [] (map concatenated (choices lists)) ∙ all_kept (filter accepts (map concatenated (choices lists)))
@@ -85,7 +85,7 @@ module _ (accepts : List Edge → Bool) (rest : List (List (List Edge))) where
       let e : drop i relaxes ≡ relax ∷ drop (i + 1) relaxes = rw add-one (drop-cons relaxes i relax within ∙ ap (λ x. x ∷ drop (suc i) relaxes) (sym is)) in
       ap (λ left. chosen_first accepts joined left rest kept) e ∙ chosen_first_more accepts joined relax (drop (i + 1) relaxes) rest kept
 
-  -- a relaxation that fits is appended, and all choices with it are tried
+  -- a relaxation for which there is room is appended, and all choices with it are tried
   pub chosen_step : (joined : List Edge) (relaxes : List (List Edge)) (i : ℕ) (relax edges before extended : List Edge) (kept after whole : List (List Edge)) →
       i < length relaxes → relax ≡ get_or relaxes i relax → edges ≡ relax → before ≡ joined → extended ≡ before ++ edges →
       after ≡ chosen accepts extended rest kept →
@@ -95,7 +95,7 @@ module _ (accepts : List Edge → Bool) (rest : List (List (List Edge))) where
       ap (λ k. chosen_first accepts joined (drop (i + 1) relaxes) rest k) (a ∙ ap (λ u. chosen accepts u rest kept) f)
       ∙ sym (next_is joined relaxes i relax kept within is) ∙ e
 
-  -- a relaxation that doesn't fit gives nothing
+  -- with a relaxation for which there is no room nothing is kept
   pub chosen_skip : (few : (u : List Edge) → accepts u ≡ true → length u ≤ MAX_EDGES)
       (joined : List Edge) (relaxes : List (List Edge)) (i : ℕ) (relax edges before : List Edge) (kept whole : List (List Edge)) →
       i < length relaxes → relax ≡ get_or relaxes i relax → edges ≡ relax → before ≡ joined → MAX_EDGES < length before + length edges →
@@ -132,13 +132,14 @@ kept_some accepts u v kept h =
     (λ t. let e : Some v ≡ Some u = rw t at h in let s : v ≡ u = cc in rw t (ap (keep kept) s))
     (λ t. let e : Some v ≡ None = rw t at h in cc)
 
+-- an edge list that isn't accepted leaves what is kept as it is
 pub kept_none : (accepts : List Edge → Bool) (u : List Edge) (kept : List (List Edge)) → None ≡ cond (accepts u) (Some u) None → kept ≡ keep_accepted accepts kept u
 kept_none accepts u kept h =
     by_test (accepts u)
     (λ t. let e : None ≡ Some u = rw t at h in cc)
     (λ t. rw t refl)
 
--- a list with nothing in it leaves no choice
+-- where one of the lists is empty, there is no choice
 pub none_of_empty : {X : Type 0} (is_empty : List X → Bool) (empty : (list : List X) → is_empty list ≡ true → list ≡ []) (lists : List (List X)) →
     list_any is_empty lists ≡ true → choices lists ≡ []
 none_of_empty is_empty empty [] h = cc
@@ -158,7 +159,7 @@ unfolding crossed
 crossed_chosen puts mode lists joined kept after j k a =
     a ∙ ap (λ u. chosen (is_accepted puts mode) u lists kept) j ∙ ap (λ us. chosen (is_accepted puts mode) [] lists us) k ∙ all_chosen (is_accepted puts mode) lists
 
--- a list with nothing in it leaves no cycle
+-- where one of the lists is empty, there is no cycle
 pub crossed_empty : (puts : Puts) (mode : ObsMode) (lists : List (List (List Edge))) → list_any (λ list. length list == 0) lists ≡ true → crossed puts mode lists ≡ []
 unfolding crossed
 crossed_empty puts mode lists h =

@@ -69,7 +69,7 @@ choice_begins (x ∷ list) rests parts m =
           record { head = q.head; tail = q.tail; one = inr q.one; among = q.among; is = q.is }
     ]
 
--- each of all choices is one
+-- each member of the list of all choices is a choice
 choice_member : (lists : List (List (List Edge))) (parts : List (List Edge)) → Member (choices lists) parts → IsChoice lists parts
 choice_member [] parts m = elim m [ inl e ↦ subst (IsChoice []) e tt | inr r ↦ absurd r ]
 choice_member (list ∷ lists) parts m =
@@ -159,5 +159,6 @@ module _ (puts : Puts) (mode : ObsMode) (lists : List (List (List Edge))) where
   pub crossed_have_tests : All (λ cycle. refusal_of puts cycle mode ≡ None) (crossed puts mode lists)
   crossed_have_tests = all_have_tests (crossed puts mode lists) (λ u m. (all_crossed.each u (one_member (crossed puts mode lists) u m)).has_test)
 
+-- the crossed cycles are choices that count, no two the same cycle, and all of them up to rotation
 pub crosses_all : CrossesAll
 crosses_all puts mode lists = all_crossed puts mode lists

@@ -9,7 +9,7 @@ use Rattle.crossed_cycles.specs.Choices.{is_turn, first_kept}
 use Rattle.crossed_cycles.specs.Steps.{keep, keep_accepted}
 use Rattle.crossed_cycles.proofs.Turning.{turn_on}
 
--- no list of some is a rotation of v
+-- none of some lists is a rotation of v
 abbrev is_new : List (List Edge) → List Edge → Bool
 is_new kept v = not (list_any (λ u. is_turn u v) kept)
 
@@ -29,7 +29,7 @@ filter_turned kept u (v ∷ us) h =
         (λ a. rw (turn_on w u v a t) refl)
         (λ a. by_test (is_turn w v) (λ b. rw b refl) (λ b. rw b (any_on kept (rw a at h) t)))
 
--- a list beside some that are kept leaves out its own rotations too
+-- a list that is kept besides others leaves out its own rotations too
 filter_new : (kept : List (List Edge)) (u : List Edge) (us : List (List Edge)) →
     filter (is_new kept) (filter (λ v. not (is_turn u v)) us) ≡ filter (is_new (kept ++ u ∷ [])) us
 filter_new kept u [] = refl
@@ -39,7 +39,7 @@ filter_new kept u (v ∷ us) =
     (λ t. by_test (list_any (λ w. is_turn w v) kept) (λ a. rw (t, a) (filter_new kept u us)) (λ a. rw (t, a) (filter_new kept u us)))
     (λ t. by_test (list_any (λ w. is_turn w v) kept) (λ a. rw (t, a) (filter_new kept u us)) (λ a. rw (t, a) (ap (λ rest. v ∷ rest) (filter_new kept u us)))))
 
--- after lists that are kept come the first of the rest that are rotations of none
+-- after the lists that are kept come those of the others that are rotations of none of them, the first of each cycle
 pub kept_after : (kept us : List (List Edge)) → fold keep kept us ≡ kept ++ filter (is_new kept) (first_kept us)
 kept_after kept [] = sym (append-nil kept)
 kept_after kept (u ∷ us) =
@@ -54,7 +54,7 @@ filter_none : (us : List (List Edge)) → filter (is_new []) us ≡ us
 filter_none [] = refl
 filter_none (u ∷ us) = ap (λ rest. u ∷ rest) (filter_none us)
 
--- lists that are kept one after another are the first of those that are the same cycle
+-- of lists that are the same cycle, keeping them one after another keeps the first
 pub all_kept : (us : List (List Edge)) → fold keep [] us ≡ first_kept us
 all_kept us = kept_after [] us ∙ filter_none (first_kept us)
 
@@ -66,11 +66,12 @@ accepted_kept accepts kept (u ∷ us) =
     (λ t. rw t (accepted_kept accepts (keep kept u) us))
     (λ t. rw t (accepted_kept accepts kept us))
 
--- what the negation of a test says
+-- where the negation of a test is true, the test is false
 pub not_true : (b : Bool) → not b ≡ true → b ≡ false
 not_true true h = cc
 not_true false h = refl
 
+-- where the negation of a test is false, the test is true
 pub not_false : (b : Bool) → not b ≡ false → b ≡ true
 not_false true h = refl
 not_false false h = cc

@@ -33,7 +33,7 @@ ranks_injective (x ∷ u) (y ∷ v) h =
     let f : u ≡ v = ranks_injective u v (cc) in
     cc
 
--- two tests that hold of the same are one
+-- two tests that are true in the same cases are equal
 same_test : (a b : Bool) → (a ≡ true → b ≡ true) → (b ≡ true → a ≡ true) → a ≡ b
 same_test true true f g = refl
 same_test true false f g = sym (f refl)

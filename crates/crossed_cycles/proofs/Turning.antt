@@ -10,7 +10,7 @@ use Rattle.walk_laws.specs.Rotation.{IsRotation, rotated}
 use Rattle.walk_laws.proofs.Rotating.{rotation_on, rotation_of_place, place_of_rotation}
 use Rattle.crossed_cycles.specs.Choices.{is_turn}
 
--- the test of lists of edges decides whether they are one
+-- the test of two lists of edges decides whether they are equal
 pub same_decides : (u v : List Edge) → IsTrue (is_same u v) ↔ (u ≡ v)
 same_decides u v = slice_eq-Decides rank_decides u v (is_same u v) refl
 
@@ -33,7 +33,7 @@ turned_some u v t =
     let p = any_upto_passing (λ k. is_same (rotated k u) v) (length u) t in
     let h = p.below in omega arith
 
--- a rotation of a rotation is one
+-- a rotation of a rotation is a rotation
 pub turn_on : (u v w : List Edge) → is_turn u v ≡ true → is_turn v w ≡ true → is_turn u w ≡ true
 turn_on u v w a b =
     turn_of_rotation u w (turned_some u v a) (rotation_on u v w (rotation_of_turn u v a) (rotation_of_turn v w b))

@@ -25,11 +25,11 @@ is_accepted puts mode edges = is_ok (composed edges) && is_none (refusal_of puts
 abbrev pub is_turn : List Edge → List Edge → Bool
 is_turn u v = list_any (λ k. is_same (rotated k u) v) (upto (length u))
 
--- of lists that are the same cycle the first
+-- the lists without those that are rotations of an earlier one
 abbrev pub first_kept : List (List Edge) → List (List Edge)
 first_kept [] = []
 first_kept (u ∷ us) = u ∷ filter (λ v. not (is_turn u v)) (first_kept us)
 
--- the cycles of the choices: each choice joined, of those that are accepted and the same cycle the first
+-- the cycles of the choices: each choice is joined, and of those that are accepted and the same cycle the first is kept
 unfoldable pub crossed : Puts → ObsMode → List (List (List Edge)) → List (List Edge)
 crossed puts mode lists = first_kept (filter (is_accepted puts mode) (map concatenated (choices lists)))

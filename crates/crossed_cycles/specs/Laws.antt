@@ -33,7 +33,7 @@ abbrev pub AreApart : List (List Edge) → Type 0
 AreApart [] = ⊤
 AreApart (u ∷ us) = ((v : List Edge) → IsOneOf us v → IsRotation u v → ⊥) × AreApart us
 
--- a list is a rotation of one of some
+-- a list is a rotation of one of some lists
 pub record IsTurnOfOne (us : List (List Edge)) (u : List Edge) : Type 0 where
   pub turned : List Edge
   pub one : IsOneOf us turned
@@ -45,6 +45,6 @@ pub record AreAllCrossed (puts : Puts) (mode : ObsMode) (lists : List (List (Lis
   pub apart : AreApart (crossed puts mode lists)
   pub all : (u : List Edge) → IsCrossed puts mode lists u → IsTurnOfOne (crossed puts mode lists) u
 
--- this is so of all lists of relaxations, on each architecture and in each mode
+-- the crossed cycles are all, for all lists of relaxations, on each architecture and in each mode
 abbrev pub CrossesAll : Type 0
 CrossesAll = (puts : Puts) (mode : ObsMode) (lists : List (List (List Edge))) → AreAllCrossed puts mode lists

@@ -1,4 +1,4 @@
--- Which cycles are known, by their normal forms.
+-- The normal form of a cycle, by the ranks of its edges.
 -- Source: own.
 use Rattle.std.specs.Prelude.{◌≡◌, ℕ, List, map}
 use Rattle.relax_edges.specs.declared.edge.Edge.{Edge}

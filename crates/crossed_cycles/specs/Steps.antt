@@ -10,7 +10,7 @@ use Rattle.crossed_cycles.specs.Choices.{choices, is_turn}
 abbrev pub keep : List (List Edge) → List Edge → List (List Edge)
 keep kept u = cond (list_any (λ v. is_turn v u) kept) kept (kept ++ u ∷ [])
 
--- a list is kept so where it is accepted
+-- the same, only where the list is accepted
 abbrev pub keep_accepted : (List Edge → Bool) → List (List Edge) → List Edge → List (List Edge)
 keep_accepted accepts kept u = cond (accepts u) (keep kept u) kept
 

@@ -20,7 +20,7 @@ use test_maker::accepted;
 /// the architecture in the mode; of choices that are rotations of each other the first counts, as it
 /// is joined. So a list without a relaxation, or no list, gives no cycle.
 ///
-/// Memory is taken for the cycles and for what tells which of them are known, and `NoMemory` comes
+/// Memory is taken for the cycles and for the set of those that are known, and `NoMemory` comes
 /// where there is none. The time grows with the number of choices of at most `MAX_EDGES` edges.
 pub fn crossed_cycles<A: Arch>(
     alloc: Global,
@@ -46,7 +46,7 @@ fn has_empty(lists: &[Relaxes]) -> bool
 }
 
 /// Keeps the accepted cycles of all choices from the lists, each appended to the edges that are
-/// joined already. Where the edges of a relaxation don't fit, no choice with it is a cycle.
+/// joined already. Where there is no room for the edges of a relaxation, no choice with it is a cycle.
 fn choose<A: Arch>(
     lists: &[Relaxes],
     mode: ObsMode,

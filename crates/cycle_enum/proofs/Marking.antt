@@ -45,7 +45,7 @@ marked_first old new (x ∷ u) d some within rest e =
       ],
     )
 
--- behind no marks exactly the edges that occur in relaxations are marked
+-- where no edge was marked before, exactly the edges that occur in relaxations are marked
 pub marked_from_none : (relaxes : List (List Edge)) (marks : List Bool) → MarksAlphabet (replicate EDGES false) relaxes marks → (e : Edge) → IsMarked marks e ↔ OccursIn relaxes e
 marked_from_none relaxes marks marked e = (λ m. elim ((marked e).0 m) [ inl none ↦ absurd (unmarked none) | inr o ↦ o ], λ o. (marked e).1 (inr o))
   where

@@ -1,17 +1,17 @@
--- Which edges a walk passes over behind a list.
-use Rattle.std.proofs.Common.{◌≡◌, inl, inr, ℕ, ◌+◌, false, Option, Some, None, List, [], ◌∷◌, arith}
+-- Which edges a walk passes over after a list.
+use Rattle.std.proofs.Common.{◌≡◌, inl, inr, ℕ, ◌+◌, ◌<◌, map, slice_index_or, false, Option, Some, None, List, [], ◌∷◌, arith}
 use Rattle.std.proofs.lemmas.Bool.{cases_lt}
 use Rattle.relax_edges.specs.declared.order.TheConstants.{EDGES}
 use Rattle.relax_edges.specs.declared.edge.Edge.{Edge}
 use Rattle.relax_edges.specs.Order.{rank_of}
-use Rattle.relax_edges.proofs.Ranks.{rank_injective}
+use Rattle.relax_edges.proofs.Ranks.{rank_below, rank_injective}
 use Rattle.walk_laws.specs.Composable.{last_joins}
 use Rattle.listing_laws.specs.Search.{IsCandidate, IsNextEdge, NoneBetween, OccursIn}
 use Rattle.listing_laws.proofs.Candidates.{unused_nowhere, unjoined_next, none_smaller}
 use Rattle.cycle_enum.specs.Letters.{NoLetter, IsFirstLetter, least_rank}
 
 module _ (relaxes : List (List Edge)) (front : List Edge) (from : ℕ) where
-  -- where no letter is, no candidate goes on
+  -- where there is no letter, no candidate goes on
   pub none_used : (to : ℕ) → NoLetter (OccursIn relaxes) from to → NoneBetween (IsCandidate relaxes) front from to
   none_used to none e a b = unused_nowhere relaxes front e (none e a b)
 
@@ -27,12 +27,18 @@ module _ (relaxes : List (List Edge)) (front : List Edge) (from : ℕ) where
         ]
       ]
 
+  -- the next edge after a letter that the last edge doesn't join is the next edge from that letter on
   pub next_unjoined : (e : Edge) (next : Option Edge) → IsFirstLetter (OccursIn relaxes) from e → last_joins front (e ∷ []) ≡ false
       → IsNextEdge (IsCandidate relaxes) front (rank_of e + 1) next → IsNextEdge (IsCandidate relaxes) front from next
   next_unjoined e None first fails none = passed e EDGES first fails none
   next_unjoined e (Some f) first fails next = (omega (arith, first.at_least, next.0), passed e (rank_of f) first fails next.1)
 
--- all ranks below the least
+-- no candidate goes on with an edge below the least rank
 pub none_below_least : (relaxes : List (List Edge)) (u : List Edge) → NoneBetween (IsCandidate relaxes) u 0 (least_rank u)
 none_below_least relaxes [] e h less = absurd (omega arith)
 none_below_least relaxes (f ∷ u) e h less = none_smaller relaxes f u e h less
+
+-- the first of the ranks of a list of edges is the rank of an edge, and 0 where there is none
+pub first_below : (u : List Edge) (ranks : List ℕ) → ranks ≡ map rank_of u → slice_index_or ranks 0 0 < EDGES
+first_below [] ranks e = rw e (omega arith)
+first_below (x ∷ u) ranks e = rw e (rank_below x)

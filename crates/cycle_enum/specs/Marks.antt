@@ -9,10 +9,10 @@ use Rattle.listing_laws.specs.Search.{StandsIn, OccursIn}
 abbrev pub IsMarked : List Bool → Edge → Type 0
 IsMarked marks e = get_or marks (rank_of e) false ≡ true
 
--- behind some marks exactly the edges of a list are marked too
+-- the edges of a list are marked as well, and no others are added
 abbrev pub MarksAlso : List Bool → List Edge → List Bool → Type 0
 MarksAlso old u new = (e : Edge) → IsMarked new e ↔ ((IsMarked old e) ⊎ StandsIn u e)
 
--- behind some marks exactly the edges that occur in relaxations are marked too
+-- the edges that occur in relaxations are marked as well, and no others are added
 abbrev pub MarksAlphabet : List Bool → List (List Edge) → List Bool → Type 0
 MarksAlphabet old relaxes new = (e : Edge) → IsMarked new e ↔ ((IsMarked old e) ⊎ OccursIn relaxes e)

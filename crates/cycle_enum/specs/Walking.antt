@@ -16,11 +16,11 @@ pub record Walking (K J P : Type 0) : Type 0 where
   pub take : P
   pub last : Option (List Edge)
 
--- a closure may be called on a value that is lent to it
+-- a closure may be called on a borrowed value
 abbrev pub MayCall : {F T : Type 0} → (F → Bor T → Type 0) → F → T → Type 0
 MayCall {F} {T} pre f u = (shown : Bor T) → shown.now ≡ u → pre f shown
 
--- a closure answers r to a value that is lent to it
+-- a closure answers r to a borrowed value
 pub record Says {F T : Type 0} (post : F → (Bor T × Unit {0}) → Bool → Type 0) (f : F) (u : T) (r : Bool) : Type 0 where
   pub shown : Bor T
   pub shows : shown.now ≡ u

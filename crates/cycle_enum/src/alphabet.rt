@@ -6,14 +6,11 @@ ghost use Rattle.listing_laws.specs.Search.{IsCandidate, IsExtended, IsNextEdge,
 ghost use Rattle.cycle_enum.specs.Letters.{least_rank};
 
 use crate::letters::{Letters, letters_of};
+use crate::prefix::Prefix;
 use crate::relaxed::{is_made, may_stand};
-use arrayvec::ArrayVec;
 use edge_algebra::Cycle;
 use relax_edges::{EDGES, Edge, MAX_EDGES, Relax, Relaxes};
 use std::marker::Model;
-
-/// A list of edges that a walk goes through.
-pub(crate) type Edges = ArrayVec<Edge, MAX_EDGES>;
 
 /// Relaxations, and which edges occur in them: a walk passes over all other edges.
 ///
@@ -52,14 +49,15 @@ impl Alphabet {
         }
     }
 
-    /// Passes over the list and all that begin with it: goes on to the first list in order behind
-    /// these whose last edge may stand behind the others. The list is empty where there is none.
-    pub(crate) fn raise(&self, list: &mut Edges)
-        ensures { IsRaised (IsCandidate self.now) list.old.items list.new.items }
+    /// Passes over the list and all that begin with it: goes on to the first list in order after
+    /// these whose last edge may follow the others. The list is empty where there is none.
+    #[tactic(auto, using(relax_edges::proofs::Ranks::rank_below))]
+    pub(crate) fn raise(&self, list: &mut Prefix)
+        ensures { IsRaised (IsCandidate self.now) list.old list.new }
     {
         let _room = list.len();
-        while let Some(edge) = list.pop() {
-            match self.next_edge(list.as_slice(), edge.rank() + 1) {
+        while let Some(last) = list.pop() {
+            match self.next_edge(list.edges(), last.rank + 1) {
                 Some(next) => {
                     list.push(next);
                     return;
@@ -69,19 +67,19 @@ impl Alphabet {
         }
     }
 
-    /// Goes on to the list with the first edge that may stand behind it, none before the first edge of
+    /// Goes on to the list with the first edge that may follow it, none before the first edge of
     /// the list. Where there is no such edge, it passes over all that begin with the list.
-    pub(crate) fn extend(&self, list: &mut Edges)
-        requires { length list.old.items < MAX_EDGES }
-        ensures { IsExtended (IsCandidate self.now) list.old.items list.new.items }
+    pub(crate) fn extend(&self, list: &mut Prefix)
+        requires { length list.old < MAX_EDGES }
+        ensures { IsExtended (IsCandidate self.now) list.old list.new }
     {
-        match self.next_edge(list.as_slice(), least_rank(list.as_slice())) {
+        match self.next_edge(list.edges(), least_rank(list)) {
             Some(edge) => list.push(edge),
             None => self.raise(list),
         }
     }
 
-    /// The first edge of this rank or a greater one that may stand behind a list: it occurs in a
+    /// The first edge of this rank or a greater one that may follow a list: it occurs in a
     /// relaxation, and the last edge of the list joins it.
     fn next_edge(&self, list: &[Edge], from: u16) -> Option<Edge>
         requires { from ≤ EDGES }
@@ -112,7 +110,7 @@ impl Alphabet {
         }
     }
 
-    /// Whether a list may stand in a concatenation of relaxations, if its edges occur in them.
+    /// Whether a list may be part of a concatenation of relaxations, if its edges occur in them.
     pub(crate) fn may_stand(&self, list: &[Edge]) -> bool
         requires { length list.now ≤ MAX_EDGES }
         ensures { IsFalse result → LeadsNowhere (IsMadeOf self.now) list.now }
@@ -143,13 +141,13 @@ impl Alphabet {
 }
 
 /// The least rank of the edges of a normal form that begins with a list: that of its first edge.
-fn least_rank(list: &[Edge]) -> u16
+fn least_rank(list: &Prefix) -> u16
     ensures value { result ≡ least_rank list.now }
     ensures within { result < EDGES }
 {
-    match list {
+    match list.ranks() {
         [] => 0,
-        [first, ..] => first.rank(),
+        [first, ..] => *first,
     }
 }
 

@@ -36,7 +36,7 @@ fn first_letters(marks: &[bool; RANKS]) -> Letters
     letters
 }
 
-/// Marks the edges of relaxations, beside those that are marked.
+/// Marks the edges of relaxations, in addition to those that are marked.
 fn mark_relaxes(marks: &mut [bool; RANKS], relaxes: &[Relax])
     ensures { MarksAlphabet marks.old relaxes.now marks.new }
 {
@@ -49,7 +49,7 @@ fn mark_relaxes(marks: &mut [bool; RANKS], relaxes: &[Relax])
     }
 }
 
-/// Marks the edges of a list, beside those that are marked.
+/// Marks the edges of a list, in addition to those that are marked.
 fn mark_edges(marks: &mut [bool; RANKS], edges: &[Edge])
     ensures { MarksAlso marks.old edges.now marks.new }
 {

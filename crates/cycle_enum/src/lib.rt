@@ -4,6 +4,7 @@
 mod alphabet;
 mod letters;
 mod limits;
+mod prefix;
 mod relaxed;
 mod walk;
 

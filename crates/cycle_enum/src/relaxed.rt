@@ -11,12 +11,12 @@ use relax_edges::{Edge, MAX_EDGES, Relax};
 
 const BACK_PARTS: usize = MAX_EDGES + 1;
 
-/// Where a list may end that is read as relaxations, one behind the other.
+/// Where a list that is read as relaxations, one after the other, may end.
 #[derive(Clone, Copy)]
 enum End {
-    /// Behind a relaxation.
+    /// After a relaxation.
     Behind,
-    /// Behind a relaxation or inside one.
+    /// After a relaxation or inside one.
     Anywhere,
 }
 
@@ -43,7 +43,7 @@ fn is_concatenation(relaxes: &[Relax], list: &[Edge]) -> bool
     read.as_slice()[list.len()]
 }
 
-/// Whether a list may stand in a concatenation of relaxations: it begins inside a relaxation, or
+/// Whether a list may be part of a concatenation of relaxations: it begins inside a relaxation, or
 /// with one, and relaxations lead on from there.
 pub(crate) fn may_stand(relaxes: &[Relax], list: &[Edge]) -> bool
     requires { length list.now ≤ MAX_EDGES }
@@ -59,7 +59,7 @@ pub(crate) fn may_stand(relaxes: &[Relax], list: &[Edge]) -> bool
     }
 }
 
-/// Whether a list begins with a back part of a relaxation, and is read on from there.
+/// Whether a list begins with a suffix of a relaxation, and is read on from there.
 fn any_begins(relaxes: &[Relax], list: &[Edge], read: &[bool]) -> bool
     requires some { 0 < length list.now }
     requires as_many { length read.now ≡ length list.now }
@@ -86,8 +86,8 @@ fn back_part_leads(relax: &[Edge], list: &[Edge], read: &[bool]) -> bool
     }
 }
 
-/// Tells for each back part of a list, from the empty one to the whole, whether it is read as
-/// relaxations one behind the other.
+/// Finds for each suffix of a list, from the empty one to the whole, whether it is read as
+/// relaxations one after the other.
 fn read_back_parts(
     end: End,
     relaxes: &[Relax],
@@ -123,8 +123,8 @@ fn any_leads(end: End, relaxes: &[Relax], list: &[Edge], read: &[bool]) -> bool
     }
 }
 
-/// Whether a list begins with a relaxation, and is read on from there: `read` tells it for each
-/// shorter back part of the list.
+/// Whether a list begins with a relaxation, and is read on from there: `read` says so of each
+/// shorter suffix of the list.
 fn leads(end: End, relax: &[Edge], list: &[Edge], read: &[bool]) -> bool
     requires some { 0 < length list.now }
     requires relax_some { 0 < length relax.now }
@@ -134,7 +134,7 @@ fn leads(end: End, relax: &[Edge], list: &[Edge], read: &[bool]) -> bool
     fits(end, relax, list) && read[list.len().saturating_sub(relax.len())]
 }
 
-/// Whether a list begins with a relaxation, or, where it may end inside one, is a front part of it.
+/// Whether a list begins with a relaxation, or, where it may end inside one, is a prefix of it.
 fn fits(end: End, relax: &[Edge], list: &[Edge]) -> bool
     ensures { result ≡ fits (is_inside end) relax.now list.now }
 {

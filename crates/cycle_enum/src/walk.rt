@@ -6,9 +6,9 @@ ghost use Rattle.walk_laws.specs.Order.{IsLeast};
 ghost use Rattle.listing_laws.specs.Search.{IsCut, IsFirst, LeadsNowhere, LongerThan, OfLength};
 ghost use Rattle.cycle_enum.specs.Walking.{Keeps, KnowsOf, Lists, Walking};
 
-use crate::alphabet::{Alphabet, Edges, closes};
+use crate::alphabet::{Alphabet, closes};
 use crate::limits::Limits;
-use arrayvec::ArrayVec;
+use crate::prefix::Prefix;
 use edge_algebra::{Cycle, cycle, may_begin};
 use relax_edges::{Edge, MAX_EDGES, Relaxes};
 use std::marker::Model;
@@ -66,7 +66,7 @@ impl<K: Fn(&[Edge]) -> bool, J: Fn(&[Edge]) -> bool, P: Fn(&Cycle) -> bool> Walk
         }
     }
 
-    /// Goes on behind a cycle, which need not be listed: the next answers come after its normal
+    /// Goes on after a cycle, which need not be listed: the next answers come after its normal
     /// form.
     pub fn after(&mut self, cycle: &Cycle)
         ensures last { MatchOption self.new.last ⊥ (λ last. IsLeast cycle.now last) }
@@ -83,7 +83,7 @@ impl<K: Fn(&[Edge]) -> bool, J: Fn(&[Edge]) -> bool, P: Fn(&Cycle) -> bool> Walk
     /// of edges, and then edge by edge by the byte order of their printed words. With each answer
     /// the number `later` falls, so that a loop over the answers ends. It takes no memory.
     ///
-    /// The condition on the closures is that of `new`, once more.
+    /// The condition on the closures is again that of `new`.
     pub fn next(&mut self) -> Option<Cycle>
         requires knows { KnowsOf K.pre K.Fn.post J.pre J.Fn.post P.pre P.Fn.post self.old.keep self.old.fit self.old.take }
         ensures next { IsAnswer (Lists P.Fn.post self.old) self.old.last result }
@@ -144,7 +144,7 @@ impl<K: Fn(&[Edge]) -> bool, J: Fn(&[Edge]) -> bool, P: Fn(&Cycle) -> bool> Walk
         if !self.limits.keeps(len) {
             return;
         }
-        let mut list = ArrayVec::new();
+        let mut list = Prefix::new();
         self.relaxes.extend(&mut list);
         self.search(&mut list, len, found);
     }
@@ -158,7 +158,7 @@ impl<K: Fn(&[Edge]) -> bool, J: Fn(&[Edge]) -> bool, P: Fn(&Cycle) -> bool> Walk
         if !self.limits.keeps(last.len()) {
             return;
         }
-        let mut list = ArrayVec::new();
+        let mut list = Prefix::new();
         self.put_first_refused(last.edges(), &mut list);
         self.relaxes.raise(&mut list);
         self.search(&mut list, last.len(), found);
@@ -166,39 +166,39 @@ impl<K: Fn(&[Edge]) -> bool, J: Fn(&[Edge]) -> bool, P: Fn(&Cycle) -> bool> Walk
 
     /// Puts the shortest prefix of a list on which a pruner says no, so that no listed cycle begins
     /// with it, else the list.
-    fn put_first_refused(&self, edges: &[Edge], list: &mut Edges)
+    fn put_first_refused(&self, edges: &[Edge], list: &mut Prefix)
         requires knows { KnowsOf K.pre K.Fn.post J.pre J.Fn.post P.pre P.Fn.post self.now.keep self.now.fit self.now.take }
         requires few { length edges.now ≤ MAX_EDGES }
-        requires empty { list.old.items ≡ [] }
-        ensures { IsCut (Lists P.Fn.post self.now) (Keeps K.Fn.post J.Fn.post self.now) edges.now list.new.items }
+        requires empty { list.old ≡ [] }
+        ensures { IsCut (Lists P.Fn.post self.now) (Keeps K.Fn.post J.Fn.post self.now) edges.now list.new }
     {
         for edge in edges {
             list.push(*edge);
-            if !self.is_kept(list.as_slice()) {
+            if !self.is_kept(list.edges()) {
                 return;
             }
         }
     }
 
     /// Finds the first listed cycle of `len` edges from the list on.
-    fn search(&self, list: &mut Edges, len: u8, found: &mut Option<Cycle>)
+    fn search(&self, list: &mut Prefix, len: u8, found: &mut Option<Cycle>)
         requires knows { KnowsOf K.pre K.Fn.post J.pre J.Fn.post P.pre P.Fn.post self.now.keep self.now.fit self.now.take }
         requires few { len ≤ MAX_EDGES }
         requires limits { KeepsLimits self.now.limits.size self.now.limits.exact len }
-        requires within { length list.old.items ≤ len }
-        requires kept { KeptBelow (Keeps K.Fn.post J.Fn.post self.now) (length list.old.items) list.old.items }
+        requires within { length list.old ≤ len }
+        requires kept { KeptBelow (Keeps K.Fn.post J.Fn.post self.now) (length list.old) list.old }
         requires none { found.old ≡ None }
-        ensures { IsFirst (OfLength len (Lists P.Fn.post self.now)) list.old.items found.new }
+        ensures { IsFirst (OfLength len (Lists P.Fn.post self.now)) list.old found.new }
     {
         while !list.is_empty() {
             if list.len() < usize::from(len) {
-                if self.leads_on(list.as_slice()) {
+                if self.leads_on(list) {
                     self.relaxes.extend(list);
                 } else {
                     self.relaxes.raise(list);
                 }
             } else {
-                if self.has_found(list.as_slice(), found) {
+                if self.has_found(list, found) {
                     return;
                 }
                 self.relaxes.raise(list);
@@ -207,20 +207,20 @@ impl<K: Fn(&[Edge]) -> bool, J: Fn(&[Edge]) -> bool, P: Fn(&Cycle) -> bool> Walk
     }
 
     /// Whether a listed cycle may begin with the list.
-    fn leads_on(&self, list: &[Edge]) -> bool
+    fn leads_on(&self, list: &Prefix) -> bool
         requires knows { KnowsOf K.pre K.Fn.post J.pre J.Fn.post P.pre P.Fn.post self.now.keep self.now.fit self.now.take }
         requires some { 0 < length list.now }
         requires few { length list.now ≤ MAX_EDGES }
         ensures kept { IsTrue result → Keeps K.Fn.post J.Fn.post self.now list.now }
         ensures refused { IsFalse result → LeadsNowhere (Lists P.Fn.post self.now) list.now }
     {
-        if !may_begin(list) {
+        if !may_begin(list.ranks()) {
             return false;
         }
-        if !self.is_kept(list) {
+        if !self.is_kept(list.edges()) {
             return false;
         }
-        self.relaxes.may_stand(list)
+        self.relaxes.may_stand(list.edges())
     }
 
     /// Whether both pruners say yes on the list.
@@ -235,7 +235,7 @@ impl<K: Fn(&[Edge]) -> bool, J: Fn(&[Edge]) -> bool, P: Fn(&Cycle) -> bool> Walk
     }
 
     /// Whether the cycle of these edges is listed: it is found then.
-    fn has_found(&self, list: &[Edge], found: &mut Option<Cycle>) -> bool
+    fn has_found(&self, list: &Prefix, found: &mut Option<Cycle>) -> bool
         requires knows { KnowsOf K.pre K.Fn.post J.pre J.Fn.post P.pre P.Fn.post self.now.keep self.now.fit self.now.take }
         requires limits { KeepsLimits self.now.limits.size self.now.limits.exact (length list.now) }
         requires some { 0 < length list.now }
@@ -246,17 +246,17 @@ impl<K: Fn(&[Edge]) -> bool, J: Fn(&[Edge]) -> bool, P: Fn(&Cycle) -> bool> Walk
         ensures same { IsFalse result → found.new ≡ found.old }
         ensures other { IsFalse result → Lists P.Fn.post self.now list.now → ⊥ }
     {
-        if !closes(list) {
+        if !closes(list.edges()) {
             return false;
         }
         if !self.leads_on(list) {
             return false;
         }
-        self.has_listed(list, found)
+        self.has_listed(list.edges(), found)
     }
 
     /// Whether the cycle of these edges is listed, where the walk keeps them: it is found then. It is a function of its own in
-    /// the program too (`inline(never)`), so that room for a cycle is cleared for lists alone that may be one.
+    /// the program too (`inline(never)`), so that room for a cycle is cleared only for lists that may be one.
     #[inline(never)]
     fn has_listed(&self, list: &[Edge], found: &mut Option<Cycle>) -> bool
         requires knows { KnowsOf K.pre K.Fn.post J.pre J.Fn.post P.pre P.Fn.post self.now.keep self.now.fit self.now.take }

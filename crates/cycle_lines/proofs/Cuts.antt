@@ -18,7 +18,7 @@ without_is sign text h i d k = not_true (get_or text i d == sign) (AllPass-from_
 pub cuts_are : (sign : ℕ) (text front behind : List ℕ) → CutParts sign text front behind → CutsAt sign text front behind
 cuts_are sign text front behind cut = record { without = without_is sign front cut.first; parts = cut.parts }
 
--- what stands behind a label
+-- what comes after a label
 after_cut : (front behind : List ℕ) → Without 58 front → after_colon (front ++ 58 ∷ behind) ≡ Some behind
 unfolding after_colon
 after_cut [] behind h = refl

@@ -12,6 +12,7 @@ use Rattle.cycle_lines.specs.Lines.{ended_lines, unended, last_line, lines_of}
 use Rattle.cycle_lines.specs.Cycles.{is_too_long}
 use Rattle.cycle_lines.specs.Steps.{Without}
 
+-- what follows in both cases of a test follows
 pub by_test : {G : Type 0} (b : Bool) → (b ≡ true → G) → (b ≡ false → G) → G
 by_test true p q = p refl
 by_test false p q = q refl
@@ -42,13 +43,14 @@ last_behind [] y ys = refl
 last_behind (x ∷ []) y ys = refl
 last_behind (x ∷ z ∷ xs) y ys = last_behind (z ∷ xs) y ys
 
--- behind a line feed new lines begin
+-- new lines begin after a line feed
 split_behind : (a b : List ℕ) (l : List ℕ) (ls : List (List ℕ)) → unended a ≡ [] → slice_split is_line_feed b ≡ l ∷ ls →
     slice_split is_line_feed (a ++ b) ≡ but_last (slice_split is_line_feed a) ++ l ∷ ls
 unfolding unended
 split_behind a b l ls e h =
     split_append a b l ls h ∙ ap (λ t. but_last (slice_split is_line_feed a) ++ (t ++ l) ∷ ls) e
 
+-- where nothing of a text is unended, its ended lines come before those of what follows it
 pub ended_behind : (a b : List ℕ) → unended a ≡ [] → ended_lines (a ++ b) ≡ ended_lines a ++ ended_lines b
 unfolding ended_lines
 ended_behind a b e =
@@ -58,6 +60,7 @@ ended_behind a b e =
     ∙ map-append without_return (but_last (slice_split is_line_feed a)) (but_last (first.piece ∷ first.rest))
     ∙ ap (λ t. map without_return (but_last (slice_split is_line_feed a)) ++ map without_return (but_last t)) (sym first.is)
 
+-- where nothing of a text is unended, what is unended with what follows it is unended in what follows
 pub unended_behind : (a b : List ℕ) → unended a ≡ [] → unended (a ++ b) ≡ unended b
 unfolding unended
 unended_behind a b e =
@@ -65,6 +68,7 @@ unended_behind a b e =
     ap last_of (split_behind a b first.piece first.rest e first.is)
     ∙ last_behind (but_last (slice_split is_line_feed a)) first.piece first.rest ∙ ap last_of (sym first.is)
 
+-- where nothing of a text is unended, its ended lines come before the lines of what follows it
 pub lines_behind : (a b : List ℕ) → unended a ≡ [] → lines_of (a ++ b) ≡ ended_lines a ++ lines_of b
 lines_behind a b e =
     ap (λ t. t ++ last_line (unended (a ++ b))) (ended_behind a b e)
@@ -75,13 +79,16 @@ lines_behind a b e =
 pub without_nil : (sign : ℕ) → Without sign []
 without_nil sign k d l = absurd (omega arith)
 
+-- a text that begins with another byte, and whose rest doesn't hold a byte, doesn't hold it
 pub without_cons : (sign byte : ℕ) (text : List ℕ) → (byte == sign) ≡ false → Without sign text → Without sign (byte ∷ text)
 without_cons sign byte text e h zero d l = e
 without_cons sign byte text e h (suc k) d l = h k d (omega arith)
 
+-- the first byte of a text that doesn't hold a byte is another
 pub without_first : (sign byte : ℕ) (text : List ℕ) → Without sign (byte ∷ text) → (byte == sign) ≡ false
 without_first sign byte text h = h 0 byte (omega arith)
 
+-- the rest of a text that doesn't hold a byte doesn't hold it either
 pub without_rest : (sign byte : ℕ) (text : List ℕ) → Without sign (byte ∷ text) → Without sign text
 without_rest sign byte text h = λ k d l. h (suc k) d (omega arith)
 
@@ -90,17 +97,20 @@ pub ended_none : (text : List ℕ) → Without 10 text → ended_lines text ≡ 
 unfolding ended_lines
 ended_none text h = ap (λ t. map without_return (but_last t)) (slice_split_none is_line_feed text h)
 
+-- a text without a line feed is unended as a whole
 pub unended_all : (text : List ℕ) → Without 10 text → unended text ≡ text
 unfolding unended
 unended_all text h = ap last_of (slice_split_none is_line_feed text h)
 
+-- an empty text has no ended line
 pub ended_nil : ended_lines [] ≡ []
 ended_nil = ended_none [] (without_nil 10)
 
+-- nothing is unended in an empty text
 pub unended_nil : unended [] ≡ []
 unended_nil = unended_all [] (without_nil 10)
 
--- a line, its line feed, and what stands behind
+-- a line, its line feed, and what comes after it
 pub ended_cut : (line rest : List ℕ) → Without 10 line → ended_lines (line ++ 10 ∷ rest) ≡ without_return line ∷ ended_lines rest
 unfolding ended_lines
 ended_cut line rest h =
@@ -108,12 +118,14 @@ ended_cut line rest h =
     ap (λ t. map without_return (but_last t)) (slice_split_at is_line_feed line 10 rest h refl)
     ∙ rw first.is refl
 
+-- what is unended after a line and its line feed is what is unended in the rest
 pub unended_cut : (line rest : List ℕ) → Without 10 line → unended (line ++ 10 ∷ rest) ≡ unended rest
 unfolding unended
 unended_cut line rest h =
     let first = first_piece is_line_feed rest in
     ap last_of (slice_split_at is_line_feed line 10 rest h refl) ∙ rw first.is refl
 
+-- the lines of a text are the line before its first line feed, and then those of the rest
 pub lines_cut : (line rest : List ℕ) → Without 10 line → lines_of (line ++ 10 ∷ rest) ≡ without_return line ∷ lines_of rest
 lines_cut line rest h =
     ap (λ t. t ++ last_line (unended (line ++ 10 ∷ rest))) (ended_cut line rest h)
@@ -136,9 +148,11 @@ return_one (b ∷ c ∷ text) = let further = return_one (c ∷ text) in omega a
 pub short_pending : (text : List ℕ) → is_too_long (without_return text) ≡ false → length text ≤ 4097
 short_pending text h = let one = return_one text in grind (arith, nat_tests, one, h)
 
+-- a line of more than 4096 bytes is too long
 pub is_long : (text line : List ℕ) → line ≡ text → 4096 < length line → is_too_long text ≡ true
 is_long text line e h = let k = ap length e in grind (arith, nat_tests, k, h)
 
+-- a line of at most 4096 bytes isn't too long
 pub is_short : (text line : List ℕ) → line ≡ text → length line ≤ 4096 → is_too_long text ≡ false
 is_short text line e h = let k = ap length e in grind (arith, nat_tests, k, h)
 
@@ -156,7 +170,7 @@ some_line : (text : List ℕ) → is_too_long text ≡ true → last_line text �
 some_line [] h = cc h
 some_line (b ∷ text) h = refl
 
--- a text that stands on one line and is too long: so is the first line of all that goes on with it
+-- a text that is one line and is too long: so is the first line of each text that begins with it
 pub long_first : (text rest : List ℕ) → Without 10 text → is_too_long (without_return text) ≡ true → LongFirst (lines_of (text ++ rest))
 unfolding ended_lines unended
 long_first text rest h long =

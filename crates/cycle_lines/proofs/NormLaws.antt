@@ -25,6 +25,7 @@ use Rattle.cycle_lines.specs.Normed.{name_line, name_lines, last_lines, WritesLa
 use Rattle.cycle_lines.specs.Steps.{ReaderSeen, HasRead, GivesLine, last_cycle}
 use Rattle.cycle_lines.proofs.ReadLaws.{Before, nothing_read, line_given, fault_given, no_cycles, given_before, all_before}
 
+-- a name, a colon and a blank, and the words of the edges make the line of a cycle
 pub line_text : (cycle : List Edge) (name words : List ℕ) → name ≡ name_of cycle → words ≡ join_by word_of (codes " ") (named_rotation cycle) →
     ((name ++ codes ": ") ++ words) ++ codes "\n" ≡ name_line cycle
 unfolding name_line
@@ -44,11 +45,12 @@ one_line cycle = append-nil (name_line cycle)
 is_zero : (n : ℕ) → true ≡ (n == 0) → n ≡ 0
 is_zero n h = grind (arith, nat_tests, h)
 
+-- a page that is found empty holds nothing
 pub nothing_held : (shown page : List ℕ) → shown ≡ page → true ≡ (length shown == 0) → [] ≡ page
 nothing_held [] page e h = e
 nothing_held (byte ∷ shown) page e h = let none = is_zero (length (byte ∷ shown)) h in absurd (omega arith)
 
--- where a page holds something, a line was sent
+-- where a page holds something, the line of a cycle was sent
 no_bytes : (front page : List ℕ) → 0 < length page → [] ++ [] ≡ front ++ page → ⊥
 no_bytes front page some e = absurd (omega (arith, some, ap length e, length-append front page))
 
@@ -58,12 +60,13 @@ pub record Normed (arch : ArchName) (first now : SourceSeen) (before after : Sin
   pub read : HasRead arch first now reader cycles
   pub sent : SentAll before [] after page (name_lines cycles)
 
+-- before anything is read, the lines of no cycle are sent
 pub nothing_normed : (arch : ArchName) (s : SourceSeen) (a : SinkSeen) (r : ReaderSeen) (page : List ℕ) → r ≡ record { pending = []; line = 1; taken = 0 } → page ≡ [] → Normed arch s s a a r page
 nothing_normed arch s a r page e f =
     subst (λ p. Normed arch s s a a r p) (sym f)
     (subst (λ q. Normed arch s s a a q []) (sym e) (record { cycles = []; read = nothing_read arch s; sent = sent_nothing a [] }))
 
--- the line of a cycle more
+-- the line of one more cycle
 name_lines_more : (cycles : List (List Edge)) (cycle : List Edge) → name_lines cycles ++ name_line cycle ≡ name_lines (cycles ++ cycle ∷ [])
 name_lines_more cycles cycle = sym (lines_more cycles (cycle ∷ []) ∙ ap (λ t. name_lines cycles ++ t) (one_line cycle))
 
@@ -71,6 +74,7 @@ cycle_given : (arch : ArchName) (s t : SourceSeen) (r q : ReaderSeen) (cycles : 
     → HasRead arch s t r cycles → GivesLine arch r q (Ok said) → said ≡ Some cycle → HasRead arch s t q (cycles ++ cycle ∷ [])
 cycle_given arch s t r q cycles said cycle h g e = subst (λ o. HasRead arch s t q (cycles ++ last_cycle o)) e (line_given arch s t r q cycles said h g)
 
+-- after the line of one more cycle is sent, the lines of the cycles given so far are sent
 pub line_normed : (arch : ArchName) (s t : SourceSeen) (a b c : SinkSeen) (r q : ReaderSeen) (page next : List ℕ) (said : Option (List Edge)) (cycle : List Edge)
     → Normed arch s t a b r page → GivesLine arch r q (Ok said) → said ≡ Some cycle → SentAll b page c next (name_line cycle) → Normed arch s t a c q next
 line_normed arch s t a b c r q page next said cycle given g e k = record {
@@ -92,7 +96,7 @@ blank_normed arch s t a b r q page said given g e = record {
   sent = given.sent;
 }
 
--- the sink fails, and has taken a prefix of the lines of cycles that stand before the first fault
+-- the sink fails, and has taken a prefix of the lines of the cycles before the first fault
 part_before : (arch : ArchName) (s t : SourceSeen) (a b : SinkSeen) (cycles : List (List Edge)) → Before arch s t cycles → WrotePart a b (name_lines cycles) → NormedPart arch s t a b
 part_before arch s t a b cycles h part = record {
   text = h.text;
@@ -135,6 +139,7 @@ fault_normed arch s t a b c r q page number kind given g e w = record {
 all_sent : (a c : SinkSeen) (page text : List ℕ) → page ≡ [] → WroteAll a c text → SentAll a [] c page text
 all_sent a c page text e w = subst (λ p. SentAll a [] c p text) (sym e) (record { front = text; parts = sym (append-nil text); wrote = w })
 
+-- where what was read has been written and the page is empty, the lines of the cycles given so far are sent
 pub more_normed : (arch : ArchName) (s t : SourceSeen) (a b : SinkSeen) (r : ReaderSeen) (page : List ℕ) (cycles : List (List Edge))
     → HasRead arch s t r cycles → WroteAll a b (name_lines cycles) → page ≡ [] → Normed arch s t a b r page
 more_normed arch s t a b r page cycles h w e = record { cycles = cycles; read = h; sent = all_sent a b page (name_lines cycles) e w }
@@ -156,7 +161,7 @@ normed_last arch s t a b c cycles cycle (Err (Lines error)) h w k = absurd k
 pub normed_up_to : (arch : ArchName) (s t : SourceSeen) (a b : SinkSeen) (cycles : List (List Edge)) (error : LinesError) → ReadUpTo arch s t cycles error → WroteAll a b (name_lines cycles) → NormedUpTo arch s t a b error
 normed_up_to arch s t a b cycles error h w = record { cycles = cycles; read = h; wrote = w }
 
--- room is made on a page, and then a line is put
+-- room is made on a page, and then a line is added
 pub line_sent : (a b : SinkSeen) (held kept page text line : List ℕ) → page ≡ page_after kept text → text ≡ line → SentAll a held b kept [] → length kept < SPILL → length text ≤ LINE_ROOM
     → Sends a held b page line (Ok tt)
 line_sent a b held kept page text line e f h room short =

@@ -64,6 +64,7 @@ kept_both (Some a) None c h k = absurd h
 kept_both (Some a) (Some b) None h k = absurd k
 kept_both (Some a) (Some b) (Some c) h k = k ∙ h
 
+-- what is left of a source is kept where nothing is read
 pub kept_same : (a : Option (List ℕ)) → Keeps a a
 kept_same None = tt
 kept_same (Some a) = refl
@@ -229,7 +230,7 @@ short_count buffer pending start end e order inside short =
     let size = length-take-le (end - start) (drop start buffer) (omega (arith, order, inside, length-drop start buffer)) in
     omega (arith, size, ap length e, short_pending pending short)
 
--- bytes that were read into a buffer stand behind those that were pending at its front
+-- bytes that were read into a buffer come after those that were pending at its start
 pub fills_behind : (s t : SourceSeen) (r q : ReaderSeen) (buffer : List ℕ) (middle room count : ℕ) →
     FillsBuffer s t buffer middle room count → middle + room ≤ length buffer → r.taken + room ≤ MAX_INPUT →
     take middle buffer ≡ r.pending → q.pending ≡ take (middle + count) buffer → q.line ≡ r.line → q.taken ≡ r.taken + count → Fills s t r q count
@@ -375,7 +376,7 @@ fault_last arch s t r cycles kind h some at_end one e =
     ∙ ap (λ ls. ls ++ last_line (unended r.pending)) (ended_none r.pending one) ∙ ap last_line (unended_all r.pending one) ∙ some_last r.pending some)
     (one_fault arch r.pending kind e)
 
--- sound lines stand before the first that has a fault
+-- sound lines come before the first line that has a fault
 sound_front : (arch : ArchName) (xs ys : List (List ℕ)) → are_sound arch xs ≡ true → take_while (is_sound arch) (xs ++ ys) ≡ xs ++ take_while (is_sound arch) ys
 sound_front arch [] ys h = refl
 sound_front arch (x ∷ xs) ys h =
@@ -383,13 +384,14 @@ sound_front arch (x ∷ xs) ys h =
     (λ e. take_while-cons (is_sound arch) x (xs ++ ys) ∙ rw e (ap (λ ls. x ∷ ls) (sound_front arch xs ys (rw e at h))))
     (λ e. let k = rw e at h in absurd (cc))
 
--- the cycles that were given stand before the first fault
+-- the cycles that were given come before the first fault
 pub record Before (arch : ArchName) (s t : SourceSeen) (cycles : List (List Edge)) : Type 0 where
   pub text : List ℕ
   pub read : ReadSome s t text
   pub more : List (List Edge)
   pub before : cycles_before arch (whole_of text t) ≡ cycles ++ more
 
+-- a list that ends with a cycle isn't empty
 pub no_cycles : (cycles : List (List Edge)) (cycle : List Edge) → cycles ++ cycle ∷ [] ≡ [] → ⊥
 no_cycles [] cycle e = cc e
 no_cycles (c ∷ cycles) cycle e = cc e
@@ -402,6 +404,7 @@ took_cycle arch s t r cycles h some = by_given h.given h.cycles_are (took_some s
     by_given [] e k = absurd (some (e ∙ ap (cycles_of arch) ended_nil))
     by_given (b ∷ given) e k = k (omega arith)
 
+-- the cycles that were given, if there are any, come before the first fault of the source
 pub given_before : (arch : ArchName) (s t : SourceSeen) (r : ReaderSeen) (cycles : List (List Edge)) → HasRead arch s t r cycles → (cycles ≡ [] → ⊥) → Before arch s t cycles
 given_before arch s t r cycles h some =
     let behind = lines_of (r.pending ++ unwrap_or t.left []) in
@@ -417,6 +420,7 @@ given_before arch s t r cycles h some =
           ∙ ap (λ cs. cs ++ cycles_of arch (take_while (is_sound arch) behind)) (sym h.cycles_are);
     }
 
+-- the cycles of a source without a fault come before its first fault
 pub all_before : (arch : ArchName) (s t : SourceSeen) (cycles : List (List Edge)) → ReadAll arch s t cycles → Before arch s t cycles
 all_before arch s t cycles h = record {
   text = h.text;
@@ -429,7 +433,7 @@ all_before arch s t cycles h = record {
       ∙ sym h.cycles_are ∙ sym (append-nil cycles);
 }
 
--- what is left of a buffer behind a line that is taken off
+-- what is left of a buffer after a line is taken off
 drop_all_front : (xs ys : List ℕ) (n : ℕ) → n ≡ length xs → drop n (xs ++ ys) ≡ ys
 drop_all_front [] ys zero e = refl
 drop_all_front [] ys (suc n) e = absurd (omega arith)
@@ -446,6 +450,7 @@ drop_take [] (suc k) m = ap (drop (suc k)) (take_none m) ∙ sym (take_none (m -
 drop_take (x ∷ xs) (suc k) zero = let e : zero - suc k ≡ 0 = omega arith in rw e
 drop_take (x ∷ xs) (suc k) (suc m) = let e : suc m - suc k ≡ m - k = omega arith in rw e (drop_take xs k m)
 
+-- the bytes of a buffer after a line that was cut off and its line feed are what is pending
 pub buffer_left : (buffer pending bytes behind : List ℕ) (start end next : ℕ) → pending ≡ take (end - start) (drop start buffer) → CutsAt 10 pending bytes behind →
     next ≡ start + (length bytes + 1) → take (end - next) (drop next buffer) ≡ behind
 buffer_left buffer pending bytes behind start end next e cut n =
@@ -457,13 +462,15 @@ buffer_left buffer pending bytes behind start end next e cut n =
     ∙ ap (take ((end - start) - (length bytes + 1))) (sym (drop-drop (length bytes + 1) start buffer))
     ∙ sym (drop_take (drop start buffer) (length bytes + 1) (end - start)) ∙ ap (drop (length bytes + 1)) (sym e) ∙ behind_is
 
+-- a line that was given is the next line
 pub given_next : (arch : ArchName) (r q : ReaderSeen) (cycle : Option (List Edge)) (line : Line) (said : Result (Option (List Edge)) LineKind) → said_by line cycle ≡ Some said → GivesLine arch r q said → GivesNext arch r q cycle line
 given_next arch r q cycle line said e h = subst (λ o. MatchOption o (Without 10 r.pending × (q ≡ r)) (λ said. GivesLine arch r q said)) (sym e) h
 
--- a line falls off the work
+-- a line is taken off the work
 pub line_less : (arch : ArchName) (r q : ReaderSeen) (said : Result (Option (List Edge)) LineKind) → GivesLine arch r q said → work q < work r
 line_less arch r q said g = omega (arith, g.taken_is, ap length g.cut.parts, length-append g.bytes (10 ∷ q.pending))
 
+-- the line that is cut off the pending bytes is given
 pub given_line : (arch : ArchName) (r q : ReaderSeen) (bytes behind : List ℕ) (said : Result (Option (List Edge)) LineKind) → CutsAt 10 r.pending bytes behind → q.pending ≡ behind →
     said ≡ line_said arch (without_return bytes) → q.line ≡ r.line + 1 → q.taken ≡ r.taken → GivesLine arch r q said
 given_line arch r q bytes behind said cut e says line taken = record { bytes = bytes; cut = subst (CutsAt 10 r.pending bytes) (sym e) cut; says = says; line_is = line; taken_is = taken }
@@ -477,6 +484,7 @@ some_read (b ∷ buffer) (suc n) h e = omega arith
 not_zero : (n : ℕ) → false ≡ (n == 0) → n ≡ 0 → ⊥
 not_zero n h e = let k : (n == 0) ≡ true = ap (λ m. m == 0) e in cc
 
+-- what isn't found empty has a byte
 pub some_if : (text pending : List ℕ) → text ≡ pending → false ≡ (length text == 0) → 0 < length pending
 some_if text pending e h = by_length (length pending) refl
   where
@@ -484,14 +492,16 @@ some_if text pending e h = by_length (length pending) refl
     by_length zero k = absurd (not_zero (length text) h (ap length e ∙ k))
     by_length (suc n) k = omega arith
 
+-- where nothing more may follow, there is no more to do
 pub ends_less : (old new : ℕ) (result : Result Found LinesError) → Ends result → LessToDo old new result
 ends_less old new (Ok Next) h = absurd h
 ends_less old new (Ok Last) h = tt
 ends_less old new (Err error) h = tt
 
--- what was found, taken apart
+-- what was found, by its cases
 pub found_next : (arch : ArchName) (s t : SourceSeen) (r : ReaderSeen) (cycles : List (List Edge)) (cycle : Option (List Edge)) (found : Found) → found ≡ Next → Continues arch s t r cycles cycle (Ok found) → HasRead arch s t r (cycles ++ last_cycle cycle)
 found_next arch s t r cycles cycle found e h = subst (λ f. Continues arch s t r cycles cycle (Ok f)) e h
 
+-- where the last line was found, the source was read to its end
 pub found_last : (arch : ArchName) (s t : SourceSeen) (r : ReaderSeen) (cycles : List (List Edge)) (cycle : Option (List Edge)) (found : Found) → found ≡ Last → Continues arch s t r cycles cycle (Ok found) → ReadAll arch s t (cycles ++ last_cycle cycle)
 found_last arch s t r cycles cycle found e h = subst (λ f. Continues arch s t r cycles cycle (Ok f)) e h

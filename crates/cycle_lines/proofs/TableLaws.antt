@@ -40,7 +40,7 @@ map_more : {A B : Type 0} (f : A → B) (xs : List A) (x : A) → map f (xs ++ x
 map_more f [] x = refl
 map_more f (y ∷ xs) x = ap (λ t. f y ∷ t) (map_more f xs x)
 
--- the names of a family with a cycle more
+-- the names of a family with one more cycle
 names_more : (f : Family) (cycles : List (List Edge)) (c : List Edge) →
     family_names f (cycles ++ c ∷ []) ≡ cond (is_family (family_of c) f) (with_text (family_names f cycles) (name_of c)) (family_names f cycles)
 unfolding family_names
@@ -79,13 +79,13 @@ table_more cycles c =
     ∙ entries_by (λ f. cond (is_family (family_of c) f) (with_text (family_names f cycles) (name_of c)) (family_names f cycles)) (λ f. family_names f (cycles ++ c ∷ []))
     (λ f. sym (names_more f cycles c)) families_in_order
 
--- a cycle more is kept
+-- one more cycle is kept
 pub adds_cycle : (old new : List FamilyNames) (c : List Edge) (place : ℕ) (name : List ℕ) → place ≡ place_of (family_of c) → name ≡ name_of c →
     ◌≡◌ {A = List Entry} (map entry_view new) (name_put place name (map entry_view old)) → Adds (map entry_view old) (map entry_view new) c
 adds_cycle old new c place name e f h = λ cycles holds.
     h ∙ ap (λ table. name_put place name table) holds ∙ ap (λ p. name_put p name (table_of cycles)) e ∙ ap (λ n. name_put (place_of (family_of c)) n (table_of cycles)) f ∙ table_more cycles c
 
--- a set in which a text is put
+-- a set to which a text is added
 shown_insert : (cmp : Vec ℕ Global → Vec ℕ Global → Ordering) → ((x y : Vec ℕ Global) → cmp x y ≡ slice_cmp nat_cmp x.items y.items) → (keys : List (Vec ℕ Global)) (key : Vec ℕ Global)
     → map (λ text. text.items) (insert_key cmp keys key) ≡ insert_key (slice_cmp nat_cmp) (map (λ text. text.items) keys) key.items
 shown_insert cmp same [] key = refl
@@ -99,14 +99,16 @@ shown_insert cmp same (x ∷ keys) key =
     by_ordering further Equal = refl
     by_ordering further Greater = ap (λ t. x.items ∷ t) further
 
+-- the texts of a set into which a key was inserted are the old ones with that text
 pub set_shown : (old new : BTreeSet (Vec ℕ Global)) (cmp : Vec ℕ Global → Vec ℕ Global → Ordering) (key : Vec ℕ Global) → ((x y : Vec ℕ Global) → cmp x y ≡ slice_cmp nat_cmp x.items y.items) →
     new.keys ≡ insert_key cmp old.keys key → texts_of new ≡ with_text (texts_of old) key.items
 set_shown old new cmp key same e = ap (map (λ text. text.items)) e ∙ shown_insert cmp same old.keys key
 
--- a table in which a name is put
+-- a table to which a name is added
 put_entry : (old new : FamilyNames) (name : List ℕ) → new.family ≡ old.family → texts_of new.names ≡ with_text (texts_of old.names) name → ◌≡◌ {A = Entry} (entry_view new) (entry_with name (entry_view old))
 put_entry old new name e f = rw (e, f) refl
 
+-- where a name is added to the entry at a place, the table is seen with that name at the place
 pub put_shown : (table : List FamilyNames) (place : ℕ) (old new : FamilyNames) (name : List ℕ) → place < length table → old ≡ get_or table place old → new.family ≡ old.family → texts_of new.names ≡ with_text (texts_of old.names) name →
     ◌≡◌ {A = List Entry} (map entry_view (slice_set table place new)) (name_put place name (map entry_view table))
 put_shown [] place old new name h is e f = absurd (omega arith)
@@ -114,6 +116,7 @@ put_shown (x ∷ table) zero old new name h is e f =
     ap (λ (entry : Entry). entry ∷ map entry_view table) (put_entry old new name e f ∙ ap (λ (x : FamilyNames). entry_with name (entry_view x)) is)
 put_shown (x ∷ table) (suc k) old new name h is e f = ap (λ (t : List Entry). entry_view x ∷ t) (put_shown table k old new name (omega arith) is e f)
 
+-- what holds where a call succeeded may be weakened
 pub ok_then : {A E P Q : Type 0} (r : Result A E) → (P → Q) → OnOk r P → OnOk r Q
 ok_then (Ok x) f h = f h
 ok_then (Err e) f h = tt
@@ -122,7 +125,7 @@ ok_then (Err e) f h = tt
 pub sends_nothing : (a : SinkSeen) (held text : List ℕ) → [] ≡ text → Sends a held a held text (Ok tt)
 sends_nothing a held text e = record { ok = sent_same a a held held [] text (sent_nothing a held) e; failed = tt }
 
--- what is left where a call of the sink fails
+-- what a failed call of the sink leaves
 pub unsent_err : (Q : Failed → Type 0) (a b : SinkSeen) (held kept text : List ℕ) (result : Result (Unit {0}) Failed) → WrotePart a b (held ++ text) → IsErrAnd result Q → Sends a held b kept text result
 unsent_err Q a b held kept text (Ok _) h is_err = absurd is_err
 unsent_err Q a b held kept text (Err _) h is_err = record { ok = tt; failed = h }
@@ -131,6 +134,7 @@ unsent_err Q a b held kept text (Err _) h is_err = record { ok = tt; failed = h 
 pub sent_of : (a b : SinkSeen) (held kept text : List ℕ) → held ≡ [] → SentAll a held b kept text → SentAll a [] b kept text
 sent_of a b held kept text e h = subst (λ p. SentAll a p b kept text) e h
 
+-- what is sent from a page that holds nothing is sent from an empty page
 pub sends_of : (a b : SinkSeen) (held kept text : List ℕ) (result : Result (Unit {0}) Failed) → held ≡ [] → Sends a held b kept text result → Sends a [] b kept text result
 sends_of a b held kept text result e h = subst (λ p. Sends a p b kept text result) e h
 
@@ -141,6 +145,7 @@ entry_as a b held kept s t e h = subst (λ x. SentAll a held b kept (name_entry 
 names_then : (names : List (List ℕ)) (name : List ℕ) → flat_map name_entry (names ++ name ∷ []) ≡ flat_map name_entry names ++ name_entry name
 names_then names name = flat_map-append name_entry names (name ∷ []) ∙ ap (λ t. flat_map name_entry names ++ t) (append-nil (name_entry name))
 
+-- one more name is sent after the names so far
 pub names_go : (a b c : SinkSeen) (held mid kept : List ℕ) (ys : List (Bor (Vec ℕ Global))) (x : Bor (Vec ℕ Global)) (text : List ℕ) → text ≡ x.now.items
     → SentAll a held b mid (flat_map name_entry (map (λ name. name.now.items) ys)) → SentAll b mid c kept (name_entry text)
     → SentAll a held c kept (flat_map name_entry (map (λ name. name.now.items) (ys ++ x ∷ [])))
@@ -149,6 +154,7 @@ names_go a b c held mid kept ys x text e h k =
     subst (SentAll a held c kept) (sym (ap (flat_map name_entry) (map_more (λ (name : Bor (Vec ℕ Global)). name.now.items) ys x) ∙ names_then shown x.now.items))
     (sent_both a b c held mid kept (flat_map name_entry shown) (name_entry x.now.items) h (entry_as b c mid kept text x.now.items e k))
 
+-- the names that were passed, with one more, and those that are left are all names
 pub names_cover : (ys : List (Bor (Vec ℕ Global))) (it rest : List (Vec ℕ Global)) (x : Bor (Vec ℕ Global)) (all : List (List ℕ)) → it ≡ x.now ∷ rest →
     map (λ name. name.now.items) ys ++ map (λ name. name.items) it ≡ all → map (λ name. name.now.items) (ys ++ x ∷ []) ++ map (λ name. name.items) rest ≡ all
 names_cover ys it rest x all h k =
@@ -156,6 +162,7 @@ names_cover ys it rest x all h k =
     let g = λ (name : Vec ℕ Global). name.items in
     ap (λ t. t ++ map g rest) (map_more f ys x) ∙ append_assoc (map f ys) (f x ∷ []) (map g rest) ∙ ap (λ t. map f ys ++ map g t) (sym h) ∙ k
 
+-- where the sink fails at a name, it has taken a prefix of what the page held and the lines of all names
 pub names_stop : (a b c : SinkSeen) (held mid : List ℕ) (ys : List (Bor (Vec ℕ Global))) (it rest : List (Vec ℕ Global)) (x : Bor (Vec ℕ Global)) (text : List ℕ) (all : List (List ℕ))
     → text ≡ x.now.items → it ≡ x.now ∷ rest → map (λ name. name.now.items) ys ++ map (λ name. name.items) it ≡ all
     → SentAll a held b mid (flat_map name_entry (map (λ name. name.now.items) ys)) → WrotePart b c (mid ++ name_entry text) → WrotePart a c (held ++ flat_map name_entry all)
@@ -182,6 +189,7 @@ pub each_entry : (a b c : SinkSeen) (held mid kept : List ℕ) (table : List Fam
 each_entry a b c held mid kept table i entry h is p q =
     each_sent (λ e. entry_text (entry_view e)) a b c held mid kept table i entry h p (subst (λ e. SentAll b mid c kept (entry_text (entry_view e))) is q)
 
+-- where the sink fails at a family, it has taken a prefix of what the page held and the lines of all families
 pub part_entry : (a b c : SinkSeen) (held mid : List ℕ) (table : List FamilyNames) (i : ℕ) (entry : FamilyNames) → i < length table → entry ≡ get_or table i entry
     → SentAll a held b mid (flat_map (λ e. entry_text (entry_view e)) (take i table)) → WrotePart b c (mid ++ entry_text (entry_view entry))
     → WrotePart a c (held ++ flat_map (λ e. entry_text (entry_view e)) table)
@@ -194,6 +202,7 @@ unfolding family_text
 no_text f [] h = refl
 no_text f (n ∷ names) h = absurd (omega arith)
 
+-- the lines of a family with a name are its word and a colon, and then the lines of its names
 pub some_text : (f : Family) (names : List (List ℕ)) → 0 < length names → (family_word f ++ codes ":\n") ++ flat_map name_entry names ≡ family_text f names
 unfolding family_text
 some_text f [] h = absurd (omega arith)
@@ -206,9 +215,11 @@ map_length f (x ∷ xs) = ap suc (map_length f xs)
 texts_length : (set : BTreeSet (Vec ℕ Global)) → length (texts_of set) ≡ btree_set_len set
 texts_length set = map_length (λ text. text.items) set.keys
 
+-- a set of length 0 holds no text
 pub empty_set : (set : BTreeSet (Vec ℕ Global)) → IsTrue true ↔ (btree_set_len set ≡ 0) → length (texts_of set) ≡ 0
 empty_set set h = texts_length set ∙ h.0 refl
 
+-- a set of another length holds a text
 pub some_set : (set : BTreeSet (Vec ℕ Global)) → IsTrue false ↔ (btree_set_len set ≡ 0) → 0 < length (texts_of set)
 some_set set h = by_length (length (texts_of set)) refl
   where
@@ -222,16 +233,19 @@ unfolding families_text
 all_text table cycles h =
     sym (flat_map-map entry_text entry_view table) ∙ ap (flat_map entry_text) h ∙ flat_map-map entry_text (λ f. (f, family_names f cycles)) families_in_order
 
+-- the text of a table that holds the names of cycles is that of their families
 pub table_text : (table items : List FamilyNames) (cycles : List (List Edge)) → table ≡ items → Holds (map entry_view items) cycles → flat_map (λ entry. entry_text (entry_view entry)) table ≡ families_text cycles
 table_text table items cycles e h = ap (flat_map (λ entry. entry_text (entry_view entry))) e ∙ all_text items cycles h
 
+-- where the names were gathered and the text of the families was written, all was classified
 pub classified : (arch : ArchName) (s t : SourceSeen) (a b : SinkSeen) (table : List Entry) (h : Gathered arch s t table) → WroteAll a b (families_text h.cycles) → ClassifiedAll arch s t a b
 classified arch s t a b table h w = record { cycles = h.cycles; read = h.read; wrote = w }
 
+-- where the names were gathered and the sink failed, a prefix of the text was written
 pub classified_part : (arch : ArchName) (s t : SourceSeen) (a b : SinkSeen) (table : List Entry) (h : Gathered arch s t table) → WrotePart a b (families_text h.cycles) → ClassifiedPart arch s t a b
 classified_part arch s t a b table h w = record { cycles = h.cycles; read = h.read; wrote = w }
 
--- nothing is kept yet
+-- nothing is kept at the start
 pub none_held : (table : List FamilyNames) → ◌≡◌ {A = List Entry} (map entry_view table) (map (λ f. (f, [])) families_in_order) → Holds (map entry_view table) []
 unfolding family_names
 none_held table e = e
@@ -240,6 +254,7 @@ none_held table e = e
 pub part_read : (arch : ArchName) (s t : SourceSeen) (r : ReaderSeen) (cycles : List (List Edge)) → HasRead arch s t r cycles → ReadsPart s t
 part_read arch s t r cycles h = record { text = h.given ++ r.pending; took = h.took; few = subst (λ n. n ≤ MAX_INPUT) h.taken_is h.few; no_fault = h.no_fault }
 
+-- a source that was read to its end was read without a fault
 pub whole_read : (arch : ArchName) (s t : SourceSeen) (cycles : List (List Edge)) → ReadAll arch s t cycles → ReadsPart s t
 whole_read arch s t cycles h = record { text = h.text; took = inl h.took; few = h.few; no_fault = h.no_fault }
 
@@ -252,6 +267,7 @@ pub record Gathering (arch : ArchName) (first now : SourceSeen) (reader : Reader
   pub read : HasRead arch first now reader cycles
   pub holds : Holds table cycles
 
+-- before anything is read, the names of no cycle are gathered
 pub nothing_gathered : (arch : ArchName) (s : SourceSeen) (r : ReaderSeen) (table : List Entry) → r ≡ record { pending = []; line = 1; taken = 0 } → Holds table [] → Gathering arch s s r table
 nothing_gathered arch s r table e h = subst (λ r. Gathering arch s s r table) (sym e) (record { cycles = []; read = nothing_read arch s; holds = h })
 

@@ -1,4 +1,4 @@
--- What is made of the edges of a text, as they are kept.
+-- How the edges of a text are kept, and what is made of them.
 use Rattle.std.proofs.Common.{◌≡◌, true, false, nat_lt, nat_le, List, [], ◌∷◌, length, Option, Some, None, Err, refl, ap, ◌∙◌, arith, lit≤}
 use Rattle.std.specs.Option.{option_map}
 use Rattle.std.proofs.lemmas.Bool.Decides.{nat_tests}

@@ -37,7 +37,7 @@ with_text texts text = insert_key (slice_cmp nat_cmp) texts text
 unfoldable pub family_names : Family → List (List Edge) → List (List ℕ)
 family_names f cycles = fold with_text [] (map name_of (filter (λ cycle. is_family (family_of cycle) f) cycles))
 
--- the line of a name, behind two blanks
+-- the line of a name, after two blanks
 abbrev pub name_entry : List ℕ → List ℕ
 name_entry name = codes "  " ++ name ++ codes "\n"
 
@@ -56,7 +56,7 @@ pub record ClassifiedAll (arch : ArchName) (old new : SourceSeen) (before after 
   pub read : ReadAll arch old new cycles
   pub wrote : WroteAll before after (families_text cycles)
 
--- a source was read to its end, and the sink failed and took a front of what was to be written
+-- a source was read to its end, and the sink failed and took a prefix of what was to be written
 pub record ClassifiedPart (arch : ArchName) (old new : SourceSeen) (before after : SinkSeen) : Type 0 where
   pub cycles : List (List Edge)
   pub read : ReadAll arch old new cycles

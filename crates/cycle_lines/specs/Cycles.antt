@@ -19,7 +19,7 @@ use Rattle.cycle_lines.specs.declared.errors.LineKind.TheVariants.{LineTooLong, 
 abbrev pub is_too_long : List ℕ → Bool
 is_too_long line = nat_lt MAX_LINE (length line)
 
--- what stands behind the first colon, where there is one
+-- what comes after the first colon, where there is one
 unfoldable pub after_colon : List ℕ → Option (List ℕ)
 after_colon [] = None
 after_colon (byte ∷ text) = cond (byte == 58) (Some text) (after_colon text)
@@ -44,6 +44,7 @@ cycle_made arch (e ∷ u) =
     cond (nat_lt MAX_EDGES (length (e ∷ u))) (Err TooLong)
     (cond (are_of_arch arch (e ∷ u)) (composed_or (composed (e ∷ u))) (Err NotOfArch))
 
+-- what a line says whose edges were read: the cycle that they make or their fault, or that a word in it is no edge
 abbrev pub spelled_made : ArchName → Option (List Edge) → Result (Option (List Edge)) LineKind
 spelled_made arch None = Err UnknownEdge
 spelled_made arch (Some edges) = cycle_made arch edges
@@ -72,6 +73,7 @@ line_said arch line =
 abbrev pub fault_of : ArchName → List ℕ → Option LineKind
 fault_of arch line = result_err (line_said arch line)
 
+-- a line has no fault
 abbrev pub is_sound : ArchName → List ℕ → Bool
 is_sound arch line = is_ok (line_said arch line)
 

@@ -8,7 +8,7 @@ use Rattle.cycle_lines.specs.declared.errors.LineKind.{LineKind}
 use Rattle.cycle_lines.specs.declared.errors.LineKind.TheVariants as kinds
 use Rattle.cycle_lines.specs.Cycles.{cycle_made}
 
--- what a line says, which was put where it was to be, or its fault
+-- what a line says, or its fault
 abbrev pub said_with : Result (Unit {0}) LineKind → Option (List Edge) → Result (Option (List Edge)) LineKind
 said_with (Ok _) cycle = Ok cycle
 said_with (Err kind) cycle = Err kind

@@ -7,11 +7,11 @@ use Rattle.text_laws.specs.Lines.{is_line_feed, without_return, but_last, last_o
 unfoldable pub ended_lines : List ℕ → List (List ℕ)
 ended_lines text = map without_return (but_last (slice_split is_line_feed text))
 
--- what stands behind the last line feed
+-- what comes after the last line feed
 unfoldable pub unended : List ℕ → List ℕ
 unended text = last_of (slice_split is_line_feed text)
 
--- what stands behind the last line feed is a line if it has a byte
+-- what comes after the last line feed is a line if it has a byte
 abbrev pub last_line : List ℕ → List (List ℕ)
 last_line [] = []
 last_line (byte ∷ bytes) = (byte ∷ bytes) ∷ []

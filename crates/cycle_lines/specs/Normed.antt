@@ -27,7 +27,7 @@ abbrev pub last_lines : Option (List Edge) → List ℕ
 last_lines (Some cycle) = name_line cycle
 last_lines None = []
 
--- a text is written, or a front of it
+-- a text is written, or a prefix of it where the sink fails
 abbrev pub WritesLast : List ℕ → SinkSeen → SinkSeen → Result (Unit {0}) NormError → Type 0
 WritesLast text before after (Ok _) = WroteAll before after text
 WritesLast text before after (Err OutFault) = WrotePart before after text
@@ -45,7 +45,7 @@ pub record NormedUpTo (arch : ArchName) (old new : SourceSeen) (before after : S
   pub read : ReadUpTo arch old new cycles error
   pub wrote : WroteAll before after (name_lines cycles)
 
--- the sink failed, and took a front of the lines of the cycles that stand before the first fault of what the source had
+-- the sink failed, and took a prefix of the lines of the cycles before the first fault of what the source had
 pub record NormedPart (arch : ArchName) (old new : SourceSeen) (before after : SinkSeen) : Type 0 where
   pub text : List ℕ
   pub read : ReadSome old new text

@@ -15,7 +15,7 @@ use Rattle.cycle_lines.specs.Lines.{ended_lines, unended, lines_of}
 use Rattle.text_laws.specs.Lines.{without_return}
 use Rattle.cycle_lines.specs.Cycles.{FirstFault, are_sound, cycles_of, is_sound, is_too_long}
 
--- what was taken of a source and, where it tells that, what is left of it: then all that it had
+-- what was taken of a source and, where its text is known, what is left of it: then all that it had
 abbrev pub whole_of : List ℕ → SourceSeen → List ℕ
 whole_of text seen = text ++ unwrap_or seen.left []
 
@@ -50,7 +50,7 @@ pub record ReadToFault (arch : ArchName) (old new : SourceSeen) (cycles : List (
   pub cycles_are : cycles ≡ cycles_of arch before
 
 -- a source has more bytes than are read, no line that ends among these has a fault, nor is the last of them too long
--- already, and these are the cycles of those lines; the line is the one behind the last line feed among these bytes
+-- already, and these are the cycles of those lines; the line is the one after the last line feed among these bytes
 pub record ReadToLimit (arch : ArchName) (old new : SourceSeen) (cycles : List (List Edge)) (line : ℕ) : Type 0 where
   pub text : List ℕ
   pub took : Took old new text

@@ -10,6 +10,6 @@ whole_by None new text all h e = cc e
 whole_by (Some xs) None text all h e = absurd h
 whole_by (Some xs) (Some ys) text all h e = let same : xs ≡ all = cc e in sym h ∙ same
 
--- where a source tells its bytes, what was taken and what is left are all that it had
+-- where a source's bytes are known, what was taken and what is left are all that it had
 pub whole_is : (old new : SourceSeen) (text all : List ℕ) → Took old new text → old.left ≡ Some all → whole_of text new ≡ all
 whole_is old new text all h e = whole_by old.left new.left text all h.consumed e

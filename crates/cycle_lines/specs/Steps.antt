@@ -1,4 +1,4 @@
--- What a reader of lines stands for, and how it goes on.
+-- What a reader of lines represents, and how it goes on.
 use Rattle.std.specs.Prelude.{◌≡◌, ◌≤◌, ◌<◌, ◌==◌, ℕ, ◌+◌, ◌-◌, ◌*◌, true, false, List, [], ◌∷◌, ◌++◌, length, take, drop, Option, Some, None, Result, Ok, Err, All, MatchOption}
 use Rattle.std.specs.Io.KnownBytes.{IsAtEnd}
 use Rattle.diy_io.specs.declared.source.TheConstants.{MAX_INPUT}
@@ -21,7 +21,7 @@ use Rattle.cycle_lines.specs.Reading.{ReadAll, ReadUpTo, TookUpTo, Untouched}
 abbrev pub Without : ℕ → List ℕ → Type 0
 Without sign text = All (λ byte. (byte == sign) ≡ false) text
 
--- a text is a front without a byte, that byte, and what stands behind it
+-- a text is a prefix without a byte, that byte, and what comes after it
 pub record CutsAt (sign : ℕ) (text front behind : List ℕ) : Type 0 where
   pub without : Without sign front
   pub parts : text ≡ front ++ sign ∷ behind
@@ -56,7 +56,7 @@ pub record GivesLine (arch : ArchName) (old new : ReaderSeen) (said : Result (Op
   pub line_is : new.line ≡ old.line + 1
   pub taken_is : new.taken ≡ old.taken
 
--- what the next line says, if it is pending as a whole: it was put where it was to be, or is its fault
+-- what the next line says, if it is pending as a whole
 abbrev pub said_by : Line → Option (List Edge) → Option (Result (Option (List Edge)) LineKind)
 said_by lines.Read cycle = Some (Ok cycle)
 said_by (lines.Wrong kind) cycle = Some (Err kind)
@@ -83,7 +83,7 @@ pub record Fills (old new : SourceSeen) (before after : ReaderSeen) (count : ℕ
   pub taken_is : after.taken ≡ before.taken + length bytes
   pub few : after.taken ≤ MAX_INPUT
 
--- so many bytes were taken from a source, and stand in a buffer from a place on; none only at its end
+-- so many bytes were taken from a source, and are in a buffer from a place on; none only at its end
 pub record FillsBuffer (old new : SourceSeen) (buffer : List ℕ) (start room count : ℕ) : Type 0 where
   pub took : Took old new (take count (drop start buffer))
   pub within : count ≤ room
@@ -122,7 +122,7 @@ abbrev pub ReadsLast : ArchName → ReaderSeen → Option (List Edge) → Result
 ReadsLast arch reader cycle result =
     (first last : SourceSeen) (cycles : List (List Edge)) → HasRead arch first last reader cycles → Ended last → ReadToEnd arch first last cycles cycle result
 
--- the same, and what is found is told
+-- the same, for what is found
 abbrev pub FindsLast : ArchName → ReaderSeen → Option (List Edge) → Result Found LinesError → Type 0
 FindsLast arch reader cycle result =
     (first last : SourceSeen) (cycles : List (List Edge)) → HasRead arch first last reader cycles → Ended last → Continues arch first last reader cycles cycle result
@@ -138,6 +138,7 @@ abbrev pub Refilled : ArchName → SourceSeen → SourceSeen → ReaderSeen → 
 Refilled arch old new reader cycles (Ok count) = HasRead arch old new reader cycles × (count ≡ 0 → Ended new)
 Refilled arch old new reader cycles (Err error) = ReadUpTo arch old new cycles error
 
+-- a call that refills a reader gives more bytes, the end of the source or the reason, whatever was read before it
 abbrev pub Refills : SourceSeen → SourceSeen → ReaderSeen → ReaderSeen → Result ℕ LinesError → Type 0
 Refills old new before after result =
     (arch : ArchName) (first : SourceSeen) (cycles : List (List Edge)) → HasRead arch first old before cycles → Refilled arch first new after cycles result

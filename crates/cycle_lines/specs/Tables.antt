@@ -41,9 +41,11 @@ texts_of set = map (λ text. text.items) set.keys
 abbrev pub Entry : Type 0
 Entry = Family × List (List ℕ)
 
+-- the entry that a kept family with its names represents
 abbrev pub entry_view : FamilyNames → Entry
 entry_view entry = (entry.family, texts_of entry.names)
 
+-- the lines of an entry
 abbrev pub entry_text : Entry → List ℕ
 entry_text entry = family_text entry.0 entry.1
 
@@ -55,14 +57,15 @@ table_of cycles = map (λ f. (f, family_names f cycles)) families_in_order
 abbrev pub Holds : List Entry → List (List Edge) → Type 0
 Holds table cycles = ◌≡◌ {A = List Entry} table (table_of cycles)
 
--- one name more at a place
+-- one more name at a place
 abbrev pub entry_with : List ℕ → Entry → Entry
 entry_with name entry = (entry.0, with_text entry.1 name)
 
+-- a table with one more name in the entry at a place
 abbrev pub name_put : ℕ → List ℕ → List Entry → List Entry
 name_put place name table = slice_set table place (entry_with name (slice_index_or table place (families.SB, [])))
 
--- a cycle more is kept
+-- one more cycle is kept
 abbrev pub Adds : List Entry → List Entry → List Edge → Type 0
 Adds old new cycle = (cycles : List (List Edge)) → Holds old cycles → Holds new (cycles ++ cycle ∷ [])
 

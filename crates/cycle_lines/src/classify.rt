@@ -13,7 +13,7 @@ use std::alloc::Global;
 
 /// Reads lines of cycles of an architecture, as `norm_lines` does, and then writes for each family
 /// that has a cycle, in the order of `Family`, a line of its name and a colon, and the names of its
-/// cycles, each once and behind two blanks, in byte order.
+/// cycles, each once and after two blanks, in byte order.
 ///
 /// Where the lines can't be read to the end, or there is no memory, nothing is written. Where the
 /// sink fails, it has taken a prefix of the text.
@@ -66,7 +66,7 @@ fn gather<I: Source>(
     }
 }
 
-/// Puts the name of the cycle of a line, if it has one.
+/// Adds the name of the cycle of a line, if it has one.
 fn put_said(families: &mut Families, cycle: &Option<Cycle>) -> Result<(), NoMemory>
     ensures { OnOk result (AddsLast families.old families.new cycle.now) }
 {

@@ -29,7 +29,7 @@ pub enum LinesError {
     /// The line of this number, counted from 1, has a fault, and no line before it has one.
     #[error("line {line}: {kind}")]
     Wrong { line: u64, kind: LineKind },
-    /// There are more than `MAX_INPUT` bytes. The line is the one behind the last line feed among the first of these,
+    /// There are more than `MAX_INPUT` bytes. The line is the one after the last line feed among the first of these,
     /// and no line before it has a fault.
     #[error("line {line}: there are too many bytes")]
     TooMuch { line: u64 },

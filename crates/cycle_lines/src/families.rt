@@ -34,7 +34,7 @@ impl Model for Families {
 }
 
 impl Families {
-    /// Those of no cycle yet.
+    /// Those of no cycle.
     pub fn new(alloc: Global) -> Result<Families, NoMemory>
         ensures { IfOk result (λ families. Holds families []) }
     {
@@ -44,7 +44,7 @@ impl Families {
         })
     }
 
-    /// Puts the name of a cycle to those of its family. The error comes for want of memory alone.
+    /// Adds the name of a cycle to those of its family. The error comes for want of memory alone.
     pub fn put(&mut self, cycle: &Cycle) -> Result<(), NoMemory>
         ensures { OnOk result ((cycles : List (List Edge)) → Holds self.old cycles → Holds self.new (cycles ++ cycle.now ∷ [])) }
     {
@@ -52,7 +52,7 @@ impl Families {
     }
 
     /// Writes, for each family that has a cycle, in the order of `Family`, a line of its name and a
-    /// colon, and its names, each behind two blanks, in byte order. Where the sink fails, it has taken
+    /// colon, and its names, each after two blanks, in byte order. Where the sink fails, it has taken
     /// a prefix of that.
     pub fn write<O: Sink>(&self, out: &mut O) -> Result<(), Failed>
         ensures { (cycles : List (List Edge)) → Holds self.now cycles → Wrote (O.seen out.old) (O.seen out.new) (families_text cycles) result }

@@ -21,7 +21,7 @@ const PIECE: usize = 36_864;
 /// Room for a piece, after a line of `MAX_LINE` bytes and its carriage return.
 const BUFFER: usize = PIECE + MAX_LINE + 1;
 
-/// What is found after the lines that were given. The cycle that it says is put where it is to be.
+/// What is found after the lines that were given. The cycle that it says is stored where it is to be.
 #[derive(Clone, Copy)]
 pub(crate) enum Found {
     /// The next line.
@@ -33,7 +33,7 @@ pub(crate) enum Found {
 /// Whether the next line was read.
 #[derive(Clone, Copy)]
 pub(crate) enum Line {
-    /// It was, and the cycle that it says, if any, is put where it is to be.
+    /// It was, and the cycle that it says, if any, is stored where it is to be.
     Read,
     /// It has a fault.
     Wrong(LineKind),
@@ -45,7 +45,7 @@ pub(crate) enum Line {
 ///
 /// It is read in pieces of up to 36,864 bytes, and read on only where no whole line is pending. Of a
 /// line that isn't whole at most `MAX_LINE` bytes and a carriage return are held then, and the next
-/// piece stands after them: a line of more bytes is too long, and nothing is read after it.
+/// piece comes after them: a line of more bytes is too long, and nothing is read after it.
 ///
 /// Contracts see the bytes that were taken and aren't given yet, the number of the line that they
 /// begin with, and how many bytes were taken.
@@ -72,7 +72,7 @@ impl Model for LineReader {
 }
 
 impl LineReader {
-    /// A reader that has read nothing yet.
+    /// A reader that has read nothing.
     pub(crate) fn new() -> LineReader
         ensures { result ≡ record { pending = []; line = 1; taken = 0 } }
     {
@@ -187,7 +187,7 @@ impl LineReader {
         }
     }
 
-    /// Reads on, as `refill` does, once the page is handed on to which the lines of the cycles were put:
+    /// Reads on, as `refill` does, once the page with the lines of the cycles is handed on:
     /// no line of a cycle that was read before waits for more input.
     pub(crate) fn read_more<I: Source>(
         &mut self,
@@ -268,7 +268,7 @@ fn line_of(read: Result<(), LineKind>) -> Line
     }
 }
 
-/// Moves a part of a buffer to its front, and says where it ends there.
+/// Moves a part of a buffer to its beginning, and gives the place where it ends there.
 fn move_to_front(buffer: &mut [u8], start: usize, end: usize) -> usize
     requires order { start ≤ end }
     requires within { end ≤ length buffer.old }

@@ -26,10 +26,12 @@ below_less x y u v l = or_left (nat_lt x y) (nat_eq x y && ranks_below u v) (lt-
 below_same : (x y : ℕ) (u v : List ℕ) → x ≡ y → ranks_below u v ≡ true → ranks_below (x ∷ u) (y ∷ v) ≡ true
 below_same x y u v e h = or_right (nat_lt x y) (nat_eq x y && ranks_below u v) (rw (eq-eqb x y e, h) refl)
 
+-- no list of numbers is below itself
 pub below_irreflexive : (u : List ℕ) → ranks_below u u ≡ true → ⊥
 below_irreflexive [] h = cc
 below_irreflexive (x ∷ u) h = elim (below_parts x x u u h) [ less l ↦ omega (arith, l) | same e t ↦ below_irreflexive u t ]
 
+-- what is below a list that is below another is below that one
 pub below_transitive : (u v w : List ℕ) → ranks_below u v ≡ true → ranks_below v w ≡ true → ranks_below u w ≡ true
 below_transitive [] v w a b = cc
 below_transitive (x ∷ u) [] w a b = cc
@@ -46,7 +48,7 @@ below_transitive (x ∷ u) (y ∷ v) (z ∷ w) a b =
       ]
     ]
 
--- lists of one length of which neither is below the other are one
+-- lists of one length are equal where neither is below the other
 pub neither_below : (u v : List ℕ) → length u ≡ length v → (ranks_below u v ≡ true → ⊥) → (ranks_below v u ≡ true → ⊥) → u ≡ v
 neither_below [] [] l a b = refl
 neither_below [] (y ∷ v) l a b = absurd (omega arith)

@@ -59,14 +59,14 @@ candidate_joins f u v m = outline_of_fits f v (filter_passes (fits f) (rotations
 by_words : (f : Family) (u v w : List Edge) → Member v (candidates f u) → Member w (candidates f u) → words_below v w ≡ links_below v w
 by_words f u v w m n = words_by_ranks v w (candidate_joins f u v m ∙ sym (candidate_joins f u w n))
 
--- of rotations that fit, the first by words and the first by ranks are one
+-- of rotations that fit, the first by ranks is the first by words
 pub first_by_words : (f : Family) (u v : List Edge) → IsFirst links_below (candidates f u) v → IsFirst words_below (candidates f u) v
 first_by_words f u v h = record { member = h.member; none = λ w m b. h.none w m (sym (by_words f u w v m h.member) ∙ b) }
 
 first_by_ranks : (f : Family) (u v : List Edge) → IsFirst words_below (candidates f u) v → IsFirst links_below (candidates f u) v
 first_by_ranks f u v h = record { member = h.member; none = λ w m b. h.none w m (by_words f u w v m h.member ∙ b) }
 
--- a cycle that fits a family is what its name tells
+-- a rotation that fits a family is restored from what its name says of it
 pub fit_back : (f : Family) (v : List Edge) → IsCycle v → fits f v ≡ true → marked_around (map told_of v) ≡ Some v
 fit_back f v c h = around_back v c.closed (plain_of_fits f v h) (fits_either f v h)
 
@@ -106,7 +106,7 @@ has_named_in_family f u h =
     let r = some_first (candidates f u) v m in
     record { one = r.one; is = first_by_words f u r.one r.is }
 
--- lists of edges are told apart by their ranks
+-- two lists of edges whose ranks are equal are equal
 ranks_same : (u v : List Edge) → map rank_of u ≡ map rank_of v → u ≡ v
 ranks_same [] [] e = refl
 ranks_same [] (y ∷ v) e = cc
@@ -156,6 +156,7 @@ is_of_turned u v f some r h =
     let p = member_of_any (fits f) (rotations u) h in
     any_of_member (fits f) (rotations v) p.member (rotations_same u v p.member some r p.among) p.passes
 
+-- rotations of one cycle are of one family
 pub family_turned : (u v : List Edge) → 0 < length u → IsRotation u v → found_family u ≡ found_family v
 unfolding found_family
 family_turned u v some r =

@@ -34,16 +34,17 @@ use Rattle.cycle_names.proofs.Chosen.{named_rotates, least_named}
 use Rattle.cycle_names.proofs.ReadBack.{name_back}
 use Rattle.cycle_names.proofs.NameLaws.{named, arch_turned}
 
--- the name that is written of a cycle of a family
+-- the name that a cycle of a family gets
 pub name_in_family : (u : List Edge) (f : Family) (place : ℕ) → IsNamedAt u f place → name_of u ≡ family_word f ++ links_text (link_words (rotated place u))
 unfolding name_of name_from
 name_in_family u f place h =
     ap (λ o. name_from o (named_rotation u)) h.found ∙ ap (λ v. family_word f ++ links_text (link_words v)) h.named
 
+-- a cycle that is named at a place is named from the rotation from that place
 pub named_at_is : (u : List Edge) (f : Family) (place : ℕ) → IsNamedAt u f place → named_rotation u ≡ rotated place u
 named_at_is u f place h = h.named
 
--- the name that is written of another cycle
+-- the name that any other cycle gets
 pub name_in_none : (u v : List Edge) → IsCycle u → found_family u ≡ None → IsLeast u v → name_of u ≡ codes "C+" ++ join_by word_of (codes "-") v
 unfolding name_of name_from
 name_in_none u v c h l =
@@ -113,6 +114,7 @@ begins_long [] text h = omega arith
 begins_long (b ∷ word) [] h = cc
 begins_long (b ∷ word) (c ∷ text) h = omega (arith, begins_long word text (and_parts _ (begins_with word text) h).1)
 
+-- the word of the family whose name a text begins with is no longer than the text
 pub word_fits : (families : List Family) (text word : List ℕ) (f : Family) → Some f ≡ named_family families text → word ≡ family_word f → length word ≤ length text
 word_fits families text word f h w = rw w (begins_long (family_word f) text (found_passes (λ f. begins_with (family_word f) text) families f (sym h)))
 
@@ -143,8 +145,9 @@ unfolding edges_read
 read_same families text word behind f slots e h w s b =
     ap (λ fs. read_in (named_family fs text) text) (sym e) ∙ ap (λ o. read_in o text) (sym h) ∙ ap (λ x. marked_if (filled (family_edges f) (drop (length x) text))) (sym w) ∙ ap (λ x. marked_if (filled (family_edges f) x)) (sym b) ∙ ap (λ u. marked_if (filled u behind)) (sym s)
 
--- the edges that a name of a family tells, and none where it tells nothing
+-- the edges that a text with a family's name would name: first those read, with marks; then none where none are read
 module _ {E : Type 0} where
+  -- the edges read, with the marks of the edges beside them, are those that the text would name
   pub family_marked : (families : List Family) (text word behind : List ℕ) (f : Family) (slots old new start unmarked given : List Edge) (told result : Result (Unit {0}) E) → families ≡ all_families → Some f ≡ named_family families text →
       word ≡ family_word f → slots ≡ family_edges f → behind ≡ drop (length word) text → old ≡ [] → start ≡ [] → Adds (filled slots behind) start unmarked told → given ≡ unmarked → Adds (marked_around given) old new result → Adds (edges_read text) old new result
   family_marked families text word behind f slots old new start unmarked given told result e h w s b o n a g m edges found fit =
@@ -158,6 +161,7 @@ module _ {E : Type 0} where
       let given_is : given ≡ raw = g ∙ got.1 ∙ ap (λ v. v ++ raw) n in
       m edges (ap marked_around given_is ∙ made) fit)
 
+  -- where no edges are read, the text names none
   pub family_none : (families : List Family) (text word behind : List ℕ) (f : Family) (slots old new start unmarked : List Edge) (error : E) (result : Result (Unit {0}) E) → families ≡ all_families → Some f ≡ named_family families text →
       word ≡ family_word f → slots ≡ family_edges f → behind ≡ drop (length word) text → old ≡ [] → start ≡ [] → Adds (filled slots behind) start unmarked (Err error) → Adds (edges_read text) old new result
   family_none families text word behind f slots old new start unmarked error result e h w s b o n a edges found fit =
@@ -172,6 +176,7 @@ module _ {E : Type 0} where
       not_ok : false ≡ true → ⊥
       not_ok z = cc
 
+-- a text that begins with no family's name is read by the words after `C+`
 pub read_none : {E : Type 0} (families : List Family) (text : List ℕ) (old new : List Edge) (result : Result (Unit {0}) E) → families ≡ all_families → None ≡ named_family families text
     → Adds (words_read text) old new result → Adds (edges_read text) old new result
 unfolding edges_read

@@ -41,7 +41,7 @@ family_place families.LB3 = 12
 family_place families.W3 = 13
 family_place families.Other = 14
 
--- all families, with the one that stands for none
+-- all families, and `Other`
 abbrev every_family : List Family
 every_family = all_families ++ families.Other ∷ []
 
@@ -84,7 +84,7 @@ families_all families.LB3 = inr (inr (inr (inr (inr (inr (inr (inr (inr (inr (in
 families_all families.W3 = inr (inr (inr (inr (inr (inr (inr (inr (inr (inr (inr (inr (inr (inl refl)))))))))))))
 families_all families.Other = inr (inr (inr (inr (inr (inr (inr (inr (inr (inr (inr (inr (inr (inr (inl refl))))))))))))))
 
--- what a test says of all families, it says of each
+-- a test that all families pass, each family passes
 each_family : (test : Family → Bool) → list_all test every_family ≡ true → (f : Family) → test f ≡ true
 each_family test all f = all_members test every_family all f (families_all f)
   where
@@ -120,7 +120,7 @@ all_apart : list_all (λ f. list_all (apart f) every_family) every_family ≡ tr
 unfolding apart family_place rank_of
 all_apart = refl
 
--- families of which one is a rotation of the other are one
+-- families whose cycles are rotations of each other are the same
 same_cycle_family : (f g : Family) → 0 < length (family_edges f) → IsRotation (family_edges f) (family_edges g) → f ≡ g
 unfolding apart
 same_cycle_family f g some r =
@@ -144,6 +144,7 @@ pub record Fitting (u : List Edge) (f : Family) : Type 0 where
   pub fit : fits f (rotated place u) ≡ true
   pub joins : outline (rotated place u) ≡ family_edges f
 
+-- a cycle of a family has a rotation that fits it
 pub fitting : (u : List Edge) (f : Family) → is_of_family u f ≡ true → Fitting u f
 fitting u f h =
     let r = member_of_any (fits f) (rotations u) h in
@@ -152,6 +153,7 @@ fitting u f h =
     let fit : fits f (rotated n.number u) ≡ true = subst P n.is r.passes in
     record { place = n.number; within = n.below; fit = fit; joins = outline_of_fits f (rotated n.number u) fit }
 
+-- a cycle of which a rotation by a place fits a family is of that family
 pub is_of_fitting : (u : List Edge) (f : Family) (k : ℕ) → k < length u → fits f (rotated k u) ≡ true → is_of_family u f ≡ true
 is_of_fitting u f k l h = any_of_member (fits f) (rotations u) (rotated k u) (member_upto (λ k. rotated k u) (length u) k l) h
 
@@ -170,7 +172,7 @@ one_family u f g h k =
     same_cycle_family f g (omega (arith, family_long u f a, a.within))
     (rotation_on (family_edges f) (outline u) (family_edges g) (rotation_back (outline u) (family_edges f) (outline_rotates u f a)) (outline_rotates u g b))
 
--- a cycle is of no family that stands for none
+-- no cycle is of the family `Other`, which has no edges
 pub never_other : (u : List Edge) (f : Family) → is_of_family u f ≡ true → f ≡ families.Other → ⊥
 never_other u f h e =
     let w = fitting u f h in
@@ -199,6 +201,7 @@ pub family_found : (u : List Edge) (f : Family) → is_of_family u f ≡ true �
 unfolding found_family
 family_found u f h = find_only (is_of_family u) all_families f (listed f (never_other u f h)) h (λ g m t. one_family u g f t h)
 
+-- a cycle is of the family that is found for it
 pub found_is_of : (u : List Edge) (f : Family) → found_family u ≡ Some f → is_of_family u f ≡ true
 unfolding found_family
 found_is_of u f h = found_passes (is_of_family u) all_families f h
@@ -211,6 +214,7 @@ either_slots : (v : List Edge) → list_all is_either (outline v) ≡ list_all i
 either_slots [] = refl
 either_slots (e ∷ v) = rw (slot_is_diff e, slot_is_external e, either_slots v) refl
 
+-- each edge of a rotation that fits a family is a link or external
 pub fits_either : (f : Family) (v : List Edge) → fits f v ≡ true → list_all is_either v ≡ true
 fits_either f v h =
     sym (either_slots v) ∙ ap (list_all is_either) (outline_of_fits f v h) ∙ each_family (λ f. list_all is_either (family_edges f)) all_either f
@@ -223,6 +227,7 @@ all_have_links : list_all has_links every_family ≡ true
 unfolding has_links family_place
 all_have_links = refl
 
+-- each family's cycle but that of `Other` has at least two links
 pub family_links : (f : Family) → (f ≡ families.Other → ⊥) → 2 ≤ length (filter is_diff (family_edges f))
 unfolding has_links family_place
 family_links f n =
@@ -242,19 +247,22 @@ all_words : list_all is_word every_family ≡ true
 unfolding is_word
 all_words = refl
 
+-- a family's word has at most five bytes
 pub family_word_short : (f : Family) → length (family_word f) ≤ 5
 unfolding is_word
 family_word_short f = leb-true (length (family_word f)) 5 (and_parts _ _ (each_family is_word all_words f)).0
 
+-- a family's word has at least one byte
 pub family_word_some : (f : Family) → 1 ≤ length (family_word f)
 unfolding is_word
 family_word_some f = leb-true 1 (length (family_word f)) (and_parts _ _ (and_parts _ _ (each_family is_word all_words f)).1).0
 
+-- a family's word has bytes of names only
 pub family_word_bytes : (f : Family) → list_all is_name_byte (family_word f) ≡ true
 unfolding is_word
 family_word_bytes f = (and_parts _ _ (and_parts _ _ (each_family is_word all_words f)).1).1
 
--- what is read of a family's word, alone or with `+` behind it
+-- the name of a family is read as that family, alone or with `+` after it
 pub word_alone : (f : Family) → (f ≡ families.Other → ⊥) → named_family all_families (family_word f ++ []) ≡ Some f
 word_alone families.SB n = refl
 word_alone families.MP n = refl
@@ -272,6 +280,7 @@ word_alone families.LB3 n = refl
 word_alone families.W3 n = refl
 word_alone families.Other n = absurd (n refl)
 
+-- the name of a family followed by `+` is read as that family
 pub word_before : (f : Family) (text : List ℕ) → (f ≡ families.Other → ⊥) → named_family all_families (family_word f ++ 43 ∷ text) ≡ Some f
 word_before families.SB text n = refl
 word_before families.MP text n = refl
@@ -297,6 +306,7 @@ all_counts_apart : list_all (λ f. list_all (counts_apart f) every_family) every
 unfolding counts_apart family_place
 all_counts_apart = refl
 
+-- families whose cycles have the same counts are the same
 pub counts_differ : (f g : Family) → counted (family_edges f) ≡ counted (family_edges g) → f ≡ g
 unfolding counts_apart
 counts_differ f g e =

@@ -18,7 +18,7 @@ use Rattle.cycle_names.specs.Rotations.{is_plain_before, all_plain, is_plain_out
 use Rattle.cycle_names.specs.Reading.{before, last_mark, marked_between, marked_along, marked_around}
 use Rattle.cycle_names.proofs.Tables.{slot_is_external, external_same}
 
--- an edge as a name tells of it: a link with its marks, another edge without
+-- what a name says of an edge: a link with its marks, another edge without
 abbrev pub told_of : Edge → Edge
 told_of e = cond (is_diff e) e (slot_of e)
 
@@ -47,9 +47,11 @@ target_unmarked (kinds.Fenced _ _ _ _) = refl
 target_unmarked (kinds.Dep _ _ _) = refl
 target_unmarked (kinds.Data _) = refl
 
+-- a name says all of a link
 pub told_link : (e : Edge) → is_diff e ≡ true → told_of e ≡ e
 told_link e t = cond-true (is_diff e) e (slot_of e) t
 
+-- of another edge a name says what it joins
 pub told_slot : (e : Edge) → is_diff e ≡ false → told_of e ≡ slot_of e
 told_slot e f = cond-false (is_diff e) e (slot_of e) f
 
@@ -77,7 +79,7 @@ plain_mark e n p s t = sym (same_mark_is (target_mark e) Plain (only (same_mark 
     only false true false h s t = cc
     only false false c h s t = cc
 
--- an external edge takes the mark of the edge behind it
+-- an external edge takes the mark of the edge after it
 mark_behind : (e n : Edge) → joins_to e n ≡ true → is_plain_before e (n ∷ []) ≡ true → is_either n ≡ true → is_external e ≡ true → source_mark (told_of n) ≡ target_mark e
 mark_behind e n j p h t =
     by_test (is_diff n)
@@ -130,7 +132,7 @@ along_back from e (n ∷ v) last j p h l s =
     (one_back from (source_mark (told_of n)) e hs.0 s (mark_behind e n js.0 ps.0 hn.0))
     (along_back (target_mark (told_of e)) n v last js.1 ps.1 hs.1 l (mark_before e n js.0 ps.0 hs.0))
 
--- the edge behind a list takes the mark of the last one
+-- the edge after a list takes the mark of the last one
 last_back : (mark : Mark) (e : Edge) (v : List Edge) (last : Edge) → is_joined ((e ∷ v) ++ last ∷ []) ≡ true → all_plain ((e ∷ v) ++ last ∷ []) ≡ true →
     list_all is_either (e ∷ v) ≡ true → is_external last ≡ true → source_mark last ≡ last_mark mark (map told_of (e ∷ v))
 last_back mark e [] last j p h t =
@@ -139,7 +141,7 @@ last_back mark e (n ∷ v) last j p h t =
     last_back (target_mark (told_of e)) n v last (and_parts (joins_to e n) (is_joined ((n ∷ v) ++ last ∷ [])) j).1
     (and_parts (is_plain_before e ((n ∷ v) ++ last ∷ [])) (all_plain ((n ∷ v) ++ last ∷ [])) p).1 (and_parts (is_either e) (list_all is_either (n ∷ v)) h).1 t
 
--- what a name tells of a cycle of a family is the cycle
+-- a cycle of a family is restored from what a name says of its edges
 pub around_back : (v : List Edge) → is_closed v ≡ true → is_plain_outside v ≡ true → list_all is_either v ≡ true → marked_around (map told_of v) ≡ Some v
 around_back [] c p h = refl
 around_back (e ∷ v) c p h =

@@ -13,14 +13,17 @@ module _ {A : Type 0} where
   Member x [] = ⊥
   Member x (y ∷ ys) = (x ≡ y) ⊎ Member x ys
 
+  -- a member of the first list is one of both joined
   pub member_front : (x : A) (xs ys : List A) → Member x xs → Member x (xs ++ ys)
   member_front x [] ys m = absurd m
   member_front x (z ∷ xs) ys m = elim m [ inl e ↦ inl e | inr r ↦ inr (member_front x xs ys r) ]
 
+  -- a member of the second list is one of both joined
   pub member_back : (x : A) (xs ys : List A) → Member x ys → Member x (xs ++ ys)
   member_back x [] ys m = m
   member_back x (z ∷ xs) ys m = inr (member_back x xs ys m)
 
+  -- a member of two lists joined is one of the first or of the second
   pub member_either : (x : A) (xs ys : List A) → Member x (xs ++ ys) → (Member x xs) ⊎ (Member x ys)
   member_either x [] ys m = inr m
   member_either x (z ∷ xs) ys m =
@@ -32,6 +35,7 @@ module _ {A : Type 0} where
     pub among : Member member xs
     pub passes : p member ≡ true
 
+  -- where a member passes, some element does
   pub any_of_member : (p : A → Bool) (xs : List A) (x : A) → Member x xs → p x ≡ true → list_any p xs ≡ true
   any_of_member p [] x m t = absurd m
   any_of_member p (y ∷ ys) x m t =
@@ -40,6 +44,7 @@ module _ {A : Type 0} where
         | inr r ↦ by_test (p y) (λ h. rw h refl) (λ h. rw h (any_of_member p ys x r t))
       ]
 
+  -- where some element passes, there is a member that passes
   pub member_of_any : (p : A → Bool) (xs : List A) → list_any p xs ≡ true → Passes p xs
   member_of_any p [] h = cc
   member_of_any p (y ∷ ys) h =
@@ -47,6 +52,7 @@ module _ {A : Type 0} where
       (λ t. record { member = y; among = inl refl; passes = t })
       (λ f. let r = member_of_any p ys (rw f at h) in record { member = r.member; among = inr r.among; passes = r.passes })
 
+  -- where no member passes, no element does
   pub any_none : (p : A → Bool) (xs : List A) → ((x : A) → Member x xs → p x ≡ true → ⊥) → list_any p xs ≡ false
   any_none p xs none =
       by_test (list_any p xs) (λ t. let r = member_of_any p xs t in absurd (none r.member r.among r.passes)) (λ f. f)
@@ -59,6 +65,7 @@ module _ {A : Type 0} where
       (λ t. let a : Some y ≡ Some x = rw t at h in let e : y ≡ x = cc in rw (← e) t)
       (λ f. found_passes p ys x (rw f at h))
 
+  -- what is found is a member
   pub found_among : (p : A → Bool) (xs : List A) (x : A) → find p xs ≡ Some x → Member x xs
   found_among p [] x h = cc
   found_among p (y ∷ ys) x h =
@@ -66,6 +73,7 @@ module _ {A : Type 0} where
       (λ t. let a : Some y ≡ Some x = rw t at h in let e : x ≡ y = cc in inl e)
       (λ f. inr (found_among p ys x (rw f at h)))
 
+  -- where nothing is found, no member passes
   pub found_none : (p : A → Bool) (xs : List A) (x : A) → find p xs ≡ None → Member x xs → p x ≡ true → ⊥
   found_none p [] x h m t = m
   found_none p (y ∷ ys) x h m t =
@@ -73,6 +81,7 @@ module _ {A : Type 0} where
       (λ k. let a : Some y ≡ None = rw k at h in cc)
       (λ f. elim m [ inl e ↦ let a : p y ≡ true = rw (← e) t in (let b : true ≡ false = sym a ∙ f in cc) | inr r ↦ found_none p ys x (rw f at h) r t ])
 
+  -- where no member passes, nothing is found
   pub find_none : (p : A → Bool) (xs : List A) → ((x : A) → Member x xs → p x ≡ true → ⊥) → find p xs ≡ None
   find_none p xs none =
       by_option (find p xs) (λ e. e) (λ x e. absurd (none x (found_among p xs x e) (found_passes p xs x e)))
@@ -84,10 +93,12 @@ module _ {A : Type 0} where
       (λ e. absurd (found_none p xs x e m t))
       (λ y e. e ∙ ap Some (only y (found_among p xs y e) (found_passes p xs y e)))
 
+  -- tests that agree find the same
   pub find_same : (p q : A → Bool) (xs : List A) → ((x : A) → p x ≡ q x) → find p xs ≡ find q xs
   find_same p q [] h = refl
   find_same p q (x ∷ xs) h = rw (h x, find_same p q xs h) refl
 
+  -- what a filter keeps is a member
   pub filter_among : (p : A → Bool) (xs : List A) (x : A) → Member x (filter p xs) → Member x xs
   filter_among p [] x m = m
   filter_among p (y ∷ ys) x m =
@@ -95,6 +106,7 @@ module _ {A : Type 0} where
       (λ t. let k : Member x (y ∷ filter p ys) = rw t at m in elim k [ inl e ↦ inl e | inr r ↦ inr (filter_among p ys x r) ])
       (λ f. inr (filter_among p ys x (rw f at m)))
 
+  -- what a filter keeps passes
   pub filter_passes : (p : A → Bool) (xs : List A) (x : A) → Member x (filter p xs) → p x ≡ true
   filter_passes p [] x m = absurd m
   filter_passes p (y ∷ ys) x m =
@@ -102,6 +114,7 @@ module _ {A : Type 0} where
       (λ t. let k : Member x (y ∷ filter p ys) = rw t at m in elim k [ inl e ↦ rw e t | inr r ↦ filter_passes p ys x r ])
       (λ f. filter_passes p ys x (rw f at m))
 
+  -- a member that passes is kept by the filter
   pub filter_member : (p : A → Bool) (xs : List A) (x : A) → Member x xs → p x ≡ true → Member x (filter p xs)
   filter_member p [] x m t = m
   filter_member p (y ∷ ys) x m t =
@@ -127,6 +140,7 @@ module _ {A : Type 0} where
     pub below : number < n
     pub is : x ≡ f number
 
+  -- each member of the values of the numbers below n is the value of one of them
   pub upto_member : (f : ℕ → A) (n : ℕ) (x : A) → Member x (map f (upto n)) → Numbered f n x
   upto_member f zero x m = absurd m
   upto_member f (suc n) x m =

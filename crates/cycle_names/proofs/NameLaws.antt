@@ -43,6 +43,7 @@ unfolding name_of
 one_name u v c r =
     ap (λ o. name_from o (named_rotation u)) (family_turned u v c.some r) ∙ ap (name_from (found_family v)) (named_turned u v c r)
 
+-- two cycles have one name exactly where they are the same cycle
 pub decide_names : NamesDecide
 decide_names u v c d =
     let same : name_of u ≡ name_of v → IsRotation u v = λ e.
@@ -66,6 +67,7 @@ pub record Named (u : List Edge) : Type 0 where
   pub has_name : name_of (named_rotation u) ≡ name_of u
   pub rotation : named_rotation (named_rotation u) ≡ named_rotation u
 
+-- the rotation that a cycle is named from is a cycle of the same name, and is named from itself
 pub named : (u : List Edge) → IsCycle u → Named u
 named u c =
     let r = named_rotates u c in
@@ -75,6 +77,7 @@ named u c =
       rotation = sym (named_turned u (named_rotation u) c r);
     }
 
+-- the name of a cycle is read back as the rotation that it is named from
 pub read_names_back : NamesReadBack
 read_names_back = record {
   rotation = λ u c. named_rotates u c;
@@ -84,6 +87,7 @@ read_names_back = record {
   alone = λ u v arch c n. sym n.rotation ∙ one_rotation v u n.composable c n.has_name;
 }
 
+-- no cycle is of two families
 pub keep_families_apart : FamiliesApart
 keep_families_apart = one_family
 
@@ -184,6 +188,7 @@ name_from_is (Some f) v few = record {
   bytes = bytes_both (family_word f) (links_text (link_words v)) (family_word_bytes f) (links_bytes v);
 }
 
+-- the name of a cycle has 1 to 800 bytes, all of them bytes of names
 pub names_of_cycles : NamesAreNames
 unfolding name_of
 names_of_cycles u c =

@@ -1,4 +1,4 @@
--- Rotations that fit: their slots, and that slots and words of links are what a name tells.
+-- Rotations that fit: their slots, and that a name says what their edges join and the words of their links.
 use Rattle.std.specs.Prelude.{◌≡◌, ◌==◌, ◌&&◌, ℕ, Bool, true, false, cond, Some, List, [], ◌∷◌, length, map, nat_eq, nat_lt, ◌||◌}
 use Rattle.std.specs.declared.cmp.Ordering.{Ordering}
 use Rattle.std.specs.declared.cmp.Ordering.TheVariants.{Less, Equal, Greater}
@@ -23,7 +23,7 @@ use Rattle.cycle_names.specs.Reading.{link_with}
 use Rattle.cycle_names.proofs.Tables.{link_words_order, link_words_equal, link_back, slot_is_diff, no_place}
 use Rattle.cycle_names.proofs.Marks.{told_of, told_link, told_slot}
 
--- two lists of edges are told to be one exactly where they are
+-- two lists of edges pass the test for being the same exactly where they are
 pub same_edges : (u v : List Edge) → is_same u v ≡ true → u ≡ v
 same_edges [] [] h = refl
 same_edges [] (y ∷ v) h = cc
@@ -38,6 +38,7 @@ pub edges_same : (u : List Edge) → is_same u u ≡ true
 edges_same [] = refl
 edges_same (x ∷ u) = rw (eq-eqb (rank_of x) (rank_of x) refl) (edges_same u)
 
+-- equal lists of edges pass the test for being the same
 pub edges_told : (u v : List Edge) → u ≡ v → is_same u v ≡ true
 edges_told u v e = rw e (edges_same v)
 
@@ -45,6 +46,7 @@ edges_told u v e = rw e (edges_same v)
 pub outline_of_fits : (f : Family) (v : List Edge) → fits f v ≡ true → outline v ≡ family_edges f
 outline_of_fits f v h = same_edges (outline v) (family_edges f) (and_parts (joins_as f v) (is_plain_outside v) h).0
 
+-- a rotation that fits is plain between external edges
 pub plain_of_fits : (f : Family) (v : List Edge) → fits f v ≡ true → is_plain_outside v ≡ true
 plain_of_fits f v h = (and_parts (joins_as f v) (is_plain_outside v) h).1
 
@@ -56,14 +58,14 @@ diff_alike a b e = sym (slot_is_diff a) ∙ ap is_diff e ∙ slot_is_diff b
 pub words_same : (a b : Edge) → word_place a ≡ word_place b → link_word a ≡ link_word b
 words_same a b r = (bytes_decides (link_word a) (link_word b)).0 (link_words_equal a b ∙ eq-eqb _ _ r)
 
--- the link of a slot and a word depends on these alone
+-- the link of a slot and a word depends only on these
 link_depends : (s t : Edge) (u v : List ℕ) → s ≡ t → u ≡ v → link_with s u ≡ link_with t v
 link_depends s t u v d e = rw (d, e) refl
 
 some_same : (a b : Edge) → Some a ≡ Some b → a ≡ b
 some_same a b h = cc
 
--- a name tells of edges that join the same, with the same word, as one
+-- a name says the same of two edges that join the same and have the same word
 same_links : (a b : Edge) → slot_of a ≡ slot_of b → word_place a ≡ word_place b → told_of a ≡ told_of b
 same_links a b e r =
     by_test (is_diff a)
@@ -89,7 +91,7 @@ tails x y u v e = tail_same (slot_of x) (slot_of y) (outline u) (outline v) e
 outline_long : (u v : List Edge) → outline u ≡ outline v → length u ≡ length v
 outline_long u v e = sym (length-map u slot_of) ∙ ap length e ∙ length-map v slot_of
 
--- a name tells of lists that join the same, with the same words, as one
+-- a name says the same of two lists that join the same and have the same words
 pub same_lists : (u v : List Edge) → outline u ≡ outline v → map word_place u ≡ map word_place v → map told_of u ≡ map told_of v
 same_lists [] [] e r = refl
 same_lists [] (y ∷ v) e r = absurd (omega (arith, outline_long [] (y ∷ v) e))
@@ -122,6 +124,7 @@ equal_first a b c e = rw (e, not_below b, eq-eqb b b refl) refl
 pub words_of_link : (x : Edge) (u : List Edge) → is_diff x ≡ true → link_words (x ∷ u) ≡ link_word x ∷ link_words u
 words_of_link x u t = rw t refl
 
+-- an edge that is no link adds no word
 pub words_of_plain : (x : Edge) (u : List Edge) → is_diff x ≡ false → link_words (x ∷ u) ≡ link_words u
 words_of_plain x u f = rw f refl
 

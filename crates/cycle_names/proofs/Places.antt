@@ -26,7 +26,7 @@ use Rattle.cycle_names.proofs.Outlines.{plain_of_fits}
 use Rattle.cycle_names.proofs.Families.{Fitting, fitting, family_found, is_of_fitting, listed, never_other, counts_differ}
 use Rattle.cycle_names.proofs.Chosen.{links_below, first_by_words, named_in_family}
 
--- a part of a list written twice
+-- a part of a list repeated twice is a rotation of the list
 pub part_is : (xs list : List ℕ) (k n : ℕ) → list ≡ twice xs → n ≡ length xs → k ≤ n → take ((k + n) - k) (drop k list) ≡ rotated k xs
 part_is xs list k n e l h =
     let m : (k + n) - k ≡ length xs = omega arith in
@@ -100,6 +100,7 @@ marked_outside u h =
     let z : true ≡ false = sym (plain_of_fits g (rotated w.place u) w.fit) ∙ plain_rotated w.place u ∙ h in
     cc)
 
+-- the first rotation that joins what a family's cycle does fits, where the cycle is plain between external edges
 pub fits_first : (u : List Edge) (f : Family) (slots : List Edge) (place : ℕ) → slots ≡ family_edges f → JoinsFirst slots u place → is_plain_outside u ≡ true → FitsFirst u f place
 fits_first u f slots place s h p = record { first = rw (← s) h; plain = p }
 
@@ -116,6 +117,7 @@ pub record NamedUpTo (u : List Edge) (f : Family) (k named : ℕ) : Type 0 where
   pub joins : joins_at (family_edges f) u named ≡ true
   pub none : (j : ℕ) → j < k → joins_at (family_edges f) u j ≡ true → links_below (rotated j u) (rotated named u) ≡ true → ⊥
 
+-- of the places up to the first from which a rotation fits, that one comes first
 pub named_first : (u : List Edge) (f : Family) (k : ℕ) → FitsFirst u f k → NamedUpTo u f (k + 1) k
 named_first u f k h = record {
   within = h.first.within;
@@ -125,16 +127,18 @@ named_first u f k h = record {
       (λ e b. below_irreflexive (map word_place (rotated k u)) b);
 }
 
--- what the code compares
+-- what the code compares: two parts of the twice repeated places of words, which are two rotations
 links_told : (u : List Edge) (j k : ℕ) → ranks_below (rotated j (map word_place u)) (rotated k (map word_place u)) ≡ links_below (rotated j u) (rotated k u)
 links_told u j k = sym (ap (λ s. ranks_below s (map word_place (rotated k u))) (map_rotated word_place j u) ∙ ap (ranks_below (rotated j (map word_place u))) (map_rotated word_place k u))
 
+-- comparing the parts is comparing the rotations
 pub compared : (u : List Edge) (places others : List ℕ) (n j named : ℕ) → places ≡ twice (map word_place u) → others ≡ twice (map word_place u) → n ≡ length u → j ≤ n → named ≤ n →
     ranks_below (take ((j + n) - j) (drop j places)) (take ((named + n) - named) (drop named others)) ≡ ranks_below (rotated j (map word_place u)) (rotated named (map word_place u))
 compared u places others n j named l o e hj hn =
     let ll : n ≡ length (map word_place u) = e ∙ sym (length-map u word_place) in
     rw (part_is (map word_place u) places j n l ll hj, part_is (map word_place u) others named n o ll hn) refl
 
+-- where the rotation from the next place doesn't fit, or its words don't come before, the place stays
 pub named_kept : (u : List Edge) (f : Family) (k named : ℕ) → NamedUpTo u f k named →
     (joins_at (family_edges f) u k && ranks_below (rotated k (map word_place u)) (rotated named (map word_place u))) ≡ false → NamedUpTo u f (k + 1) named
 named_kept u f k named h t = record {
@@ -147,6 +151,7 @@ named_kept u f k named h t = record {
       cc);
 }
 
+-- where the rotation from the next place fits and its words come before, that place replaces it
 pub named_replaced : (u : List Edge) (f : Family) (k named : ℕ) → NamedUpTo u f k named → k < length u →
     (joins_at (family_edges f) u k && ranks_below (rotated k (map word_place u)) (rotated named (map word_place u))) ≡ true → NamedUpTo u f (k + 1) k
 named_replaced u f k named h l t =
@@ -176,7 +181,7 @@ named_at u f first k named c w l h =
       }));
     }
 
--- what the numbers of edges tell: no family, or the only one that there can be
+-- by the numbers of edges of each sort there is no family, or the only one that is possible
 pub likely_answer : (u : List Edge) (count : ℕ) (o : Option Family) → count ≡ counted u → o ≡ family_counted count → length u ≤ 6 →
     MatchOption o (found_family u ≡ None) (λ family. (length u ≤ 6) × (family_counted (counted u) ≡ Some family))
 likely_answer u count None t o l = unlikely u (ap family_counted (sym t) ∙ sym o)
@@ -202,6 +207,7 @@ other_length slots u k h =
     not_same (outline (rotated k u)) (map slot_edge slots)
     (λ e. h (omega (arith, e, length-map (rotated k u) slot_of, length-map slots slot_edge, length-append (drop k u) (take k u), ap length (take-append-drop k u), length-append (take k u) (drop k u))))
 
+-- comparing the two parts with the two parts of the slots is comparing the rotation with the slots
 pub joins_parts : (slots : List Slot) (u : List Edge) (k : ℕ) (front back : List Edge) (first last : List Slot) → front ≡ take k u → back ≡ drop k u →
     first ≡ take (length back) slots → last ≡ drop (length back) slots → length slots ≡ length u →
     (is_same (outline back) (map slot_edge first) && is_same (outline front) (map slot_edge last)) ≡ joins_at (map slot_edge slots) u k
@@ -215,8 +221,10 @@ joins_parts slots u k front back first last f b i l n =
     sym (same_parts (outline back) (outline front) (map slot_edge first) (map slot_edge last) long)
     ∙ ap (is_same (outline back ++ outline front)) whole ∙ ap (λ w. is_same w (map slot_edge slots)) turned
 
+-- where the first part joins, the second decides
 pub both_parts : (a b whole result : Bool) → a ≡ true → result ≡ b → (a && b) ≡ whole → result ≡ whole
 both_parts a b whole result s r w = r ∙ sym (ap (λ x. x && b) s) ∙ w
 
+-- where the first part doesn't join, the whole doesn't
 pub one_part : (a b whole result : Bool) → result ≡ false → a ≡ false → (a && b) ≡ whole → result ≡ whole
 one_part a b whole result r s w = r ∙ sym (ap (λ x. x && b) s) ∙ w

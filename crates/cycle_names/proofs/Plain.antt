@@ -29,5 +29,6 @@ plain_turned (f ∷ fs) (g ∷ gs) =
     ap all_plain (append_assoc (g ∷ gs) (f ∷ fs) (g ∷ [])) ∙ plain_at (g ∷ gs) f (fs ++ g ∷ []) in
     one ∙ and_comm (all_plain ((f ∷ fs) ++ g ∷ [])) (all_plain ((g ∷ gs) ++ f ∷ [])) ∙ sym two
 
+-- whether a cycle is plain between external edges is the same for all its rotations
 pub plain_rotated : (k : ℕ) (u : List Edge) → is_plain_outside (rotated k u) ≡ is_plain_outside u
 plain_rotated k u = plain_turned (drop k u) (take k u) ∙ ap is_plain_outside (take-append-drop k u)

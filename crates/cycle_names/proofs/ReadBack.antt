@@ -35,7 +35,7 @@ no_of : (b : Bool) → not b ≡ true → b ≡ false
 no_of true h = cc
 no_of false h = refl
 
--- a word up to a byte that doesn't stand in it
+-- a word up to a byte that doesn't occur in it
 until : (p : ℕ → Bool) (word : List ℕ) (byte : ℕ) (rest : List ℕ) → list_all (λ b. not (p b)) word ≡ true → p byte ≡ true → before_first p (word ++ byte ∷ rest) ≡ word
 until p [] byte rest h t = rw t refl
 until p (b ∷ word) byte rest h t =
@@ -72,7 +72,7 @@ alike_back (e ∷ v) word h =
     (and_parts (bytes_eq word (link_word e)) (list_all (bytes_eq word) (link_words v)) a).1)
     (λ f. sym (ap (list_all (bytes_eq word)) (words_of_plain e v f)) ∙ h)))
 
--- the first of words that stand each behind a `+`
+-- the first of some words, each of which follows a `+`
 first_word_is : (word : List ℕ) (words : List (List ℕ)) → list_all (λ b. not (is_plus b)) word ≡ true → first_word (43 ∷ (word ++ flat_map added words)) ≡ word
 first_word_is word [] h = ap (before_first is_plus) (append-nil word) ∙ until_end is_plus word h
 first_word_is word (next ∷ words) h = until is_plus word 43 (next ++ flat_map added words) h refl
@@ -112,7 +112,7 @@ none_of p (x ∷ xs) h =
     let both = and_parts (not (p x)) (list_all (λ b. not (p b)) xs) h in
     rw (no_of (p x) both.0) (none_of p xs both.1)
 
--- a text with a byte behind it, without its last byte
+-- a text with a byte added at its end, without its last byte
 but_last_is : (word : List ℕ) (byte : ℕ) → but_last (word ++ byte ∷ []) ≡ word
 but_last_is word byte = take_at word (byte ∷ []) (length (word ++ byte ∷ []) - 1) (omega (arith, length-append word (byte ∷ [])))
 
@@ -152,7 +152,7 @@ links_back v l =
     (λ t. ap (filled (outline v)) (cond-true (all_equal words) (plural words) (flat_map added words) t) ∙ plural_back v words refl (omega (arith, l)) t)
     (λ f. ap (filled (outline v)) (cond-false (all_equal words) (plural words) (flat_map added words) f) ∙ words_back v words refl l))
 
--- nothing, or a text that begins with `+`
+-- an empty text, or one that begins with `+`
 data StartsPlus (text : List ℕ) : Type 0 where
   ends_here : text ≡ [] → StartsPlus text
   goes_on : (rest : List ℕ) → text ≡ 43 ∷ rest → StartsPlus text

@@ -36,7 +36,7 @@ rest_drop : {A : Type 0} (xs : List A) → 1 ≤ length xs → rest_of xs ≡ dr
 rest_drop [] h = absurd (omega arith)
 rest_drop (x ∷ xs) h = rest_is x xs
 
--- the parts of a text behind its first one
+-- the parts of a text after its first one
 abbrev parts_behind : List ℕ → List (List ℕ)
 parts_behind [] = []
 parts_behind (_ ∷ text) = slice_split is_dash text
@@ -165,6 +165,7 @@ module _ {E : Type 0} where
       (spelled_parts text word (drop n text) n i w refl)
       (adds_none (edge_of word) (edges_spelled (parts_behind (drop n text))) old new result (sym o))
 
+  -- where there is no room, nothing has to be added
   pub spell_full : (text : List ℕ) (old new : List Edge) (result : Result (Unit {0}) E) → MAX_EDGES ≤ length old → Adds (edges_spelled (slice_split is_dash text)) old new result
   spell_full text old new result h =
       let n : ℕ = position_or_len is_dash text in
@@ -179,6 +180,7 @@ same_dir_is W W e = refl
 same_dir_is R W e = cc
 same_dir_is W R e = cc
 
+-- an edge that joins the accesses with this word is the link between them
 pub link_found : (from to : Dir) (e : Edge) (word : List ℕ) → is_link from to word e ≡ true → link_between from to word ≡ Some e
 link_found from to e word h =
     let a = and_parts (is_diff e) (same_dir (source_of e) from && (same_dir (target_of e) to && bytes_eq (link_word e) word)) h in
@@ -189,6 +191,7 @@ link_found from to e word h =
     ∙ ap (link_between (source_of e) (target_of e)) (sym ((bytes_decides (link_word e) word).0 c.1))
     ∙ link_found_back e a.0
 
+-- where no edge joins the accesses with this word, there is no link
 pub link_missing : (from to : Dir) (word : List ℕ) → ((e : Edge) → rank_of e < EDGES → is_link from to word e ≡ false) → link_between from to word ≡ None
 unfolding link_between
 link_missing from to word h = find_none (is_link from to word) edges_in_order (λ e m t. let z : true ≡ false = sym t ∙ h e (rank_below e) in cc)
@@ -200,6 +203,7 @@ link_at from to e word k r f before d l =
     (λ less. before d less)
     (λ more. let same : d ≡ e = rank_injective d e (omega arith) in ap (is_link from to word) same ∙ f)
 
+-- once nothing is left to add, all is added
 pub pushed_all : {A : Type 0} (a b rest : List A) (i : ℕ) → a ++ drop i rest ≡ b → length rest ≤ i → a ≡ b
 pushed_all a b rest i e h = sym (append-nil a) ∙ ap (λ w. a ++ w) (sym (drop_of_length-le rest h)) ∙ e
 

@@ -41,6 +41,7 @@ same_index Equal Equal e = refl
 same_index Greater Greater e = refl
 same_index _ _ e = absurd (omega arith)
 
+-- the words of two links compare as their places do
 pub link_words_order : (a b : Edge) → slice_cmp nat_cmp (link_word a) (link_word b) ≡ nat_cmp (word_place a) (word_place b)
 unfolding words_alike
 link_words_order a b =
@@ -66,6 +67,7 @@ all_ranks_alike : list_all (λ a. list_all (ranks_alike a) edges_in_order) edges
 unfolding edges_in_order ranks_alike agree
 all_ranks_alike = refl
 
+-- the words of two links are equal exactly where their places are
 pub link_words_equal : (a b : Edge) → bytes_eq (link_word a) (link_word b) ≡ (word_place a == word_place b)
 unfolding ranks_alike
 link_words_equal a b =
@@ -88,6 +90,7 @@ slot_is_diff e = agreed _ _ (each_edge (λ e. agree (is_diff (slot_of e)) (is_di
     all : list_all (λ e. agree (is_diff (slot_of e)) (is_diff e)) edges_in_order ≡ true
     all = refl
 
+-- a slot leads to another thread where the edge does
 pub slot_is_external : (e : Edge) → is_external (slot_of e) ≡ is_external e
 unfolding agree edges_in_order
 slot_is_external e = agreed _ _ (each_edge (λ e. agree (is_external (slot_of e)) (is_external e)) all e)
@@ -115,6 +118,7 @@ no_place e f = eqb-true _ _ (so (not (is_diff e)) (word_place e == 0) (each_edge
     all : list_all (λ e. if_so (not (is_diff e)) (word_place e == 0)) edges_in_order ≡ true
     all = refl
 
+-- the word of a link has a place
 pub some_place : (e : Edge) → is_diff e ≡ true → (word_place e == 0) ≡ false
 unfolding if_so edges_in_order
 some_place e t = no_of (word_place e == 0) (so (is_diff e) (not (word_place e == 0)) (each_edge (λ e. if_so (is_diff e) (not (word_place e == 0))) all e) t)
@@ -134,7 +138,7 @@ edge_counts e = eqb-true _ _ (each_edge (λ e. edge_count (slot_of e) == edge_co
     all : list_all (λ e. edge_count (slot_of e) == edge_count e) edges_in_order ≡ true
     all = refl
 
--- whether a slot stands for an edge
+-- whether the slot of a family's cycle is what an edge joins
 slot_agrees : Slot → Edge → Bool
 slot_agrees slot e = agree (is_kind_slot slot (kind_of e)) (rank_of (slot_of e) == rank_of (slot_edge slot))
 
@@ -169,6 +173,7 @@ unfolding is_the
 the_one e None h = cc
 the_one e (Some d) h = ap Some (rank_injective d e (eqb-true _ _ h))
 
+-- the link between its accesses with its word is the link itself
 pub link_found_back : (e : Edge) → is_diff e ≡ true → link_between (source_of e) (target_of e) (link_word e) ≡ Some e
 unfolding is_found
 link_found_back e t =
@@ -180,6 +185,7 @@ slot_source e t = rw t refl
 slot_target : (e : Edge) → is_diff e ≡ true → target_of (slot_of e) ≡ target_of e
 slot_target e t = rw t refl
 
+-- the link of its slot with its word is the link itself
 pub link_back : (e : Edge) → is_diff e ≡ true → link_with (slot_of e) (link_word e) ≡ Some e
 link_back e t =
     ap (λ d. link_between d (target_of (slot_of e)) (link_word e)) (slot_source e t)
@@ -194,6 +200,7 @@ all_short : list_all is_short edges_in_order ≡ true
 unfolding is_short edges_in_order
 all_short = refl
 
+-- a link's word has at most 11 bytes
 pub link_word_short : (e : Edge) → length (link_word e) ≤ 11
 unfolding is_short
 link_word_short e = leb-true (length (link_word e)) 11 (each_edge is_short all_short e)
@@ -227,6 +234,7 @@ word_parts e t =
     let j : link_word e ≡ kind_link (kind_of e) [] ++ letters = kind_letters (kind_of e) letters (kind_diff e t) in
     record { joined = j; short = omega (arith, ap length j, link_word_short e, length-append (kind_link (kind_of e) []) letters) }
 
+-- a link's word has bytes of names only
 pub link_word_bytes : (e : Edge) → list_all is_name_byte (link_word e) ≡ true
 unfolding edges_in_order
 link_word_bytes e = each_edge (λ e. list_all is_name_byte (link_word e)) all e
@@ -234,6 +242,7 @@ link_word_bytes e = each_edge (λ e. list_all is_name_byte (link_word e)) all e
     all : list_all (λ e. list_all is_name_byte (link_word e)) edges_in_order ≡ true
     all = refl
 
+-- a link's word has no `+`
 pub link_word_whole : (e : Edge) → list_all (λ b. not (is_plus b)) (link_word e) ≡ true
 unfolding edges_in_order
 link_word_whole e = each_edge (λ e. list_all (λ b. not (is_plus b)) (link_word e)) all e
@@ -241,7 +250,7 @@ link_word_whole e = each_edge (λ e. list_all (λ b. not (is_plus b)) (link_word
     all : list_all (λ e. list_all (λ b. not (is_plus b)) (link_word e)) edges_in_order ≡ true
     all = refl
 
--- a printed word has bytes of names alone, and no `-`
+-- a printed word has bytes of names only, and no `-`
 pub word_bytes : (e : Edge) → list_all is_name_byte (word_of e) ≡ true
 unfolding edges_in_order
 word_bytes e = each_edge (λ e. list_all is_name_byte (word_of e)) all e
@@ -249,6 +258,7 @@ word_bytes e = each_edge (λ e. list_all is_name_byte (word_of e)) all e
     all : list_all (λ e. list_all is_name_byte (word_of e)) edges_in_order ≡ true
     all = refl
 
+-- a printed word has no `-`
 pub word_whole : (e : Edge) → list_all (λ b. not (is_dash b)) (word_of e) ≡ true
 unfolding edges_in_order
 word_whole e = each_edge (λ e. list_all (λ b. not (is_dash b)) (word_of e)) all e

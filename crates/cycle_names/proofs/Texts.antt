@@ -1,4 +1,4 @@
--- What is written behind a family's word, by the links of a cycle.
+-- What comes after a family's word in a name, by the links of a cycle.
 use Rattle.std.specs.Prelude.{◌≡◌, ◌==◌, ◌&&◌, ◌||◌, ℕ, Bool, true, false, not, Some, None, List, [], ◌∷◌, ◌++◌, codes}
 use Rattle.std.specs.List.{find, list_all, flat_map}
 use Rattle.std.specs.Str.{bytes_eq}
@@ -49,12 +49,12 @@ first_words (d ∷ v) e h =
     let r = first_words v e (sym (cond-false (is_diff d) (Some d) (find is_diff v) f) ∙ h) in
     record { behind = r.behind; words = words_of_plain d v f ∙ r.words; links = r.links })
 
--- nothing is written where there is no link
+-- nothing comes after it where there is no link
 pub text_of_none : (v : List Edge) → find is_diff v ≡ None → links_text (link_words v) ≡ []
 unfolding links_text
 text_of_none v h = ap links_text (no_words v h)
 
--- nothing is written where all words are `po`
+-- nothing comes after it where all words are `po`
 pub text_of_plain : (v : List Edge) → list_all (bytes_eq (codes "po")) (link_words v) ≡ true → links_text (link_words v) ≡ []
 unfolding links_text
 text_of_plain v h = cond-true (list_all (bytes_eq (codes "po")) (link_words v)) [] _ h
@@ -76,7 +76,7 @@ text_of_alike v e h n t =
     ∙ ap plural r.words
     ∙ sym (ap (λ s. s ++ codes "s") (cond-true (is_diff e) (added (link_word e)) [] r.links))
 
--- else each word is written
+-- else each word comes after it
 each_text : (v : List Edge) → flat_map added (link_words v) ≡ flat_map link_text v
 each_text [] = refl
 each_text (e ∷ v) =
@@ -128,7 +128,7 @@ po_word = refl
 po_place : word_place po ≡ 126
 po_place = refl
 
--- nothing is written where all words have the place of `po`
+-- nothing comes after it where all words have the place of `po`
 pub text_at_plain : (v : List Edge) (e : Edge) → word_place e ≡ 126 → list_all (is_at (word_place e)) v ≡ true → links_text (link_words v) ≡ []
 text_at_plain v e p h =
     text_of_plain v (ap (λ w. list_all (bytes_eq w) (link_words v)) (sym po_word ∙ words_same po e (po_place ∙ sym p)) ∙ sym (all_at e v) ∙ h)
@@ -142,14 +142,14 @@ not_plain v e h n =
     absurd (n (and_parts (bytes_eq (codes "po") (link_word e)) (list_all (bytes_eq (codes "po")) r.behind) (sym (ap (list_all (bytes_eq (codes "po"))) r.words) ∙ t)).0))
     (λ f. f)
 
--- one word is written where all words have one place that isn't that of `po`
+-- one word comes after it where all words have one place that isn't that of `po`
 pub text_at_one : (v : List Edge) (e : Edge) → find is_diff v ≡ Some e → (word_place e ≡ 126 → ⊥) → list_all (is_at (word_place e)) v ≡ true → links_text (link_words v) ≡ link_text e ++ codes "s"
 text_at_one v e h p t =
     text_of_alike v e h
     (not_plain v e h (λ b. p (sym (eqb-true (word_place po) (word_place e) (sym (link_words_equal po e) ∙ b)) ∙ po_place)))
     (sym (all_at e v) ∙ t)
 
--- else each word is
+-- else each word comes after it
 pub text_at_each : (v : List Edge) (e : Edge) → find is_diff v ≡ Some e → list_all (is_at (word_place e)) v ≡ false → links_text (link_words v) ≡ flat_map link_text v
 text_at_each v e h t =
     let f : list_all (bytes_eq (link_word e)) (link_words v) ≡ false = sym (all_at e v) ∙ t in

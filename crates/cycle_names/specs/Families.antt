@@ -1,4 +1,4 @@
--- The table of the families: the name of each, and its cycle, in which each `PodXY` stands for a link from X to Y.
+-- The table of the families: the name of each, and its cycle, in which each `PodXY` represents a link from X to Y.
 -- Source: the names of litmus tests in the diy part of the herdtools manual.
 use Rattle.std.specs.Prelude.{ℕ, List, [], ◌∷◌, codes}
 use Rattle.relax_edges.specs.declared.kinds.Dir.{Dir}
@@ -15,17 +15,19 @@ use Rattle.cycle_names.specs.declared.family.Family.TheVariants as families
 abbrev pub pod : Dir → Dir → Edge
 pod from to = edges.Po Diff from to
 
--- the external edges
+-- the external reads-from edge
 abbrev pub rfe : Edge
 rfe = edges.Com coms.Rf External
 
+-- the external from-read edge
 abbrev pub fre : Edge
 fre = edges.Com coms.Fr External
 
+-- the external edge of the coherence order
 abbrev pub wse : Edge
 wse = edges.Com coms.Ws External
 
--- the name of a family; `OTHER` stands for the cycles of none
+-- the name of a family, `OTHER` for cycles that are of no family of the table
 abbrev pub family_word : Family → List ℕ
 family_word families.SB = codes "SB"
 family_word families.MP = codes "MP"

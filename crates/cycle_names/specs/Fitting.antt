@@ -34,26 +34,29 @@ use Rattle.cycle_names.specs.Links.{outline, link_word}
 use Rattle.cycle_names.specs.Rotations.{is_plain_outside, found_family, named_rotation}
 use Rattle.cycle_names.specs.Names.{added}
 
--- the edge of a family's cycle for which a slot stands
+-- the edge of a family's cycle that a slot represents
 abbrev pub slot_edge : Slot → Edge
 slot_edge (slots.External kind) = edges.Com kind External
 slot_edge (slots.Link from to) = edges.Po Diff from to
 
--- whether a slot stands for an edge of a kind, whatever its marks
+-- whether two communications are the same
 abbrev pub same_com : Com → Com → Bool
 same_com coms.Rf coms.Rf = true
 same_com coms.Fr coms.Fr = true
 same_com coms.Ws coms.Ws = true
 same_com _ _ = false
 
+-- whether a slot is an external edge of this communication, where the reach is external
 abbrev pub is_com_slot : Slot → Com → Reach → Bool
 is_com_slot (slots.External external) kind External = same_com kind external
 is_com_slot _ _ _ = false
 
+-- whether a slot is a link between these accesses, where the locations are different
 abbrev pub is_link_slot : Slot → Sd → Dir → Dir → Bool
 is_link_slot (slots.Link source target) Diff from to = same_dir from source && same_dir to target
 is_link_slot _ _ _ _ = false
 
+-- whether an edge of a kind joins what a slot does
 abbrev pub is_kind_slot : Slot → Kind → Bool
 is_kind_slot slot (kinds.Com kind reach) = is_com_slot slot kind reach
 is_kind_slot slot (kinds.Po sd from to) = is_link_slot slot sd from to
@@ -61,12 +64,14 @@ is_kind_slot slot (kinds.Fenced _ sd from to) = is_link_slot slot sd from to
 is_kind_slot slot (kinds.Dep _ sd to) = is_link_slot slot sd R to
 is_kind_slot slot (kinds.Data sd) = is_link_slot slot sd R W
 
--- what an edge counts: the digits of base 8 are the links and the external edges of each communication
+-- what an external edge of a communication adds to a count: the digits of base 8 are the links and the external edges of each
+-- communication
 abbrev pub com_count : Com → ℕ
 com_count coms.Rf = 1
 com_count coms.Fr = 8
 com_count coms.Ws = 64
 
+-- what an edge of a kind adds to a count: too much for any family where it is neither a link nor external
 abbrev pub kind_count : Kind → ℕ
 kind_count (kinds.Com kind External) = com_count kind
 kind_count (kinds.Po Diff _ _) = 512
@@ -75,6 +80,7 @@ kind_count (kinds.Dep _ Diff _) = 512
 kind_count (kinds.Data Diff) = 512
 kind_count _ = 4096
 
+-- what an edge adds to a count
 abbrev pub edge_count : Edge → ℕ
 edge_count edge = kind_count (kind_of edge)
 
@@ -82,7 +88,7 @@ edge_count edge = kind_count (kind_of edge)
 abbrev pub counted : List Edge → ℕ
 counted u = sum (map edge_count u)
 
--- the family whose cycle has as many
+-- the family whose cycle has this count, if there is one
 unfoldable pub family_counted : ℕ → Option Family
 family_counted count = find (λ family. counted (family_edges family) == count) all_families
 
@@ -151,13 +157,14 @@ fence_place fences.LwSync = 108
 fence_place fences.MFence = 117
 fence_place fences.Sync = 135
 
--- the place of a dependency's word with the letters of this place; `ctrlpa` and `ctrlpl` come behind `ctrlisync`
+-- the place of a dependency's word with the letters of this place; `ctrlpa` and `ctrlpl` come after `ctrlisync`
 abbrev pub dependency_place : DepKind → ℕ → ℕ
 dependency_place deps.Addr letters = 9 + letters
 dependency_place deps.Ctrl letters = cond (nat_lt letters 7) (18 + letters) (36 + letters)
 dependency_place deps.CtrlIsb letters = 27 + letters
 dependency_place deps.CtrlIsync letters = 36 + letters
 
+-- the place of the word of a link of a kind with the letters of this place, and 0 for a kind that is no link
 abbrev pub kind_place : Kind → ℕ → ℕ
 kind_place (kinds.Po Diff _ _) letters = 126 + letters
 kind_place (kinds.Fenced fence Diff _ _) letters = fence_place fence + letters

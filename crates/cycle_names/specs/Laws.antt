@@ -46,6 +46,6 @@ pub record IsName (text : List ℕ) : Type 0 where
   pub short : length text ≤ MAX_NAME
   pub bytes : list_all is_name_byte text ≡ true
 
--- the name of a cycle is one
+-- the name of a cycle is the text of a name
 abbrev pub NamesAreNames : Type 0
 NamesAreNames = (u : List Edge) → IsCycle u → IsName (name_of u)

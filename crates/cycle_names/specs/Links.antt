@@ -42,7 +42,7 @@ dependency_link deps.Ctrl = codes "ctrl"
 dependency_link deps.CtrlIsync = codes "ctrlisync"
 dependency_link deps.CtrlIsb = codes "ctrlisb"
 
--- `p`, `a` or `l`: plain, acquire or release
+-- the letter of a mark in a name: `p`, `a` or `l` for plain, acquire or release
 abbrev pub mark_letter : Mark → List ℕ
 mark_letter Plain = codes "p"
 mark_letter Acquire = codes "a"

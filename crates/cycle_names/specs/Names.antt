@@ -11,7 +11,7 @@ use Rattle.cycle_names.specs.Families.{family_word}
 use Rattle.cycle_names.specs.Links.{link_words}
 use Rattle.cycle_names.specs.Rotations.{found_family, named_rotation}
 
--- a word behind a `+`
+-- a `+` and a word
 abbrev pub added : List ℕ → List ℕ
 added word = codes "+" ++ word
 
@@ -20,16 +20,16 @@ abbrev pub all_equal : List (List ℕ) → Bool
 all_equal [] = true
 all_equal (word ∷ words) = list_all (bytes_eq word) words
 
--- one word for all
+-- one word for all: the first, after a `+` and before an `s`
 abbrev pub plural : List (List ℕ) → List ℕ
 plural [] = []
 plural (word ∷ _) = added word ++ codes "s"
 
--- what stands behind the family in a name: nothing where all words are `po`, else one word for all where all are equal, and else each word
+-- what comes after the family in a name: nothing where all words are `po`, else one word for all where all are equal, and else each word
 unfoldable pub links_text : List (List ℕ) → List ℕ
 links_text words = cond (list_all (bytes_eq (codes "po")) words) [] (cond (all_equal words) (plural words) (flat_map added words))
 
--- the name from a rotation of a cycle: of a family the family and its links, else `C+` and the words of the edges
+-- the name from a rotation of a cycle: the family and its links where it has a family, else `C+` and the words of the edges
 unfoldable pub name_from : Option Family → List Edge → List ℕ
 name_from (Some family) v = family_word family ++ links_text (link_words v)
 name_from None v = codes "C+" ++ join_by word_of (codes "-") v

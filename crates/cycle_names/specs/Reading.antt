@@ -1,4 +1,4 @@
--- How a name is read: the edges that a text would name. That they have this name is judged afterwards.
+-- How a name is read: the edges that a text would name. Whether they have this name is checked afterwards.
 -- Source: own.
 use Rattle.std.specs.Prelude.{◌≡◌, ◌≤◌, ℕ, ◌+◌, ◌-◌, ◌==◌, Bool, true, false, ◌&&◌, cond, Option, Some, None, Result, IsOk, List, [], ◌∷◌, ◌++◌, length, take, drop, codes, nat_eq}
 use Rattle.std.specs.List.{find, list_any, before_first, slice_split, starts_with}
@@ -15,22 +15,22 @@ use Rattle.cycle_names.specs.declared.family.Family.{Family}
 use Rattle.cycle_names.specs.Families.{family_word, family_edges, all_families}
 use Rattle.cycle_names.specs.Links.{link_word}
 
--- `+`
+-- a byte is `+`
 abbrev pub is_plus : ℕ → Bool
 is_plus byte = byte == 43
 
--- `-`
+-- a byte is `-`
 abbrev pub is_dash : ℕ → Bool
 is_dash byte = byte == 45
 
--- a text is a word, or goes on with `+` behind it
+-- a text is a word, or the word followed by `+` and more
 abbrev pub begins_with : List ℕ → List ℕ → Bool
 begins_with [] [] = true
 begins_with [] (byte ∷ _) = is_plus byte
 begins_with (_ ∷ _) [] = false
 begins_with (first ∷ word) (byte ∷ text) = (first == byte) && begins_with word text
 
--- the first of some families whose name a text is, or goes on with `+` behind
+-- the first of some families whose name is the text, or is followed by `+` in it
 abbrev pub named_family : List Family → List ℕ → Option Family
 named_family families text = find (λ family. begins_with (family_word family) text) families
 
@@ -50,7 +50,7 @@ link_with slot word = link_between (source_of slot) (target_of slot) word
 abbrev pub slot_with : Edge → List ℕ → Option Edge
 slot_with slot word = cond (is_diff slot) (link_with slot word) (Some slot)
 
--- one edge before others, where there are both
+-- one edge before some others, where there is the edge and there are the others
 abbrev pub before : Option Edge → Option (List Edge) → Option (List Edge)
 before (Some edge) (Some edges) = Some (edge ∷ edges)
 before _ _ = None
@@ -60,7 +60,7 @@ abbrev pub filled_alike : List Edge → List ℕ → Option (List Edge)
 filled_alike [] word = Some []
 filled_alike (slot ∷ slots) word = before (slot_with slot word) (filled_alike slots word)
 
--- the word behind the first byte of a text, up to the next `+`
+-- the word after the first byte of a text, up to the next `+`
 abbrev pub first_word : List ℕ → List ℕ
 first_word text = before_first is_plus (drop 1 text)
 
@@ -68,7 +68,7 @@ first_word text = before_first is_plus (drop 1 text)
 abbrev pub behind_word : List ℕ → List ℕ
 behind_word text = drop (length (first_word text)) (drop 1 text)
 
--- the edges of slots, the links with these words, each behind a `+`
+-- the edges of slots, the links with these words, each of which follows a `+`
 abbrev pub filled_each : List Edge → List ℕ → Option (List Edge)
 filled_each [] text = Some []
 filled_each (slot ∷ slots) text =
@@ -78,7 +78,7 @@ filled_each (slot ∷ slots) text =
 abbrev pub but_last : List ℕ → List ℕ
 but_last text = take (length text - 1) text
 
--- the edges of slots, with the links of which a name tells, and no marks but theirs
+-- the edges of slots, with the links that a name gives, and no marks but theirs
 abbrev pub filled : List Edge → List ℕ → Option (List Edge)
 filled slots [] = filled_alike slots (codes "po")
 filled slots (plus ∷ text) = cond (list_any is_plus text) (filled_each slots (plus ∷ text)) (filled_alike slots (but_last text))
@@ -88,7 +88,7 @@ abbrev pub first_mark : List Edge → Mark → Mark
 first_mark [] mark = mark
 first_mark (edge ∷ _) mark = source_mark edge
 
--- the mark of the access behind some edges, where it is `mark` behind none
+-- the mark of the access after some edges, where it is `mark` after none
 abbrev pub last_mark : Mark → List Edge → Mark
 last_mark mark [] = mark
 last_mark mark (edge ∷ edges) = last_mark (target_mark edge) edges
@@ -102,10 +102,11 @@ abbrev pub marked_along : Mark → List Edge → Mark → Option (List Edge)
 marked_along from [] to = Some []
 marked_along from (edge ∷ edges) to = before (marked_between from edge (first_mark edges to)) (marked_along (target_mark edge) edges to)
 
--- the edges of a cycle, of which the external ones have no marks yet, with those that the edges beside them have
+-- the edges of a cycle whose external edges have no marks, with the marks that the edges beside these have
 abbrev pub marked_around : List Edge → Option (List Edge)
 marked_around edges = marked_along (last_mark Plain edges) edges (first_mark edges Plain)
 
+-- the same of the edges of a cycle, if there are any
 abbrev pub marked_if : Option (List Edge) → Option (List Edge)
 marked_if None = None
 marked_if (Some edges) = marked_around edges
@@ -115,7 +116,7 @@ abbrev pub edges_spelled : List (List ℕ) → Option (List Edge)
 edges_spelled [] = Some []
 edges_spelled (word ∷ words) = before (edge_of word) (edges_spelled words)
 
--- the edges whose words a text has behind `C+`, joined by `-`
+-- the edges whose words a text has after `C+`, joined by `-`
 abbrev pub words_read : List ℕ → Option (List Edge)
 words_read text = cond (starts_with nat_eq text (codes "C+")) (edges_spelled (slice_split is_dash (drop 2 text))) None
 
@@ -128,6 +129,6 @@ read_in None text = words_read text
 unfoldable pub edges_read : List ℕ → Option (List Edge)
 edges_read text = read_in (named_family all_families text) text
 
--- where edges are read, and fit behind those that are there, they have been added
+-- where edges are read, and there is room for them after those that are there, they have been added
 abbrev pub Adds : {E : Type 0} → Option (List Edge) → List Edge → List Edge → Result (Unit {0}) E → Type 0
 Adds found old new result = (edges : List Edge) → found ≡ Some edges → length old + length edges ≤ MAX_EDGES → IsOk result × (new ≡ old ++ edges)

@@ -77,7 +77,7 @@ fn read_edges(text: &[u8], edges: &mut Edges) -> Result<(), NotAName>
     }
 }
 
-/// The first of some families whose name a text is, or goes on with `+` behind.
+/// The first of some families whose name is the text, or is followed by `+` in it.
 fn named_family(families: &[Family], text: &[u8]) -> Option<Family>
     ensures { result ≡ named_family families.now text.now }
 {
@@ -93,7 +93,7 @@ fn named_family(families: &[Family], text: &[u8]) -> Option<Family>
     }
 }
 
-/// Whether a text is a word, or goes on with `+` behind it.
+/// Whether a text is a word, or the word followed by `+` and more.
 fn begins_with(word: &[u8], text: &[u8]) -> bool
     ensures { result ≡ begins_with word.now text.now }
 {
@@ -120,7 +120,7 @@ pub fn edges_of(family: Family) -> Edges
     edges
 }
 
-/// Adds the edges of slots, with the links of which a name tells.
+/// Adds the edges of slots, with the links that a name gives.
 fn fill(slots: &[Edge], links: &[u8], edges: &mut Edges) -> Result<(), NotAName>
     requires { length edges.old.items + length slots.now ≤ MAX_EDGES }
     ensures { Adds (filled slots.now links.now) edges.old.items edges.new.items result }
@@ -160,7 +160,7 @@ fn fill_alike(slots: &[Edge], word: &[u8], edges: &mut Edges) -> Result<(), NotA
     }
 }
 
-/// Adds the edges of slots, the links with these words, each behind a `+`.
+/// Adds the edges of slots, the links with these words, each of which follows a `+`.
 fn fill_each(slots: &[Edge], links: &[u8], edges: &mut Edges) -> Result<(), NotAName>
     requires { length edges.old.items + length slots.now ≤ MAX_EDGES }
     ensures { Adds (filled_each slots.now links.now) edges.old.items edges.new.items result }
@@ -180,7 +180,7 @@ fn fill_each(slots: &[Edge], links: &[u8], edges: &mut Edges) -> Result<(), NotA
     }
 }
 
-/// The word behind the first byte of a text, up to the next `+`, and the text from there on.
+/// The word after the first byte of a text, up to the next `+`, and the text from there on.
 fn split_word(text: &[u8]) -> (&[u8], &[u8])
     ensures word { result.0.now ≡ first_word text.now }
     ensures behind { result.1.now ≡ behind_word text.now }
@@ -240,8 +240,8 @@ fn is_link(from: Dir, to: Dir, word: &[u8], edge: Edge) -> bool
     edge.is_diff() && edge.source() == from && edge.target() == to && is_spelled(edge, word)
 }
 
-/// Adds the edges of a cycle, of which the external ones have no marks yet, with those that the
-/// edges beside them have.
+/// Adds the edges of a cycle whose external edges have no marks, with the marks that the edges
+/// beside these have.
 fn mark_around(unmarked: &[Edge], edges: &mut Edges) -> Result<(), NotAName>
     requires { length edges.old.items + length unmarked.now ≤ MAX_EDGES }
     ensures { Adds (marked_around unmarked.now) edges.old.items edges.new.items result }
@@ -251,7 +251,7 @@ fn mark_around(unmarked: &[Edge], edges: &mut Edges) -> Result<(), NotAName>
     mark_along(before, unmarked, behind, edges)
 }
 
-/// The mark of the access behind some edges, where it is `mark` behind none.
+/// The mark of the access after some edges, where it is `mark` after none.
 fn last_mark(mark: Mark, edges: &[Edge]) -> Mark
     ensures { result ≡ last_mark mark edges.now }
 {
@@ -298,7 +298,7 @@ fn marked_between(from: Mark, edge: Edge, to: Mark) -> Result<Edge, NotAName>
     }
 }
 
-/// Adds the edges whose words a text has behind `C+`, joined by `-`.
+/// Adds the edges whose words a text has after `C+`, joined by `-`.
 fn read_other(text: &[u8], edges: &mut Edges) -> Result<(), NotAName>
     requires { edges.old.items ≡ [] }
     ensures { Adds (words_read text.now) edges.old.items edges.new.items result }

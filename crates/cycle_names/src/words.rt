@@ -17,7 +17,7 @@ type Name = ArrayString<MAX_NAME>;
 /// The place of `po` among the words of links.
 const PLAIN: u8 = 126;
 
-/// Adds what a name of a family has behind the family's word.
+/// Adds what a name of a family has after the family's word.
 pub(crate) fn push_links(edges: &[Edge], name: &mut Name)
     requires few { length edges.now ≤ MAX_EDGES }
     requires room { length name.old.bytes ≤ 16 }
@@ -72,7 +72,7 @@ fn is_at(place: u8, edge: Edge) -> bool
     other == 0 || other == place
 }
 
-/// Adds the word of an edge behind a `+`, if the edge is a link.
+/// Adds a `+` and the word of an edge, if the edge is a link.
 fn push_link(edge: Edge, name: &mut Name)
     requires { length name.old.bytes + 12 ≤ MAX_NAME }
     ensures text { name.new.bytes ≡ name.old.bytes ++ link_text edge }
@@ -85,7 +85,7 @@ fn push_link(edge: Edge, name: &mut Name)
     }
 }
 
-/// Adds the word of each link, behind a `+`.
+/// Adds a `+` and the word for each link.
 fn push_each(edges: &[Edge], name: &mut Name)
     requires { length name.old.bytes + 12 * length edges.now ≤ MAX_NAME }
     ensures { name.new.bytes ≡ name.old.bytes ++ flat_map link_text edges.now }
@@ -125,7 +125,7 @@ fn push_word(edge: Edge, name: &mut Name)
     name.push_str(word.as_str());
 }
 
-/// Adds the word of each edge, behind a byte.
+/// Adds a byte and the word for each edge.
 fn push_behind(edges: &[Edge], between: &str, name: &mut Name)
     requires one { length between.now ≡ 1 }
     requires room { length name.old.bytes + 15 * length edges.now ≤ MAX_NAME }
@@ -172,7 +172,7 @@ fn push_word_twice(edge: Edge, name: &mut Name, words: &mut Name)
     words.push_str(word.as_str());
 }
 
-/// Adds the word of each edge, behind `-` and behind a blank.
+/// Adds the word of each edge to both texts, after `-` in the one and after a blank in the other.
 fn push_both_behind(edges: &[Edge], name: &mut Name, words: &mut Name)
     requires name_room { length name.old.bytes + 15 * length edges.now ≤ MAX_NAME }
     requires words_room { length words.old.bytes + 15 * length edges.now ≤ MAX_NAME }

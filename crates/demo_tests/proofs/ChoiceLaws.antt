@@ -1,4 +1,4 @@
--- The choices for a link: there is one at least, there are few, and they are found among all edges in order.
+-- The choices for a link: there is at least one, there are few, and they are found among all edges in order.
 use Rattle.std.proofs.Common.{◌≡◌, ◌<◌, ◌≤◌, ◌+◌, ℕ, Bool, true, List, [], ◌∷◌, ◌++◌, length, take, drop, get_or, refl, sym, ap, ◌∙◌, arith, length-append}
 use Rattle.std.specs.Prelude.{◌&&◌, cond, filter, nat_lt, nat_le}
 use Rattle.std.proofs.lemmas.Bool.{and_parts, cond-true}
@@ -39,6 +39,7 @@ one_to_16 RISCV dirs.R dirs.W = refl
 one_to_16 RISCV dirs.W dirs.R = refl
 one_to_16 RISCV dirs.W dirs.W = refl
 
+-- there is at least one choice for each link
 pub some_choices : (arch : ArchName) (from to : Dir) → 0 < length (choices_of arch from to)
 some_choices arch from to =
     let both = and_parts (nat_lt 0 (length (choices_of arch from to))) (nat_le (length (choices_of arch from to)) 16) (one_to_16 arch from to) in
@@ -49,7 +50,7 @@ few_choices arch from to =
     let both = and_parts (nat_lt 0 (length (choices_of arch from to))) (nat_le (length (choices_of arch from to)) 16) (one_to_16 arch from to) in
     grind (arith, nat_tests, both.1)
 
--- a filter keeps no more of a part
+-- a filter keeps no more of a part than of the whole
 length-filter-take : (p : Edge → Bool) (xs : List Edge) (k : ℕ) → length (filter p (take k xs)) ≤ length (filter p xs)
 length-filter-take p xs k =
     let parts : filter p xs ≡ filter p (take k xs) ++ filter p (drop k xs) =
@@ -60,7 +61,7 @@ length-filter-take p xs k =
 at_rank_of : (k : ℕ) (e : Edge) → rank_of e ≡ k → get_or edges_in_order k e ≡ e
 at_rank_of k e h = rw (sym h) (get_or_from_slice_get edges_in_order (rank_of e) e e (placed e))
 
--- there is room for a choice more
+-- there is room for one choice more
 pub room_for : (arch : ArchName) (from to : Dir) (k : ℕ) (e : Edge) (items : List Edge) → k < EDGES → rank_of e ≡ k → items ≡ filter (is_choice arch from to) (take k edges_in_order)
     → is_choice arch from to e ≡ true → length items < 16
 unfolding choices_of
@@ -70,7 +71,7 @@ room_for arch from to k e items h r i passed =
     let more = length-filter_more p edges_in_order k e (omega (arith, edges-length)) in
     omega (arith, ap length i, one, more, length-filter-take p edges_in_order (k + 1), few_choices arch from to)
 
--- an edge more is looked at
+-- with one edge more, the choices among the edges so far are known
 pub chosen_more : (arch : ArchName) (from to : Dir) (k : ℕ) (e : Edge) (items new : List Edge) → k < EDGES → rank_of e ≡ k → items ≡ filter (is_choice arch from to) (take k edges_in_order)
     → new ≡ items ++ cond (is_choice arch from to e) (e ∷ []) [] → new ≡ filter (is_choice arch from to) (take (k + 1) edges_in_order)
 chosen_more arch from to k e items new h r i n =
@@ -80,7 +81,7 @@ chosen_more arch from to k e items new h r i n =
     ∙ ap (λ x. filter p (take k edges_in_order) ++ cond (p x) (x ∷ []) []) (sym e_is)
     ∙ sym (filter_more p edges_in_order k e (omega (arith, edges-length)))
 
--- all are
+-- once all edges are passed, the choices are all
 pub chosen_all : (arch : ArchName) (from to : Dir) (k : ℕ) (items : List Edge) → k ≡ EDGES → items ≡ filter (is_choice arch from to) (take k edges_in_order) → items ≡ choices_of arch from to
 unfolding choices_of
 chosen_all arch from to k items h i = i ∙ ap (filter (is_choice arch from to)) (take_all k edges_in_order (omega (arith, edges-length)))

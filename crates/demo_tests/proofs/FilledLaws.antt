@@ -1,4 +1,4 @@
--- What is filled in for a family's cycle is a cycle, whose edges are choices.
+-- The edges picked for a family's cycle are a cycle, and those for its links are choices.
 use Rattle.std.proofs.Common.{◌≡◌, ◌<◌, ◌≤◌, ℕ, suc, ◌%◌, Bool, true, List, [], ◌∷◌, ◌++◌, length, Ok, Err, refl, sym, ap, ◌∙◌, arith, subst}
 use Rattle.std.specs.Prelude.{◌&&◌, MatchBool, Result, nat_lt, nat_le}
 use Rattle.std.specs.List.{All, IsAmong, list_all}
@@ -33,7 +33,7 @@ choice_is_one arch n link =
     let some = some_choices arch (source_of link) (target_of link) in
     filter_passes p _ (n % length (choices_of arch (source_of link) (target_of link))) link (grind (arith, some))
 
--- what is filled in stands for the edges of the family's cycle
+-- the edges picked for a family's cycle are an external edge as it is and a choice for each link
 pub is_filled : (arch : ArchName) (seed : ℕ) (slots : List Edge) → IsFilled arch slots (filled arch seed slots)
 is_filled arch seed [] = tt
 is_filled arch seed (slot ∷ slots) = (one, is_filled arch (seed_past seed slot) slots)
@@ -130,7 +130,7 @@ alike_length [] (f ∷ v) h = absurd h
 alike_length (e ∷ u) [] h = absurd h
 alike_length (e ∷ u) (f ∷ v) h = ap suc (alike_length u v h.1)
 
--- the cycle of a family is one, short, and without marks
+-- the cycle of a family is a cycle, short, and without marks
 cycle_test : Family → Bool
 cycle_test family =
     nat_lt 0 (length (family_edges family)) && nat_le (length (family_edges family)) 6 && is_closed (family_edges family) && list_all is_plain (family_edges family)
@@ -155,7 +155,7 @@ family_cycle family h =
     let first = and_parts (nat_lt 0 (length (family_edges family))) _ last.0 in
     record { some = grind (arith, nat_tests, first.0); short = grind (arith, nat_tests, first.1); closed = last.1; plain = marks.1 }
 
--- what is filled in for it is a cycle
+-- the edges picked for it are a cycle
 pub filled_cycle : (arch : ArchName) (seed : ℕ) (family : Family) → IsAmong all_families family → IsCycle (filled arch seed (family_edges family))
 filled_cycle arch seed family h =
     let slots = family_edges family in
@@ -165,7 +165,7 @@ filled_cycle arch seed family h =
     let same = alike_length edges slots alike in
     record { some = omega (arith, same, own.some); few = omega (arith, same, own.short); closed = alike_closed edges slots alike ∙ own.closed }
 
--- so that it is composed
+-- so the edges compose
 pub never_refused : (arch : ArchName) (seed : ℕ) (family : Family) (edges : List Edge) (error : CycleError) → IsAmong all_families family
     → edges ≡ filled arch seed (family_edges family) → Err error ≡ composed edges → ⊥
 never_refused arch seed family edges error h e refused =
@@ -175,7 +175,7 @@ never_refused arch seed family edges error h e refused =
     not_both : {v : List Edge} {x : CycleError} → ◌≡◌ {A = Result (List Edge) CycleError} (Err x) (Ok v) → ⊥
     not_both z = cc
 
--- what is filled in, step by step
+-- the edges that the steps pick are those picked for the family's cycle
 pub filled_from : (arch : ArchName) (seed : ℕ) (family : Family) (slots shown start edges whole : List Edge) → slots ≡ family_edges family → shown ≡ slots → start ≡ []
     → edges ≡ start ++ filled arch seed shown → whole ≡ edges → whole ≡ filled arch seed (family_edges family)
 filled_from arch seed family slots shown start edges whole s t n e w =

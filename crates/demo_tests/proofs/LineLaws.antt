@@ -22,6 +22,7 @@ pub no_families : (a : SinkSeen) (held : List ℕ) (families : List Family) (tal
 no_families a held [] tallies h = record { ok = sent_nothing a held; failed = tt }
 no_families a held (f ∷ families) tallies h = absurd (omega arith)
 
+-- no line is sent where there are no tallies
 pub no_tallies : (a : SinkSeen) (held : List ℕ) (families : List Family) (tallies : List TestTally) → length tallies < 1 → Sends a held a held (family_lines families tallies) (Ok tt)
 no_tallies a held [] [] h = record { ok = sent_nothing a held; failed = tt }
 no_tallies a held (f ∷ families) [] h = record { ok = sent_nothing a held; failed = tt }

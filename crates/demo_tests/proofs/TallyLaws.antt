@@ -1,4 +1,4 @@
--- What is counted of tests grows by a test after another, and stays small.
+-- What is counted of tests grows with each test, and stays small.
 use Rattle.std.proofs.Common.{◌≡◌, ◌<◌, ◌≤◌, ◌+◌, ◌*◌, ◌%◌, ℕ, zero, suc, List, [], ◌∷◌, ◌++◌, length, get_or, map, refl, sym, ap, ◌∙◌, arith, add-one, length-append, append-nil}
 use Rattle.std.specs.Prelude.{cond, filter, replicate, codes, ◌==◌, slice_set, slice_index_or, None}
 use Rattle.std.specs.List.{All, sum_by, IsAmong}
@@ -69,7 +69,7 @@ unfolding numbered_text
 text_so puts w arch number old d cycle text same o h e =
     e ∙ ap (λ u. text_tally (cycle_text puts w Accept (name_of u) u)) (numbered_so puts arch number old d cycle same o h)
 
--- what is filled in for a family of the table has a test
+-- a cycle picked for a family of the table has a test
 pub accepted : (puts : Puts) (arch : ArchName) → MakesAll puts → (family : Family) (seed : ℕ) (cycle : List Edge) → IsAmong all_families family → arch ≡ puts.name → cycle ≡ filled arch seed (family_edges family)
     → refusal_of puts cycle Accept ≡ None
 accepted puts arch all family seed cycle h same e =
@@ -84,7 +84,7 @@ texts_short puts w laws back cells one all number =
     cycle_text_short puts w Accept (filled puts.name (seed_of number) (family_edges family)) laws back cells one (filled_cycle puts.name (seed_of number) family among)
     (accepted puts puts.name all family (seed_of number) (filled puts.name (seed_of number) (family_edges family)) among refl refl)
 
--- so that there is room for one more
+-- so there is room for one more
 fits_of : (T : ℕ → List ℕ) (numbers : List ℕ) (number n : ℕ) → ((k : ℕ) → length (T k) ≤ MAX_TEXT) → length numbers ≤ n → n < 4294967296 → Fits (text_tally (T number)) (tally_of T numbers)
 unfolding tally_of
 fits_of T numbers number n short few small =
@@ -118,16 +118,18 @@ pub record HasRoom (text : Tally) (families : List TestTally) (all : TestTally) 
   pub each : All (Fits text) families
   pub whole : Fits text all
 
+-- where the texts are short and the tests so far fewer than 2^32, there is room for one more
 pub has_room : (T : ℕ → List ℕ) (text : Tally) (families : List TestTally) (all : TestTally) (number : ℕ) → ((k : ℕ) → length (T k) ≤ MAX_TEXT) → number < 4294967296
     → text ≡ text_tally (T number) → families ≡ family_tallies T number → all ≡ tally_of T (upto number) → HasRoom text families all
 has_room T text families all number short small e f a = record { each = families_fit T text families number short small e f; whole = all_fits T text all number short small e a }
 
--- a test more
+-- one test more
 tally_more : (T : ℕ → List ℕ) (numbers : List ℕ) (number : ℕ) → tally_of T (numbers ++ number ∷ []) ≡ counted (text_tally (T number)) (tally_of T numbers)
 unfolding tally_of
 tally_more T numbers number =
     rw (length-append numbers (number ∷ []), sum_by_push (λ k. line_feed_count (T k)) numbers number, sum_by_push (λ k. length (T k)) numbers number) refl
 
+-- one test more is counted in the tally of all
 pub all_more : (T : ℕ → List ℕ) (text : Tally) (old new : TestTally) (number : ℕ) → text ≡ text_tally (T number) → old ≡ tally_of T (upto number) → new ≡ counted text old → new ≡ tally_of T (upto (number + 1))
 all_more T text old new number e o n =
     n ∙ ap (λ t. counted t old) e ∙ ap (counted (text_tally (T number))) o ∙ sym (tally_more T (upto number) number) ∙ ap (λ k. tally_of T (upto k)) (sym (add-one number))
@@ -171,6 +173,7 @@ family_more T number place =
     cond-false (number % 14 == place) _ _ f
     ∙ ap (tally_of T) (sym (parts ∙ ap (λ xs. family_numbers number place ++ xs) (cond-false (number % 14 == place) (number ∷ []) [] f) ∙ append-nil (family_numbers number place))))
 
+-- one test more is counted in the tally of its family
 pub families_more : (T : ℕ → List ℕ) (text : Tally) (old new : List TestTally) (number place : ℕ) → text ≡ text_tally (T number) → old ≡ family_tallies T number → place ≡ number % 14
     → ((d : TestTally) → new ≡ slice_set old place (counted text (slice_index_or old place d))) → new ≡ family_tallies T (number + 1)
 unfolding family_tallies
@@ -187,11 +190,12 @@ families_more T text old new number place e o p n =
     ∙ map_by (λ k. cond (number % 14 == k) (counted (text_tally (T number)) (F (number % 14))) (F k)) (λ k. tally_of T (family_numbers (suc number) k)) (upto 14) (family_more T number)
     ∙ ap (λ n. map (λ place. tally_of T (family_numbers n place)) (upto 14)) (sym (add-one number))
 
--- no tests
+-- of no tests the tally of each family is empty
 pub no_families_counted : (T : ℕ → List ℕ) (families : List TestTally) → families ≡ replicate 14 nothing_counted → families ≡ family_tallies T 0
 unfolding family_tallies tally_of
 no_families_counted T families e = e
 
+-- of no tests the tally of all is empty
 pub none_counted : (T : ℕ → List ℕ) (all : TestTally) → all ≡ nothing_counted → all ≡ tally_of T (upto 0)
 unfolding tally_of
 none_counted T all e = e

@@ -10,7 +10,7 @@ use Rattle.litmus_text.specs.declared.limits.TheConstants.{MAX_TEXT}
 pub line_feeds_few : (text : List ℕ) → line_feed_count text ≤ length text
 line_feeds_few text = count_by-le-length (λ byte. byte == 10) text
 
--- a short text that was written to an empty tally is tallied whole
+-- a short text that is written to an empty tally is tallied whole
 pub tallied : (old new : Tally) (x text : List ℕ) → old ≡ record { bytes = 0; line_feeds = 0 } → WroteAll (tally_seen old) (tally_seen new) x → x ≡ text → length text ≤ MAX_TEXT
     → new ≡ tally_of (length text) (line_feed_count text)
 unfolding told_kept told_after

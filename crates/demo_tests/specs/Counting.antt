@@ -1,14 +1,14 @@
--- How the summary is counted, a test after another.
+-- How the summary is counted, one test after another.
 -- Source: own.
 use Rattle.std.specs.Prelude.{ℕ, ◌≡◌, ◌+◌, ◌^◌, ◌<◌, List, length, slice_index_or, slice_set}
 use Rattle.diy_io.specs.Sink.{Tally, line_feed_count, tally_of}
 use Rattle.demo_tests.specs.declared.tally.TestTally.{TestTally}
 
--- nothing is counted
+-- the tally of no tests
 abbrev pub nothing_counted : TestTally
 nothing_counted = record { tests = 0; lines = 0; bytes = 0 }
 
--- a test more is counted, by the tally of its text
+-- the tally with one test more, by the tally of its text
 abbrev pub counted : Tally → TestTally → TestTally
 counted text tally = record { tests = tally.tests + 1; lines = tally.lines + text.line_feeds; bytes = tally.bytes + text.bytes }
 
@@ -20,7 +20,7 @@ text_tally text = tally_of (length text) (line_feed_count text)
 abbrev pub CountsAt : List TestTally → List TestTally → ℕ → Tally → Type 0
 CountsAt old new place text = (other : TestTally) → new ≡ slice_set old place (counted text (slice_index_or old place other))
 
--- there is room for it
+-- there is room for one test more: no number of the tally overflows
 pub record Fits (text : Tally) (tally : TestTally) : Type 0 where
   pub tests : tally.tests + 1 < 2 ^ 64
   pub lines : tally.lines + text.line_feeds < 2 ^ 64

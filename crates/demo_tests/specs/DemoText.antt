@@ -10,7 +10,7 @@ use Rattle.arch_trait.specs.Writing.{Writing}
 use Rattle.demo_tests.specs.declared.tally.TestTally.{TestTally}
 use Rattle.demo_tests.specs.Tallies.{numbered_text, tally_of, family_tallies}
 
--- a line of the summary: a word, and what is counted under it
+-- a line of the summary: a word, and the numbers of tests, lines and bytes counted under it
 unfoldable pub tally_line : List ℕ → TestTally → List ℕ
 tally_line word tally =
     word ++ codes " tests " ++ decimal tally.tests ++ codes " lines " ++ decimal tally.lines ++ codes " bytes " ++ decimal tally.bytes ++ codes "\n"

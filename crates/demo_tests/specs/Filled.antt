@@ -1,4 +1,4 @@
--- How the cycle of a test is made of the cycle of its family: a draw picks each link.
+-- How the cycle of a test is made from the cycle of its family: a draw picks each link.
 -- Source: own.
 use Rattle.std.specs.Prelude.{ℕ, ◌%◌, if◌then◌else◌, List, [], ◌∷◌, length, filter, slice_index_or}
 use Rattle.relax_edges.specs.declared.kinds.ArchName.{ArchName}
@@ -23,16 +23,16 @@ choice_of arch number link =
 abbrev pub seed_past : ℕ → Edge → ℕ
 seed_past seed slot = if is_external slot then seed else next_seed seed
 
--- the edge for an edge of a family's cycle: an external one stays
+-- the edge picked for an edge of a family's cycle: an external edge stays as it is
 abbrev pub edge_for : ArchName → ℕ → Edge → Edge
 edge_for arch seed slot = if is_external slot then slot else choice_of arch (drawn (next_seed seed)) slot
 
--- the edges for those of a family's cycle
+-- the edges picked for those of a family's cycle
 abbrev pub filled : ArchName → ℕ → List Edge → List Edge
 filled arch seed [] = []
 filled arch seed (slot ∷ slots) = edge_for arch seed slot ∷ filled arch (seed_past seed slot) slots
 
--- the seed after them
+-- the seed after the draws for some edges of a family's cycle
 abbrev pub seed_after : ℕ → List Edge → ℕ
 seed_after seed [] = seed
 seed_after seed (slot ∷ slots) = seed_after (seed_past seed slot) slots

@@ -13,7 +13,7 @@ use relax_edges::{Edge, MAX_EDGES};
 
 pub(crate) type Edges = ArrayVec<Edge, MAX_EDGES>;
 
-/// The edge for an edge of a family's cycle.
+/// The edge picked for an edge of a family's cycle.
 fn edge_for(slot: Edge, choices: &Choices, draws: &mut Draws) -> Edge
     ensures edge { result ≡ edge_for choices.now.arch draws.old.seed slot }
     ensures seed { draws.new.seed ≡ seed_past draws.old.seed slot }
@@ -24,7 +24,7 @@ fn edge_for(slot: Edge, choices: &Choices, draws: &mut Draws) -> Edge
     choices.choice(draws.draw(), slot)
 }
 
-/// Adds the edges for those of a family's cycle.
+/// Adds the edges picked for those of a family's cycle.
 fn fill(slots: &[Edge], choices: &Choices, draws: &mut Draws, edges: &mut Edges)
     requires { length edges.old.items + length slots.now ≤ MAX_EDGES }
     ensures edges { edges.new.items ≡ edges.old.items ++ filled choices.now.arch draws.old.seed slots.now }

@@ -33,7 +33,7 @@ impl Summary {
         }
     }
 
-    /// Counts a test more, of the family at a place of the table, by the tally of its text.
+    /// Counts one test more, of the family at a place of the table, by the tally of its text.
     pub(crate) fn count(&mut self, place: usize, text: &TextTally)
         requires place { place < length self.old.families }
         requires families { All (Fits text.now) self.old.families }

@@ -23,7 +23,7 @@ impl TestTally {
         }
     }
 
-    /// Counts a test more, by the tally of its text.
+    /// Counts one test more, by the tally of its text.
     pub(crate) fn count(&mut self, text: &TextTally)
         requires { Fits text.now self.old }
         ensures { self.new ≡ counted text.now self.old }

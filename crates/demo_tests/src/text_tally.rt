@@ -5,7 +5,7 @@ ghost use Rattle.diy_io.specs.Wrote.{Wrote, tally_seen};
 use diy_io::{Failed, Sink};
 use std::marker::Model;
 
-/// A sink that keeps the numbers of its bytes and of its line feeds alone, as `TallySink` does. It never fails.
+/// A sink that keeps only the numbers of its bytes and of its line feeds, as `TallySink` does. It never fails.
 #[derive(Drop)]
 pub(crate) struct TextTally {
     bytes: u64,
@@ -21,7 +21,7 @@ impl Model for TextTally {
 }
 
 impl TextTally {
-    /// Nothing is taken yet.
+    /// A sink that has taken nothing.
     pub(crate) fn new() -> TextTally
         ensures { result ≡ record { bytes = 0; line_feeds = 0 } }
     {

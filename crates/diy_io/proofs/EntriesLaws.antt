@@ -10,6 +10,7 @@ use Rattle.diy_io.specs.MemEntries.{entry_view, IsSpare}
 abbrev pub state_of : List Named → ℕ → ℕ → MemFilesState
 state_of files room names = record { files = files; room = room; names = names }
 
+-- states with equal files, room and names are equal
 pub same_state : (a b : List Named) (m n k l : ℕ) → a ≡ b → m ≡ n → k ≡ l → state_of a m k ≡ state_of b n l
 same_state a b m n k l p q r = rw (p, q, r)
 
@@ -50,7 +51,7 @@ entry_grown es files i d old new bytes is h e n b =
     ap (bytes_at i) (sym is) ∙ bytes_viewed es i d old (let c : length files ≡ length es = ap length (sym is) ∙ length-map es entry_view in omega arith) e in
     entry_set es files i d old new (bytes_at i files ++ bytes) is h e n (b ∙ ap (λ f. f ++ bytes) (sym viewed))
 
--- a file is made behind the others
+-- a file is added after the others
 pub entry_added : (es made : List Entry) (files : List Named) (new : Entry) (name bytes : List ℕ) → map entry_view es ≡ files → made ≡ es ++ new ∷ []
     → new.name.items ≡ name → new.bytes.items ≡ bytes → map entry_view made ≡ files ++ (name, bytes) ∷ []
 entry_added es made files new name bytes is e n b =
@@ -65,12 +66,15 @@ last_spare room spare n d entry all h e = subst (IsSpare room) (sym e) (All-get_
 pub if_ok : {E : Type 0} (a b c : List ℕ) (r : Result (Unit {0}) E) (u : Unit {0}) → c ≡ (if is_ok r then a else b) → r ≡ Ok u → c ≡ a
 if_ok a b c r u e is = rw is at e
 
+-- bytes that are appended to nothing are all that there is
 pub from_nothing : (a b c : List ℕ) → a ≡ [] → c ≡ a ++ b → c ≡ b
 from_nothing a b c e is = rw e at is
 
+-- equal options hold equal things
 pub some_same : {X : Type 0} (a b : X) → Some a ≡ Some b → a ≡ b
 some_same a b e = cc
 
+-- what holds of the thing in an option, where there is one, holds of this one
 pub if_some_at : {X : Type 0} (r : Option X) (P : X → Type 0) (x : X) → IfSome r P → r ≡ Some x → P x
 if_some_at r P x h e = let Q : Option _ → Type 0 = λ o. IfSome o P in subst Q e h
 
@@ -85,6 +89,7 @@ pub on_ok_at : {X E : Type 0} (r : Result X E) (b : Bool) (P : Type 0) → OnOk 
 on_ok_at (Ok x) b P h e f = h
 on_ok_at (Err x) b P h e f = absurd (let t : true ≡ false = sym e ∙ f in cc)
 
+-- what holds where a call succeeded holds where it gave this
 pub on_ok_is : {X E : Type 0} (r : Result X E) (x : X) (P : Type 0) → OnOk r P → r ≡ Ok x → P
 on_ok_is r x P h e = let Q : Result _ _ → Type 0 = λ o. OnOk o P in subst Q e h
 
@@ -92,5 +97,6 @@ on_ok_is r x P h e = let Q : Result _ _ → Type 0 = λ o. OnOk o P in subst Q e
 pub match_none : {X : Type 0} (r : Option X) (P : Type 0) (Q : X → Type 0) → r ≡ None → P → MatchOption r P Q
 match_none r P Q e h = let R : Option _ → Type 0 = λ o. MatchOption o P Q in subst R (sym e) h
 
+-- what holds where a call failed holds where it gave this error
 pub on_err_is : {X E : Type 0} (r : Result X E) (x : E) (P : Type 0) → OnErr r P → r ≡ Err x → P
 on_err_is r x P h e = let Q : Result _ _ → Type 0 = λ o. OnErr o P in subst Q e h

@@ -85,20 +85,24 @@ first_named name files i e = first_at (has_name name) 0 files i e
 pub place_is : (name : List ℕ) (files : List Named) (i : ℕ) (f : FirstAt (has_name name) 0 files i) → i ≡ f.place
 place_is name files i f = f.is ∙ zero-add f.place
 
+-- the place of a file is below the number of files
 pub place_inside : (name : List ℕ) (files : List Named) (i : ℕ) → place_of name files ≡ Some i → i < length files
 place_inside name files i e =
     let f = first_named name files i e in let p = place_is name files i f in rw p f.inside
 
+-- the file at the place of a name has the name
 pub name_there : (name : List ℕ) (files : List Named) (i : ℕ) → place_of name files ≡ Some i → name_at i files ≡ name
 name_there name files i e =
     let f = first_named name files i e in let p = place_is name files i f in
     rw p (same_bytes (name_at f.place files) name (f.passes ([], [])))
 
+-- the bytes of the file at the place of a name are those of the file of that name
 pub bytes_there : (name : List ℕ) (files : List Named) (i : ℕ) → place_of name files ≡ Some i → files_of files name ≡ Some (bytes_at i files)
 bytes_there name files i e =
     let f = first_named name files i e in let p = place_is name files i f in
     rw p (ap (option_map (λ file. file.1)) (f.found ([], [])))
 
+-- where a name has no place, there is no file of that name
 pub bytes_not_there : (name : List ℕ) (files : List Named) → place_of name files ≡ None → files_of files name ≡ None
 bytes_not_there name files e = ap (option_map (λ file. file.1)) (find_none (has_name name) 0 files e)
 
@@ -146,7 +150,7 @@ add_same files name bytes other e o =
     find-append (has_name name) files ((name, bytes) ∷ []) ∙ (rw (find_none (has_name name) 0 files e, bytes_same name name refl) refl) in
     ap (files_of (files ++ (name, bytes) ∷ [])) o ∙ ap (option_map (λ file. file.1)) there
 
--- a file is made behind the others
+-- a file is added after the others
 pub files_added : (files : List Named) (name bytes : List ℕ) → place_of name files ≡ None
     → files_of (files ++ (name, bytes) ∷ []) ≡ with_file name bytes (files_of files)
 files_added files name bytes e = fun_ext (λ other. by_test (bytes_eq other name)
@@ -160,7 +164,7 @@ added_from t k (x ∷ files) y e h = by_test (t x)
     (λ passed. absurd (none-some k (sym (rw passed at e))))
     (λ failed. rw failed (added_from t (k + 1) files y (rw failed at e) h ∙ ap Some (omega arith)))
 
--- the place of a file that is made behind the others
+-- the place of the file that is added after the others
 pub place_added : (files : List Named) (name bytes : List ℕ) → place_of name files ≡ None → place_of name (files ++ (name, bytes) ∷ []) ≡ Some (length files)
 place_added files name bytes e =
     added_from (has_name name) 0 files (name, bytes) e (bytes_same name name refl) ∙ ap Some (zero-add (length files))

@@ -1,4 +1,4 @@
--- What a page holds after a text is put to it.
+-- What a page holds after a text is added to it.
 use Rattle.std.proofs.Common.{◌≡◌, ◌≤◌, ◌<◌, ℕ, ◌+◌, ◌-◌, List, Bor, [], ◌∷◌, ◌++◌, length, take, drop, get_or, min, inl, inr, Ok, Err, sym, ap, ◌∙◌, subst, arith, append-nil}
 use Rattle.std.specs.Prelude.{◌⊎◌, Result, OnOk}
 use Rattle.std.specs.Result.{IsErrAnd}
@@ -29,12 +29,12 @@ within_filled n k held (byte ∷ text) bytes e h p = either (cases_lt (n - lengt
     either (inr all) =
         p ∙ ap (λ t. held ++ t) (take_all k (byte ∷ text) (omega arith)) ∙ sym (took_all n held (byte ∷ text) (omega arith))
 
--- what was put to a page that had room for so much of a text
+-- what was added to a page that had room for so much of a text
 pub page_filled : (k : ℕ) (page text bytes : List ℕ) → k ≡ min (length text) (PAGE_ROOM - length page) → length page ≤ PAGE_ROOM → bytes ≡ page ++ take k text → bytes ≡ page_after page text
 unfolding page_after
 page_filled k page text bytes e h p = within_filled PAGE_ROOM k page text bytes e h p
 
--- the bytes of a page behind which a part of a text was copied
+-- the bytes of a page after which a part of a text was copied
 pub put_is : (len k : ℕ) (old new page text : List ℕ) → len ≤ PAGE_ROOM → length old ≡ PAGE_ROOM → take len old ≡ page
     → k ≡ min (length text) (PAGE_ROOM - len) → take (len + length (take k text)) new ≡ take len old ++ take k text → take (len + k) new ≡ page_after page text
 put_is len k old new page text fits long view count copied =
@@ -55,6 +55,7 @@ filled_sent a b held text page e h w = record {
   wrote = subst (WroteAll a b) (e ∙ page_fits held text h) w;
 }
 
+-- a text filled the page, and the sink failed: it took a prefix of what the page held and the text
 pub filled_unsent : (Q : Failed → Type 0) (a b : SinkSeen) (held front rest text page kept : List ℕ) (result : Answer) → page ≡ page_after held front → length held + length front ≤ PAGE_ROOM
     → front ++ rest ≡ text → WrotePart a b page → IsErrAnd result Q → Sends a held b kept text result
 filled_unsent Q a b held front rest text page kept (Ok _) e h parts w is_err = absurd is_err
@@ -63,6 +64,7 @@ filled_unsent Q a b held front rest text page kept (Err _) e h parts w is_err = 
   failed = subst (λ t. WrotePart a b (held ++ t)) parts (sent_part_more a b held front rest (subst (WrotePart a b) (e ∙ page_fits held front h) w));
 }
 
+-- a text filled the page, which was handed on, and then the rest of the text was sent
 pub filled_then : (a b c : SinkSeen) (held front rest text page mid kept : List ℕ) (result : Answer) → page ≡ page_after held front → length held + length front ≤ PAGE_ROOM
     → front ++ rest ≡ text → WroteAll a b page → mid ≡ [] → Sends b mid c kept rest result → Sends a held c kept text result
 filled_then a b c held front rest text page mid kept result e h parts w none k =
@@ -93,6 +95,7 @@ pub piece_sent : (a b c : SinkSeen) (held mid kept : List ℕ) (pieces : List (B
 piece_sent a b c held mid kept pieces i d h p q =
     subst (SentAll a held c kept) (sym (joined_text_more pieces i d h)) (sent_both a b c held mid kept (joined_text (take i pieces)) (get_or pieces i d).now p q)
 
+-- the sink failed at a piece: it took a prefix of what the page held and the pieces
 pub piece_unsent : (Q : Failed → Type 0) (a b c : SinkSeen) (held mid kept : List ℕ) (pieces : List (Bor (List ℕ))) (i : ℕ) (d : Bor (List ℕ)) (result : Answer) → i < length pieces
     → SentAll a held b mid (joined_text (take i pieces)) → WrotePart b c (mid ++ (get_or pieces i d).now) → IsErrAnd result Q → Sends a held c kept (joined_text pieces) result
 piece_unsent Q a b c held mid kept pieces i d (Ok _) h p q is_err = absurd is_err

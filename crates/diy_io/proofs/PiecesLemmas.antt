@@ -18,11 +18,11 @@ onto_is text (p ∷ ps) =
 pub joined_text-append : (xs ys : List Piece) → joined_text (xs ++ ys) ≡ joined_text xs ++ joined_text ys
 joined_text-append xs ys = fold-append (λ text piece. text ++ piece.now) [] xs ys ∙ onto_is (joined_text xs) ys
 
--- one piece more
+-- one more piece
 pub joined_text_more : (pieces : List Piece) (i : ℕ) (d : Piece) → i < length pieces → joined_text (take (i + 1) pieces) ≡ joined_text (take i pieces) ++ (get_or pieces i d).now
 joined_text_more pieces i d h = fold_more (λ text piece. text ++ piece.now) [] pieces i d h
 
--- the pieces before a place, the piece there and the pieces behind it
+-- the pieces before a place, the piece there and the pieces after it
 pub joined_text_at : (pieces : List Piece) (i : ℕ) (d : Piece) → i < length pieces → joined_text pieces ≡ (joined_text (take i pieces) ++ (get_or pieces i d).now) ++ joined_text (drop (i + 1) pieces)
 joined_text_at pieces i d h =
     ap joined_text (sym (take-append-drop (i + 1) pieces)) ∙ joined_text-append (take (i + 1) pieces) (drop (i + 1) pieces)

@@ -1,4 +1,4 @@
--- What the calls of a shelf in memory do to what it tells.
+-- What the calls of a shelf in memory do to what it shows.
 use Rattle.std.proofs.Common.{◌≡◌, ◌≤◌, ◌<◌, ℕ, ◌+◌, List, [], ◌∷◌, ◌++◌, length, take, drop, set, min, refl, sym, ap, ◌∙◌, subst, arith, Some, None, length-drop, length-append}
 use Rattle.std.specs.Prelude.{Option, Result, Ok, Err, OnErr, unwrap_or}
 use Rattle.std.proofs.lemmas.List.{take-append-drop, drop_all, drop-drop, get_or-set_same, length-take-le, take-append-le, take-take}
@@ -184,7 +184,7 @@ begins_again old new name i e held mode faults taken opened =
       counts = record { taken = taken; opened = opened };
     }
 
--- the file behind all others
+-- the file after all others
 last_is : (files : List Named) (name bytes : List ℕ) → name_at (length files) (files ++ (name, bytes) ∷ []) ≡ name
 last_is [] name bytes = refl
 last_is (f ∷ files) name bytes = last_is files name bytes
@@ -220,7 +220,7 @@ copied_count rest got buf whole n is same count =
     let wide : length (got ++ drop n buf) ≡ length buf = omega (arith, length-append got (drop n buf), length-drop n buf) in
     rw (wide, ← same) count
 
--- a front of bytes was appended, and then the shelf failed
+-- a prefix of the bytes was appended, and then the shelf failed
 pub stops_after : (old mid new : MemShelfState) (name bytes : List ℕ) (n : ℕ)
     → files_of mid.held.files ≡ with_more name (take n bytes) (files_of old.held.files)
     → mid.faults ≡ old.faults → mid.taken ≡ old.taken → mid.opened ≡ old.opened

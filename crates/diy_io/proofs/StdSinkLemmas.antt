@@ -6,7 +6,7 @@ use Rattle.std.specs.Io.KnownBytes.{Appends, Keeps}
 use Rattle.std.proofs.KnownBytes.{Appends-nil, Appends-trans, Appends-kept}
 use Rattle.diy_io.specs.StdSink.{AppendsPrefix}
 
--- the bytes that a writer holds, where it says them, grew by what stands in a text before its rest
+-- the bytes that a writer holds, where it shows them, grew by what comes in a text before its rest
 pub record TookBefore (old new : Option (List ℕ)) (text rest : List ℕ) : Type 0 where
   pub front : List ℕ
   pub parts : text ≡ front ++ rest

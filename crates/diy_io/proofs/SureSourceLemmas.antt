@@ -2,7 +2,7 @@
 use Rattle.std.proofs.Common.{◌≡◌, ℕ, ◌<◌, ◌≤◌, List, [], ◌++◌, length, take, drop, min, sym, ap, ◌∙◌, arith}
 use Rattle.std.proofs.lemmas.List.{take-append-drop, take-append-le, take-take, length-take-le, drop_all}
 
--- the front of what was left, and what is left
+-- what is given of what was left, and what is left then
 pub gives_front : (left rest : List ℕ) (n : ℕ) → n ≤ length left → left ≡ take n (take n left ++ rest) ++ drop n left
 gives_front left rest n h =
     let front : take n (take n left ++ rest) ≡ take n left =

@@ -1,4 +1,4 @@
--- Counts of 64 bits, which stand still at their last value.
+-- Counts of 64 bits, which stay at their last value once they reach it.
 use Rattle.std.specs.Prelude.{ℕ, ◌+◌, ◌-◌, ◌^◌, ◌≤◌, min}
 
 -- the last value of a count
@@ -13,6 +13,6 @@ count_of n = min n last_count
 abbrev pub next_count : ℕ → ℕ
 next_count n = count_of (n + 1)
 
--- a count rose by one at least, or stands at its last value
+-- a count rose by one at least, or is at its last value
 abbrev pub Rose : ℕ → ℕ → Type 0
 Rose old new = next_count old ≤ new

@@ -17,7 +17,7 @@ pub record DirShelfState : Type 0 where
   pub taken : ℕ
   pub opened : ℕ
 
--- it tells nothing of its files
+-- it shows nothing of its files
 abbrev pub dir_shelf_seen : DirShelfState → ShelfSeen
 dir_shelf_seen shelf = record {
   files = None;

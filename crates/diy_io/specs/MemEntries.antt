@@ -9,7 +9,7 @@ use Rattle.diy_io.specs.MemFiles.{Named}
 abbrev pub entry_view : Entry → Named
 entry_view entry = (entry.name.items, entry.bytes.items)
 
--- a file has memory for so many bytes more
+-- a file has memory for so many more bytes
 abbrev pub HasRoom : ℕ → Entry → Type 0
 HasRoom room entry = vec_len entry.bytes + room ≤ vec_capacity entry.bytes
 

@@ -23,10 +23,11 @@ has_name name file = bytes_eq file.0 name
 abbrev pub place_of : List ℕ → List Named → Option ℕ
 place_of name files = position_from (has_name name) 0 files
 
--- the name and the bytes of the file at a place
+-- the name of the file at a place
 abbrev pub name_at : ℕ → List Named → List ℕ
 name_at place files = (slice_index_or files place ([], [])).0
 
+-- the bytes of the file at a place
 abbrev pub bytes_at : ℕ → List Named → List ℕ
 bytes_at place files = (slice_index_or files place ([], [])).1
 
@@ -63,6 +64,7 @@ abbrev pub grown : List ℕ → List ℕ → List Named → Option ℕ → List 
 grown name bytes files None = files
 grown name bytes files (Some place) = slice_set files place (name, bytes_at place files ++ bytes)
 
+-- the files after bytes are appended to the file of a name
 abbrev pub appended : MemFilesState → List ℕ → List ℕ → MemFilesState
 appended held name bytes = record {
   files = grown name bytes held.files (place_of name held.files);

@@ -37,7 +37,7 @@ held_with shelf count bytes = appended shelf.held (name_written shelf.mode) (tak
 abbrev pub half_that_fits : MemShelfState → List ℕ → ℕ
 half_that_fits shelf bytes = min (length bytes / 2) shelf.held.room
 
--- what it tells
+-- what it shows
 abbrev pub mem_shelf_seen : MemShelfState → ShelfSeen
 mem_shelf_seen shelf = record {
   files = Some (files_of shelf.held.files);

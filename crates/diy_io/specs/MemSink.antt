@@ -18,6 +18,6 @@ mem_sink_after sink text = record {
   faults = if nat_le (length sink.bytes + length text) sink.room then sink.faults else next_count sink.faults;
 }
 
--- it tells the bytes that it has taken
+-- it shows the bytes that it has taken
 abbrev pub mem_sink_seen : MemSinkState → SinkSeen
 mem_sink_seen sink = record { told = written_told sink.bytes; faults = sink.faults }

@@ -29,6 +29,6 @@ mem_source_failed it = record {
   faults = next_count it.faults;
 }
 
--- it tells the bytes to come
+-- it shows the bytes to come
 abbrev pub mem_source_seen : MemSourceState → SourceSeen
 mem_source_seen it = record { left = Some it.source.left; taken = it.source.taken; faults = it.faults }

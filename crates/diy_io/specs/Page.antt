@@ -10,7 +10,7 @@ unfoldable pub put_within : ℕ → List ℕ → List ℕ → List ℕ
 put_within room held [] = held
 put_within room held (byte ∷ text) = take room (held ++ byte ∷ text)
 
--- a page after a text is put to it: the text stands after what the page held, as far as there is room
+-- a page after a text is added to it: the text comes after what the page held, as far as there is room
 unfoldable pub page_after : List ℕ → List ℕ → List ℕ
 page_after page text = put_within PAGE_ROOM page text
 
@@ -20,7 +20,7 @@ pub record SentAll (old : SinkSeen) (held : List ℕ) (new : SinkSeen) (kept tex
   pub parts : held ++ text ≡ front ++ kept
   pub wrote : WroteAll old new front
 
--- the one where the sending succeeded; where it failed, the sink took a prefix of what the page held and then the text
+-- the whole was sent where the sending succeeded; where it failed, the sink took a prefix of what the page held and then the text
 pub record Sends (old : SinkSeen) (held : List ℕ) (new : SinkSeen) (kept text : List ℕ) (result : Result (Unit {0}) Failed) : Type 0 where
   pub ok : OnOk result (SentAll old held new kept text)
   pub failed : OnErr result (WrotePart old new (held ++ text))

@@ -31,17 +31,17 @@ within_more n held (byte ∷ x) [] = ap (λ t. take n (held ++ byte ∷ t)) (sym
 within_more n held (byte ∷ x) (other ∷ y) =
     cut_twice n (held ++ byte ∷ x) (other ∷ y) ∙ ap (take n) (append_assoc held (byte ∷ x) (other ∷ y))
 
--- nothing is put
+-- nothing is added
 pub page_nothing : (page : List ℕ) → page_after page [] ≡ page
 unfolding page_after put_within
 page_nothing page = refl
 
--- a text that fits is put whole
+-- a text that fits is added whole
 pub page_fits : (page text : List ℕ) → length page + length text ≤ PAGE_ROOM → page_after page text ≡ page ++ text
 unfolding page_after
 page_fits page text h = within_fits PAGE_ROOM page text h
 
--- a text and then another is both
+-- a text and then another are both added
 pub page_more : (page x y : List ℕ) → page_after (page_after page x) y ≡ page_after page (x ++ y)
 unfolding page_after
 page_more page x y = within_more PAGE_ROOM page x y
@@ -85,6 +85,7 @@ pub sends_then : (a b c : SinkSeen) (held mid kept x y : List ℕ) (u : Unit {0}
 sends_then a b c held mid kept x y u (Ok _) h k = record { ok = sent_both a b c held mid kept x y h.ok k.ok; failed = tt }
 sends_then a b c held mid kept x y u (Err _) h k = record { ok = tt; failed = sent_part a b c held mid x y h.ok k.failed }
 
+-- where the sink fails at a text, it has taken a prefix of what the page held, that text and another
 pub sends_stopped : (Q : Failed → Type 0) (a b : SinkSeen) (held mid kept x y : List ℕ) (e : Failed) (result : Answer)
     → Sends a held b mid x (Err e) → IsErrAnd result Q → Sends a held b kept (x ++ y) result
 sends_stopped Q a b held mid kept x y e (Ok _) h is_err = absurd is_err
@@ -94,10 +95,11 @@ sends_stopped Q a b held mid kept x y e (Err _) h is_err = record { ok = tt; fai
 pub sends_same : (a b : SinkSeen) (held kept x y : List ℕ) (result : Answer) → Sends a held b kept x result → x ≡ y → Sends a held b kept y result
 sends_same a b held kept x y result h e = subst (λ t. Sends a held b kept t result) e h
 
+-- a text that is sent is sent under another name for it
 pub sent_same : (a b : SinkSeen) (held kept x y : List ℕ) → SentAll a held b kept x → x ≡ y → SentAll a held b kept y
 sent_same a b held kept x y h e = subst (SentAll a held b kept) e h
 
--- room is made, and then a line is put
+-- room is made, and then a line is added
 pub sent_line : (a b c : SinkSeen) (held mid kept x line : List ℕ) → SentAll a held b mid x → SentAll b mid c kept [] → length kept < SPILL → length line ≤ LINE_ROOM
     → SentAll a held c (page_after kept line) (x ++ line)
 sent_line a b c held mid kept x line h k room short =

@@ -1,4 +1,4 @@
--- Files by their names, what a shelf tells of them, and what its calls do to that.
+-- Files by their names, what a shelf shows of them, and what its calls do to that.
 use Rattle.std.specs.Prelude.{◌≡◌, ◌≤◌, ◌<◌, ◌⊎◌, ℕ, ◌+◌, List, [], ◌++◌, length, Option, Some, None, IfSome, IsSome, MatchOption, unwrap_or, option_and_then, if◌then◌else◌}
 use Rattle.std.specs.Option.{option_map}
 use Rattle.std.specs.Str.{bytes_eq}
@@ -9,13 +9,13 @@ use Rattle.diy_io.specs.Count.{count_of, next_count, Rose}
 abbrev pub Files : Type 0
 Files = List ℕ → Option (List ℕ)
 
--- what a shelf is at: nothing, reading a file, of which these bytes are left where that is told, or writing one
+-- what a shelf is at: nothing, reading a file, of which these bytes are left where that is shown, or writing one
 pub data Mode : Type 0 where
   Idle : Mode
   Reading : (name : List ℕ) (left : Option (List ℕ)) → Mode
   Writing : (name : List ℕ) → Mode
 
--- what a shelf tells: its files, if it tells them; what it is at; its count of faults; how many bytes were taken of the file
+-- what a shelf shows: its files, if it shows them; what it is at; its count of faults; how many bytes were taken of the file
 -- that was opened last; and how many files were opened
 pub record ShelfSeen : Type 0 where
   pub files : Option Files
@@ -32,15 +32,16 @@ with_file name bytes files = λ other. if bytes_eq other name then Some bytes el
 abbrev pub bytes_in : List ℕ → Files → List ℕ
 bytes_in name files = unwrap_or (files name) []
 
--- files with bytes more at the end of one
+-- files with more bytes at the end of one
 abbrev pub with_more : List ℕ → List ℕ → Files → Files
 with_more name bytes files = with_file name (bytes_in name files ++ bytes) files
 
--- the file that is read, and what is left of it, where that is told
+-- the file that is read
 abbrev pub name_read : Mode → List ℕ
 name_read (Reading name left) = name
 name_read _ = []
 
+-- what is left of the file that is read, where that is shown
 abbrev pub left_to_read : Mode → Option (List ℕ)
 left_to_read (Reading name left) = left
 left_to_read _ = None
@@ -75,7 +76,7 @@ pub record Faulted (old new : ShelfSeen) : Type 0 where
   pub fault : Rose old.faults new.faults
   pub never_falls : old.faults ≤ new.faults
 
--- a file is open: it is there, where the files are told, and all of it is to be read
+-- a file is open: it is there, where the files are shown, and all of it is to be read
 pub record Opened (old new : ShelfSeen) (name : List ℕ) : Type 0 where
   pub there : IfSome old.files (λ files. IsSome (files name))
   pub mode : new.mode ≡ Reading name (option_and_then (λ files. files name) old.files)
@@ -84,7 +85,7 @@ pub record Opened (old new : ShelfSeen) (name : List ℕ) : Type 0 where
   pub taken : new.taken ≡ 0
   pub opened : new.opened ≡ next_count old.opened
 
--- a file isn't there; where the files aren't told, that is a fault
+-- a file isn't there; where the files aren't shown, that is a fault
 pub record NotThere (old new : ShelfSeen) (name : List ℕ) : Type 0 where
   pub absent : MatchOption old.files (Rose old.faults new.faults) (λ files. files name ≡ None)
   pub never_falls : old.faults ≤ new.faults
@@ -110,7 +111,7 @@ pub record Gave (old new : ShelfSeen) (bytes : List ℕ) (room : ℕ) : Type 0 w
   pub taken : new.taken ≡ count_of (old.taken + length bytes)
   pub opened : new.opened ≡ old.opened
 
--- a file is begun: it has no bytes yet
+-- a file is begun: it has no bytes
 pub record Created (old new : ShelfSeen) (name : List ℕ) : Type 0 where
   pub mode : new.mode ≡ Writing name
   pub files : new.files ≡ option_map (with_file name []) old.files
@@ -131,7 +132,7 @@ pub record Appended (old new : ShelfSeen) (name bytes : List ℕ) : Type 0 where
   pub no_fault : new.faults ≡ old.faults
   pub counts : CountsStay old new
 
--- a file grew by a front of bytes, and then the shelf failed
+-- a file grew by a prefix of the bytes, and then the shelf failed
 pub record AppendedPart (old new : ShelfSeen) (name bytes : List ℕ) : Type 0 where
   pub front : List ℕ
   pub rest : List ℕ

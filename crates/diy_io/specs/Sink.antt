@@ -1,4 +1,4 @@
--- What a sink tells of the bytes that it has taken, and what it means that this grew by a text.
+-- What a sink shows of the bytes that it has taken, and what it means that this grew by a text.
 use Rattle.std.specs.Prelude.{◌≡◌, ℕ, ◌+◌, ◌==◌, List, ◌++◌, length, count_by, Option, None, Some}
 use Rattle.std.specs.Option.{option_map}
 use Rattle.diy_io.specs.Count.{count_of}
@@ -8,7 +8,7 @@ pub record Tally : Type 0 where
   pub bytes : ℕ
   pub line_feeds : ℕ
 
--- all bytes that a sink has taken, where it tells them, and their tally, where it tells it
+-- all bytes that a sink has taken, where it shows them, and their tally, where it shows it
 pub record Told : Type 0 where
   pub written : Option (List ℕ)
   pub tallied : Option Tally
@@ -30,40 +30,40 @@ abbrev pub tally_after : Tally → List ℕ → Tally
 tally_after tally text =
     tally_of (count_of (tally.bytes + length text)) (count_of (tally.line_feeds + line_feed_count text))
 
--- what is told, with the tally as it is kept
+-- what is shown, with the tally as it is kept
 unfoldable pub told_kept : Told → Told
 told_kept told = record { written = told.written; tallied = option_map tally_kept told.tallied }
 
--- what is told after a text more
+-- what is shown after one more text
 unfoldable pub told_after : Told → List ℕ → Told
 told_after told text = record {
   written = option_map (λ taken. taken ++ text) told.written;
   tallied = option_map (λ tally. tally_after tally text) told.tallied;
 }
 
--- what a sink tells is what it was before and then a text
+-- what a sink shows is what it was before and then a text
 abbrev pub Grew : Told → Told → List ℕ → Type 0
 Grew old new text = told_kept new ≡ told_after (told_kept old) text
 
--- a state is another one and then a front of a text
+-- a state is another one and then a prefix of a text
 pub record EndsWithin (old new : Told) (text : List ℕ) : Type 0 where
   pub front : List ℕ
   pub rest : List ℕ
   pub parts : text ≡ front ++ rest
   pub grew : new ≡ told_after old front
 
--- what a sink tells is what it was before and then a front of a text
+-- what a sink shows is what it was before and then a prefix of a text
 abbrev pub GrewByPrefix : Told → Told → List ℕ → Type 0
 GrewByPrefix old new text = EndsWithin (told_kept old) (told_kept new) text
 
--- a sink that tells its bytes alone
+-- a sink that shows its bytes alone
 abbrev pub written_told : List ℕ → Told
 written_told taken = record { written = Some taken; tallied = None }
 
--- a sink that tells a tally alone
+-- a sink that shows a tally alone
 abbrev pub tally_told : Tally → Told
 tally_told tally = record { written = None; tallied = Some tally }
 
--- a sink that tells nothing
+-- a sink that shows nothing
 abbrev pub nothing_told : Told
 nothing_told = record { written = None; tallied = None }

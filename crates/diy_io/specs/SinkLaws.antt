@@ -75,7 +75,7 @@ grew_nothing a = sym (told_after_nothing a)
 pub grew_both : (a b c : Told) (x y : List ℕ) → Grew a b x → Grew b c y → Grew a c (x ++ y)
 grew_both a b c x y p q = q ∙ ap (λ t. told_after t y) p ∙ told_after_both (told_kept a) x y
 
--- a front of what stands behind a text is a front of both
+-- a prefix of what comes after a text gives a prefix of both
 pub within_after : (s u : Told) (x y : List ℕ) → EndsWithin (told_after s x) u y → EndsWithin s u (x ++ y)
 within_after s u x y p = record {
   front = x ++ p.front;
@@ -84,7 +84,7 @@ within_after s u x y p = record {
   grew = p.grew ∙ told_after_both s x p.front;
 }
 
--- a front of a text is a front of that text and more
+-- a prefix of a text is a prefix of that text and more
 pub within_more : (s u : Told) (x y : List ℕ) → EndsWithin s u x → EndsWithin s u (x ++ y)
 within_more s u x y p = record {
   front = p.front;
@@ -93,29 +93,31 @@ within_more s u x y p = record {
   grew = p.grew;
 }
 
--- nothing is a front of any text
+-- nothing is a prefix of any text
 pub prefix_nothing : (a : Told) (x : List ℕ) → GrewByPrefix a a x
 prefix_nothing a x = record { front = []; rest = x; parts = refl; grew = grew_nothing a }
 
--- growth by a text and then by a front of another is growth by a front of both
+-- growth by a text and then by a prefix of another is growth by a prefix of both
 pub prefix_after : (a b c : Told) (x y : List ℕ) → Grew a b x → GrewByPrefix b c y → GrewByPrefix a c (x ++ y)
 prefix_after a b c x y p q = within_after (told_kept a) (told_kept c) x y (subst (λ s. EndsWithin s (told_kept c) y) p q)
 
+-- the text of the elements up to one more is that of the elements before it and its own
 pub flat_map_more : {X : Type 0} (f : X → List ℕ) (xs : List X) (i : ℕ) (d : X) → i < length xs → flat_map f (take (i + 1) xs) ≡ flat_map f (take i xs) ++ f (get_or xs i d)
 flat_map_more f xs i d h =
     rw (take_more xs i d h, flat_map-append f (take i xs) (get_or xs i d ∷ []), append-nil (f (get_or xs i d)))
 
+-- the text of all elements is that of those before a place, of the one there and of those after it
 pub flat_map_at : {X : Type 0} (f : X → List ℕ) (xs : List X) (i : ℕ) (d : X) → i < length xs → flat_map f xs ≡ (flat_map f (take i xs) ++ f (get_or xs i d)) ++ flat_map f (drop (i + 1) xs)
 flat_map_at f xs i d h =
     ap (flat_map f) (sym (take-append-drop (i + 1) xs)) ∙ flat_map-append f (take (i + 1) xs) (drop (i + 1) xs)
     ∙ ap (λ front. front ++ flat_map f (drop (i + 1) xs)) (flat_map_more f xs i d h)
 
--- a sink that tells its bytes grew by a text where that stands behind them
+-- a sink that shows its bytes grew by a text where that comes after them
 pub written_grew : (taken text : List ℕ) → Grew (written_told taken) (written_told (taken ++ text)) text
 unfolding told_after told_kept
 written_grew taken text = refl
 
--- a sink that tells its bytes grew by a front of a text where that front stands behind them
+-- a sink that shows its bytes grew by a prefix of a text where that prefix comes after them
 pub written_stopped : (taken text : List ℕ) (n : ℕ) → GrewByPrefix (written_told taken) (written_told (taken ++ take n text)) text
 written_stopped taken text n = record {
   front = take n text;
@@ -124,18 +126,18 @@ written_stopped taken text n = record {
   grew = written_grew taken (take n text);
 }
 
--- a sink that tells a tally grew by a text where that is tallied
+-- a sink that shows a tally grew by a text where that is tallied
 pub tally_grew : (tally : Tally) (text : List ℕ) → Grew (tally_told tally) (tally_told (tally_after tally text)) text
 unfolding told_after told_kept
 tally_grew tally text =
     ap tally_told (tally_kept_after tally text ∙ sym (tally_after_kept tally text))
 
--- a sink that tells nothing grew by any text
+-- a sink that shows nothing grew by any text
 pub nothing_grew : (text : List ℕ) → Grew nothing_told nothing_told text
 unfolding told_after told_kept
 nothing_grew text = refl
 
--- and by a front of any text
+-- and by a prefix of any text
 pub nothing_stopped : (text : List ℕ) → GrewByPrefix nothing_told nothing_told text
 nothing_stopped text = prefix_nothing nothing_told text
 

@@ -13,11 +13,11 @@ writer_of sink = sink.writer
 abbrev pub std_sink_faults : {W : Type 0} → StdSink W → ℕ
 std_sink_faults sink = sink.faults
 
--- it tells nothing of its bytes
+-- it shows nothing of its bytes
 abbrev pub std_sink_seen : {W : Type 0} → StdSink W → SinkSeen
 std_sink_seen sink = record { told = nothing_told; faults = sink.faults }
 
--- the bytes that a writer holds, where it says them, grew by a front of a text
+-- the bytes that a writer holds, where it shows them, grew by a prefix of a text
 pub record AppendsPrefix (old new : Option (List ℕ)) (text : List ℕ) : Type 0 where
   pub front : List ℕ
   pub rest : List ℕ

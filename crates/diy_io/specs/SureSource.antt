@@ -21,6 +21,6 @@ sure_source_after source len = record {
   taken = count_of (source.taken + given_count source len);
 }
 
--- it tells the bytes to come, and never fails
+-- it shows the bytes to come, and never fails
 abbrev pub sure_source_seen : SureSourceState → SourceSeen
 sure_source_seen source = record { left = Some source.left; taken = source.taken; faults = 0 }

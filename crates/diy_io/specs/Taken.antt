@@ -1,16 +1,16 @@
--- What a source tells, and what it means that bytes were taken from it.
+-- What a source shows, and what it means that bytes were taken from it.
 use Rattle.std.specs.Prelude.{◌≡◌, ◌≤◌, ℕ, ◌+◌, List, length, Option, Result, IfOk, OnOk, OnErr}
 use Rattle.std.specs.Io.KnownBytes.{Consumes, ReadConsumes}
 use Rattle.diy_io.specs.declared.errors.Failed.{Failed}
 use Rattle.diy_io.specs.Count.{count_of, Rose}
 
--- the bytes that are still to come, where the source tells them, how many bytes were taken, and the count of faults
+-- the bytes that are still to come, where the source shows them, how many bytes were taken, and the count of faults
 pub record SourceSeen : Type 0 where
   pub left : Option (List ℕ)
   pub taken : ℕ
   pub faults : ℕ
 
--- a call answers how many bytes it gave to the front of a buffer: they are the first that were left, and none only at the end
+-- a call gives how many bytes it wrote at the start of a buffer: they are the first that were left, and none only at the end
 -- or to an empty buffer; they are counted. It fails only where the count of faults rises, and gives nothing then
 pub record Gives (old new : SourceSeen) (buffer : List ℕ) (result : Result ℕ Failed) : Type 0 where
   pub bound : IfOk result (λ n. n ≤ length buffer)
@@ -21,7 +21,7 @@ pub record Gives (old new : SourceSeen) (buffer : List ℕ) (result : Result ℕ
   pub fault : OnErr result (Rose old.faults new.faults)
   pub never_falls : old.faults ≤ new.faults
 
--- these bytes were taken: they are the first that were left, where that is told
+-- these bytes were taken: they are the first that were left, where that is shown
 pub record Took (old new : SourceSeen) (bytes : List ℕ) : Type 0 where
   pub consumed : Consumes old.left new.left bytes
   pub counted : new.taken ≡ count_of (old.taken + length bytes)

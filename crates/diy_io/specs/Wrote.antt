@@ -1,15 +1,15 @@
--- What a function that writes a text to a sink tells of it.
+-- What a function that writes a text to a sink says of it.
 use Rattle.std.specs.Prelude.{◌≡◌, ◌≤◌, ℕ, List, Result, OnOk, OnErr}
 use Rattle.diy_io.specs.declared.errors.Failed.{Failed}
 use Rattle.diy_io.specs.Count.{Rose}
 use Rattle.diy_io.specs.Sink.{Tally, Told, Grew, GrewByPrefix, tally_told}
 
--- what a sink tells, and its count of faults
+-- what a sink shows, and its count of faults
 pub record SinkSeen : Type 0 where
   pub told : Told
   pub faults : ℕ
 
--- a sink that tells a tally alone and never fails
+-- a sink that shows a tally alone and never fails
 abbrev pub tally_seen : Tally → SinkSeen
 tally_seen tally = record { told = tally_told tally; faults = 0 }
 
@@ -18,13 +18,13 @@ pub record WroteAll (old new : SinkSeen) (text : List ℕ) : Type 0 where
   pub grew : Grew old.told new.told text
   pub no_fault : new.faults ≡ old.faults
 
--- a sink failed and grew by a front of the text
+-- a sink failed and grew by a prefix of the text
 pub record WrotePart (old new : SinkSeen) (text : List ℕ) : Type 0 where
   pub grew : GrewByPrefix old.told new.told text
   pub fault : Rose old.faults new.faults
   pub never_falls : old.faults ≤ new.faults
 
--- the one where the writing succeeded, the other where it failed
+-- the whole text was written where the writing succeeded, and a prefix of it where it failed
 pub record Wrote (old new : SinkSeen) (text : List ℕ) (result : Result (Unit {0}) Failed) : Type 0 where
   pub ok : OnOk result (WroteAll old new text)
   pub failed : OnErr result (WrotePart old new text)

@@ -14,6 +14,7 @@ Answer = Result (Unit {0}) Failed
 pub nothing_wrote : (a : SinkSeen) → WroteAll a a []
 nothing_wrote a = record { grew = grew_nothing a.told; no_fault = refl }
 
+-- an empty text is written without any write
 pub wrote_nothing : (a : SinkSeen) (text : List ℕ) → [] ≡ text → Wrote a a text (Ok tt)
 wrote_nothing a text e = record { ok = subst (WroteAll a a) e (nothing_wrote a); failed = tt }
 
@@ -24,7 +25,7 @@ all_then_all a b c x y h k = record {
   no_fault = k.no_fault ∙ h.no_fault;
 }
 
--- a whole text, and then a front of another
+-- a whole text, and then a prefix of another
 pub all_then_part : (a b c : SinkSeen) (x y : List ℕ) → WroteAll a b x → WrotePart b c y → WrotePart a c (x ++ y)
 all_then_part a b c x y h k = record {
   grew = prefix_after a.told b.told c.told x y h.grew k.grew;
@@ -32,7 +33,7 @@ all_then_part a b c x y h k = record {
   never_falls = subst (λ m. m ≤ c.faults) h.no_fault k.never_falls;
 }
 
--- a front of a text is a front of that text and more
+-- a prefix of a text is a prefix of that text and more
 pub part_more : (a b : SinkSeen) (x y : List ℕ) → WrotePart a b x → WrotePart a b (x ++ y)
 part_more a b x y h = record {
   grew = within_more (told_kept a.told) (told_kept b.told) x y h.grew;

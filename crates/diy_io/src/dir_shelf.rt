@@ -22,7 +22,7 @@ pub(crate) enum AtFile<F> {
 
 /// A shelf over the files of the system, whose names are paths. It makes no folders.
 ///
-/// It tells nothing of the files, since no program knows what becomes of them outside. It keeps no
+/// It shows nothing of the files, since no program knows what becomes of them outside. It keeps no
 /// bytes back. Each error of the system is a fault, that a file is missing among them, and so are a
 /// write that takes nothing and a name for which there is no memory.
 #[derive(Drop)]

@@ -65,7 +65,7 @@ impl Entry {
 }
 
 impl MemFiles {
-    /// No files yet, with memory for `files` new ones and for `room` bytes that are appended, in all.
+    /// No files, with memory for `files` new ones and for `room` bytes that are appended, in all.
     pub(crate) fn new(alloc: Global, files: usize, room: usize) -> Result<MemFiles, NoMemory>
         ensures { IfOk result (λ held. held ≡ record { files = []; room = room; names = files }) }
     {
@@ -110,7 +110,7 @@ impl MemFiles {
         self.entries[place].bytes.as_slice()
     }
 
-    /// Adds a file that has no bytes, and says its place.
+    /// Adds a file that has no bytes, and gives its place.
     pub(crate) fn add(&mut self, name: &[u8]) -> usize
         requires names { 0 < self.old.names }
         requires short { length name.now ≤ 1300 }
@@ -142,7 +142,7 @@ impl MemFiles {
         self.room -= bytes.len();
     }
 
-    /// Puts a file, whatever was there, with memory for all bytes that may still be appended.
+    /// Adds a file, or replaces the bytes of the one of its name, with memory for all bytes that may still be appended.
     pub(crate) fn put(&mut self, alloc: Global, name: &[u8], bytes: &[u8]) -> Result<(), NoMemory>
         ensures ok { OnOk result (PutIn self.old self.new name.now bytes.now) }
         ensures err { OnErr result (self.new ≡ self.old) }

@@ -20,7 +20,7 @@ pub(crate) enum Work {
 /// A shelf in memory, which fails at chosen calls.
 ///
 /// Its calls `open_file`, `read`, `create`, `append` and `finish` are numbered together from 0, and
-/// the number stands still at the last value of its type. They take no memory.
+/// the number stays at the last value of its type once it reaches it. They take no memory.
 #[derive(Debug, Drop)]
 pub struct MemShelf {
     alloc: Global,
@@ -80,7 +80,7 @@ impl MemShelf {
         })
     }
 
-    /// Puts a file with these bytes, whatever it had. It is no call that is numbered, and uses up
+    /// Gives a file these bytes, whatever it had. It is no call that is numbered, and uses up
     /// none of the names and the room. The error comes for want of memory alone, and leaves the
     /// shelf as it was.
     pub fn put(&mut self, name: &str, bytes: &[u8]) -> Result<(), NoMemory>

@@ -10,10 +10,10 @@ use std::marker::Model;
 /// As many bytes of a page are handed on at once: 65,536.
 pub const SPILL: usize = 65_536;
 
-/// The most bytes of a line that is put to a page as a whole.
+/// The most bytes of a line that is put on a page as a whole.
 pub const LINE_ROOM: usize = 8_192;
 
-/// How many bytes a page has room for: a line stands after what isn't handed on yet.
+/// How many bytes a page has room for: a line comes after what isn't handed on so far.
 pub const PAGE_ROOM: usize = SPILL + LINE_ROOM;
 
 /// A page of text in memory, which is printed line by line and handed to a sink in few calls.
@@ -68,7 +68,7 @@ impl Page {
         PAGE_ROOM - self.len
     }
 
-    /// Puts a text after what it holds, as far as there is room.
+    /// Adds a text after what it holds, as far as there is room.
     pub fn put(&mut self, text: &[u8])
         ensures { self.new ≡ page_after self.old text.now }
     {

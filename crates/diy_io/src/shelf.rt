@@ -15,16 +15,16 @@ pub enum OpenError {
 
 /// Where files are kept by their names: a folder, memory.
 ///
-/// One file at a time is read or written. A shelf may tell its files. It counts its faults, the bytes
+/// One file at a time is read or written. A shelf may show its files. It counts its faults, the bytes
 /// that were taken of the file that it opened last, and the files that it opened, each up to the last
 /// value of 64 bits. After each failure it is at nothing.
 pub trait Shelf {
-    // What the shelf tells of its files, what it is at, and its counts.
+    // What the shelf shows of its files, what it is at, and its counts.
     ghost seen: { Self → ShelfSeen };
 
     /// Opens a file, to be read from its first byte.
     ///
-    /// Where the shelf tells its files, it is `Missing` exactly where none has the name; else that,
+    /// Where the shelf shows its files, it is `Missing` exactly where none has the name; else that,
     /// too, counts as a fault.
     fn open_file(&mut self, name: &str) -> Result<(), OpenError>
         requires { (seen self.old).mode ≡ Idle }
@@ -32,7 +32,7 @@ pub trait Shelf {
         ensures missing { result ≡ Err open_errors.Missing → NotThere (seen self.old) (seen self.new) name.now }
         ensures failed { result ≡ Err open_errors.Failed → Stopped (seen self.old) (seen self.new) };
 
-    /// Reads bytes of the file that is open into the front of `buf`, and says how many. With a `buf`
+    /// Reads bytes of the file that is open into the start of `buf`, and says how many. With a `buf`
     /// that is not empty none means the end of the file.
     fn read(&mut self, buf: &mut [u8]) -> Result<usize, Failed>
         requires { IsReading (seen self.old).mode }
@@ -46,7 +46,7 @@ pub trait Shelf {
         ensures ok { OnOk result (Created (seen self.old) (seen self.new) name.now) }
         ensures failed { OnErr result (NotCreated (seen self.old) (seen self.new) name.now) };
 
-    /// Appends bytes to the file that is being written. Where the shelf fails, it has taken a front
+    /// Appends bytes to the file that is being written. Where the shelf fails, it has taken a prefix
     /// of them.
     fn append(&mut self, bytes: &[u8]) -> Result<(), Failed>
         requires { IsWriting (seen self.old).mode }

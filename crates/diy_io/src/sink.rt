@@ -4,10 +4,10 @@ use crate::errors::Failed;
 
 /// What bytes are written to: a file, a terminal, memory.
 ///
-/// A sink tells the bytes that it has taken, or their tally, or nothing of them. It counts its
+/// A sink shows the bytes that it has taken, or their tally, or nothing of them. It counts its
 /// faults up to the last value of 64 bits.
 pub trait Sink {
-    // What the sink tells of the bytes that it has taken, and how many writes failed.
+    // What the sink shows of the bytes that it has taken, and how many writes failed.
     ghost seen: { Self → SinkSeen };
 
     /// Writes all of `bytes`. Where the sink fails, it has taken a prefix of them.

@@ -7,13 +7,13 @@ pub const MAX_INPUT: u64 = 1_099_511_627_776;
 
 /// What bytes are read from: a file, a terminal, memory.
 ///
-/// A source may tell the bytes that are still to come. It counts the bytes that were taken and its
+/// A source may show the bytes that are still to come. It counts the bytes that were taken and its
 /// faults, each up to the last value of 64 bits.
 pub trait Source {
-    // The bytes still to come, where the source tells them, how many were taken, and how many reads failed.
+    // The bytes still to come, where the source shows them, how many were taken, and how many reads failed.
     ghost seen: { Self → SourceSeen };
 
-    /// Reads bytes into the front of `buf`, and says how many. With a `buf` that is not empty none
+    /// Reads bytes into the start of `buf`, and says how many. With a `buf` that is not empty none
     /// means the end of the input.
     fn read(&mut self, buf: &mut [u8]) -> Result<usize, Failed>
         ensures { Gives (seen self.old) (seen self.new) buf.new result };

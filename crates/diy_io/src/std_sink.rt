@@ -9,7 +9,7 @@ use std::io::Write;
 
 /// A sink over a writer of the standard library.
 ///
-/// It tells nothing of the bytes, since no program knows what becomes of them outside. It keeps none
+/// It shows nothing of the bytes, since no program knows what becomes of them outside. It keeps none
 /// back: a write is done once the writer has taken all of it and has flushed. Each error of the
 /// writer is a fault, and so is a write that takes nothing.
 #[derive(Debug, Drop)]
@@ -52,7 +52,7 @@ impl<W: Write> Sink for StdSink<W> {
     fn write_all(&mut self, bytes: &[u8]) -> Result<(), Failed>
         ensures wrote { Wrote (std_sink_seen self.old) (std_sink_seen self.new) bytes.now result }
 
-        // What the writer below holds, where it says that, as a writer in memory does.
+        // What the writer below holds, where it shows that, as a writer in memory does.
         ensures written { OnOk result (Appends (W.contents (writer_of self.old)) (W.contents (writer_of self.new)) bytes.now) }
         ensures cut_off { OnErr result (AppendsPrefix (W.contents (writer_of self.old)) (W.contents (writer_of self.new)) bytes.now) }
 

@@ -9,7 +9,7 @@ use std::io::Read;
 
 /// A source over a reader of the standard library.
 ///
-/// It tells nothing of the bytes to come, since no program knows them. Each error of the reader is a
+/// It shows nothing of the bytes to come, since no program knows them. Each error of the reader is a
 /// fault.
 #[derive(Debug, Drop)]
 pub struct StdSource<R> {
@@ -43,7 +43,7 @@ impl<R: Read> Source for StdSource<R> {
     fn read(&mut self, buf: &mut [u8]) -> Result<usize, Failed>
         ensures gives { Gives (std_source_seen self.old) (std_source_seen self.new) buf.new result }
 
-        // What the reader below has left, where it says that, as a reader in memory does.
+        // What the reader below has left, where it shows that, as a reader in memory does.
         ensures read { ReadConsumes (R.remaining (reader_of self.old)) (R.remaining (reader_of self.new)) result buf.new }
         ensures one_fault { OnErr result (std_source_faults self.new ≡ next_count (std_source_faults self.old)) }
     {

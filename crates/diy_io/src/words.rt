@@ -17,7 +17,7 @@ impl Model for Words {
 }
 
 impl Words {
-    /// No words yet. It takes no memory before the first word.
+    /// No words. It takes no memory before the first word.
     pub fn new(alloc: Global) -> Words
         ensures { result ≡ [] }
     {

@@ -6,7 +6,7 @@ use diy_tools::run;
 use std::env;
 use std::process::ExitCode;
 
-/// The words that the program was called with, or the status that their want ends it with.
+/// The words that the program was called with, or the status with which it ends where there are none.
 fn words_of(rt: &HostRuntime) -> Result<Words, ExitCode> {
     let Ok(args) = env::args(rt) else {
         let _ = rt.eprintln("diy: read fault: words");

@@ -77,6 +77,7 @@ either_failed : (listed : List Edge → Type 0) (folder : Option (List ℕ)) (te
 either_failed listed folder text given old new (inl stop) = stop.part.faulted.fault
 either_failed listed folder text given old new (inr stop) = stop.part.faulted.fault
 
+-- a listing that ends with a failure of the shelf has raised its count of faults
 pub listing_failed : (asked : ListAsked) (old new : ShelfSeen) (out after : SinkSeen)
     → EndsAsked asked listings.ShelfFault old new out after → Rose old.faults new.faults
 listing_failed asked old new out after h =
@@ -96,7 +97,7 @@ abbrev of_files : ArchName → List ℕ → Result Asked Usage
 of_files arch files = Ok (AsksFamilies (record { arch = arch; files = files }))
 
 module _ (old new : Devices) where
-  -- what is said of a status is said of one that is equal to it
+  -- what holds of a status holds of one that is equal to it
   of_status : (words : List (List ℕ)) (asked : Result Asked Usage) (status other : Status) → status ≡ other
       → CausesAsked words asked other old new → CausesAsked words asked status old new
   of_status words asked status other e h = subst (λ (s : Status). CausesAsked words asked s old new) (sym e) h
@@ -111,7 +112,7 @@ module _ (old new : Devices) where
       (λ wrote. (e, record { input = input; shelf = shelf; out = wrote }))
       (λ wrote. (wrote.fault, (e, record { input = input; shelf = shelf; out = wrote })))
 
-  -- two executions are shown, as far as the devices take them
+  -- two executions are written, as far as the devices take them
   runs_caused : (words : List (List ℕ)) (asked : WhyAsked) (status : Status) → unshown asked ≡ None → new.input ≡ old.input
       → WritesRuns (machine_of asked.arch) asked.folder (test_name asked.name asked.edges) asked.edges status old.shelf new.shelf old.out new.out
       → CausesAsked words (Ok (AsksWhy asked)) status old new

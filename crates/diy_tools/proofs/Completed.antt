@@ -150,7 +150,7 @@ crossed_done asked listings.Done status old new none e h = inl e
 crossed_done asked listings.OutFault status old new none e h = absurd (none.out h.1.fault)
 crossed_done asked listings.ShelfFault status old new none e h = absurd (none.shelf (crossing_failed asked old.shelf new.shelf old.out new.out h))
 
--- two executions are shown where nothing fails
+-- two executions are written where nothing fails
 runs_done : (asked : WhyAsked) (status : Status) (old new : Devices) → NoFaults old new
     → WritesRuns (machine_of asked.arch) asked.folder (test_name asked.name asked.edges) asked.edges status old.shelf new.shelf old.out new.out → IsDone (Ok (AsksWhy asked)) status
 runs_done asked statuses.Done old new none h = inl refl
@@ -330,7 +330,7 @@ told_log : (told : Option Files) (files : Files) (name log : List ℕ) → told 
 told_log told files name log e h = let here : IsFile (Some files) name log = subst (λ (t : Option Files). IsFile t name log) e h in here
 
 module _ (words : List (List ℕ)) (files : Files) (right : AreRightLogs files words) where
-  -- at each place behind the first word there is a log
+  -- at each place after the first word there is a log
   at_word : (k : ℕ) → k < length right.logs → files (get_or words (1 + k) []) ≡ Some (get_or right.logs k [])
   at_word k h =
       right.are.named k (get_or words (1 + k) []) (get_or right.logs k [])

@@ -24,7 +24,7 @@ use Rattle.diy_tools.specs.Kept.{AnswersCrossing}
 use Rattle.diy_tools.specs.Machines.{Machine, machine_of}
 use Rattle.diy_tools.specs.Statuses.{listing_status}
 
--- what is said of a sink is said of what it tells
+-- what holds of a sink holds of what it shows
 given_seen : {Sink : Type 0} (seen : Sink → SinkSeen) (folder : Option (List ℕ)) (text : List Edge → List ℕ) (cycles : List (List Edge)) (end : ListingEnd) (old new : ShelfSeen) (out after : Sink)
     → EndsGiven seen folder text cycles end old new out after → EndsGiven (λ (sink : SinkSeen). sink) folder text cycles end old new (seen out) (seen after)
 given_seen seen folder text cycles ends.Done old new out after h = h

@@ -102,7 +102,7 @@ cross_opens : (asked : CrossAsked) (status : Status) (old new : ShelfSeen) (out 
 cross_opens asked status old new out after (inl none) = ap (λ (s : ShelfSeen). s.opened) none.1
 cross_opens asked status old new out after (inr made) = crossing_opens asked made.end old new out after made.ends
 
--- nor where two executions are shown
+-- nor where two executions are written
 runs_open : (m : Machine) (folder : Option (List ℕ)) (name : List ℕ) (edges : List Edge) (status : Status) (old new : ShelfSeen) (before after : SinkSeen)
     → WritesRuns m folder name edges status old new before after → new.opened ≡ old.opened
 runs_open m folder name edges statuses.Done old new before after h = h.written.0.counts.opened
@@ -235,6 +235,6 @@ module _ (old new : Devices) (much : TookTooMuch old new) where
   asked_limit words (Ok AsksSum) status h = sum_limit words h.end status h.status_is h.ends
   asked_limit words (Ok (AsksCheck asked)) status h = check_limit words asked h.end status h.status_is h.ends
 
--- what is answered keeps to the limit of what is read
+-- what is answered keeps the limit of what is read
 pub answers_limited : (words : List (List ℕ)) (status : Status) (old new : Seen) → Answers words status old new → Limited words status old new
 answers_limited words status old new h = λ much. asked_limit (devices old) (devices new) much words (asked_of words) status h

@@ -17,7 +17,7 @@ use Rattle.diy_tools.specs.Kept.{EndsOn}
 use Rattle.diy_tools.specs.Machines.{machine_of}
 use Rattle.diy_tools.specs.Statuses.{listing_status}
 
--- what is said of a sink is said of what it tells
+-- what holds of a sink holds of what it shows
 behind_seen : {Sink : Type 0} (seen : Sink → SinkSeen) (plan : Plan) (given : Option (List Edge)) (end : ListingEnd) (old new : ShelfSeen) (out after : Sink)
     → EndsBehind seen plan given end old new out after → EndsBehind (λ (sink : SinkSeen). sink) plan given end old new (seen out) (seen after)
 behind_seen seen plan given ends.Done old new out after h = h

@@ -51,6 +51,7 @@ long_taken before log bytes line h =
     let more : 0 < length h.full.rest = h.full.more in
     omega (arith, ap length h.full.parts, length-append h.full.front h.full.rest)
 
+-- where a log of the input is too long, more than 2^40 bytes were taken of it
 pub input_far : (old new : SourceSeen) (before : List (List ℕ)) (log bytes : List ℕ) (line : ℕ) → TookCount old new (length bytes) → IsTooMuch before log bytes line
     → RoseFar old.taken new.taken
 input_far old new before log bytes line took h =
@@ -58,12 +59,14 @@ input_far old new before log bytes line took h =
     let count : count_of new.taken ≡ count_of (old.taken + length bytes) = took in
     omega arith
 
+-- where a log is too long, its file was opened
 pub file_opened : (old new : ShelfSeen) (words : List (List ℕ)) (first place line : ℕ) → FileTooMuch old new words first place line → Rose old.opened new.opened
 file_opened old new words first place line h =
     let count : count_of new.opened ≡ count_of (old.opened + length (h.before ++ h.bytes ∷ [])) = h.took.opened in
     let some : length (h.before ++ h.bytes ∷ []) ≡ length h.before + 1 = length-append h.before (h.bytes ∷ []) in
     omega arith
 
+-- where a log is too long, more than 2^40 bytes were taken of its file
 pub file_far : (old new : ShelfSeen) (words : List (List ℕ)) (first place line : ℕ) → FileTooMuch old new words first place line → 2 ^ 40 < new.taken
 file_far old new words first place line h =
     let long : 2 ^ 40 < length h.bytes = long_taken h.before h.log h.bytes line h.is in

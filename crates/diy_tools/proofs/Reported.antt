@@ -22,6 +22,7 @@ letters_long k = omega (arith, length-map-range_with_len location_name 0 (k + 1)
 no_word : (words : List (List ℕ)) (word : ℕ) → length words ≤ word → slice_get words word ≡ None
 no_word words word h = slice_get_past words word h
 
+-- a fault of words that no word shows has a line without a word
 pub bare_line : (words : List (List ℕ)) (word : ℕ) (kind : UsageKind) → length words ≤ word
     → status_line words (Usage word kind) ≡ codes "diy: usage " ++ usage_text kind ++ codes "\n"
 bare_line words word kind h =
@@ -40,6 +41,7 @@ takes_line a b line (Err _) h = inr h.failed
 pub own_wrote : (a b c : SinkSeen) (held kept text : List ℕ) (result : Answer) → held ≡ [] → SentAll a held b kept text → Wrote b c kept result → Wrote a c text result
 own_wrote a b c held kept text result e h k = sent_wrote a b c kept text result (subst (λ t. SentAll a t b kept text) e h) k
 
+-- where the sending of the line fails, a prefix of it is written
 pub own_unsent : (Q : Failed → Type 0) (a b : SinkSeen) (held kept text : List ℕ) (error : Failed) (result : Answer)
     → held ≡ [] → Sends a held b kept text (Err error) → IsErrAnd result Q → Wrote a b text result
 own_unsent Q a b held kept text error result e h is_err =

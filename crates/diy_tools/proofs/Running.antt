@@ -290,6 +290,7 @@ pub runs_on : (arch a : ArchName) (request : Why) (status : Status) (old new : S
 runs_on arch a request status old new before after same h =
     subst (λ (n : ArchName). AnswersRuns (machine_of n) (folder_kept request) (named_kept request) (refused_why (machine_of n) request.edges) (edges_kept request.edges) status old new before after) (sym same) h
 
+-- what is answered of a request to show two executions is answered of the words that make it
 pub why_answered : (words : List (List ℕ)) (request : Why) (status : Status) (input : SourceSeen) (old new : ShelfSeen) (before after : SinkSeen)
     → Gives (Ok (requests.Why request)) (asked_of words)
     → AnswersRuns (machine_of request.arch) (folder_kept request) (named_kept request) (refused_why (machine_of request.arch) request.edges) (edges_kept request.edges) status old new before after

@@ -53,7 +53,7 @@ runs_written m folder name cycle text test one two status old new before after n
               subst (λ t. WritesFiles (why_files folder name t (text_of_execution test.places one) (text_of_execution test.places two)) (why_line name) status old new before after) same w;
         })
 
--- nothing is shown, for a reason
+-- nothing is written, for a reason
 pub runs_refused : (m : Machine) (folder : Option (List ℕ)) (name : List ℕ) (cycle : List Edge) (refusal : WhyRefusal) (status : Status) (shelf : ShelfSeen) (sink : SinkSeen)
     → why_refused m.puts cycle ≡ Some refusal → status ≡ statuses.Refused (showing_refusal refusal)
     → AnswersRuns m folder name (refused_showing (why_refused m.puts cycle)) cycle status shelf shelf sink sink
@@ -66,12 +66,12 @@ pub runs_unmade : (m : Machine) (folder : Option (List ℕ)) (name : List ℕ) (
 runs_unmade m folder name cycle shelf sink none =
     subst (λ (refused : Option WhyRefusal). AnswersRuns m folder name (refused_showing refused) cycle statuses.NoMemory shelf shelf sink sink) (sym none) (inl (refl, refl, refl))
 
--- the three files, as they are put
+-- the three files, as they are written
 pub files_are : (folder : Option (List ℕ)) (name text one two a b c : List ℕ) → a ≡ why_path folder name (codes ".litmus") → b ≡ why_path folder name (codes ".one") → c ≡ why_path folder name (codes ".two")
     → (let left : List (List ℕ × List ℕ) = (a, text) ∷ (b, one) ∷ (c, two) ∷ [] in left) ≡ why_files folder name text one two
 files_are folder name text one two a b c p q r = rw (p, q, r) refl
 
--- files are put, and then a line is written
+-- files are written, and then a line is
 pub line_after : (files : List (List ℕ × List ℕ)) (line : List ℕ) (status : Status) (old new : ShelfSeen) (before after : SinkSeen)
     → Put old new files → Prints line status before after → WritesFiles files line status old new before after
 line_after files line statuses.Done old new before after put h = (put, h)
@@ -86,6 +86,7 @@ written_idle m folder name cycle (statuses.WriteFault Out) old new before after 
 written_idle m folder name cycle (statuses.WriteFault Shelf) old new before after h = h.written.0.part.mode
 written_idle m folder name cycle status old new before after h = absurd h.written
 
+-- after the answer the shelf is at nothing, if it was before
 pub runs_idle : (m : Machine) (folder : Option (List ℕ)) (name : List ℕ) (refused : Option Refusal) (cycle : List Edge) (status : Status) (old new : ShelfSeen) (before after : SinkSeen)
     → old.mode ≡ Idle → AnswersRuns m folder name refused cycle status old new before after → new.mode ≡ Idle
 runs_idle m folder name (Some refusal) cycle status old new before after idle h = ap (λ (s : ShelfSeen). s.mode) h.1 ∙ idle

@@ -1,4 +1,4 @@
--- Why a call ends with its status, and what then stands on the devices: one cause for each status.
+-- Why a call ends with its status, and what the devices then hold: one cause for each status.
 -- Source: own.
 use Rattle.std.specs.Prelude.{◌≡◌, ◌≤◌, ◌<◌, ◌+◌, ◌^◌, ◌⊎◌, ℕ, List, [], ◌∷◌, Option, Some, None, Result, Ok, Err}
 use Rattle.relax_edges.specs.declared.kinds.ArchName.{ArchName}
@@ -50,7 +50,7 @@ pub record NothingWritten (old new : Devices) : Type 0 where
   pub out : new.out ≡ old.out
   pub files : new.shelf.files ≡ old.shelf.files
 
--- a count rose by more than 2^40, or stands at its last value
+-- a count rose by more than 2^40, or is at its last value
 abbrev pub RoseFar : ℕ → ℕ → Type 0
 RoseFar old new = count_of (old + 2 ^ 40 + 1) ≤ new
 
@@ -70,6 +70,7 @@ abbrev pub sought_refused : ArchName → Sought → Option Refusal
 sought_refused arch (OfEdges edges) = refused_list arch edges
 sought_refused arch _ = None
 
+-- the first reason why the edges that words ask for are refused, if they ask for edges
 abbrev pub asked_refused : Result Asked Usage → Option Refusal
 asked_refused (Ok (AsksTest asked)) = test_refused asked
 asked_refused (Ok (AsksWhy asked)) = unshown asked
@@ -120,7 +121,7 @@ PassesLimit words asked (Some file) line old new =
     × (2 ^ 40 < new.shelf.taken)
     × SumStops words asked (sums.TooMuch (Some file) line) old new
 
--- diyone7 has shown two executions, as far as this status says
+-- diyone7 has written two executions, as far as this status says
 abbrev pub WhyStops : WhyAsked → Status → Devices → Devices → Type 0
 WhyStops asked status old new =
     (unshown asked ≡ None)
@@ -185,7 +186,7 @@ OutStops words (Ok (AsksFamilies asked)) old new = FamiliesPart words asked.arch
 OutStops words (Ok AsksSum) old new = EndsSum words sums.OutFault old new
 OutStops words (Ok (AsksCheck asked)) old new = EndsCheck words asked checking.OutFault old new
 
--- the cause of a status, and what stands
+-- the cause of a status, and what the devices then hold
 abbrev pub CausesAsked : List (List ℕ) → Result Asked Usage → Status → Devices → Devices → Type 0
 -- all is done
 CausesAsked words asked statuses.Done old new = Finishes words asked old new
@@ -208,7 +209,7 @@ CausesAsked words asked (statuses.BadText file line texts.NoCycle) old new = Fil
 CausesAsked words asked (statuses.BadText file line (texts.Exec kind)) old new = CheckedStops words asked file line (checked.Exec kind) old new
 -- a text of norm7, classify7 or msum7 has more than 2^40 bytes
 CausesAsked words asked (statuses.BadText file line texts.TooMuch) old new = PassesLimit words asked file line old new
--- msum7 is to sum, or classify7 or mcheck7 to read, a file that isn't there; where the shelf tells no files, its count of
+-- msum7 is to sum, or classify7 or mcheck7 to read, a file that isn't there; where the shelf doesn't show its files, its count of
 -- faults rose
 CausesAsked words asked (statuses.NoFile word) old new =
     (FileMissing old.shelf new.shelf words 1 word × SumStops words asked (sums.NoFile word) old new)
@@ -231,5 +232,6 @@ CausesAsked words asked (statuses.WriteFault Input) old new = ⊥
 -- classify7, msum7, diycross7, mcheck7 or diyone7 with -why wants memory
 CausesAsked words asked statuses.NoMemory old new = MayWantMemory asked × NothingWritten old new
 
+-- a call with these words ends with this status for its cause, and takes the devices from old to new
 abbrev pub Causes : List (List ℕ) → Status → Seen → Seen → Type 0
 Causes words status old new = CausesAsked words (asked_of words) status (devices old) (devices new)

@@ -37,6 +37,7 @@ pub record EndsChecked (words : List (List ℕ)) (asked : CheckAsked) (end : Che
   pub checked : FilesChecked asked.arch (machine_of asked.arch).writing old new words asked.test asked.execution before after end
   pub stay : new.files ≡ old.files
 
+-- the same, and the input stays as it was
 abbrev pub EndsCheck : List (List ℕ) → CheckAsked → CheckEnd → Devices → Devices → Type 0
 EndsCheck words asked end old new = ShelfAndOut (EndsChecked words asked end) old new
 

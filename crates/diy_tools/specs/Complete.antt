@@ -42,11 +42,11 @@ pub record AreRightLogs (files : Files) (words : List (List ℕ)) : Type 0 where
   pub are : AreLogs (Some files) words 1 logs
   pub right : AreRight logs
 
--- this holds of every text that a device can have: of the one that it tells, where it tells one
+-- this holds of every text that a device can have: of the one that it shows, where it shows one
 abbrev pub OfItsText : Option (List ℕ) → (List ℕ → Type 0) → Type 0
 OfItsText told Holds = (text : List ℕ) → IsText told text → Holds text
 
--- a shelf tells its files, and this holds of them
+-- a shelf shows its files, and this holds of them
 abbrev pub OfItsFiles : Option Files → (Files → Type 0) → Type 0
 OfItsFiles None Holds = ⊥
 OfItsFiles (Some files) Holds = Holds files
@@ -105,5 +105,6 @@ IsDone asked status = (status ≡ Done) ⊎ ((status ≡ NoMemory) × MayWantMem
 abbrev pub CompleteAsked : List (List ℕ) → Result Asked Usage → Status → Devices → Devices → Type 0
 CompleteAsked words asked status old new = CanBeDone words asked old → NoFaults old new → IsDone asked status
 
+-- a call with these words does what can be done, and takes the devices from old to new
 abbrev pub Complete : List (List ℕ) → Status → Seen → Seen → Type 0
 Complete words status old new = CompleteAsked words (asked_of words) status (devices old) (devices new)

@@ -43,5 +43,6 @@ AnswersChoices m mode folder places status old new before after =
 abbrev pub EndsCrossed : CrossAsked → ListingEnd → ShelfSeen → ShelfSeen → SinkSeen → SinkSeen → Type 0
 EndsCrossed asked = EndsChoices (machine_of asked.arch) asked.mode asked.folder asked.places
 
+-- the tests of the choices that words ask for are written, or there is a reason why they aren't
 abbrev pub AnswersCross : CrossAsked → Status → ShelfSeen → ShelfSeen → SinkSeen → SinkSeen → Type 0
 AnswersCross asked = AnswersChoices (machine_of asked.arch) asked.mode asked.folder asked.places

@@ -11,25 +11,26 @@ pub record Devices : Type 0 where
   pub out : SinkSeen
   pub shelf : ShelfSeen
 
--- the same, one beside another
+-- the same as a triple
 abbrev pub Seen : Type 0
 Seen = SourceSeen × SinkSeen × ShelfSeen
 
+-- the devices that a triple of them makes
 abbrev pub devices : Seen → Devices
 devices seen = record { input = seen.0; out = seen.1; shelf = seen.2 }
 
--- the input and the shelf stay as they were, and this is said of standard output
+-- the input and the shelf stay as they were, and this holds of standard output
 pub record OutAlone (Says : SinkSeen → SinkSeen → Type 0) (old new : Devices) : Type 0 where
   pub input : new.input ≡ old.input
   pub shelf : new.shelf ≡ old.shelf
   pub out : Says old.out new.out
 
--- the shelf stays as it was, and this is said of the input and standard output
+-- the shelf stays as it was, and this holds of the input and standard output
 pub record InputAndOut (Says : SourceSeen → SourceSeen → SinkSeen → SinkSeen → Type 0) (old new : Devices) : Type 0 where
   pub shelf : new.shelf ≡ old.shelf
   pub both : Says old.input new.input old.out new.out
 
--- the input stays as it was, and this is said of the shelf and standard output
+-- the input stays as it was, and this holds of the shelf and standard output
 pub record ShelfAndOut (Says : ShelfSeen → ShelfSeen → SinkSeen → SinkSeen → Type 0) (old new : Devices) : Type 0 where
   pub input : new.input ≡ old.input
   pub both : Says old.shelf new.shelf old.out new.out

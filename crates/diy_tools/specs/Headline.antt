@@ -56,5 +56,6 @@ HeadlineAsked (Ok (AsksList asked)) status old new = ListsForcing asked status o
 HeadlineAsked (Ok (AsksCross asked)) status old new = CrossesForcing asked status old.shelf new.shelf old.out new.out
 HeadlineAsked _ status old new = Unit {0}
 
+-- the claim of a call with these words, by its status and the devices before and after it
 abbrev pub Headline : List (List ℕ) → Status → Seen → Seen → Type 0
 Headline words status old new = HeadlineAsked (asked_of words) status (devices old) (devices new)

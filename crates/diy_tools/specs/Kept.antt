@@ -70,7 +70,7 @@ refused_edges arch TooLong = Some refusals.TooLong
 abbrev pub refused_kept : Machine → ObsMode → EdgeList → Option Refusal
 refused_kept m mode list = option_or (refused_edges m.puts.name list) (refused_making (refusal_of m.puts (edges_kept list) mode))
 
--- the same, where two executions of the test are to be shown
+-- the same, where two executions of the test are to be written
 abbrev pub refused_why : Machine → EdgeList → Option Refusal
 refused_why m list = option_or (refused_edges m.puts.name list) (refused_showing (why_refused m.puts (edges_kept list)))
 
@@ -102,14 +102,15 @@ AnswersOne m request =
 abbrev pub folder_lent : Option (Bor (List ℕ)) → Option (List ℕ)
 folder_lent folder = option_map (λ folder. folder.now) folder
 
--- the folder of a request to show two executions, and the name of the test, as they are kept
+-- the folder of a request to show two executions, as it is kept
 abbrev pub folder_kept : Why → Option (List ℕ)
 folder_kept request = folder_lent request.folder
 
+-- the name of the test of a request to show two executions, as it is kept
 abbrev pub named_kept : Why → List ℕ
 named_kept request = test_name (name_kept request.name) (edges_kept request.edges)
 
--- files are put on the shelf and a line is written, or there is no memory, and nothing is
+-- files are written on the shelf and a line is written, or there is no memory, and nothing is written
 abbrev pub WritesInMemory : List (List ℕ × List ℕ) → List ℕ → Status → ShelfSeen → ShelfSeen → SinkSeen → SinkSeen → Type 0
 WritesInMemory files line status old new before after =
     ((status ≡ statuses.NoMemory) × (new ≡ old) × (after ≡ before)) ⊎ WritesFiles files line status old new before after

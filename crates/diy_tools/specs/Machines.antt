@@ -13,10 +13,12 @@ use Rattle.arch_aarch64.specs.Table as aarch64_table
 use Rattle.arch_riscv.specs.Puts as riscv
 use Rattle.arch_riscv.specs.Table as riscv_table
 
+-- an architecture: the code of its accesses, and how that is written
 pub record Machine : Type 0 where
   pub puts : Puts
   pub writing : Writing
 
+-- an architecture from its code and its writing
 abbrev pub machine : Puts → Writing → Machine
 machine puts writing = record { puts = puts; writing = writing }
 

@@ -6,7 +6,7 @@ use Rattle.diy_words.specs.Requests.{Asked, AsksWhy, AsksFamilies, AsksSum, Asks
 use Rattle.diy_tools.specs.declared.status.Status.{Status}
 use Rattle.diy_tools.specs.declared.status.Status.TheVariants.{NoMemory}
 
--- classify7, msum7, diycross7, mcheck7 and diyone7 with -why may, no other tool, and no words that make no request
+-- classify7, msum7, diycross7, mcheck7 and diyone7 with -why may want memory, no other tool may, nor may words without a request
 abbrev pub MayWantMemory : Result Asked Usage → Type 0
 MayWantMemory (Ok (AsksWhy asked)) = ⊤
 MayWantMemory (Ok (AsksFamilies asked)) = ⊤

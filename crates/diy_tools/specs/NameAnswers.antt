@@ -22,8 +22,8 @@ pub record PrintsNamed (arch : ArchName) (name : List ℕ) (status : Status) (ol
   pub named : IsNamed name arch cycle
   pub prints : Prints (name_line cycle) status old new
 
--- a name, the word at a place, names no cycle of the architecture, and nothing is written; or the line of the cycle is
--- printed that has it
+-- a name, the word at a place, names no cycle of the architecture, and nothing is written; or the line of the cycle that
+-- has it is printed
 abbrev pub AnswersName : ArchName → ℕ → List ℕ → Status → SinkSeen → SinkSeen → Type 0
 AnswersName arch at name status old new =
     (NamesNone name arch × (status ≡ Usage at UnknownName) × (new ≡ old))
@@ -35,7 +35,7 @@ pub record AnswersLines (arch : ArchName) (status : Status) (old new : SourceSee
   pub norms : Norms arch old new before after result
   pub status_is : status ≡ norm_status result
 
--- the cycle is refused whose name is sought, or none has the name, and nothing is written; or its line is printed; or the
+-- the cycle whose name is sought is refused, or none has the name, and nothing is written; or its line is printed; or the
 -- cycles of the input's lines are named
 abbrev pub AnswersSought : ArchName → Sought → Status → SourceSeen → SourceSeen → SinkSeen → SinkSeen → Type 0
 AnswersSought arch (OfEdges edges) status old new before after =

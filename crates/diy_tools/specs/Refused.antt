@@ -39,7 +39,7 @@ abbrev pub refused_making : Option MakeRefusal → Option Refusal
 refused_making (Some reason) = Some (making_refusal reason)
 refused_making None = None
 
--- what showing two executions of its test refuses
+-- what writing two executions of its test refuses
 abbrev pub showing_refusal : WhyRefusal → Refusal
 showing_refusal (showing.NotOfArch at) = refusals.NotOfArch at
 showing_refusal showing.TooFewThreads = refusals.TooFewThreads

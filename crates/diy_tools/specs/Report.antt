@@ -1,4 +1,4 @@
--- The line on standard error that tells a status.
+-- The line on standard error for a status.
 -- Source: own.
 use Rattle.std.specs.Prelude.{ℕ, ⊤, ◌<◌, ◌⊎◌, List, [], ◌++◌, codes, slice_get, unwrap_or, Option, Some, None}
 use Rattle.std.specs.Fmt.{decimal}
@@ -74,7 +74,7 @@ usage_text usages.MissingFile = codes "MissingFile"
 usage_text usages.MissingWhy = codes "MissingWhy"
 usage_text usages.TooManyChoices = codes "TooManyChoices"
 
--- the name of what is wrong with a line of cycles, and with a line of a log
+-- the name of what is wrong with a line of cycles
 abbrev pub line_text : LineKind → List ℕ
 line_text lines.LineTooLong = codes "LineTooLong"
 line_text lines.UnknownEdge = codes "UnknownEdge"
@@ -83,6 +83,7 @@ line_text lines.TooLong = codes "TooLong"
 line_text lines.NotOfArch = codes "NotOfArch"
 line_text lines.DoesNotCompose = codes "DoesNotCompose"
 
+-- the name of what is wrong with a line of a log
 abbrev pub log_text : LogKind → List ℕ
 log_text logs.Truncated = codes "Truncated"
 log_text logs.BadState = codes "BadState"
@@ -159,7 +160,7 @@ text_line file line kind = codes "diy: " ++ file ++ codes ":" ++ decimal line ++
 abbrev pub usage_line : List ℕ → List ℕ → List ℕ
 usage_line name shown = codes "diy: usage " ++ name ++ shown ++ codes "\n"
 
--- the line of a status, which Done has none of
+-- the line of a status; Done has none
 abbrev pub status_line : List (List ℕ) → Status → List ℕ
 status_line words statuses.Done = []
 status_line words (statuses.Refused refusal) = refusal_line (refusal_text refusal)
@@ -181,7 +182,7 @@ abbrev pub RefusesLocation : Refusal → Type 0
 RefusesLocation (refusals.NeedsObserver location _) = location < MAX_EDGES
 RefusesLocation _ = ⊤
 
--- so does a status
+-- a status names no location, or one that a test can have
 abbrev pub NamesLocation : Status → Type 0
 NamesLocation (statuses.Refused refusal) = RefusesLocation refusal
 NamesLocation _ = ⊤

@@ -38,7 +38,7 @@ why_files folder name text one two =
 abbrev pub why_line : List ℕ → List ℕ
 why_line name = codes "Two executions of " ++ name ++ codes "\n"
 
--- files are put on the shelf, and then a line is written: both whole; or a prefix of the line, where standard output failed; or the
+-- files are written on the shelf, and then a line is written: both whole; or a prefix of the line, where standard output failed; or the
 -- files up to one, where the shelf failed
 abbrev pub WritesFiles : List (List ℕ × List ℕ) → List ℕ → Status → ShelfSeen → ShelfSeen → SinkSeen → SinkSeen → Type 0
 WritesFiles files line statuses.Done old new before after = Put old new files × WroteAll before after line
@@ -63,7 +63,7 @@ AnswersRuns m folder name (Some refusal) edges status old new before after = (st
 AnswersRuns m folder name None edges status old new before after =
     ((status ≡ statuses.NoMemory) × (new ≡ old) × (after ≡ before)) ⊎ WritesRuns m folder name edges status old new before after
 
--- the first reason why nothing is shown of the edges that words name
+-- the first reason why nothing is written of the edges that words name
 abbrev pub unshown : WhyAsked → Option Refusal
 unshown asked =
     let a = (machine_of asked.arch).puts in

@@ -15,7 +15,7 @@ use diy_words::Check;
 use relax_edges::ArchName;
 use std::alloc::Global;
 
-/// Writes what is said of the execution that one file tells of the test that another one is.
+/// Writes what is so of the execution that one file holds, of the test that another file holds.
 pub(crate) fn check<H: Shelf, O: Sink>(
     alloc: Global,
     words: &Words,

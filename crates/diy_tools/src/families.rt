@@ -24,7 +24,7 @@ use diy_words::read_files;
 use relax_edges::ArchName;
 use std::alloc::Global;
 
-/// Prints the names of cycles by their families: of those that the files quote which operands name, or of
+/// Prints the names of cycles by their families: of those that are quoted in the files that operands name, or of
 /// those of the input's lines where there is no operand.
 #[tactic(auto, using(crate::proofs::Classed::asks_families, crate::proofs::Classed::lines_asked))]
 pub(crate) fn families<I: Source, O: Sink, H: Shelf>(
@@ -73,7 +73,7 @@ fn lines_end(end: Result<(), ClassifyError>) -> Status
     }
 }
 
-/// Prints the names of the cycles that the files quote which the words at these places name.
+/// Prints the names of the cycles that are quoted in the files that the words at these places name.
 fn of_files<H: Shelf, O: Sink>(
     alloc: Global,
     words: &Words,

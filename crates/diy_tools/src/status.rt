@@ -25,7 +25,7 @@ pub enum Status {
         line: u64,
         kind: TextKind,
     },
-    /// There is no file of the name that stands at this place among the words.
+    /// There is no file of the name that is the word at this place.
     NoFile {
         word: usize,
     },
@@ -72,7 +72,7 @@ pub enum TextKind {
     WrongArch,
     /// The test quotes no cycle of the architecture; the line is 2.
     NoCycle,
-    /// The text has more than `MAX_INPUT` bytes; the line is the one behind the last line feed among
+    /// The text has more than `MAX_INPUT` bytes; the line is the one after the last line feed among
     /// the first so many.
     TooMuch,
 }

@@ -71,7 +71,7 @@ fn answer_cycle<A: Arch, O: Sink>(
     ensures location { NamesLocation result }
 {
     // It is written out here, and not made by a call of `Test::new`: so the program clears it once where it
-    // stands, and copies nothing of its 125 KB.
+    // is, and copies nothing of its 125 KB.
     let mut test = Test {
         edges: ArrayVec::new(),
         places: Places::new(),

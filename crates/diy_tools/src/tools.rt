@@ -24,16 +24,16 @@ use diy_words::{Request, read_request};
 use std::alloc::Global;
 
 /// Does what the words ask for: it prints the test of a cycle to `out`, or the names of cycles, or
-/// the sum of logs, or how long some tests are, or what is said of an execution of a test, or writes
+/// the sum of logs, or how long some tests are, or what is so of an execution of a test, or writes
 /// the tests of a listing, or of choices, to the shelf, or two executions of a test that show why an
 /// observer is needed.
 ///
 /// Where the words make no request, or the edges are refused, no device changes but `err`. What each
-/// tool reads of `input` and of the shelf, what it writes to `out` and to the shelf, and what stands
+/// tool reads of `input` and of the shelf, what it writes to `out` and to the shelf, and what they hold
 /// after each status, is as `Answers` says. Where what is asked for can be done and no device fails, it
 /// is done (`Complete`); only the tools that may want memory answer that there is none; and each status
-/// has the one cause that `Causes` gives. The shelf is to be at nothing, and is so again. The line that
-/// tells the status is written to `err`, which doesn't change the status where it fails.
+/// has the one cause that `Causes` gives. The shelf is to be at nothing, and is so again. The line of
+/// the status is written to `err`, which doesn't change the status where it fails.
 #[tactic(auto, using(crate::proofs::Reported::takes_line, crate::proofs::Forced::answers_force))]
 pub fn run<I: Source, O: Sink, E: Sink, H: Shelf>(
     alloc: Global,

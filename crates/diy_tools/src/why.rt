@@ -143,7 +143,7 @@ fn write_runs<A: Arch, H: Shelf, O: Sink>(
     )
 }
 
-/// Puts the three files on the shelf, and then writes the line on them.
+/// Writes the three files on the shelf, and then the line on them.
 fn put_runs<'a, H: Shelf, O: Sink>(
     folder: Option<&str>,
     name: &str,

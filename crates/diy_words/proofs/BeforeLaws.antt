@@ -10,7 +10,7 @@ use Rattle.diy_words.specs.Requests.{Said, SaysWhy, Before, before_next, said_by
 abbrev pub IsSilent : Result Said Usage → Type 0
 IsSilent said = (before : Before) → (before_next before said).why ≡ before.why
 
--- of a tool: a word says the same after words that agree on whether `-why` stood
+-- of a tool: a word says the same after words that agree on whether `-why` was given
 abbrev pub IsUncounted : Tool → Type 0
 IsUncounted tool = (a b : Before) (part : Part) → a.why ≡ b.why → said_by tool a part ≡ said_by tool b part
 

@@ -8,11 +8,12 @@ use Rattle.diy_words.specs.declared.request.TheConstants.{MAX_CHOICES}
 use Rattle.diy_words.specs.Given.{more_choices}
 use Rattle.diy_words.specs.Requests.{choice_count}
 
--- the number of ways that is kept after places more
+-- the number of ways that is kept after more places
 abbrev pub choices_after : ℕ → List (List (List Edge)) → ℕ
 choices_after choices [] = choices
 choices_after choices (place ∷ places) = choices_after (more_choices choices (length place)) places
 
+-- the number of ways that is kept after some places and then others is that after all of them
 pub choices_more : (choices : ℕ) (xs ys : List (List (List Edge))) → choices_after (choices_after choices xs) ys ≡ choices_after choices (xs ++ ys)
 choices_more choices [] ys = refl
 choices_more choices (x ∷ xs) ys = choices_more (more_choices choices (length x)) xs ys
@@ -42,7 +43,7 @@ cut_told count limit =
     ⊎_elim (λ (many : limit + 1 < count). let cut : min count (limit + 1) ≡ limit + 1 = min-eq_right (omega arith) in rw cut (grind (arith, nat_tests)))
     (λ few. ap (nat_lt limit) (min-eq_left few)) (cases_lt (limit + 1) count)
 
--- where there are too many ways, so many are kept
+-- where there are too many ways, one more than the limit is kept
 pub choices_told : (places : List (List (List Edge))) → nat_lt MAX_CHOICES (choices_after 1 places) ≡ nat_lt MAX_CHOICES (choice_count places)
 choices_told places =
     ap (nat_lt MAX_CHOICES) (kept_choices 1 places (lit≤ tt) ∙ ap (λ n. min n (MAX_CHOICES + 1)) (one-mul (choice_count places))) ∙

@@ -62,6 +62,7 @@ value_other : (option : OptionName) (at : ℕ) (value : List ℕ) → option ≡
 value_other option at value e =
     subst (λ (o : OptionName). IsOther files_in (said_by tools.Classify nothing_before (Valued o at value))) (sym e) (arch_other (at + 1) (arch_named value))
 
+-- an option of classify7 has its value after it, and the words after that have no fault
 pub option_first : (words : List (List ℕ)) (at : ℕ) (text : List ℕ) (option : OptionName) → at < length words → slice_get words at ≡ Some text
     → option_named tools.Classify text ≡ Some option → AreFaultless tools.Classify words at → OptionFirst tools.Classify files_in words at
 option_first words at text option within got named fit =
@@ -128,6 +129,7 @@ pub record FilesRead (words : List (List ℕ)) (at : ℕ) (files : List ℕ) : T
   pub read : files ++ files_from words at ≡ files_of (asked_of words)
   pub within : All (λ place. place < length words) files
 
+-- at the first word after the tool's name no file is found so far, and no word is faulty
 pub files_begun : (words : List (List ℕ)) → IsClassifying (asked_of words) → FilesRead words 1 []
 files_begun words h =
     let begun = classify_words words h in
@@ -136,6 +138,7 @@ files_begun words h =
 one_within : (words : List (List ℕ)) (at : ℕ) → at < length words → All (λ place. place < length words) (at ∷ [])
 one_within words at within k d less = let zero : k ≡ 0 = omega arith in subst (λ i. get_or (at ∷ []) i d < length words) (sym zero) within
 
+-- a word that is no option of classify7 names one more file
 pub file_read : (words : List (List ℕ)) (at : ℕ) (text : List ℕ) (files : List ℕ) → at < length words → slice_get words at ≡ Some text
     → option_named tools.Classify text ≡ None → FilesRead words at files → FilesRead words (at + 1) (files ++ at ∷ [])
 file_read words at text files within got plain before =
@@ -146,12 +149,14 @@ file_read words at text files within got plain before =
       within = All-append (λ place. place < length words) files (at ∷ []) before.within (one_within words at within);
     }
 
+-- an option of classify7 and its value name no file
 pub option_read : (words : List (List ℕ)) (at : ℕ) (text : List ℕ) (option : OptionName) (files : List ℕ) → at < length words → slice_get words at ≡ Some text
     → option_named tools.Classify text ≡ Some option → FilesRead words at files → FilesRead words (at + 2) files
 option_read words at text option files within got named before =
     let next = option_first words at text option within got named before.faultless in
     record { faultless = next.faultless; read = ap (λ rest. files ++ rest) (sym next.first) ∙ before.read; within = before.within }
 
+-- after the last word all files are found
 pub files_ended : (words : List (List ℕ)) (at : ℕ) (files : List ℕ) → length words ≤ at → FilesRead words at files → files ≡ files_of (asked_of words)
 files_ended words at files last before = sym (append-nil files) ∙ ap (λ rest. files ++ rest) (sym (none_left tools.Classify files_in words at last)) ∙ before.read
 
@@ -166,6 +171,7 @@ file_there words at text files got plain before none =
     no_nil [] x ys e = cc e
     no_nil (z ∷ xs) x ys e = cc e
 
+-- what holds in any case holds where there is an error
 pub where_err : {A E P : Type 0} (r : Result A E) → P → OnErr r P
 where_err (Ok x) h = tt
 where_err (Err e) h = h

@@ -39,7 +39,7 @@ option_parts : (tool : Tool) (word : List ℕ) (at : ℕ) (rest : List (List ℕ
     parts_of tool at (word ∷ rest) ≡ parts_from tool (Waits option at) (at + 1) rest
 option_parts tool word at rest option e = rw e
 
--- a word that stands alone and what the words after it say
+-- a word by itself, and what the words after it say
 pub alone_first : (tool : Tool) (before : Before) (words : List (List ℕ)) (at : ℕ) (word : List ℕ) →
     slice_get words at ≡ Some word → option_named tool word ≡ None →
     saying_from tool before words at ≡ said_by tool before (Alone at word) ∷ saying_from tool (before_next before (said_by tool before (Alone at word))) words (at + 1)
@@ -118,7 +118,7 @@ or_given_twice : {X : Type 0} (x : X) (b c : Option X) → given_or (given_or x 
 or_given_twice x b None = refl
 or_given_twice x b (Some y) = refl
 
--- what is held after one thing more
+-- what is held after one more thing
 abbrev held_with : Held → Said → Held
 held_with h said = record {
   arch = or_later h.arch (arch_in said);

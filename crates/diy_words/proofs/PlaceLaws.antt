@@ -43,6 +43,7 @@ pub record PlaceFirst (words : List (List ℕ)) (at : ℕ) (text : List ℕ) : T
   pub faultless : AreFaultless tools.Cross words (at + 1)
   pub first : (relaxes : List (List Edge)) → relaxes_of text ≡ Ok relaxes → places_from words at ≡ relaxes ∷ places_from words (at + 1)
 
+-- a word that is no option of diycross7 spells relaxations, and the words after it have no fault
 pub place_first : (words : List (List ℕ)) (at : ℕ) (text : List ℕ) → slice_get words at ≡ Some text → option_named tools.Cross text ≡ None → AreFaultless tools.Cross words at → PlaceFirst words at text
 place_first words at text got plain fit =
     of_test (begins_option text) (relaxes_of text) refl (alone_then tools.Cross same_said words at text got plain (alone_silent (begins_option text) (relaxes_of text)))
@@ -116,6 +117,7 @@ value_other opts.Accesses at value = accesses_other (at + 1) (number_to MAX_EDGE
 value_other opts.After at value = after_other (at + 1) (edges_of BlanksAndCommas value)
 value_other opts.Folder at value = folder_other (at + 1) value (nat_lt 0 (length value) && nat_le (length value) MAX_FOLDER)
 
+-- an option of diycross7 has its value after it, and the words after that have no fault
 pub option_first : (words : List (List ℕ)) (at : ℕ) (text : List ℕ) (option : OptionName) → at < length words → slice_get words at ≡ Some text
     → option_named tools.Cross text ≡ Some option → AreFaultless tools.Cross words at → OptionFirst tools.Cross places_in words at
 option_first words at text option within got named fit =
@@ -185,9 +187,11 @@ pub record PlacesRead (words : List (List ℕ)) (at : ℕ) (places : List (List 
   pub faultless : AreFaultless tools.Cross words at
   pub read : places ++ places_from words at ≡ places_of (asked_of words)
 
+-- at the first word after the tool's name no list is read so far, and no word is faulty
 pub places_begun : (words : List (List ℕ)) → IsCrossing (asked_of words) → PlacesRead words 1 []
 places_begun words h = let begun = cross_words words h in record { faultless = begun.faultless; read = begun.first }
 
+-- a word that is no option of diycross7 is one more list
 pub place_read : (words : List (List ℕ)) (at : ℕ) (text : List ℕ) (places : List (List (List Edge))) (relaxes : List (List Edge)) →
     slice_get words at ≡ Some text → option_named tools.Cross text ≡ None → PlacesRead words at places → relaxes_of text ≡ Ok relaxes → PlacesRead words (at + 1) (places ++ relaxes ∷ [])
 place_read words at text places relaxes got plain before spelled =
@@ -197,11 +201,13 @@ place_read words at text places relaxes got plain before spelled =
       read = append_assoc places (relaxes ∷ []) (places_from words (at + 1)) ∙ ap (λ rest. places ++ rest) (sym (next.first relaxes spelled)) ∙ before.read;
     }
 
+-- an option of diycross7 and its value are no list
 pub option_read : (words : List (List ℕ)) (at : ℕ) (text : List ℕ) (option : OptionName) (places : List (List (List Edge))) →
     at < length words → slice_get words at ≡ Some text → option_named tools.Cross text ≡ Some option → PlacesRead words at places → PlacesRead words (at + 2) places
 option_read words at text option places within got named before =
     let next = option_first words at text option within got named before.faultless in
     record { faultless = next.faultless; read = ap (λ rest. places ++ rest) (sym next.first) ∙ before.read }
 
+-- after the last word all lists are read
 pub places_ended : (words : List (List ℕ)) (at : ℕ) (places : List (List (List Edge))) → length words ≤ at → PlacesRead words at places → places ≡ places_of (asked_of words)
 places_ended words at places last before = sym (append-nil places) ∙ ap (λ rest. places ++ rest) (sym (none_left tools.Cross places_in words at last)) ∙ before.read

@@ -36,7 +36,7 @@ use Rattle.arrayvec.specs.ArrayString.{ArrayString}
 use Rattle.diy_words.specs.Given.{Gives, HasForm, WithinWords, list_kept}
 use Rattle.diy_words.specs.Numbers.{is_number, number_to}
 
--- a name and a folder that are said have their forms, a size is one that cycles can have, so many tests can be made, and a file
+-- a name and a folder that are given have their forms, a size is one that cycles can have, so many tests can be made, and a file
 -- of mcheck7 is one of so many words
 abbrev IsFit : ℕ → Said → Type 0
 IsFit count (SaysName name) = is_name name ≡ true
@@ -161,7 +161,7 @@ name_form : (count at : ℕ) (text : List ℕ) (b : Bool) → is_name text ≡ b
 name_form count at text true e = e
 name_form count at text false e = tt
 
--- a word that stands alone is one of so many
+-- a word by itself is one of so many
 abbrev IsAmong : ℕ → Part → Type 0
 IsAmong count (Alone at text) = at < count
 IsAmong count _ = Unit {0}
@@ -352,6 +352,7 @@ words_form : (words : List (List ℕ)) → AskedSo (length words) (asked_of word
 words_form [] = tt
 words_form (tool ∷ words) = found_form (tool_named tool) (length (tool ∷ words)) words (omega arith)
 
+-- what words ask for has its form
 pub asked_form : (words : List (List ℕ)) (asked : Asked) → asked_of words ≡ Ok asked → IsNamedSo (length words) asked
 asked_form words asked e = subst (λ (a : Result Asked Usage). AskedSo (length words) a) e (words_form words)
 

@@ -28,9 +28,9 @@ use Rattle.diy_words.specs.Parts.{parts_of, option_named}
 use Rattle.diy_words.specs.Requests.{Asked, AsksTest, AsksWhy, AsksName, AsksList, AsksFamilies, AsksSum, AsksCross, AsksDemo, AsksCheck, ListAsked, DemoAsked, CheckAsked, OfEdges, OfName, OfLines, SaysArch, SaysName, SaysMode, SaysFrom, SaysEdges, SaysRelaxes, SaysSize, SaysExact, SaysWhy, SaysThreads, SaysAfter, SaysFolder, SaysLog, SaysFile, SaysTest, SaysExecution, SaysPlace, SaysCount, Before, before_next, said_by, saying, mode_or_accept, list_with, demo_with, check_with, SaysAccesses}
 use Rattle.diy_words.specs.Requests as req
 
--- what is held: the last of each thing that was given, where the last value of `-from` and the first operand of edges
--- stand, and the edges; in how many ways a relaxation can be chosen for each place, and how many tests demo makes; where the
--- files of mcheck7 stand; how many operands were taken, of those whose number is limited; and whether `-why` stood
+-- what is held: the last of each thing that was given, the places of the last value of `-from` and of the first operand of
+-- edges, and the edges; in how many ways a relaxation can be chosen for each place, and how many tests demo makes; the places of
+-- the files of mcheck7; how many operands were taken, of those whose number is limited; and whether `-why` was given
 pub record Held : Type 0 where
   pub arch : Option ArchName
   pub name : Option (List ℕ)
@@ -76,7 +76,7 @@ held said = record {
   why = said.why;
 }
 
--- nothing yet
+-- nothing
 abbrev pub nothing_held : Held
 nothing_held = record {
   arch = None;
@@ -104,7 +104,7 @@ nothing_held = record {
 abbrev pub heard : Held → Before
 heard h = record { taken = h.taken; obs = is_some h.mode; why = h.why }
 
--- in how many ways relaxations are chosen with those of one place more: no number of ways above the limit is told from another
+-- in how many ways relaxations are chosen with those of one more place: all numbers of ways above the limit count as one
 abbrev pub more_choices : ℕ → ℕ → ℕ
 more_choices choices relaxes = min (choices * relaxes) (MAX_CHOICES + 1)
 
@@ -142,7 +142,7 @@ all_absorbed h [] = h
 all_absorbed (Ok h) (said ∷ rest) = all_absorbed (absorbed h said) rest
 all_absorbed (Err usage) (said ∷ rest) = all_absorbed (Err usage) rest
 
--- what the words from a place on say, where the words before said so much
+-- what the words from a place on say, after these words before it
 abbrev pub saying_from : Tool → Before → List (List ℕ) → ℕ → List (Result req.Said Usage)
 saying_from tool before words at = saying tool before (parts_of tool at (drop at words))
 
@@ -200,8 +200,8 @@ Gives (Err usage) (Ok asked) = ⊥
 Gives (Err usage) (Err fault) = usage ≡ fault
 
 -- the name of a test that is asked for, if one is given, has its form; the cycles of a listing have at most as many edges as
--- there may be, and so have the bytes of its folder, and of those of diyone7 and diycross7; demo makes a test at least, and at
--- most so many
+-- there may be, its folder and those of diyone7 and diycross7 have at most as many bytes as they may have, and demo makes at
+-- least one test and at most so many
 abbrev pub HasForm : Request → Type 0
 HasForm (requests.Test request) = IfSome request.name (λ name. is_name name.bytes ≡ true)
 HasForm (requests.Why request) =
@@ -216,51 +216,56 @@ abbrev pub WithinWords : ℕ → Request → Type 0
 WithinWords count (requests.Check request) = (request.test < count) × (request.execution < count)
 WithinWords count _ = Unit {0}
 
--- a call that takes in the part of the words at a place gives the place behind it, or the fault there: what is held
+-- a call that takes in the part of the words at a place gives the place after it, or the fault there: what is held
 -- after all words stays the same
 abbrev pub Steps : Tool → List (List ℕ) → ℕ → Held → Held → Result ℕ Usage → Type 0
 Steps tool words at old new (Ok next) =
     (at < next) × (held_at_end tool words next new ≡ held_at_end tool words at old)
 Steps tool words at old new (Err usage) = Err usage ≡ held_at_end tool words at old
 
--- the request of diyone7 for a test as it is kept, from what is held at the end
+-- the request of diyone7 without `-why` as it is kept
 pub record AskedHeld : Type 0 where
   pub arch : ArchName
   pub name : Option (List ℕ)
   pub mode : ObsMode
   pub edges : EdgeList
 
+-- what is held at the end gives the request of diyone7 without `-why`, or what is missing or too much
 abbrev pub finished : ℕ → Option ArchName → Option (List ℕ) → ObsMode → EdgeList → Option (List ℕ) → Result AskedHeld Usage
 finished count None name mode edges folder = Err (record { word = count; kind = MissingArch })
 finished count (Some arch) name mode edges (Some folder) = Err (record { word = count; kind = MissingWhy })
 finished count (Some arch) name mode edges None = Ok (record { arch = arch; name = name; mode = mode; edges = edges })
 
--- the request of diyone7 with `-why` as it is kept, from what is held at the end
+-- the request of diyone7 with `-why` as it is kept
 pub record WhyHeld : Type 0 where
   pub arch : ArchName
   pub name : Option (List ℕ)
   pub edges : EdgeList
   pub folder : Option (List ℕ)
 
+-- what is held at the end gives the request of diyone7 with `-why`, or what is missing
 abbrev pub explained : ℕ → Option ArchName → Option (List ℕ) → EdgeList → Option (List ℕ) → Result WhyHeld Usage
 explained count None name edges folder = Err (record { word = count; kind = MissingArch })
 explained count (Some arch) name edges folder = Ok (record { arch = arch; name = name; edges = edges; folder = folder })
 
--- the request of norm7 as it is kept, from what is held at the end
+-- the cycles that norm7 seeks, as they are kept
 pub data SoughtHeld : Type 0 where
   HeldEdges : EdgeList → SoughtHeld
   HeldName : ℕ → List ℕ → SoughtHeld
   HeldLines : SoughtHeld
 
+-- the request of norm7 as it is kept
 pub record NameHeld : Type 0 where
   pub arch : ArchName
   pub cycle : SoughtHeld
 
+-- the cycles that a request of norm7 seeks, as they are kept
 abbrev pub sought_held : Sought → SoughtHeld
 sought_held (sought.Edges list) = HeldEdges list
 sought_held (sought.Named from) = HeldName from.word from.name.now
 sought_held sought.Lines = HeldLines
 
+-- what is held at the end gives the request of norm7, or what is missing or too much
 abbrev pub named : ℕ → Option ArchName → Option (ℕ × List ℕ) → Option ℕ → EdgeList → Result NameHeld Usage
 named count None _ _ edges = Err (record { word = count; kind = MissingArch })
 named count (Some arch) None None edges = Ok (record { arch = arch; cycle = HeldLines })
@@ -268,12 +273,13 @@ named count (Some arch) (Some from) None edges = Ok (record { arch = arch; cycle
 named count (Some arch) None (Some operand) edges = Ok (record { arch = arch; cycle = HeldEdges edges })
 named count (Some arch) (Some from) (Some operand) edges = Err (record { word = operand; kind = StrayWord })
 
--- the request of diycross7 as it is kept, from what is held at the end
+-- the request of diycross7 as it is kept
 pub record CrossHeld : Type 0 where
   pub arch : ArchName
   pub mode : ObsMode
   pub folder : Option (List ℕ)
 
+-- what is held at the end gives the request of diycross7, or what is missing or too much
 abbrev pub crossed : ℕ → Option ArchName → ObsMode → Option (List ℕ) → ℕ → Result CrossHeld Usage
 crossed count None mode folder choices = Err (record { word = count; kind = MissingArch })
 crossed count (Some arch) mode folder choices =
@@ -297,32 +303,40 @@ pub data Kept : Type 0 where
   KeepsDemo : DemoAsked → Kept
   KeepsCheck : CheckAsked → Kept
 
+-- a request of a tool is kept as one of all tools, and a fault stays one
 abbrev pub keeps : {X : Type 0} → (X → Kept) → Result X Usage → Result Kept Usage
 keeps request (Ok asked) = Ok (request asked)
 keeps request (Err usage) = Err usage
 
--- the requests of diyone7, norm7, diy7, diycross7, demo and mcheck7 from what is held
+-- the request of diyone7 without `-why` from what is held
 abbrev pub test_held : ℕ → Held → Result AskedHeld Usage
 test_held count h = finished count h.arch h.name (mode_or_accept h.mode) h.edges h.folder
 
+-- the request of diyone7 with `-why` from what is held
 abbrev pub why_held : ℕ → Held → Result WhyHeld Usage
 why_held count h = explained count h.arch h.name h.edges h.folder
 
+-- the request of diyone7 from what is held
 abbrev pub diyone_held : ℕ → Held → Result Kept Usage
 diyone_held count h = if h.why then keeps KeepsWhy (why_held count h) else keeps KeepsTest (test_held count h)
 
+-- the request of norm7 from what is held
 abbrev pub name_held : ℕ → Held → Result NameHeld Usage
 name_held count h = named count h.arch h.from h.operand h.edges
 
+-- the request of diy7 from what is held
 abbrev pub list_held : ℕ → Held → Result ListAsked Usage
 list_held count h = list_with count h.arch h.relaxes h.size h.exact h.threads h.accesses (mode_or_accept h.mode) h.after h.folder
 
+-- the request of diycross7 from what is held
 abbrev pub cross_held : ℕ → Held → Result CrossHeld Usage
 cross_held count h = crossed count h.arch (mode_or_accept h.mode) h.folder h.choices
 
+-- the request of demo from what is held
 abbrev pub demo_held : ℕ → Held → Result DemoAsked Usage
 demo_held count h = demo_with count h.arch h.count
 
+-- the request of mcheck7 from what is held
 abbrev pub check_held : ℕ → Held → Result CheckAsked Usage
 check_held count h = check_with count h.arch h.test h.execution
 

@@ -1,4 +1,4 @@
--- What a request of diycross7 or classify7 tells of the words that make it.
+-- What a request of diycross7 or classify7 says of the words that make it.
 use Rattle.std.specs.Prelude.{Result, Ok}
 use Rattle.diy_words.specs.declared.request.Cross.{Cross}
 use Rattle.diy_words.specs.declared.request.Request.TheVariants as requests
@@ -12,6 +12,7 @@ pub gives_crossing : (request : Cross) (asked : Result Asked Usage) → Gives (O
 gives_crossing request (Ok (AsksCross asked)) h = tt
 gives_crossing request asked h = absurd h
 
+-- words that give a request for families ask for something of classify7
 pub gives_classifying : (arch : ArchName) (asked : Result Asked Usage) → Gives (Ok (requests.Families arch)) asked → IsClassifying asked
 gives_classifying arch (Ok (AsksFamilies asked)) h = tt
 gives_classifying arch asked h = absurd h

@@ -1,4 +1,4 @@
--- The words behind the tool's name: options, each with the word behind it as its value, and the words that stand alone.
+-- The words after the tool's name: options, each with the word after it as its value, and the other words.
 use Rattle.std.specs.Prelude.{ℕ, ◌+◌, List, [], ◌∷◌, Option, Some, None, codes, if◌then◌else◌}
 use Rattle.std.specs.Str.{bytes_eq}
 use Rattle.relax_edges.specs.declared.kinds.ArchName.{ArchName}
@@ -34,6 +34,7 @@ options_of tools.Cross = (codes "-arch", opts.Arch) ∷ (codes "-obs", opts.Obs)
 options_of tools.Demo = (codes "-arch", opts.Arch) ∷ []
 options_of tools.Check = (codes "-arch", opts.Arch) ∷ []
 
+-- the option of a tool with this name that takes a value
 abbrev pub option_named : Tool → List ℕ → Option OptionName
 option_named tool = named (options_of tool)
 
@@ -45,28 +46,28 @@ arch_named = named ((codes "X86", archs.X86) ∷ (codes "PPC", archs.PPC) ∷ (c
 abbrev pub mode_named : List ℕ → Option ObsMode
 mode_named = named ((codes "accept", modes.Accept) ∷ (codes "avoid", modes.Avoid) ∷ (codes "force", modes.Force) ∷ [])
 
--- a part of the words: a word that stands alone, at its place, or an option at its place with its value, if there is one
+-- a part of the words: a word by itself, at its place, or an option at its place with its value, if there is one
 pub data Part : Type 0 where
   Alone : ℕ → List ℕ → Part
   Valued : OptionName → ℕ → List ℕ → Part
   Unvalued : OptionName → ℕ → Part
 
--- an option that waits for its value, and where it stands
+-- an option that waits for its value, and its place
 pub data Waiting : Type 0 where
   Ready : Waiting
   Waits : OptionName → ℕ → Waiting
 
--- what waits behind a word at its place
+-- what waits after a word at its place
 abbrev pub waiting_at : Option OptionName → ℕ → Waiting
 waiting_at (Some option) at = Waits option at
 waiting_at None at = Ready
 
--- a word that is no such option stands alone before the rest
+-- a word that is no such option is a part by itself before the rest
 abbrev pub alone_before : Option OptionName → ℕ → List ℕ → List Part → List Part
 alone_before (Some _) at word rest = rest
 alone_before None at word rest = Alone at word ∷ rest
 
--- the parts of the words of a tool, the first of which stands at a place, behind an option that waits
+-- the parts of the words of a tool from a place on, after an option that waits for its value
 abbrev pub parts_from : Tool → Waiting → ℕ → List (List ℕ) → List Part
 parts_from tool Ready at [] = []
 parts_from tool (Waits option place) at [] = Unvalued option place ∷ []
@@ -74,6 +75,6 @@ parts_from tool (Waits option place) at (value ∷ words) = Valued option place 
 parts_from tool Ready at (word ∷ words) =
     alone_before (option_named tool word) at word (parts_from tool (waiting_at (option_named tool word) at) (at + 1) words)
 
--- the parts of the words of a tool, the first of which stands at a place
+-- the parts of the words of a tool from a place on
 abbrev pub parts_of : Tool → ℕ → List (List ℕ) → List Part
 parts_of tool at words = parts_from tool Ready at words

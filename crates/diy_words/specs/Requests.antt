@@ -119,7 +119,7 @@ pub record CheckAsked : Type 0 where
   pub execution : ℕ
 
 -- what words ask for: a test; why a cycle needs an observer; the names of cycles; the tests of a listing; the names of cycles by
--- their families; the sum of the logs that the words behind the first name, or of the input where there is none; the tests of the
+-- their families; the sum of the logs that the words after the first name, or of the input where there is none; the tests of the
 -- choices of relaxations; some number of tests; what is so of an execution
 pub data Asked : Type 0 where
   AsksTest : TestAsked → Asked
@@ -133,7 +133,7 @@ pub data Asked : Type 0 where
   AsksCheck : CheckAsked → Asked
 
 -- what the words before a word said that bears on its fault: how many operands were taken, of those whose number is limited,
--- and whether `-obs` and whether `-why` stood
+-- and whether `-obs` and whether `-why` were among them
 pub record Before : Type 0 where
   pub taken : ℕ
   pub obs : Bool
@@ -143,7 +143,7 @@ pub record Before : Type 0 where
 abbrev pub nothing_before : Before
 nothing_before = record { taken = 0; obs = false; why = false }
 
--- what the words before the next word said, where the last of them says this: the number of demo and the files of mcheck7 are
+-- what the words up to the next one said, where the last of them says this: the number of demo and the files of mcheck7 are
 -- the operands whose number is limited
 abbrev pub before_next : Before → Result Said Usage → Before
 before_next before (Ok (SaysMode _)) = record before { obs = true }
@@ -202,15 +202,17 @@ abbrev pub place_said : ℕ → Result (List (List Edge)) RelaxError → Result 
 place_said at (Ok relaxes) = Ok (SaysPlace relaxes)
 place_said at (Err error) = fault at (relax_usage error.kind)
 
--- the value of `-size`, that of `-nprocs`, and that of `-accesses`, at its place
+-- the value of `-size`, at its place
 abbrev pub size_said : ℕ → Option ℕ → Result Said Usage
 size_said at (Some size) = Ok (SaysSize size)
 size_said at None = fault at BadNumber
 
+-- the value of `-nprocs`, at its place
 abbrev pub threads_said : ℕ → Option ℕ → Result Said Usage
 threads_said at (Some threads) = Ok (SaysThreads threads)
 threads_said at None = fault at BadNumber
 
+-- the value of `-accesses`, at its place
 abbrev pub accesses_said : ℕ → Option ℕ → Result Said Usage
 accesses_said at (Some accesses) = Ok (SaysAccesses accesses)
 accesses_said at None = fault at BadNumber
@@ -225,6 +227,7 @@ abbrev pub cycle_said : ℕ → Result (List Edge) CycleError → Result Said Us
 cycle_said at (Ok cycle) = Ok (SaysAfter cycle)
 cycle_said at (Err error) = fault at BadAfter
 
+-- the cycle that the edges of `-after` make, or what is wrong with them
 abbrev pub after_said : ℕ → Option (List Edge) → Result Said Usage
 after_said at (Some edges) = cycle_said at (composed edges)
 after_said at None = fault at UnknownEdge
@@ -239,7 +242,7 @@ abbrev pub begins_option : List ℕ → Bool
 begins_option [] = false
 begins_option (byte ∷ _) = byte == 45
 
--- a word that begins with `-` and stands alone, at its place
+-- a word that begins with `-` and takes no value, at its place
 abbrev pub dashed_said : Tool → Before → ℕ → List ℕ → Result Said Usage
 dashed_said tools.DiyOne before at text = if bytes_eq text (codes "-why") then why_said before at else fault at UnknownOption
 dashed_said tools.Diy before at text = if bytes_eq text (codes "-exact") then Ok SaysExact else fault at UnknownOption
@@ -292,62 +295,72 @@ said_all [] = Ok []
 said_all (Ok said ∷ rest) = said_first said (said_all rest)
 said_all (Err usage ∷ _) = Err usage
 
--- what a word gives: an architecture, a name, a mode, edges
+-- the architecture that a part gives
 abbrev pub arch_in : Said → Option ArchName
 arch_in (SaysArch arch) = Some arch
 arch_in _ = None
 
+-- the name that a part gives
 abbrev pub name_in : Said → Option (List ℕ)
 name_in (SaysName name) = Some name
 name_in _ = None
 
+-- the observer mode that a part gives
 abbrev pub mode_in : Said → Option ObsMode
 mode_in (SaysMode mode) = Some mode
 mode_in _ = None
 
+-- the edges that a part gives
 abbrev pub edges_in : Said → List Edge
 edges_in (SaysEdges _ edges) = edges
 edges_in _ = []
 
--- the value of `-from` with its place, and where an operand stands
+-- the value of `-from` with its place
 abbrev pub from_in : Said → Option (ℕ × List ℕ)
 from_in (SaysFrom at name) = Some (at, name)
 from_in _ = None
 
+-- the place of an operand of edges
 abbrev pub operand_in : Said → Option ℕ
 operand_in (SaysEdges at _) = Some at
 operand_in _ = None
 
--- the relaxations, the sizes, the limits, the cycle and the folder of a listing
+-- the relaxations of a listing
 abbrev pub relaxes_in : Said → Option (List (List Edge))
 relaxes_in (SaysRelaxes relaxes) = Some relaxes
 relaxes_in _ = None
 
+-- the size of the cycles of a listing
 abbrev pub size_in : Said → Option ℕ
 size_in (SaysSize size) = Some size
 size_in _ = None
 
+-- whether the cycles of a listing have exactly so many edges
 abbrev pub is_exact : Said → Bool
 is_exact SaysExact = true
 is_exact _ = false
 
+-- the limit of the threads
 abbrev pub threads_in : Said → Option ℕ
 threads_in (SaysThreads threads) = Some threads
 threads_in _ = None
 
+-- the limit of the accesses of a thread
 abbrev pub accesses_in : Said → Option ℕ
 accesses_in (SaysAccesses accesses) = Some accesses
 accesses_in _ = None
 
+-- the cycle after which a listing begins
 abbrev pub after_in : Said → Option (List Edge)
 after_in (SaysAfter cycle) = Some cycle
 after_in _ = None
 
+-- the folder of the files
 abbrev pub folder_in : Said → Option (List ℕ)
 folder_in (SaysFolder folder) = Some folder
 folder_in _ = None
 
--- whether `-why` stands
+-- whether a part is `-why`
 abbrev pub is_why : Said → Bool
 is_why SaysWhy = true
 is_why _ = false
@@ -357,11 +370,12 @@ abbrev pub count_in : Said → Option ℕ
 count_in (SaysCount count) = Some count
 count_in _ = None
 
--- the places of the files of mcheck7
+-- the place of the file of the test of mcheck7
 abbrev pub test_in : Said → Option ℕ
 test_in (SaysTest at) = Some at
 test_in _ = None
 
+-- the place of the file of the execution of mcheck7
 abbrev pub execution_in : Said → Option ℕ
 execution_in (SaysExecution at) = Some at
 execution_in _ = None
@@ -376,7 +390,7 @@ abbrev pub files_in : Said → List ℕ
 files_in (SaysFile at) = at ∷ []
 files_in _ = []
 
--- the later of two, where it is there
+-- the later of two, or the earlier where there is no later
 abbrev pub or_later : {X : Type 0} → Option X → Option X → Option X
 or_later earlier (Some later) = Some later
 or_later earlier None = earlier
@@ -411,7 +425,7 @@ abbrev pub choice_count : List (List (List Edge)) → ℕ
 choice_count [] = 1
 choice_count (place ∷ places) = length place * choice_count places
 
--- what was given, or else what stands for it
+-- what was given, or else another
 abbrev pub given_or : {X : Type 0} → X → Option X → X
 given_or other (Some given) = given
 given_or other None = other

@@ -50,7 +50,7 @@ fn read_words(tool: Tool, words: &Words) -> Result<Request<'_>, Usage>
     finish(tool, words.len(), said)
 }
 
-/// Takes in the part of the words that begins at place `at`, and gives the place behind it.
+/// Takes in the part of the words that begins at place `at`, and gives the place after it.
 fn read_part<'a>(
     tool: Tool,
     words: &'a Words,

@@ -34,7 +34,7 @@ pub enum Request<'a> {
     /// the files that its operands name, which `read_files` finds, or those of the input's lines where
     /// there is no operand.
     Families(ArchName),
-    /// The sum of the logs that the words behind the first name, or of the input where there is no
+    /// The sum of the logs that the words after the first name, or of the input where there is no
     /// such word, of msum7.
     Sum,
     /// The tests of the choices of relaxations, of diycross7.
@@ -116,7 +116,7 @@ pub struct Diy<'a> {
     pub accesses: Option<u8>,
     /// When locations have observers.
     pub mode: ObsMode,
-    /// The cycle behind which the listing begins, if it doesn't begin with the first.
+    /// The cycle after which the listing begins, if it doesn't begin with the first.
     pub after: Option<Cycle>,
     /// The folder of the files, if one is given.
     pub folder: Option<&'a str>,

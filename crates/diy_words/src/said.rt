@@ -31,7 +31,7 @@ pub struct Said<'a> {
     pub mode: Option<ObsMode>,
     /// The value of `-from`.
     pub from: Option<Source<'a>>,
-    /// Where the first operand of edges stands.
+    /// The place of the first operand of edges.
     pub operand: Option<usize>,
     pub edges: EdgeList,
     pub relaxes: Option<Relaxes>,
@@ -51,7 +51,7 @@ pub struct Said<'a> {
     pub execution: Option<usize>,
     /// How many operands were taken, of demo or of mcheck7.
     pub taken: u8,
-    /// Whether `-why` stood.
+    /// Whether `-why` was given.
     pub why: bool,
 }
 
@@ -86,7 +86,7 @@ impl<'a> Said<'a> {
         }
     }
 
-    /// Takes in an option of a tool at place `at` with its value, which stands behind it.
+    /// Takes in an option of a tool at place `at` with its value, which comes after it.
     pub fn take_value(
         &mut self,
         tool: Tool,
@@ -148,7 +148,7 @@ impl<'a> Said<'a> {
         }
     }
 
-    /// Takes in `-obs` at place `at` with its value, where `-why` doesn't stand before it.
+    /// Takes in `-obs` at place `at` with its value, unless `-why` comes before it.
     fn take_obs(&mut self, at: usize, value: &str) -> Result<(), Usage>
         requires { at + 1 < 2 ^ 64 }
         ensures { left_by result (held self.new) ≡ absorbed (held self.old) (obs_said (heard (held self.old)) at value.now) }
@@ -270,7 +270,7 @@ impl<'a> Said<'a> {
         Ok(())
     }
 
-    /// Takes in a word of a tool at place `at` that stands alone.
+    /// Takes in a word of a tool at place `at` that is no option with a value.
     pub fn take_alone(&mut self, tool: Tool, at: usize, text: &str) -> Result<(), Usage>
         ensures { left_by result (held self.new) ≡ absorbed (held self.old) (said_by tool (heard (held self.old)) (Alone at text.now)) }
     {
@@ -298,7 +298,7 @@ impl<'a> Said<'a> {
         }
     }
 
-    /// Takes in `-why`, where `-obs` doesn't stand before it.
+    /// Takes in `-why`, unless `-obs` comes before it.
     fn take_why(&mut self, at: usize) -> Result<(), Usage>
         ensures { left_by result (held self.new) ≡ absorbed (held self.old) (why_said (heard (held self.old)) at) }
     {
@@ -340,7 +340,7 @@ impl<'a> Said<'a> {
         }
     }
 
-    /// Takes in the relaxations of one place more.
+    /// Takes in the relaxations of one more place.
     fn take_place(&mut self, at: usize, text: &str) -> Result<(), Usage>
         ensures { left_by result (held self.new) ≡ absorbed (held self.old) (place_said at (relaxes_of text.now)) }
     {
@@ -399,7 +399,7 @@ impl<'a> Said<'a> {
     }
 }
 
-/// In how many ways relaxations are chosen with those of one place more, up to one more than may be.
+/// In how many ways relaxations are chosen with those of one more place, up to one more than may be.
 fn more_choices(choices: u32, relaxes: usize) -> u32
     requires { relaxes ≤ 64 }
     ensures { result ≡ more_choices choices relaxes }
@@ -430,7 +430,7 @@ fn cycle_of(list: &EdgeList) -> Option<Cycle>
     }
 }
 
-/// What is wrong with an option at place `at` that stands after one that excludes it.
+/// What is wrong with an option at place `at` that comes after one that excludes it.
 fn excluded_option(at: usize) -> Usage
     ensures { result ≡ record { word = at; kind = ExcludedOption } }
 {

@@ -39,9 +39,9 @@ pub enum UsageKind {
     UnknownName,
     /// The edges of `-after` make no cycle.
     BadAfter,
-    /// An operand stands where the tool takes none, or no other, or beside `-from`.
+    /// An operand comes where the tool takes none, or no other, or beside `-from`.
     StrayWord,
-    /// One of `-obs` and `-why` stands after the other.
+    /// One of `-obs` and `-why` comes after the other.
     ExcludedOption,
     /// The tool needs `-arch`, and it isn't there.
     MissingArch,

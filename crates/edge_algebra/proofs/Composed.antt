@@ -46,6 +46,7 @@ one_first_break u i j a b =
 no_break : (u : List Edge) (i : ℕ) → IsCycle u → IsFirstBreak u i → ⊥
 no_break u i c b = b.breaks (closed_at_place u c.closed i)
 
+-- each answer of composing comes exactly where it is due
 pub composes_exactly : ComposesExactly
 composes_exactly = record {
   cycle = λ u. elim (answer u) [
@@ -102,6 +103,7 @@ last_joins_longer [] v w h = refl
 last_joins_longer (e ∷ []) v w h = joins_first_longer e v w h
 last_joins_longer (e ∷ f ∷ u) v w h = last_joins_longer (f ∷ u) v w h
 
+-- it doesn't matter which of three paths are joined first
 pub joining_is_associative : JoiningIsAssociative
 joining_is_associative u v w front back p l r =
     let a = joined_is u v front l in

@@ -1,4 +1,4 @@
--- Each rotation of a list is a part of the list written twice, and the least is found among those from each place.
+-- Each rotation of a list is a part of the list repeated twice, and the least is found among those from each place.
 use Rattle.std.proofs.Common.{◌≡◌, ◌<◌, ◌≤◌, ℕ, ◌+◌, ◌-◌, true, false, List, ◌++◌, length, take, drop, map, refl, sym, ◌∙◌, ap, arith, below_more}
 use Rattle.std.proofs.lemmas.List.{append-nil, drop-append-le, length-drop, length-map, map-append, drop-map, take-map}
 use Rattle.std.proofs.Math.Seq.{take-append-add}
@@ -9,7 +9,7 @@ use Rattle.walk_laws.specs.Order.{Above, IsNormal, ranks_below}
 use Rattle.walk_laws.proofs.Rotating.{rotation_of_place}
 use Rattle.walk_laws.proofs.Ordering.{above_irreflexive, above_transitive, above_of_ranks, ranks_of_above}
 
--- the part from place k of a list written twice is the rotation from k
+-- the part from place k of a list repeated twice, as long as the list, is the rotation from k
 pub window : {A : Type 0} (k : ℕ) (u : List A) → k ≤ length u → take (length u) (drop k (u ++ u)) ≡ rotated k u
 window k u h =
     let rest : length u ≡ length (drop k u) + k = omega (arith, length-drop k u) in
@@ -19,7 +19,7 @@ window k u h =
 pub ranks_rotated : (k : ℕ) (u : List Edge) → map rank_of (rotated k u) ≡ rotated k (map rank_of u)
 ranks_rotated k u = map-append rank_of (drop k u) (take k u) ∙ ap (λ w. w ++ map rank_of (take k u)) (sym (drop-map rank_of k u)) ∙ ap (λ w. drop k (map rank_of u) ++ w) (sym (take-map rank_of k u))
 
--- what the code compares: two parts of the ranks written twice, which are two rotations of the ranks
+-- the two parts of the twice repeated ranks that the code compares are two rotations of the ranks
 pub compared : (u : List Edge) (ranks : List ℕ) (k l : ℕ) → ranks ≡ map rank_of u ++ map rank_of u → k ≤ length u → l ≤ length u →
     ranks_below (take ((k + length u) - k) (drop k ranks)) (take ((l + length u) - l) (drop l ranks)) ≡ ranks_below (rotated k (map rank_of u)) (rotated l (map rank_of u))
 compared u ranks k l e hk hl =
@@ -28,12 +28,13 @@ compared u ranks k l e hk hl =
     rw (n, e) (window i (map rank_of u) (omega (arith, length-map u rank_of))) in
     rw (part k hk, part l hl) refl
 
--- of the rotations from the places below k none is less than the one from `least`, which is the first if none at all is less than that
+-- of the rotations from the places below k none is less than the one from `least`, and `least` is 0 where the list is a normal form
 pub record LeastUpTo (u : List Edge) (k least : ℕ) : Type 0 where
   pub within : least < length u
   pub none : (j : ℕ) → j < k → Above (rotated j u) (rotated least u) → ⊥
   pub stays : IsNormal u → least ≡ 0
 
+-- among the first place only, the first is the least
 pub first : (u : List Edge) → 0 < length u → LeastUpTo u 1 0
 first u h = record {
   within = h;
@@ -41,6 +42,7 @@ first u h = record {
   stays = λ n. refl;
 }
 
+-- where the rotation from the next place is not less, the least stays
 pub kept : (u : List Edge) (k least : ℕ) → LeastUpTo u k least → ranks_below (rotated k (map rank_of u)) (rotated least (map rank_of u)) ≡ false → LeastUpTo u (k + 1) least
 kept u k least h test = record {
   within = h.within;
@@ -51,6 +53,7 @@ kept u k least h test = record {
   stays = h.stays;
 }
 
+-- where the rotation from the next place is less, that place is the least
 pub replaced : (u : List Edge) (k least : ℕ) → LeastUpTo u k least → k < length u → ranks_below (rotated k (map rank_of u)) (rotated least (map rank_of u)) ≡ true → LeastUpTo u (k + 1) k
 replaced u k least h l test =
     let a : Above (rotated k u) (rotated least u) = above_of_ranks (rotated k u) (rotated least u) (rw (ranks_rotated k u, ranks_rotated least u) test) in

@@ -10,22 +10,22 @@ use Rattle.edge_algebra.specs.declared.errors.JoinError.TheVariants as joins
 use Rattle.edge_algebra.specs.declared.errors.NotClosed.{NotClosed}
 use Rattle.walk_laws.specs.Composable.{first_break, last_joins}
 
--- the list itself where no edge breaks the cycle, and else the first place that does
+-- the list itself where each edge joins the next, cyclically, and else the fault at the first place where one doesn't
 abbrev pub unbroken : List Edge → Option ℕ → Result (List Edge) CycleError
 unbroken u None = Ok u
 unbroken u (Some at) = Err (DoesNotCompose at)
 
--- the cycle that a list of edges makes
+-- the cycle that a list of edges makes, or the first fault
 abbrev pub composed : List Edge → Result (List Edge) CycleError
 composed [] = Err Empty
 composed (e ∷ u) =
     cond (nat_lt MAX_EDGES (length (e ∷ u))) (Err TooLong) (unbroken (e ∷ u) (first_break ((e ∷ u) ++ e ∷ [])))
 
--- the path that two paths make, one behind the other
+-- the path that two paths make, one after the other, or why they make none
 abbrev pub joined : List Edge → List Edge → Result (List Edge) JoinError
 joined u v =
     cond (nat_lt MAX_EDGES (length u + length v)) (Err joins.TooLong) (cond (last_joins u v) (Ok (u ++ v)) (Err joins.DoesNotCompose))
 
--- the cycle that a path makes
+-- the cycle that a path makes, if its last edge joins its first
 abbrev pub closed : List Edge → Result (List Edge) NotClosed
 closed u = cond (last_joins u u) (Ok u) (Err (record {}))

@@ -26,7 +26,7 @@ pub fn cycle(edges: &[Edge]) -> Result<Cycle, CycleError>
     }
 }
 
-/// The first place whose edge doesn't join the next one, where `next` stands behind the last.
+/// The first place whose edge doesn't join the next one, where `next` comes after the last.
 fn first_break(edges: &[Edge], next: Edge) -> Option<u8>
     requires { length edges.now ≤ MAX_EDGES }
     ensures found { result ≡ first_break (edges.now ++ next ∷ []) }

@@ -1,6 +1,6 @@
 ghost use Rattle.std.specs.Prelude.{◌≡◌, ◌+◌, ◌<◌, ◌≤◌, ◌↔◌, ◌++◌, length, map, IsTrue};
 ghost use Rattle.relax_edges.specs.Order.{rank_of};
-ghost use Rattle.walk_laws.specs.Beginning.{may_begin, none_below};
+ghost use Rattle.walk_laws.specs.Beginning.{none_below};
 ghost use Rattle.walk_laws.specs.Order.{IsLeast, IsNormal, ranks_below};
 ghost use Rattle.walk_laws.specs.Rotation.{IsRotation, rotated};
 
@@ -35,18 +35,15 @@ impl Cycle {
     }
 }
 
-/// Whether a list of edges may begin a normal form: no back part of it is less than the list
-/// itself, at a place that both have. No normal form begins with a list that may not.
-pub fn may_begin(edges: &[Edge]) -> bool
-    requires { length edges.now ≤ MAX_EDGES }
-    ensures { result ≡ may_begin edges.now }
+/// Whether a list of edges may begin a normal form, by the ranks of its edges: no suffix of it is less
+/// than the list itself, at a place that both have. No normal form begins with a list that may not.
+pub fn may_begin(ranks: &[u16]) -> bool
+    ensures { result ≡ none_below ranks.now ranks.now }
 {
-    let mut ranks = ArrayVec::new();
-    push_ranks(&mut ranks, edges);
-    none_below(ranks.as_slice(), ranks.as_slice())
+    none_below(ranks, ranks)
 }
 
-/// Whether no back part of the second list of ranks is less than the first list.
+/// Whether no suffix of the second list of ranks is less than the first list.
 fn none_below(ranks: &[u16], back: &[u16]) -> bool
     ensures { result ≡ none_below ranks.now back.now }
 {
@@ -82,17 +79,21 @@ fn ranks_twice(edges: &[Edge]) -> ArrayVec<u16, TWICE>
     ensures { result.items ≡ map rank_of edges.now ++ map rank_of edges.now }
 {
     let mut ranks = ArrayVec::new();
-    push_ranks(&mut ranks, edges);
-    push_ranks(&mut ranks, edges);
+    for edge in edges {
+        ranks.push(edge.rank());
+    }
+    repeat(&mut ranks);
     ranks
 }
 
-fn push_ranks(ranks: &mut ArrayVec<u16, TWICE>, edges: &[Edge])
-    requires { length ranks.old.items + length edges.now ≤ TWICE }
-    ensures { ranks.new.items ≡ ranks.old.items ++ map rank_of edges.now }
+/// Appends what a list of ranks holds once more.
+fn repeat(ranks: &mut ArrayVec<u16, TWICE>)
+    requires { length ranks.old.items + length ranks.old.items ≤ TWICE }
+    ensures { ranks.new.items ≡ ranks.old.items ++ ranks.old.items }
 {
-    for edge in edges {
-        ranks.push(edge.rank());
+    for place in 0..ranks.len() {
+        let rank = ranks[place];
+        ranks.push(rank);
     }
 }
 

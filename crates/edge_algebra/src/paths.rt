@@ -46,7 +46,7 @@ impl Path {
         self.edges.as_slice()
     }
 
-    /// This path with the next one behind it.
+    /// This path with the next one after it.
     ///
     /// The answer is `TooLong` where the two have more than `MAX_EDGES` edges, and else
     /// `DoesNotCompose` where the last edge of this one doesn't join the first of the next.

@@ -13,7 +13,7 @@ use Rattle.edge_lists.specs.Spelled.{CutsAt, separates, before_edges, edges_spel
 use Rattle.edge_lists.specs.declared.read.Separators.{Separators}
 use Rattle.edge_lists.specs.Kept.{added}
 
--- what a text's words leave of edges that were kept
+-- the edges kept once a text's words are read after those that were kept before; none where a word is no edge
 abbrev pub spelled : EdgeList → List (List ℕ) → Option EdgeList
 spelled list texts = option_map (added list) (edges_spelled texts)
 
@@ -30,13 +30,13 @@ edges_none : (list : EdgeList) (e : Option Edge) (rest : Option (List Edge)) →
 edges_none list (Some e) rest h = cc h
 edges_none list None rest h = refl
 
--- a word that was read, before the others
+-- a word that was read is kept before the others are read
 pub word_read : (list new : EdgeList) (word : List ℕ) (words : List (List ℕ)) →
     spelled list (word ∷ []) ≡ Some new → spelled list (word ∷ words) ≡ spelled new words
 word_read list new [] words h = ap (λ l. spelled l words) (cc h)
 word_read list new (byte ∷ bytes) words h = edges_before list (edge_of (byte ∷ bytes)) (edges_spelled words) new h
 
--- a word that is no edge, before others
+-- a word that is no edge leaves nothing, whatever words follow
 pub word_unread : (list : EdgeList) (word : List ℕ) (words : List (List ℕ)) →
     spelled list (word ∷ []) ≡ None → spelled list (word ∷ words) ≡ None
 word_unread list [] words h = cc h
@@ -108,6 +108,6 @@ pub reading_ends : (s : Separators) (old list : EdgeList) (end : Option EdgeList
     end ≡ spelled old (slice_split (separates s) text)
 reading_ends s old list end text rest kept alone h = h ∙ ap (spelled list) (sym alone) ∙ kept
 
--- all of what stands behind a place
+-- the text after a place is all the rest
 pub all_behind : (text : List ℕ) (i : ℕ) → take (length text - (i + 1)) (drop (i + 1) text) ≡ drop (i + 1) text
 all_behind text i = grind (arith, common_steps)

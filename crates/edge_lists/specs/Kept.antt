@@ -1,4 +1,4 @@
--- How edges are kept as they come.
+-- How edges are kept as they are read.
 use Rattle.std.specs.Prelude.{nat_lt, nat_le, if◌then◌else◌, List, [], ◌∷◌, ◌++◌, length}
 use Rattle.relax_edges.specs.declared.TheConstants.{MAX_EDGES}
 use Rattle.relax_edges.specs.declared.edge.Edge.{Edge}
@@ -9,12 +9,12 @@ use Rattle.edge_lists.specs.declared.list.EdgeList.TheVariants.{Whole, TooLong}
 abbrev pub kept : List Edge → EdgeList
 kept es = if nat_le (length es) MAX_EDGES then Whole (record { items = es }) else TooLong
 
--- one edge more, while there is room
+-- the list with one edge more, while there is room
 abbrev pub pushed : EdgeList → Edge → EdgeList
 pushed (Whole list) edge = if nat_lt (length list.items) MAX_EDGES then Whole (record { items = list.items ++ edge ∷ [] }) else TooLong
 pushed TooLong edge = TooLong
 
--- edges more, one after another
+-- the list with some edges more, one after another
 abbrev pub added : EdgeList → List Edge → EdgeList
 added list [] = list
 added list (edge ∷ edges) = added (pushed list edge) edges

@@ -7,6 +7,7 @@ use Rattle.edge_lists.specs.declared.list.EdgeList.{EdgeList}
 use Rattle.edge_lists.specs.declared.list.EdgeList.TheVariants.{Whole, TooLong}
 use Rattle.edge_lists.specs.Kept.{kept, pushed, added}
 
+-- adding some edges and then others is adding them all
 pub added_more : (list : EdgeList) (es fs : List Edge) → added (added list es) fs ≡ added list (es ++ fs)
 added_more list [] fs = refl
 added_more list (e ∷ es) fs = added_more (pushed list e) es fs
@@ -31,7 +32,7 @@ room_left list edge e = rw (length-append list (edge ∷ [])) (grind (arith, nat
 room_passed : (list : List Edge) (edge : Edge) (edges : List Edge) → nat_lt (length list) MAX_EDGES ≡ false → MAX_EDGES < length (list ++ edge ∷ edges)
 room_passed list edge edges e = rw (length-append list (edge ∷ edges)) (grind (arith, nat_tests, e))
 
--- edges behind others that are few
+-- edges added after others that are not too many: all are kept, or there are too many
 pub added_whole : (list : List Edge) (edges : List Edge) → length list ≤ MAX_EDGES →
     added (Whole (record { items = list })) edges ≡ kept (list ++ edges)
 added_whole list [] h = sym (rw (append-nil list) (kept_few list h))

@@ -8,7 +8,7 @@ use Rattle.relax_edges.specs.Spelling.{edge_of}
 use Rattle.edge_lists.specs.declared.read.Separators.{Separators}
 use Rattle.edge_lists.specs.declared.read.Separators.TheVariants.{Blanks, BlanksAndCommas}
 
--- a space or a tab, or also a comma
+-- a byte separates edges: it is a space or a tab, or a comma where commas separate too
 abbrev pub separates : Separators → ℕ → Bool
 separates Blanks byte = is_blank byte
 separates BlanksAndCommas byte = is_blank byte || byte == 44
@@ -17,12 +17,12 @@ separates BlanksAndCommas byte = is_blank byte || byte == 44
 abbrev pub IsOneWord : Separators → List ℕ → Type 0
 IsOneWord separators text = slice_split (separates separators) text ≡ text ∷ []
 
--- a text is a front, a separator, and what stands behind it, and the front is its first word
+-- a text is a first word, a separator, and the text after it
 pub record CutsAt (separators : Separators) (text front behind : List ℕ) : Type 0 where
   pub words : slice_split (separates separators) text ≡ front ∷ slice_split (separates separators) behind
   pub shorter : length behind < length text
 
--- an edge before others, where there are both
+-- an edge before some others, where there is the edge and there are the others
 abbrev pub before_edges : Option Edge → Option (List Edge) → Option (List Edge)
 before_edges (Some e) (Some es) = Some (e ∷ es)
 before_edges (Some e) None = None

@@ -1,4 +1,4 @@
-//! The edges that a text spells, and a list of them that tells when it has too many.
+//! The edges that a text spells, and a list of them that says when it has too many.
 #![tactic(auto)]
 
 mod list;

@@ -8,7 +8,7 @@ use crate::list::EdgeList;
 use relax_edges::{Edge, UnknownEdge, read_edge_bytes};
 use text_parts::Class;
 
-/// What stands between the edges of a text.
+/// What separates the edges of a text.
 #[derive(Clone, Copy)]
 pub enum Separators {
     /// Spaces and tabs.
@@ -38,7 +38,7 @@ pub fn read_edges(
     }
 }
 
-/// What stands before the first separator, and what behind it.
+/// The text before the first separator, and the text after it.
 fn cut_at_separator(separators: Separators, bytes: &[u8]) -> Option<(&[u8], &[u8])>
     ensures { MatchOption result (IsOneWord separators bytes.now) (λ parts. CutsAt separators bytes.now parts.0.now parts.1.now) }
 {

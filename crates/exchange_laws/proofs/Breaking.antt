@@ -13,6 +13,7 @@ use Rattle.communication.proofs.AllStand.{is_event_at}
 use Rattle.communication.proofs.Resolves.{Resolves}
 use Rattle.exec_meaning.specs.Edges.{EdgeStands}
 
+-- the edge into an event that it doesn't join with the one before doesn't stand in the execution
 pub edge_breaks : (es : List Edge) (mode : ObsMode) (number : ℕ → ℕ) (p : Program) (x : Execution) (event : ℕ) → Resolves es → accesses_in p x ≡ cycle_accesses es mode number → event < length es → (Joins (cycle_accesses es mode number) x (edge_at es (event_before es event)) (event_at es number (event_before es event)) (event_at es number event) → ⊥) → EdgeStands es p x (event_before es event) → ⊥
 edge_breaks es mode number p x event r made below breaks s =
     breaks (subst (λ (z : AccessAt × AccessAt × List (List Access)). Joins z.2 x (edge_at es (event_before es event)) z.0 z.1)

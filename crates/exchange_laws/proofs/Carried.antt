@@ -21,12 +21,13 @@ use Rattle.test_laws.proofs.ThreadRuns.{AreCodesOf, AreEnough, all_end}
 use Rattle.test_laws.proofs.TestCodes.{cycle_codes, cycle_program, are_codes}
 use Rattle.test_laws.proofs.Making.{planned-count, asked_enough, makes_enough}
 
--- it is a candidate execution of the program and coherent there, and the accesses made are those of the test
+-- an execution is a candidate execution of the program and coherent there, and the accesses made are those of the test
 pub record IsCarried (a : Puts) (es : List Edge) (mode : ObsMode) (number : ℕ → ℕ) (x : Execution) : Type 0 where
   pub made : accesses_in (cycle_program a es mode number) x ≡ cycle_accesses es mode number
   pub candidate : IsCandidate (cycle_program a es mode number) x
   pub coherent : IsCoherentIn (cycle_program a es mode number) x
 
+-- an execution with the intended reads that meets the condition is carried to the test's program
 pub carried : (a : Puts) (es : List Edge) (mode : ObsMode) (number : ℕ → ℕ) (x : Execution) → IsArch a → HasCode a es mode → IsNumbering es number → x.reads ≡ (intended es mode number).reads → MeetsCondition es mode number x → IsCarried a es mode number x
 carried a es mode number x laws t n same q = record {
   made = made;

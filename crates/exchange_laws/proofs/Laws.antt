@@ -31,11 +31,11 @@ use Rattle.exchange_laws.proofs.Breaking.{edge_breaks}
 use Rattle.exchange_laws.proofs.Carried.{IsCarried, carried}
 use Rattle.exchange_laws.proofs.States.{end_alike, one_state}
 
--- whatever is said of a final state: where it holds of the first's, it holds of the second's
+-- whatever holds of the final state of the first execution holds of that of the second
 pub none_tells : (p : Program) (names : List (List ℕ)) (register_number : List ℕ → Option ℕ) (es : List Edge) (edge : ℕ) (one two : Execution) (C : (LeftSeen → Option Value) → Type 0) → NoneTells p names register_number es edge one two → C (final_state p names register_number one) → C (final_state p names register_number two)
 none_tells p names register_number es edge one two C u h = subst C (sym u.same_state) h
 
--- the program of a cycle's test without observers, under any numbers of places
+-- no condition decides the program of a cycle's test without observers, under any numbers of places
 cycle_undecided : (a : Puts) (es : List Edge) (need : NeedsObserver) (number : ℕ → ℕ) (names : List (List ℕ)) (register_number : List ℕ → Option ℕ) → IsArch a → HasCode a es Avoid → observer_need es ≡ Some need → IsNumbering es number → Undecided (cycle_program a es Avoid number) names register_number es number need.event
 cycle_undecided a es need number names register_number laws t o n = record {
   first = x.candidate;
@@ -68,6 +68,7 @@ cycle_undecided a es need number names register_number laws t o n = record {
         ∙ end_alike (cycle_accesses es Avoid number) (move_count es) (intended es Avoid number) (exchanged es number need.event) u.first.execution.write_lists u.second.execution.write_lists u.ends place
         ∙ sym (ap (λ (l : List (List Access)). final_value l (intended es Avoid number) place) x.made))
 
+-- where the mode avoid refuses a cycle for a write, no condition decides the cycle's tests without observers
 pub tests_undecided_law : TestsUndecided
 tests_undecided_law a register_name register_number es need test number laws t o e =
     subst (λ (p : Program). Undecided p test.places register_number es number need.event) (renumbered_program a register_name es Avoid test number e)

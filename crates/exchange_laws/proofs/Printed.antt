@@ -1,4 +1,4 @@
--- The law of printed tests: what is read of the text is the test without observers, but for the numbers of places.
+-- The law of printed tests: what is read of the text is the test without observers, except for the numbers of places.
 use Rattle.std.proofs.Common.{◌≡◌, ℕ, ◌<◌, List, length, Some, ap, subst}
 use Rattle.list_laws.specs.Numbers.{upto}
 use Rattle.relax_edges.specs.declared.kinds.ArchName.{ArchName}
@@ -32,7 +32,7 @@ use Rattle.printed_tests.proofs.Rereading.{reread_test, reread_renumbered, by_ta
 use Rattle.exchange_laws.specs.Undecided.{NoneTells, Undecided, BytesUndecided, PrintedUndecided}
 use Rattle.exchange_laws.proofs.Laws.{tests_undecided_law}
 
--- the exchanged execution looks at the numbers of the cycle's locations alone
+-- the exchanged execution depends on the numbers of the cycle's locations alone
 exchanged_same : (es : List Edge) (event : ℕ) (f g : ℕ → ℕ) → ((l : ℕ) → l < move_count es → f l ≡ g l) → exchanged es f event ≡ exchanged es g event
 unfolding exchanged
 exchanged_same es event f g h =
@@ -41,7 +41,7 @@ exchanged_same es event f g h =
     (λ place. ap (exchanged_order es event) (numbered_same es f g h place)) in
     λ i. record { reads = reads i; orders = orders i }
 
--- what is read back of the printed test
+-- no condition decides what is read back of the printed test
 read_undecided : (a : Puts) (arch : ArchName) (w : Writing) (name : List ℕ) (es : List Edge) (need : NeedsObserver) → IsArch a → HasCode a es Avoid → observer_need es ≡ Some need → ReadsBack arch w name (shown_test a w es Avoid)
     → BytesUndecided arch w (test_text arch w name (shown_test a w es Avoid)) es need.event
 read_undecided a arch w name es need laws t o r = record {
@@ -76,6 +76,7 @@ read_undecided a arch w name es need laws t o r = record {
     two : exchanged es number need.event ≡ exchanged es (place_of test) need.event
     two = exchanged_same es need.event number (place_of test) numbers
 
+-- no condition decides what the printed text of such a test is read as
 pub printed_undecided_law : (a : Puts) (arch : ArchName) (w : Writing) → IsArch a → WritesBack a w → WritesCells a w → MakesOneAccess a → PrintedUndecided a arch w
 printed_undecided_law a arch w laws back cells one name es need named t o =
     read_undecided a arch w name es need laws t o

@@ -25,6 +25,7 @@ end_alike threads places x y c d h place =
     by_less place places (h place)
     (λ past. no_order threads y place (omega (arith, d, past)) ∙ sym (no_order threads x place (omega (arith, c, past))))
 
+-- executions with the same reads in which each place ends alike have one final state
 pub one_state : (p : Program) (names : List (List ℕ)) (register_number : List ℕ → Option ℕ) (x y : Execution) → y.reads ≡ x.reads → ((place : ℕ) → final_value (accesses_in p y) y place ≡ final_value (accesses_in p x) x place) → final_state p names register_number y ≡ final_state p names register_number x
 one_state p names register_number x y same ends = λ i left. shown left i
   where

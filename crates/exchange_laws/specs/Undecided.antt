@@ -44,14 +44,14 @@ pub record NoneTells (p : Program) (names : List (List ℕ)) (register_number : 
   pub stand : AllStand es p one
   pub breaks : EdgeStands es p two edge → ⊥
 
--- so it is of the intended execution and of the one in which a write, event number `event`, and the write before it are
--- exchanged: the edge into the write doesn't stand there
+-- no condition tells the intended execution apart from the one in which a write, event number `event`, and the write before it
+-- are exchanged: the edge into the write doesn't stand there
 abbrev pub Undecided : Program → List (List ℕ) → (List ℕ → Option ℕ) → List Edge → (ℕ → ℕ) → ℕ → Type 0
 Undecided p names register_number es number event =
     NoneTells p names register_number es (event_before es event) (intended es Avoid number) (exchanged es number event)
 
--- the program of a cycle's test without observers is undecided so where the mode avoid refuses the cycle for a write, and
--- the program of each test that is the same but for the numbers of places
+-- where the mode avoid refuses a cycle for a write, the program of its test without observers is undecided so, and so is the
+-- program of each test that is the same except for the numbers of places
 abbrev pub TestsUndecided : Type 0
 TestsUndecided =
     (a : Puts) (register_name : ℕ → List ℕ) (register_number : List ℕ → Option ℕ) (es : List Edge) (need : NeedsObserver) (test : TestSeen) (number : ℕ → ℕ) →
@@ -64,7 +64,7 @@ pub record BytesUndecided (arch : ArchName) (w : Writing) (bytes : List ℕ) (es
   pub reads : test_read arch w bytes ≡ Ok test
   pub undecided : Undecided (program_read test) test.places (number_in w.registers) es (place_of test) event
 
--- and so are the bytes of the text of a cycle's test without observers, under a name of its form
+-- the bytes of the text of a cycle's test without observers, under a name of its form, are read as such a test
 abbrev pub PrintedUndecided : Puts → ArchName → Writing → Type 0
 PrintedUndecided a arch w =
     (name : List ℕ) (es : List Edge) (need : NeedsObserver) →

@@ -18,10 +18,11 @@ pub record AreJudgedTo (es : List Edge) (p : Program) (x : Execution) (i : ℕ) 
   pub edges : map (λ j. j.0) judged ≡ take i es
   pub each : (k : ℕ) (j : Edge × Bool) → slice_get judged k ≡ Some j → (IsTrue j.1 ↔ EdgeStands es p x k)
 
+-- before the first edge none is judged
 pub none_judged : (es : List Edge) (p : Program) (x : Execution) (i : ℕ) (judged : List (Edge × Bool)) → i ≡ 0 → judged ≡ [] → AreJudgedTo es p x i judged
 none_judged es p x i judged e f = rw (e, f) (record { count = refl; edges = refl; each = λ k j h. cc h })
 
--- what each element of a list has with its place, and one more
+-- what each element of a list has with its place, and one element more has too, each of the longer list has
 each_more : {X : Type 0} (P : ℕ → X → Type 0) (xs : List X) (last : X) → ((k : ℕ) (y : X) → slice_get xs k ≡ Some y → P k y) → P (length xs) last
     → (k : ℕ) (y : X) → slice_get (xs ++ last ∷ []) k ≡ Some y → P k y
 each_more P [] last each more zero y h = subst (P 0) (same_Some last y h) more
@@ -29,6 +30,7 @@ each_more P [] last each more (suc k) y h = cc h
 each_more P (x ∷ xs) last each more zero y h = each 0 y h
 each_more P (x ∷ xs) last each more (suc k) y h = each_more (λ n. P (suc n)) xs last (λ n z e. each (suc n) z e) more k y h
 
+-- with one edge more judged, the edges up to it are judged
 pub one_judged : (es : List Edge) (p : Program) (x : Execution) (i : ℕ) (judged more : List (Edge × Bool)) (edge : Edge) (stands : Bool)
     → AreJudgedTo es p x i judged → slice_get es i ≡ Some edge → (IsTrue stands ↔ EdgeStands es p x i) → more ≡ judged ++ (edge, stands) ∷ [] → AreJudgedTo es p x (i + 1) more
 one_judged es p x i judged more edge stands so_far found means e =
@@ -41,10 +43,11 @@ one_judged es p x i judged more edge stands so_far found means e =
           (subst (λ k. IsTrue stands ↔ EdgeStands es p x k) (sym so_far.count) means);
     })
 
+-- where no edge is left, all are judged
 pub all_judged : (es : List Edge) (p : Program) (x : Execution) (i : ℕ) (judged : List (Edge × Bool)) → AreJudgedTo es p x i judged → length es ≤ i → AreJudged es p x judged
 all_judged es p x i judged so_far h = record { edges = so_far.edges ∙ take_all i es h; each = so_far.each }
 
--- a condition holds in one state exactly where it holds in the same state by another name
+-- a condition that is judged in an equal state has the same answer
 pub condition_holds : (shown final : LeftSeen → Option Value) (looked condition : CondSeen) (answer : Bool) → ((left : LeftSeen) → shown left ≡ final left) → looked ≡ condition
     → (IsTrue answer ↔ Meets shown looked) → (IsTrue answer ↔ Meets final condition)
 condition_holds shown final looked condition answer same e h =

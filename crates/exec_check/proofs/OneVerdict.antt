@@ -50,6 +50,7 @@ further_same arch register_number test x v w true false e h k = cc e
 further_same arch register_number test x v w false true e h k = cc e
 further_same arch register_number test x v w false false e h k = refl
 
+-- two verdicts on an execution of a test have one text
 pub one_verdict : (arch : ArchName) (register_number : List ℕ → Option ℕ) (test : TestRead) (x : Execution) (v w : Verdict)
     → IsVerdict arch register_number test x v → IsVerdict arch register_number test x w → verdict_text v ≡ verdict_text w
 unfolding verdict_text

@@ -35,7 +35,7 @@ pub record AreJudged (es : List Edge) (p : Program) (x : Execution) (judged : Li
   pub edges : map (λ j. j.0) judged ≡ es
   pub each : (i : ℕ) (j : Edge × Bool) → slice_get judged i ≡ Some j → (IsTrue j.1 ↔ EdgeStands es p x i)
 
--- the same where there may be no cycle: no edges
+-- the edges of the cycle are judged so; where there is no cycle, there are no edges
 abbrev pub JudgesEdges : Option (List Edge) → Program → Execution → List (Edge × Bool) → Type 0
 JudgesEdges None p x judged = judged ≡ []
 JudgesEdges (Some es) p x judged = AreJudged es p x judged
@@ -51,13 +51,13 @@ pub record JudgesCandidate (arch : ArchName) (register_number : List ℕ → Opt
   pub condition : IsTrue v.condition ↔ MeetsCondition register_number test x
   pub edges : JudgesEdges (judged_cycle arch test) (program_read test) x v.edges.items
 
--- it says nothing of another execution
+-- a verdict says nothing more where the execution is no candidate
 pub record SaysNoMore (v : Verdict) : Type 0 where
   pub coherent : v.coherent ≡ false
   pub condition : v.condition ≡ false
   pub edges : v.edges.items ≡ []
 
--- the one where the execution is a candidate, the other where it isn't
+-- what a verdict says further, where the execution is a candidate, and where it isn't
 abbrev pub JudgesFurther : Bool → ArchName → (List ℕ → Option ℕ) → TestRead → Execution → Verdict → Type 0
 JudgesFurther true arch register_number test x v = JudgesCandidate arch register_number test x v
 JudgesFurther false arch register_number test x v = SaysNoMore v
@@ -67,13 +67,13 @@ pub record IsVerdict (arch : ArchName) (register_number : List ℕ → Option �
   pub candidate : IsTrue v.candidate ↔ IsCandidate (program_read test) x
   pub further : JudgesFurther v.candidate arch register_number test x v
 
--- a text tells an execution of a test, and this is the verdict on it
+-- a text gives an execution of a test, and this is the verdict on it
 pub record JudgesText (arch : ArchName) (register_number : List ℕ → Option ℕ) (test : TestRead) (text : List ℕ) (v : Verdict) : Type 0 where
   pub execution : Execution
   pub read : execution_read (length test.threads) test.places text ≡ Ok execution
   pub verdict : IsVerdict arch register_number test execution v
 
--- the verdict on the execution that a text tells, or the text's first fault, or that there was no memory, of which nothing is said
+-- the verdict on the execution that a text gives, or the text's first fault, or that there was no memory, of which nothing is said
 abbrev pub Checks : ArchName → (List ℕ → Option ℕ) → TestRead → List ℕ → Result Verdict CheckError → Type 0
 Checks arch register_number test text (Ok v) = JudgesText arch register_number test text v
 Checks arch register_number test text (Err (Exec line kind)) =

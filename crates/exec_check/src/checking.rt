@@ -15,7 +15,7 @@ use final_cond::holds;
 use litmus_text::ReadTest;
 use std::alloc::Global;
 
-/// The verdict on the execution of a test that a text tells: whether it is a candidate execution of the
+/// The verdict on the execution of a test that a text gives: whether it is a candidate execution of the
 /// test, whether it is coherent per location, whether the terms of the condition hold in its final state,
 /// and which edges stand in it of the cycle that the test quotes. The text has the form that
 /// `execution_text::read_execution` reads. One that is no execution is answered with its first faulty line,

@@ -13,15 +13,17 @@ use Rattle.program_meaning.specs.Executions.{Execution, CanRead, AreReadsOf, IsO
 use Rattle.exec_meaning.specs.Deciding.{every, writes_by, writes_to, writes_there, writes_value, can_read, first_read, are_reads, are_distinct, is_covered, thread_covered, is_order, reads_of, reads_fit, orders_fit}
 use Rattle.exec_meaning.proofs.Every.{some_is, by_test, dropped, every_means, every_from, every_name, every_name_from}
 
+-- an implication that passes its test, and its premise, give its conclusion
 pub implied : (a b : Bool) → (not a || b) ≡ true → a ≡ true → b ≡ true
 implied true b h e = h
 implied false b h e = cc e
 
+-- an implication that holds passes its test
 pub implies : (a b : Bool) → (a ≡ true → b ≡ true) → (not a || b) ≡ true
 implies true b h = h refl
 implies false b h = refl
 
--- an access that writes
+-- a direction that writes to a place is W, and the place is that one
 write_dir : (d : Dir) (p q : ℕ) → writes_by d p q ≡ true → (d ≡ dirs.W) × (p ≡ q)
 write_dir dirs.R p q h = cc h
 write_dir dirs.W p q h = (refl, eqb-true p q h)
@@ -47,7 +49,7 @@ writes_value_means place value (Some a) h =
 writes_value_from : (place value : ℕ) (o : Option Access) → o ≡ Some (write place value) → writes_value place value o ≡ true
 writes_value_from place value o h = rw h (and_from (writes_to place (write place value)) (value == value) (writes_to_from place value) (eq-eqb value value refl))
 
--- what a read reads
+-- whether an access can read what a read names is decided by the test
 can_read_means : (threads : List (List Access)) (a : Access) (o : Option WriteAt) → can_read threads a o ≡ true → CanRead threads a o
 can_read_means threads a None h = eqb-true a.value 0 h
 can_read_means threads a (Some w) h = writes_value_means a.place a.value (at_name threads w) h
@@ -73,6 +75,7 @@ first_from threads a others accesses f (r ∷ reads) h =
     and_from (r.0 == a.value) (can_read threads a r.1 && others reads) (eq-eqb r.0 a.value h.0)
     (and_from (can_read threads a r.1) (others reads) (can_read_from threads a r.1 h.1) (f reads h.2))
 
+-- reads that pass the test are those of the reading accesses of a thread
 pub are_reads_means : (threads : List (List Access)) (accesses : List Access) (reads : List (ℕ × Option WriteAt)) → are_reads threads accesses reads ≡ true → AreReadsOf threads (filter is_read accesses) reads
 unfolding are_reads
 are_reads_means threads [] [] h = tt
@@ -81,6 +84,7 @@ are_reads_means threads (a ∷ accesses) reads h = by_test (is_read a)
     (λ e. rw e (first_means threads a (are_reads threads accesses) (filter is_read accesses) (are_reads_means threads accesses) reads (sym (rw e refl) ∙ h)))
     (λ e. rw e (are_reads_means threads accesses reads (sym (rw e refl) ∙ h)))
 
+-- the reads of the reading accesses of a thread pass the test
 pub are_reads_from : (threads : List (List Access)) (accesses : List Access) (reads : List (ℕ × Option WriteAt)) → AreReadsOf threads (filter is_read accesses) reads → are_reads threads accesses reads ≡ true
 unfolding are_reads
 are_reads_from threads [] [] h = refl
@@ -89,13 +93,14 @@ are_reads_from threads (a ∷ accesses) reads h = by_test (is_read a)
     (λ e. rw e (first_from threads a (are_reads threads accesses) (filter is_read accesses) (are_reads_from threads accesses) reads (subst (λ b. AreReadsOf threads (cond b (a ∷ filter is_read accesses) (filter is_read accesses)) reads) e h)))
     (λ e. rw e (are_reads_from threads accesses reads (subst (λ b. AreReadsOf threads (cond b (a ∷ filter is_read accesses) (filter is_read accesses)) reads) e h)))
 
--- names of writes
+-- writes that pass the test have one name
 pub same_means : (w v : WriteAt) → same_write w v ≡ true → w ≡ v
 same_means w v h =
     let p = and_parts (w.thread == v.thread) (w.access == v.access) h in
     let t = eqb-true w.thread v.thread p.0 in let a = eqb-true w.access v.access p.1 in
     λ i. record { thread = t i; access = a i }
 
+-- a write has the name of itself
 pub same_itself : (w : WriteAt) → same_write w w ≡ true
 same_itself w = and_from (w.thread == w.thread) (w.access == w.access) (eq-eqb w.thread w.thread refl) (eq-eqb w.access w.access refl)
 
@@ -111,7 +116,7 @@ any_from w (v ∷ order) zero h = let e : v ≡ w = some_is v w h in
     or_left (same_write w v) (list_any (same_write w) order) (subst (λ u. same_write w u ≡ true) (sym e) (same_itself w))
 any_from w (v ∷ order) (suc k) h = or_right (same_write w v) (list_any (same_write w) order) (any_from w order k h)
 
--- an order without a write that stands twice
+-- in an order no write is listed twice
 abbrev Once : List WriteAt → Type 0
 Once order = (j k : ℕ) (w : WriteAt) → slice_get order j ≡ Some w → slice_get order k ≡ Some w → j ≡ k
 
@@ -150,7 +155,7 @@ all_from : {X : Type 0} (p : X → Bool) (xs : List X) → ((k : ℕ) (x : X) �
 all_from p [] h = refl
 all_from p (y ∷ ys) h = and_from (p y) (list_all p ys) (h zero y refl) (all_from p ys (λ k x e. h (suc k) x e))
 
--- an order is that of a place
+-- an order that passes the test is that of the place
 pub is_order_means : (threads : List (List Access)) (place : ℕ) (order : List WriteAt) → is_order threads place order ≡ true → IsOrderOf threads place order
 is_order_means threads place order h =
     let p = and_parts (list_all (λ w. writes_there place (at_name threads w)) order) (are_distinct order && every (thread_covered place order) 0 threads) h in
@@ -162,6 +167,7 @@ is_order_means threads place order h =
       once = distinct_means order q.0;
     }
 
+-- the order of a place passes the test
 pub is_order_from : (threads : List (List Access)) (place : ℕ) (order : List WriteAt) → IsOrderOf threads place order → is_order threads place order ≡ true
 is_order_from threads place order h =
     and_from (list_all (λ w. writes_there place (at_name threads w)) order) (are_distinct order && every (thread_covered place order) 0 threads)
@@ -172,7 +178,7 @@ is_order_from threads place order h =
     (λ w a e. implies (writes_to place a) (list_any (same_write w) order)
     (λ t. let d = h.each w a.value (e ∙ ap Some (writes_to_means place a t)) in any_from w order d.0 d.1))))
 
--- an execution of threads that make these accesses
+-- reads and orders that fit the accesses of threads make an execution of these
 pub execution_means : (threads : List (List Access)) (x : Execution) → length x.reads ≡ length threads → reads_fit threads x && orders_fit threads x ≡ true → IsExecutionOf threads (length x.orders) x
 execution_means threads x n h =
     let p = and_parts (reads_fit threads x) (orders_fit threads x) h in
@@ -185,6 +191,7 @@ execution_means threads x n h =
       orders = λ place order e. is_order_means threads place order (every_means (is_order threads) 0 x.orders p.1 place place order (omega arith) e);
     }
 
+-- the reads and orders of an execution fit the accesses of its threads
 pub execution_from : (threads : List (List Access)) (x : Execution) → length x.reads ≡ length threads → IsExecutionOf threads (length x.orders) x → reads_fit threads x && orders_fit threads x ≡ true
 execution_from threads x n h = and_from (reads_fit threads x) (orders_fit threads x)
     (every_from (λ thread accesses. are_reads threads accesses (reads_of x thread)) 0 threads (λ k thread accesses q e.
@@ -196,19 +203,21 @@ execution_from threads x n h = and_from (reads_fit threads x) (orders_fit thread
     let s : k ≡ place = omega (arith, q) in
     is_order_from threads place order (h.orders place order (subst (λ m. slice_get x.orders m ≡ Some order) s e))))
 
--- a loop over an order: each write against those after it
+-- in the loop over an order, a write that isn't listed again leaves the answer to those after it
 pub distinct_step : (order : List WriteAt) (i : ℕ) (w : WriteAt) → slice_get order i ≡ Some w → list_any (same_write w) (drop (i + 1) order) ≡ false → are_distinct (drop i order) ≡ are_distinct (drop (i + 1) order)
 unfolding are_distinct
 distinct_step order i w is h = rw (dropped order i w is) (rw h refl)
 
+-- in the loop over an order, a write that is listed again decides that the writes aren't distinct
 pub distinct_stops : (order : List WriteAt) (i : ℕ) (w : WriteAt) → slice_get order i ≡ Some w → list_any (same_write w) (drop (i + 1) order) ≡ true → are_distinct (drop i order) ≡ false
 unfolding are_distinct
 distinct_stops order i w is h = rw (dropped order i w is) (rw h refl)
 
+-- at the end of an order the writes that are left are distinct
 pub distinct_ends : (order : List WriteAt) (i : ℕ) → length order ≤ i → are_distinct (drop i order) ≡ true
 unfolding are_distinct
 distinct_ends order i h = rw (drop_all i order h) refl
 
--- what stands behind a place of an order
+-- what comes after a place of an order, as a slice
 pub behind_is : (order : List WriteAt) (k : ℕ) → take (length order - k) (drop k order) ≡ drop k order
 behind_is order k = take_all (length order - k) (drop k order) (omega (arith, length-drop k order))

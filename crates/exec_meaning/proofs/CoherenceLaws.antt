@@ -19,6 +19,7 @@ follow_from : (d : Dir) (m n : ℕ) → MayFollow d m n → may_follow d m n ≡
 follow_from dirs.R m n h = le-leb m n h
 follow_from dirs.W m n h = lt-ltb m n h
 
+-- an execution that passes the test is coherent
 pub coheres_means : (threads : List (List Access)) (x : Execution) → every (thread_coheres threads x) 0 threads ≡ true → IsCoherent threads x
 coheres_means threads x h thread e f a b below d g same =
     let p = in_thread threads (name thread e) a d in
@@ -33,6 +34,7 @@ coheres_means threads x h thread e f a b below d g same =
     (implied (a.place == b.place) (may_follow b.dir (coherence_place threads x (name thread e) a) (coherence_place threads x (name thread f) b))
     (implied (nat_lt e f) (agrees threads x thread e a f b) two (lt-ltb e f below)) (eq-eqb a.place b.place same))
 
+-- a coherent execution passes the test
 pub coheres_from : (threads : List (List Access)) (x : Execution) → IsCoherent threads x → every (thread_coheres threads x) 0 threads ≡ true
 coheres_from threads x h =
     every_from (thread_coheres threads x) 0 threads (λ k thread accesses r t.

@@ -37,7 +37,7 @@ use Rattle.exec_meaning.specs.Edges.{same_mark, same_pick, same_fence, same_barr
 use Rattle.exec_meaning.proofs.Every.{some_is}
 use Rattle.exec_meaning.proofs.Candidates.{same_means, same_itself}
 
--- each test, both ways
+-- a test passes exactly where its statement holds
 abbrev Decides : Bool → Type 0 → Type 0
 Decides b P = (b ≡ true → P) × (P → b ≡ true)
 
@@ -206,6 +206,7 @@ ties_decides (edges.Data sd) threads e f = tied_decides threads e f [] (is_none 
 other : (m n : ℕ) → m < n → m == n ≡ false
 other m n h = grind (arith, nat_tests)
 
+-- an edge that passes the test stands between two accesses
 pub stands_means : (threads : List (List Access)) (x : Execution) (edge : Edge) (e f : Named) → stands threads x edge e f ≡ true → Stands threads x edge e f
 stands_means threads x edge e f h =
     let p = and_parts (joins threads x edge (access_at e) (access_at f)) (same_mark e.visit.mark (source_mark edge) && (same_mark f.visit.mark (target_mark edge) && ties_by (kind_of edge) threads e f.visit)) h in
@@ -218,6 +219,7 @@ stands_means threads x edge e f h =
       ties = (ties_decides (kind_of edge) threads e f).0 r.1;
     }
 
+-- an edge that stands between two accesses passes the test
 pub stands_from : (threads : List (List Access)) (x : Execution) (edge : Edge) (e f : Named) → Stands threads x edge e f → stands threads x edge e f ≡ true
 stands_from threads x edge e f h =
     and_from (joins threads x edge (access_at e) (access_at f)) (same_mark e.visit.mark (source_mark edge) && (same_mark f.visit.mark (target_mark edge) && ties_by (kind_of edge) threads e f.visit))
@@ -227,20 +229,22 @@ stands_from threads x edge e f h =
     (and_from (same_mark f.visit.mark (target_mark edge)) (ties_by (kind_of edge) threads e f.visit)
     ((mark_decides f.visit.mark (target_mark edge)).1 h.enters_mark) ((ties_decides (kind_of edge) threads e f).1 h.ties)))
 
--- the event that an edge enters
+-- an edge before the last enters the next event
 pub next_event : (es : List Edge) (i : ℕ) → i + 1 < length es → event_after es i ≡ i + 1
 unfolding event_after
 next_event es i h = rw (other (i + 1) (length es) h) refl
 
+-- the last edge enters event 0
 pub first_event : (es : List Edge) (i : ℕ) → i + 1 ≡ length es → event_after es i ≡ 0
 unfolding event_after
 first_event es i h = rw (eq-eqb (i + 1) (length es) h) refl
 
--- a mask of 64 loads has no later one
+-- a mask of 64 loads isn't that of a later load alone
 pub no_mask : (mask load : ℕ) → mask < 2 ^ 64 → 64 ≤ load → mask == 2 ^ load ≡ false
 no_mask mask load small far =
     let p : 2 ^ 64 ≤ 2 ^ load = pow_mono far in
     other mask (2 ^ load) (omega (arith, p, small))
 
+-- a mask of 64 loads names no later load
 pub no_load : (mask load : ℕ) → mask < 2 ^ 64 → 64 ≤ load → bit_at mask load == 1 ≡ false
 no_load mask load small far = rw (bit_at_above mask 64 load small far) refl

@@ -25,6 +25,7 @@ found_is es vs j n v e is got h =
     let b : e.visit ≡ v = some_is e.visit v (sym h.visit_is ∙ ap (at_name vs) a ∙ got) in
     λ i. record { name = a i; visit = b i }
 
+-- the test between the two accesses that were found decides whether the edge stands
 pub edge_decides : (es : List Edge) (p : Program) (x : Execution) (i : ℕ) (vs : List (List Visit)) (all : List (List Access)) (n m : WriteAt) (v w : Visit) (b : Bool)
     → visits_in p x ≡ vs → accesses_in p x ≡ all → IsResolved es → i < length es → n ≡ event_name es i → m ≡ event_name es (event_after es i) → at_name vs n ≡ Some v → at_name vs m ≡ Some w
     → b ≡ stands all x (edge_at es i) (record { name = n; visit = v }) (record { name = m; visit = w }) → IsTrue b ↔ EdgeStands es p x i
@@ -47,12 +48,15 @@ edge_decides es p x i vs all n m v w b s t r l j k g h q = (
 none_there : (es : List Edge) (vs : List (List Visit)) (j : ℕ) (n : WriteAt) (e : Named) → n ≡ event_name es j → at_name vs n ≡ None → IsEvent es vs j e → ⊥
 none_there es vs j n e is none h = let c : Some e.visit ≡ None = sym h.visit_is ∙ ap (at_name vs) (h.name_is ∙ sym is) ∙ none in cc c
 
+-- an edge whose source isn't there doesn't stand
 pub no_source : (es : List Edge) (p : Program) (x : Execution) (i : ℕ) (vs : List (List Visit)) (n : WriteAt) → visits_in p x ≡ vs → n ≡ event_name es i → at_name vs n ≡ None → EdgeStands es p x i → ⊥
 no_source es p x i vs n s j g held = none_there es vs i n held.source j g (subst (λ u. IsEvent es u i held.source) s held.leaves)
 
+-- an edge whose target isn't there doesn't stand
 pub no_target : (es : List Edge) (p : Program) (x : Execution) (i : ℕ) (vs : List (List Visit)) (m : WriteAt) → visits_in p x ≡ vs → m ≡ event_name es (event_after es i) → at_name vs m ≡ None → EdgeStands es p x i → ⊥
 no_target es p x i vs m s k g held = none_there es vs (event_after es i) m held.target k g (subst (λ u. IsEvent es u (event_after es i) held.target) s held.enters)
 
+-- whether its two accesses are there or not, the test decides whether the edge stands
 pub edge_decided : (es : List Edge) (p : Program) (x : Execution) (i : ℕ) (vs : List (List Visit)) (all : List (List Access)) (n m : WriteAt) (source target : Option Visit) (b : Bool)
     → visits_in p x ≡ vs → accesses_in p x ≡ all → IsResolved es → i < length es → n ≡ event_name es i → m ≡ event_name es (event_after es i) → source ≡ at_name vs n → target ≡ at_name vs m
     → b ≡ stands_if all x (edge_at es i) n source m target → IsTrue b ↔ EdgeStands es p x i

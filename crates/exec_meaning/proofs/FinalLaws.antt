@@ -21,7 +21,7 @@ use Rattle.exec_meaning.specs.Runs.{ended_run}
 use Rattle.exec_meaning.specs.Finals.{registers_at, all_registers, places_at}
 use Rattle.exec_meaning.proofs.Every.{by_test}
 
--- the first of two values
+-- the first of two values, where it is there, and else the second
 abbrev or_else : Option Value → Option Value → Option Value
 or_else (Some v) other = Some v
 or_else None other = other
@@ -30,7 +30,7 @@ value_in_both : (s t : State) (left : LeftSeen) → value_in (s ++ t) left ≡ o
 value_in_both [] t left = refl
 value_in_both (pair ∷ s) t left = by_test (same_left pair.0 left) (λ e. rw e refl) (λ e. rw e (value_in_both s t left))
 
--- the registers of a thread
+-- a register is found by its name among those of its thread
 register_found : (thread k : ℕ) (v : ℕ → Value) (names : List (List ℕ)) (name : List ℕ) → value_in (registers_at thread v k names) (InRegister thread name) ≡ option_map v (position_from (λ n. bytes_eq n name) k names)
 register_found thread k v [] name = refl
 register_found thread k v (n ∷ names) name =
@@ -45,7 +45,7 @@ no_place : (thread k : ℕ) (v : ℕ → Value) (names : List (List ℕ)) (name 
 no_place thread k v [] name = refl
 no_place thread k v (n ∷ names) name = no_place thread (k + 1) v names name
 
--- the places
+-- a place is found by its name
 place_found : (k : ℕ) (v : ℕ → ℕ) (names : List (List ℕ)) (name : List ℕ) → value_in (places_at v k names) (AtPlace name) ≡ option_map (λ place. Num (v place)) (position_from (λ n. bytes_eq n name) k names)
 place_found k v [] name = refl
 place_found k v (n ∷ names) name = by_test (bytes_eq n name) (λ e. rw e refl) (λ e. rw e (place_found (k + 1) v names name))
@@ -60,7 +60,7 @@ other k t h = grind (arith, nat_tests)
 before : (k t : ℕ) → k < t → k == t ≡ false
 before k t h = grind (arith, nat_tests)
 
--- the registers of all threads
+-- the registers of the threads from one on hold none of a thread before it
 threads_later : (names : List (List ℕ)) (k t : ℕ) (vs : List (ℕ → Value)) (name : List ℕ) → t < k → value_in (all_registers names k vs) (InRegister t name) ≡ None
 threads_later names k t [] name h = refl
 threads_later names k t (v ∷ vs) name h =
@@ -99,6 +99,7 @@ held_then (trace ∷ traces) zero None = refl
 held_then (trace ∷ traces) zero (Some r) = refl
 held_then (trace ∷ traces) (suc t) n = held_then traces t n
 
+-- the state that is made is the final state of the execution
 pub final_is : (p : Program) (names registers : List (List ℕ)) (x : Execution) (traces : List EndedRun) (all : List (List Access)) (state : State) → runs_of p.threads x.reads ≡ map ended_run traces → accesses_in p x ≡ all
     → state ≡ all_registers registers 0 (map held_by traces) ++ places_at (final_value all x) 0 names → (left : LeftSeen) → value_in state left ≡ final_state p names (number_in registers) x left
 final_is p names registers x traces all state e a s (InRegister t name) =
@@ -114,13 +115,14 @@ final_is p names registers x traces all state e a s (AtPlace name) =
     ∙ rw (no_places registers 0 (map held_by traces) name) (place_found 0 (final_value all x) names name)
     ∙ ap (λ l. option_map (λ place. Num (final_value l x place)) (number_in names name)) (sym a)
 
--- one more register, thread or place
+-- the state grows by one register, place or thread
 registers_next : (t k : ℕ) (v : ℕ → Value) (front : List (List ℕ)) (name : List ℕ) → registers_at t v k (front ++ name ∷ []) ≡ registers_at t v k front ++ (InRegister t name, v (k + length front)) ∷ []
 registers_next t k v [] name = let e : k ≡ k + 0 = omega arith in ap (λ m. (InRegister t name, v m) ∷ []) e
 registers_next t k v (n ∷ front) name =
     let e : (k + 1) + length front ≡ k + suc (length front) = omega arith in
     ap (λ l. (InRegister t n, v k) ∷ l) (registers_next t (k + 1) v front name ∙ ap (λ m. registers_at t v (k + 1) front ++ (InRegister t name, v m) ∷ []) e)
 
+-- with the value of one register more, the state has the first registers and this one
 pub registers_more : (t r : ℕ) (v : ℕ → Value) (names : List (List ℕ)) (old : State) (start : State) → r < length names → old ≡ start ++ registers_at t v 0 (take r names)
     → old ++ (InRegister t (get_or names r []), v r) ∷ [] ≡ start ++ registers_at t v 0 (take (r + 1) names)
 registers_more t r v names old start inside h =
@@ -129,6 +131,7 @@ registers_more t r v names old start inside h =
     ap (registers_at t v 0) (take_more names r [] inside) ∙ registers_next t 0 v (take r names) (get_or names r []) ∙ ap (λ m. registers_at t v 0 (take r names) ++ (InRegister t (get_or names r []), v m) ∷ []) n in
     ap (λ l. l ++ (InRegister t (get_or names r []), v r) ∷ []) h ∙ append_assoc start (registers_at t v 0 (take r names)) ((InRegister t (get_or names r []), v r) ∷ []) ∙ ap (λ l. start ++ l) (sym e)
 
+-- where no register is left, the state has all registers of the thread
 pub registers_all : (t r : ℕ) (v : ℕ → Value) (names : List (List ℕ)) (old start : State) → length names ≤ r → old ≡ start ++ registers_at t v 0 (take r names) → old ≡ start ++ registers_at t v 0 names
 registers_all t r v names old start h e = e ∙ ap (λ l. start ++ registers_at t v 0 l) (take_all r names h)
 
@@ -138,6 +141,7 @@ places_next k v (n ∷ front) name =
     let e : (k + 1) + length front ≡ k + suc (length front) = omega arith in
     ap (λ l. (AtPlace n, Num (v k)) ∷ l) (places_next (k + 1) v front name ∙ ap (λ m. places_at v (k + 1) front ++ (AtPlace name, Num (v m)) ∷ []) e)
 
+-- with the value of one place more, the state has the first places and this one
 pub places_more : (r : ℕ) (v : ℕ → ℕ) (names : List (List ℕ)) (old start : State) → r < length names → old ≡ start ++ places_at v 0 (take r names)
     → old ++ (AtPlace (get_or names r []), Num (v r)) ∷ [] ≡ start ++ places_at v 0 (take (r + 1) names)
 places_more r v names old start inside h =
@@ -146,6 +150,7 @@ places_more r v names old start inside h =
     ap (places_at v 0) (take_more names r [] inside) ∙ places_next 0 v (take r names) (get_or names r []) ∙ ap (λ m. places_at v 0 (take r names) ++ (AtPlace (get_or names r []), Num (v m)) ∷ []) n in
     ap (λ l. l ++ (AtPlace (get_or names r []), Num (v r)) ∷ []) h ∙ append_assoc start (places_at v 0 (take r names)) ((AtPlace (get_or names r []), Num (v r)) ∷ []) ∙ ap (λ l. start ++ l) (sym e)
 
+-- where no place is left, the state has all places
 pub places_all : (r : ℕ) (v : ℕ → ℕ) (names : List (List ℕ)) (old start : State) → length names ≤ r → old ≡ start ++ places_at v 0 (take r names) → old ≡ start ++ places_at v 0 names
 places_all r v names old start h e = e ∙ ap (λ l. start ++ places_at v 0 l) (take_all r names h)
 
@@ -156,6 +161,7 @@ threads_next names k (w ∷ front) v =
     ap (λ l. registers_at k w 0 names ++ l) (threads_next names (k + 1) front v ∙ ap (λ m. all_registers names (k + 1) front ++ registers_at m v 0 names) e)
     ∙ sym (append_assoc (registers_at k w 0 names) (all_registers names (k + 1) front) (registers_at (k + suc (length front)) v 0 names))
 
+-- with the registers of one thread more, the state has those of the first threads and of this one
 pub threads_more : (names : List (List ℕ)) (t : ℕ) (traces : List EndedRun) (trace : EndedRun) (old new start : State) → t < length traces → trace ≡ get_or traces t trace
     → old ≡ start ++ all_registers names 0 (map held_by (take t traces)) → new ≡ old ++ registers_at t (held_by trace) 0 names → new ≡ start ++ all_registers names 0 (map held_by (take (t + 1) traces))
 threads_more names t traces trace old new start inside is h e =

@@ -40,6 +40,7 @@ known_if : (threads : List ThreadRead) (k : ℕ) (code : List Micro) (init : Lis
 known_if threads k code init None e c i = cc c
 known_if threads k code init (Some t) e c i = record { thread = t; got = e; code_is = some_is t.code code c; init_is = some_is t.init init i }
 
+-- the run of a thread among those of all is that of its code, initial registers and values
 pub run_is : (threads : List ThreadRead) (reads : List (List (ℕ × Option WriteAt))) (k : ℕ) (code : List Micro) (init : List (ℕ × Value)) (rs : List (ℕ × Option WriteAt)) (values : List ℕ)
     → option_map (λ (t : ThreadRead). t.code) (slice_get threads k) ≡ Some code → option_map (λ (t : ThreadRead). t.init) (slice_get threads k) ≡ Some init
     → slice_get reads k ≡ Some rs → values ≡ map (λ (r : ℕ × Option WriteAt). r.0) rs
@@ -48,7 +49,7 @@ run_is threads reads k code init rs values c i r v =
     let t = known_if threads k code init (slice_get threads k) refl c i in
     run_got threads reads k t.thread rs t.got r ∙ ap Some (ap (λ l. runs l t.thread.init (map (λ (r : ℕ × Option WriteAt). r.0) rs)) t.code_is ∙ ap (λ l. runs code l (map (λ (r : ℕ × Option WriteAt). r.0) rs)) t.init_is ∙ ap (runs code init) (sym v))
 
--- a run that came to its end, and one that didn't
+-- the run that is there is the one that ended, or none where it didn't end
 pub is_run : (o : Option Outcome) (run : Outcome) (trace : Option EndedRun) → o ≡ Some run → IsRun trace run → IsRunIn trace o
 is_run o run trace e h = subst (IsRunIn trace) (sym e) h
 
@@ -58,17 +59,20 @@ stopped (Past l r) h = cc h
 stopped (Wants r) h = refl
 stopped Stuck h = refl
 
+-- a run that is stuck has no end
 pub stuck_run : (code : List Micro) (init : List (ℕ × Value)) (values : List ℕ) (at_op : ℕ) → CausedBy (errors.Stuck at_op) code init values → has_ended (runs code init values) ≡ false
 stuck_run code init values at_op h = stopped (exec code (At (beginning init values))) (stops_for_good code (At (beginning init values)) at_op h)
 
+-- a run that leaves reads unused has no end
 pub left_run : (code : List Micro) (init : List (ℕ × Value)) (values : List ℕ) → CausedBy errors.ReadsLeft code init values → has_ended (runs code init values) ≡ false
 left_run code init values h = ap has_ended h
 
--- the runs one after another
+-- a run that ended is there
 in_some : (o : Option Outcome) (trace : EndedRun) → IsRunIn (Some trace) o → o ≡ Some (ended_run trace)
 in_some None trace h = absurd h
 in_some (Some run) trace h = ap Some h
 
+-- with one run more that ended, the first runs are those that are listed
 pub runs_more : (all : List Outcome) (k : ℕ) (traces : List EndedRun) (trace : EndedRun) → IsRunIn (Some trace) (slice_get all k) → take k all ≡ map ended_run traces → take (k + 1) all ≡ map ended_run (traces ++ trace ∷ [])
 runs_more all k traces trace h e =
     let g = in_some (slice_get all k) trace h in
@@ -81,21 +85,24 @@ all_end_at [] k h = absurd h
 all_end_at (run ∷ all) zero h = rw h refl
 all_end_at (run ∷ all) (suc k) h = rw (all_end_at all k h) (and-false (has_ended run))
 
+-- where one run has no end, not all runs end
 pub run_missing : (all : List Outcome) (k : ℕ) → IsRunIn None (slice_get all k) → all_ended all ≡ false
 run_missing all k h = all_end_at all k h
 
+-- there are as many runs as threads
 pub runs_count : (threads : List Thread) (reads : List (List (ℕ × Option WriteAt))) → length (runs_of threads reads) ≡ length threads
 runs_count [] reads = refl
 runs_count (thread ∷ threads) [] = ap suc (runs_count threads [])
 runs_count (thread ∷ threads) (r ∷ reads) = ap suc (runs_count threads reads)
 
+-- where no thread is left, all runs are listed
 pub runs_all : (threads : List ThreadRead) (reads : List (List (ℕ × Option WriteAt))) (k : ℕ) (traces : List EndedRun) → length threads ≤ k → take k (runs_of (map thread_read threads) reads) ≡ map ended_run traces → runs_of (map thread_read threads) reads ≡ map ended_run traces
 runs_all threads reads k traces h e =
     let n = runs_count (map thread_read threads) reads in
     let m : length (map thread_read threads) ≡ length threads = length-map threads thread_read in
     sym (take_all k (runs_of (map thread_read threads) reads) (omega (arith, n, m, h))) ∙ e
 
--- runs that ended
+-- each run of a list of runs that ended has ended
 pub ended_each : (traces : List EndedRun) (all : List Outcome) → all ≡ map ended_run traces → (k : ℕ) (run : Outcome) → slice_get all k ≡ Some run → HasEnded run
 ended_each traces all e k run h = of_map traces k (subst (λ l. slice_get l k ≡ Some run) e h)
   where
@@ -110,6 +117,7 @@ ended_by ReadsLeft h = absurd h
 ended_by ReadsShort h = absurd h
 ended_by NoRule h = absurd h
 
+-- where not all runs end, it can't be that each run has ended
 pub not_all : (all : List Outcome) → all_ended all ≡ false → ((k : ℕ) (run : Outcome) → slice_get all k ≡ Some run → HasEnded run) → ⊥
 not_all [] h f = cc h
 not_all (run ∷ all) h f = let e = ended_by run (f zero run refl) in not_all all (sym (rw e refl) ∙ h) (λ k r g. f (suc k) r g)
@@ -124,12 +132,13 @@ made_accesses : (items : List EndedRun) → map accesses_of (map visits_of (map 
 made_accesses [] = refl
 made_accesses (t ∷ items) = ap (λ l. accesses_of (visits_of t.items) ∷ l) (made_accesses items)
 
+-- the accesses of an execution are those of the runs that ended
 pub accesses_are : (p : Program) (x : Execution) (traces : List EndedRun) → runs_of p.threads x.reads ≡ map ended_run traces → accesses_in p x ≡ map (λ (t : EndedRun). accesses_of (visits_of t.items)) traces
 accesses_are p x traces e =
     ap (λ l. map accesses_of (map visits_of (map made_in l))) e
     ∙ ap (λ l. map accesses_of (map visits_of l)) (made_items traces) ∙ made_accesses traces
 
--- a candidate execution, by its runs
+-- a candidate execution has reads for as many threads as the test has
 pub candidate_count : (test : TestRead) (x : Execution) → IsCandidate (program_read test) x → length x.reads ≡ length test.threads
 candidate_count test x h =
     let n = h.execution.read_lists in
@@ -140,9 +149,11 @@ candidate_count test x h =
     let f : length (map thread_read test.threads) ≡ length test.threads = length-map test.threads thread_read in
     omega (arith, n, a, b, d, e, f)
 
+-- where a run has no end, the execution is no candidate
 pub no_candidate : (p : Program) (x : Execution) → all_ended (runs_of p.threads x.reads) ≡ false → IsCandidate p x → ⊥
 no_candidate p x h c = not_all (runs_of p.threads x.reads) h c.ended
 
+-- where all runs end, an execution that fits their accesses is a candidate
 pub candidate_means : (p : Program) (x : Execution) (traces : List EndedRun) (all : List (List Access)) → runs_of p.threads x.reads ≡ map ended_run traces → all ≡ map (λ (t : EndedRun). accesses_of (visits_of t.items)) traces
     → length x.orders ≡ p.places → IsExecutionOf all (length x.orders) x → IsCandidate p x
 candidate_means p x traces all e a n h =
@@ -152,12 +163,14 @@ candidate_means p x traces all e a n h =
       execution = subst (λ m. IsExecutionOf (accesses_in p x) m x) n (subst (λ l. IsExecutionOf l (length x.orders) x) same h);
     }
 
+-- a candidate execution fits the accesses of its runs
 pub candidate_from : (p : Program) (x : Execution) (traces : List EndedRun) (all : List (List Access)) → runs_of p.threads x.reads ≡ map ended_run traces → all ≡ map (λ (t : EndedRun). accesses_of (visits_of t.items)) traces
     → length x.orders ≡ p.places → IsCandidate p x → IsExecutionOf all (length x.orders) x
 candidate_from p x traces all e a n h =
     let same : accesses_in p x ≡ all = accesses_are p x traces e ∙ sym a in
     subst (λ m. IsExecutionOf all m x) (sym n) (subst (λ l. IsExecutionOf l p.places x) same h.execution)
 
+-- there are reads for as many threads as make accesses
 pub as_many : (test : TestRead) (x : Execution) (traces : List EndedRun) (all : List (List Access)) → runs_of (program_read test).threads x.reads ≡ map ended_run traces → all ≡ map (λ (t : EndedRun). accesses_of (visits_of t.items)) traces
     → length x.reads ≡ length test.threads → length x.reads ≡ length all
 as_many test x traces all e a n =
@@ -167,15 +180,16 @@ as_many test x traces all e a n =
     let s : length all ≡ length traces = ap length a ∙ length-map traces (λ (t : EndedRun). accesses_of (visits_of t.items)) in
     omega (arith, n, p, q, r, s)
 
--- the accesses with what stands before them
+-- the accesses with what comes before them
 made_visits : (traces : List EndedRun) → map visits_of (map (λ (t : EndedRun). t.items) traces) ≡ map (λ (t : EndedRun). visits_of t.items) traces
 made_visits [] = refl
 made_visits (t ∷ traces) = ap (λ l. visits_of t.items ∷ l) (made_visits traces)
 
+-- the accesses of an execution with what comes before them are those of the runs that ended
 pub visits_are : (p : Program) (x : Execution) (traces : List EndedRun) → runs_of p.threads x.reads ≡ map ended_run traces → visits_in p x ≡ map (λ (t : EndedRun). visits_of t.items) traces
 visits_are p x traces e = ap (λ l. map visits_of (map made_in l)) e ∙ ap (map visits_of) (made_items traces) ∙ made_visits traces
 
--- as many runs as threads
+-- there are as many runs as threads
 pub trace_count : (test : TestRead) (x : Execution) (traces : List EndedRun) → runs_of (program_read test).threads x.reads ≡ map ended_run traces → length traces ≡ length test.threads
 trace_count test x traces e =
     let p = runs_count (map thread_read test.threads) x.reads in

@@ -16,23 +16,27 @@ same_accesses passed more [] = refl
 same_accesses passed more (items.Barrier kind control ∷ made) = same_accesses (passed ++ record { kind = kind; control = control } ∷ []) (more ++ record { kind = kind; control = control } ∷ []) made
 same_accesses passed more (items.Access dir mark place value a d c ∷ made) = refl
 
--- the accesses of an item and of those after it
+-- the items from a number on begin with this one
 abbrev pub ItemAt : List Item → ℕ → Item → Type 0
 ItemAt made i item = drop i made ≡ item ∷ drop (i + 1) made
 
+-- after an access, the accesses found have one more
 pub after_access : (made : List Item) (i : ℕ) (dir : Dir) (mark : Mark) (place value a d c : ℕ) (found all : List Access) → ItemAt made i (items.Access dir mark place value a d c)
     → found ++ accesses_of (visits_of (drop i made)) ≡ all → (found ++ (record { dir = dir; place = place; value = value }) ∷ []) ++ accesses_of (visits_of (drop (i + 1) made)) ≡ all
 after_access made i dir mark place value a d c found all e h =
     append_assoc found ((record { dir = dir; place = place; value = value }) ∷ []) (accesses_of (visits_of (drop (i + 1) made))) ∙ sym (ap (λ l. found ++ accesses_of (visits_of l)) e) ∙ h
 
+-- after a barrier, the accesses found are those before it
 pub after_barrier : (made : List Item) (i : ℕ) (kind : Barrier) (control : ℕ) (found all : List Access) → ItemAt made i (items.Barrier kind control)
     → found ++ accesses_of (visits_of (drop i made)) ≡ all → found ++ accesses_of (visits_of (drop (i + 1) made)) ≡ all
 after_barrier made i kind control found all e h =
     ap (λ l. found ++ l) (same_accesses [] (record { kind = kind; control = control } ∷ []) (drop (i + 1) made)) ∙ sym (ap (λ l. found ++ accesses_of (visits_of l)) e) ∙ h
 
+-- where no item is left, the accesses found are all
 pub after_items : (made : List Item) (i : ℕ) (found all : List Access) → length made ≤ i → found ++ accesses_of (visits_of (drop i made)) ≡ all → found ≡ all
 after_items made i found all h e = sym (append-nil found) ∙ sym (ap (λ l. found ++ accesses_of (visits_of l)) (drop_all i made h)) ∙ e
 
+-- after an item, the accesses found have that of the item, if it is one
 pub after_item : (made : List Item) (i : ℕ) (item : Item) (found all : List Access) → slice_get made i ≡ Some item
     → found ++ accesses_of (visits_of (drop i made)) ≡ all → (found ++ access_in item) ++ accesses_of (visits_of (drop (i + 1) made)) ≡ all
 after_item made i item found all is h = of_item item (dropped made i item is)
@@ -41,21 +45,24 @@ after_item made i item found all is h = of_item item (dropped made i item is)
     of_item (items.Access dir mark place value a d c) e = after_access made i dir mark place value a d c found all e h
     of_item (items.Barrier kind control) e = ap (λ l. l ++ accesses_of (visits_of (drop (i + 1) made))) (append-nil found) ∙ after_barrier made i kind control found all e h
 
--- an access by its number, among the items that are left
+-- the first access that is left, with the barriers passed, is the one that is looked for
 pub visit_first : (made : List Item) (i : ℕ) (dir : Dir) (mark : Mark) (place value a d c : ℕ) (passed : List Barred) (found : Option Visit) → ItemAt made i (items.Access dir mark place value a d c)
     → found ≡ slice_get (visits_from passed (drop i made)) 0
     → Some (record { barriers = passed; access = record { dir = dir; place = place; value = value }; mark = mark; address_mask = a; data_mask = d; control_mask = c }) ≡ found
 visit_first made i dir mark place value a d c passed found e h = sym (h ∙ ap (λ l. slice_get (visits_from passed l) 0) e)
 
+-- an access that isn't the one that is looked for leaves one fewer to pass
 pub visit_next : (made : List Item) (i : ℕ) (dir : Dir) (mark : Mark) (place value a d c n m : ℕ) (passed : List Barred) (found : Option Visit) → ItemAt made i (items.Access dir mark place value a d c)
     → n ≡ m + 1 → found ≡ slice_get (visits_from passed (drop i made)) n → found ≡ slice_get (visits_from [] (drop (i + 1) made)) m
 visit_next made i dir mark place value a d c n m passed found e q h =
     let k : n ≡ suc m = omega (arith, q) in
     h ∙ ap (λ l. slice_get (visits_from passed l) n) e ∙ ap (slice_get (record { barriers = passed; access = record { dir = dir; place = place; value = value }; mark = mark; address_mask = a; data_mask = d; control_mask = c } ∷ visits_from [] (drop (i + 1) made))) k
 
+-- a barrier is passed, and is kept for the access after it
 pub visit_barrier : (made : List Item) (i : ℕ) (kind : Barrier) (control n : ℕ) (passed : List Barred) (found : Option Visit) → ItemAt made i (items.Barrier kind control)
     → found ≡ slice_get (visits_from passed (drop i made)) n → found ≡ slice_get (visits_from (passed ++ (record { kind = kind; control = control }) ∷ []) (drop (i + 1) made)) n
 visit_barrier made i kind control n passed found e h = h ∙ ap (λ l. slice_get (visits_from passed l) n) e
 
+-- where no item is left, the access isn't there
 pub visit_ends : (made : List Item) (i n : ℕ) (passed : List Barred) (found : Option Visit) → length made ≤ i → found ≡ slice_get (visits_from passed (drop i made)) n → None ≡ found
 visit_ends made i n passed found h e = sym (e ∙ ap (λ l. slice_get (visits_from passed l) n) (drop_all i made h))

@@ -1,4 +1,4 @@
--- The tests by which executions are decided, computed. Laws in proofs/ say that each decides its definition in
+-- The tests that decide executions, computed. Laws in proofs/ say that each decides its definition in
 -- `program_meaning`.
 -- Source: own.
 use Rattle.std.specs.Prelude.{ℕ, ◌+◌, ◌==◌, ◌&&◌, ◌||◌, Bool, true, false, not, cond, nat_le, nat_lt, List, [], ◌∷◌, Option, Some, None, slice_get, unwrap_or}
@@ -10,7 +10,7 @@ use Rattle.program_meaning.specs.Accesses.{Access, is_read, at_name}
 use Rattle.program_meaning.specs.Executions.{Execution, same_write}
 use Rattle.program_meaning.specs.Coherence.{coherence_place}
 
--- each element passes with its number, where the first has this one
+-- each element passes with its number, counted from this one
 abbrev pub every : {X : Type 0} → (ℕ → X → Bool) → ℕ → List X → Bool
 every p n [] = true
 every p n (x ∷ xs) = p n x && every p (n + 1) xs
@@ -19,11 +19,12 @@ every p n (x ∷ xs) = p n x && every p (n + 1) xs
 abbrev pub name : ℕ → ℕ → WriteAt
 name thread access = record { thread = thread; access = access }
 
--- an access writes to a place
+-- an access of this direction and place writes to a place
 abbrev pub writes_by : Dir → ℕ → ℕ → Bool
 writes_by dirs.R written place = false
 writes_by dirs.W written place = written == place
 
+-- an access writes to a place
 abbrev pub writes_to : ℕ → Access → Bool
 writes_to place access = writes_by access.dir access.place place
 
@@ -42,38 +43,38 @@ abbrev pub can_read : List (List Access) → Access → Option WriteAt → Bool
 can_read threads access None = access.value == 0
 can_read threads access (Some w) = writes_value access.place access.value (at_name threads w)
 
--- the first read is that of an access, and the others pass
+-- there is a first read, it is that of an access, and the others pass
 abbrev pub first_read : List (List Access) → Access → (List (ℕ × Option WriteAt) → Bool) → List (ℕ × Option WriteAt) → Bool
 first_read threads access others [] = false
 first_read threads access others (r ∷ reads) = (r.0 == access.value) && (can_read threads access r.1 && others reads)
 
--- reads are those of the accesses of a thread that read, in order
+-- reads are those of the reading accesses of a thread, in order
 unfoldable pub are_reads : List (List Access) → List Access → List (ℕ × Option WriteAt) → Bool
 are_reads threads [] [] = true
 are_reads threads [] (r ∷ reads) = false
 are_reads threads (access ∷ accesses) reads =
     cond (is_read access) (first_read threads access (are_reads threads accesses) reads) (are_reads threads accesses reads)
 
--- no write stands twice in an order
+-- no write is listed twice in an order
 unfoldable pub are_distinct : List WriteAt → Bool
 are_distinct [] = true
 are_distinct (w ∷ order) = not (list_any (same_write w) order) && are_distinct order
 
--- an access isn't a write to a place, or it stands in the place's order
+-- an access isn't a write to a place, or it is in the place's order
 abbrev pub is_covered : ℕ → List WriteAt → WriteAt → Access → Bool
 is_covered place order w access = not (writes_to place access) || list_any (same_write w) order
 
--- each write of a thread to a place stands in the place's order
+-- each write of a thread to a place is in the place's order
 abbrev pub thread_covered : ℕ → List WriteAt → ℕ → List Access → Bool
 thread_covered place order thread accesses = every (λ i access. is_covered place order (name thread i) access) 0 accesses
 
--- an order is that of a place
+-- an order holds each write to a place, once, and nothing else
 abbrev pub is_order : List (List Access) → ℕ → List WriteAt → Bool
 is_order threads place order =
     list_all (λ w. writes_there place (at_name threads w)) order &&
     (are_distinct order && every (thread_covered place order) 0 threads)
 
--- an access may follow another at its place
+-- an access may follow another at its place: a read not before it in the coherence order, a write after it
 abbrev pub may_follow : Dir → ℕ → ℕ → Bool
 may_follow dirs.R before after = nat_le before after
 may_follow dirs.W before after = nat_lt before after
@@ -83,7 +84,7 @@ abbrev pub agrees : List (List Access) → Execution → ℕ → ℕ → Access 
 agrees threads x thread e a f b =
     not (a.place == b.place) || may_follow b.dir (coherence_place threads x (name thread e) a) (coherence_place threads x (name thread f) b)
 
--- an access of a thread, with those after it
+-- an access of a thread agrees with those after it
 abbrev pub agrees_later : List (List Access) → Execution → ℕ → List Access → ℕ → Access → Bool
 agrees_later threads x thread accesses e a =
     every (λ f b. not (nat_lt e f) || agrees threads x thread e a f b) 0 accesses
@@ -100,6 +101,6 @@ reads_of x thread = unwrap_or (slice_get x.reads thread) []
 abbrev pub reads_fit : List (List Access) → Execution → Bool
 reads_fit threads x = every (λ thread accesses. are_reads threads accesses (reads_of x thread)) 0 threads
 
--- the order of each place is that of the place
+-- the order of each place holds its writes, each once, and nothing else
 abbrev pub orders_fit : List (List Access) → Execution → Bool
 orders_fit threads x = every (is_order threads) 0 x.orders

@@ -48,13 +48,14 @@ same_mark Acquire Acquire = true
 same_mark Release Release = true
 same_mark _ _ = false
 
--- two barriers are
+-- two sides of a fence order the same accesses
 abbrev pub same_pick : Pick → Pick → Bool
 same_pick picks.R picks.R = true
 same_pick picks.W picks.W = true
 same_pick picks.RW picks.RW = true
 same_pick _ _ = false
 
+-- two fences are of the same kind
 abbrev pub same_fence : FenceKind → FenceKind → Bool
 same_fence fences.MFence fences.MFence = true
 same_fence fences.Sync fences.Sync = true
@@ -67,6 +68,7 @@ same_fence fences.DmbSt fences.DmbSt = true
 same_fence (fences.Fence pred succ) (fences.Fence pred' succ') = same_pick pred pred' && same_pick succ succ'
 same_fence _ _ = false
 
+-- two barriers are the same
 abbrev pub same_barrier : Barrier → Barrier → Bool
 same_barrier (barriers.Fence kind) (barriers.Fence kind') = same_fence kind kind'
 same_barrier barriers.Isb barriers.Isb = true
@@ -83,7 +85,7 @@ abbrev pub is_none : List Barred → Bool
 is_none [] = true
 is_none (b ∷ more) = false
 
--- the place of an edge's target is that of its source, or another
+-- the place of an edge's target is that of its source, or another, as the edge says
 abbrev pub are_at : Sd → ℕ → ℕ → Bool
 are_at Same p q = p == q
 are_at Diff p q = not (p == q)
@@ -93,15 +95,17 @@ abbrev pub is_source : Option WriteAt → WriteAt → Bool
 is_source None e = false
 is_source (Some w) e = same_write w e
 
--- the communication of an edge, if it is one
+-- an access comes before another in the coherence order
 abbrev pub comes_before : List (List Access) → Execution → AccessAt → AccessAt → Bool
 comes_before threads x e f = nat_lt (coherence_place threads x e.name e.access) (coherence_place threads x f.name f.access)
 
+-- two accesses communicate so: the second reads the first, or comes after it in the coherence order
 abbrev pub communicates : Com → List (List Access) → Execution → AccessAt → AccessAt → Bool
 communicates coms.Rf threads x e f = is_source (source_at threads x f.name) e.name
 communicates coms.Fr threads x e f = comes_before threads x e f
 communicates coms.Ws threads x e f = comes_before threads x e f
 
+-- two accesses communicate as an edge says, if it is a communication
 abbrev pub communicates_by : Kind → List (List Access) → Execution → AccessAt → AccessAt → Bool
 communicates_by (edges.Com kind _) threads x e f = communicates kind threads x e f
 communicates_by (edges.Po _ _ _) threads x e f = true
@@ -126,7 +130,7 @@ abbrev pub same_answer : Bool → Bool → Bool
 same_answer true b = b
 same_answer false b = not b
 
--- the dependencies of the second of two accesses on the first
+-- the second of two accesses depends on the first by these address and data masks, and by control or not
 abbrev pub depends : List (List Access) → Named → Visit → ℕ → ℕ → Bool → Bool
 depends threads e f address stored controlled =
     (f.address_mask == address) && ((f.data_mask == stored) && same_answer controlled (is_in_mask threads e f.control_mask))
@@ -138,22 +142,22 @@ depends_as ties.Address threads e f = depends threads e f (mask_of threads e) 0 
 depends_as ties.Data threads e f = depends threads e f 0 (mask_of threads e) false
 depends_as ties.Control threads e f = depends threads e f 0 0 true
 
--- each barrier waits for the first
+-- each barrier waits for the first access
 abbrev pub barriers_wait : List (List Access) → Named → List Barred → Bool
 barriers_wait threads e bs = list_all (λ (b : Barred). is_in_mask threads e b.control) bs
 
--- a barrier alone stands before the second, and waits for the first, as the second does
+-- there is this barrier alone before the second access, it waits for the first, and so does the second
 abbrev pub waits : Barrier → List (List Access) → Named → Visit → Bool
 waits kind threads e f = is_alone kind f.barriers && (depends_as ties.Control threads e f && barriers_wait threads e f.barriers)
 
--- how a dependency ties the next access to a read
+-- the next access depends on a read as this dependency says
 abbrev pub depends_by : DepKind → List (List Access) → Named → Visit → Bool
 depends_by deps.Addr threads e f = is_none f.barriers && depends_as ties.Address threads e f
 depends_by deps.Ctrl threads e f = is_none f.barriers && depends_as ties.Control threads e f
 depends_by deps.CtrlIsync threads e f = waits (barriers.Fence fences.ISync) threads e f
 depends_by deps.CtrlIsb threads e f = waits barriers.Isb threads e f
 
--- how an internal edge ties the next access of the thread
+-- the next access of the thread is tied to the first as an internal edge says
 abbrev pub ties_by : Kind → List (List Access) → Named → Visit → Bool
 ties_by (edges.Com _ Internal) threads e f = is_none f.barriers && depends_as ties.Nothing threads e f
 ties_by (edges.Com _ External) threads e f = true

@@ -10,17 +10,17 @@ use Rattle.litmus_text.specs.TestReading.{TestRead}
 use Rattle.program_meaning.specs.Executions.{Execution}
 use Rattle.test_laws.specs.FinalStates.{final_state}
 
--- the registers of a thread, from one on, under these names
+-- the registers of a thread with their values, from number k on, under these names
 abbrev pub registers_at : ℕ → (ℕ → Value) → ℕ → List (List ℕ) → State
 registers_at thread held k [] = []
 registers_at thread held k (name ∷ names) = (InRegister thread name, held k) ∷ registers_at thread held (k + 1) names
 
--- those of each thread, from one on
+-- the registers of all threads with their values, from thread number k on
 abbrev pub all_registers : List (List ℕ) → ℕ → List (ℕ → Value) → State
 all_registers names thread [] = []
 all_registers names thread (held ∷ more) = registers_at thread held 0 names ++ all_registers names (thread + 1) more
 
--- the places, from one on, under these names
+-- the places with their values, from number k on, under these names
 abbrev pub places_at : (ℕ → ℕ) → ℕ → List (List ℕ) → State
 places_at held k [] = []
 places_at held k (name ∷ names) = (AtPlace name, Num (held k)) ∷ places_at held (k + 1) names

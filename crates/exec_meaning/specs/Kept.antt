@@ -5,7 +5,7 @@ use Rattle.std.proofs.Math.ListN.{replicate}
 use Rattle.program_meaning.specs.declared.WriteAt.{WriteAt}
 use Rattle.program_meaning.specs.Executions.{Execution}
 
--- so many empty lists
+-- this many empty lists
 abbrev pub empty_lists : {X : Type 0} → ℕ → List (List X)
 empty_lists n = replicate n []
 
@@ -17,10 +17,10 @@ nothing_kept threads places = record { reads = empty_lists threads; orders = emp
 abbrev pub added : {X : Type 0} → List (List X) → ℕ → X → List (List X)
 added lists k x = slice_set lists k (unwrap_or (slice_get lists k) [] ++ x ∷ [])
 
--- an execution in which a thread reads once more
+-- an execution in which a thread has one read more, after the others
 abbrev pub with_read : Execution → ℕ → ℕ × Option WriteAt → Execution
 with_read x thread read = record x { reads = added x.reads thread read }
 
--- an execution in which a place has a write more, behind the others
+-- an execution in which a place has one write more, after the others
 abbrev pub with_write : Execution → ℕ → WriteAt → Execution
 with_write x place write = record x { orders = added x.orders place write }

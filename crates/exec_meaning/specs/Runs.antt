@@ -7,7 +7,7 @@ use Rattle.program_meaning.specs.Accesses.{Access}
 use Rattle.micro_ops.specs.Running.{Outcome, Ended, ReadsLeft, ReadsShort, NoRule}
 use Rattle.micro_ops.specs.Threads.{EndedRun, value_in}
 
--- a run that came to its end
+-- the outcome of a run that came to its end
 abbrev pub ended_run : EndedRun → Outcome
 ended_run run = Ended run.items (value_in run)
 
@@ -18,7 +18,7 @@ has_ended ReadsLeft = false
 has_ended ReadsShort = false
 has_ended NoRule = false
 
--- all did
+-- all runs came to their ends
 abbrev pub all_ended : List Outcome → Bool
 all_ended [] = true
 all_ended (run ∷ runs) = has_ended run && all_ended runs
@@ -28,7 +28,7 @@ abbrev pub IsRun : Option EndedRun → Outcome → Type 0
 IsRun (Some trace) run = run ≡ ended_run trace
 IsRun None run = has_ended run ≡ false
 
--- the same of a run that is there
+-- the outcome of a run is there, and is that of this run, if the run came to its end
 abbrev pub IsRunIn : Option EndedRun → Option Outcome → Type 0
 IsRunIn trace None = ⊥
 IsRunIn trace (Some run) = IsRun trace run

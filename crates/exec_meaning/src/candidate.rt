@@ -29,7 +29,7 @@ fn can_read(all: &[Accesses], access: &Access, from: Option<WriteAt>) -> bool
     }
 }
 
-/// Whether reads are those of the accesses of a thread that read, in order.
+/// Whether reads are those of the reading accesses of a thread, in order.
 #[tactic(auto, unfolding(crate::specs::Deciding::are_reads))]
 fn are_reads(all: &[Accesses], accesses: &[Access], reads: &[Read]) -> bool
     ensures { result ≡ are_reads all.now accesses.now reads.now }
@@ -71,7 +71,7 @@ fn stands_in(order: &[WriteAt], write: WriteAt) -> bool
     order.iter().any(|other| is_same(write, *other))
 }
 
-/// Whether no write stands twice.
+/// Whether no write is listed twice.
 fn are_distinct(order: &[WriteAt]) -> bool
     ensures { result ≡ are_distinct order.now }
 {
@@ -83,7 +83,7 @@ fn are_distinct(order: &[WriteAt]) -> bool
     true
 }
 
-/// Whether the access with these numbers stands in an order. The numbers may be past those of a name.
+/// Whether the access with these numbers is in an order. The numbers may be past those of a name.
 fn is_named(order: &[WriteAt], thread: usize, access: usize) -> bool
     ensures { result ≡ list_any (same_write (name thread access)) order.now }
 {
@@ -91,7 +91,7 @@ fn is_named(order: &[WriteAt], thread: usize, access: usize) -> bool
         && access == usize::from(write.access))
 }
 
-/// Whether each write of a thread to the place stands in the place's order.
+/// Whether each write of a thread to the place is in the place's order.
 fn is_thread_covered(place: u8, order: &[WriteAt], thread: usize, accesses: &[Access]) -> bool
     ensures { result ≡ thread_covered place order.now thread accesses.now }
 {
@@ -103,7 +103,7 @@ fn is_thread_covered(place: u8, order: &[WriteAt], thread: usize, accesses: &[Ac
     true
 }
 
-/// Whether each write to the place stands in the place's order.
+/// Whether each write to the place is in the place's order.
 fn are_covered(all: &[Accesses], place: u8, order: &[WriteAt]) -> bool
     ensures { result ≡ every (thread_covered place order.now) 0 all.now }
 {

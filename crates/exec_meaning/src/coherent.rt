@@ -73,7 +73,7 @@ fn position_of(order: &[WriteAt], thread: usize, access: usize) -> Option<usize>
     order.iter().position(|w| thread == usize::from(w.thread) && access == usize::from(w.access))
 }
 
-/// The place of a write in an order, from 1; 0 where it doesn't stand there.
+/// The place of a write in an order, from 1; 0 where it isn't there.
 fn order_place(order: &[WriteAt], thread: usize, access: usize) -> usize
     ensures { result ≡ order_place order.now (Some (name thread access)) }
 {
@@ -229,7 +229,7 @@ fn thread_coheres(all: &[Accesses], exec: &Execution, thread: usize, accesses: &
     true
 }
 
-/// Whether it does in each thread.
+/// Whether program order in each thread agrees with the coherence order.
 fn threads_cohere(all: &[Accesses], exec: &Execution) -> bool
     ensures { result ≡ every (thread_coheres all.now exec.now) 0 all.now }
 {

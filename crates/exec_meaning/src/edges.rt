@@ -189,7 +189,7 @@ fn is_mask_of(mask: u64, load: usize) -> bool
     load < 64 && mask == 1 << load
 }
 
-/// Whether load number `load` stands in a mask.
+/// Whether load number `load` is in a mask.
 #[tactic(auto, using(crate::proofs::EdgeLaws::no_load))]
 fn has_load(mask: u64, load: usize) -> bool
     ensures { result ≡ (bit_at mask load == 1) }
@@ -197,7 +197,7 @@ fn has_load(mask: u64, load: usize) -> bool
     load < 64 && mask >> load & 1 == 1
 }
 
-/// Whether an access reads, and stands in a mask.
+/// Whether an access reads, and is in a mask.
 fn is_in_mask(all: &[Accesses], name: WriteAt, visit: &Visit, mask: u64) -> bool
     ensures { result ≡ is_in_mask all.now (record { name = name; visit = visit.now }) mask }
 {
@@ -227,7 +227,7 @@ fn depends(tie: Tie, all: &[Accesses], from: WriteAt, e: &Visit, f: &Visit) -> b
     }
 }
 
-/// Whether the access stands in the control mask of each barrier.
+/// Whether the access is in the control mask of each barrier.
 fn barriers_wait(all: &[Accesses], from: WriteAt, e: &Visit, barriers: &[Barred]) -> bool
     ensures { result ≡ barriers_wait all.now (record { name = from; visit = e.now }) barriers.now }
 {
@@ -236,7 +236,7 @@ fn barriers_wait(all: &[Accesses], from: WriteAt, e: &Visit, barriers: &[Barred]
         .all(|barrier| is_in_mask(all, from, e, barrier.control))
 }
 
-/// Whether a barrier alone stands before the access, which waits for the one before it, as the access does.
+/// Whether the only barrier before the access is this one, and it waits for the access before, as the access does.
 fn waits(kind: Barrier, all: &[Accesses], from: WriteAt, e: &Visit, f: &Visit) -> bool
     ensures { result ≡ waits kind all.now (record { name = from; visit = e.now }) f.now }
 {
@@ -257,7 +257,7 @@ fn depends_by(kind: DepKind, all: &[Accesses], from: WriteAt, e: &Visit, f: &Vis
     }
 }
 
-/// Whether what stands between two accesses is what an edge says, if it is internal.
+/// Whether what lies between two accesses is what an edge says, if it is internal.
 fn ties_by(kind: Kind, all: &[Accesses], from: WriteAt, e: &Visit, f: &Visit) -> bool
     ensures { result ≡ ties_by kind all.now (record { name = from; visit = e.now }) f.now }
 {

@@ -61,7 +61,7 @@ impl Execution {
         Ok(Execution { reads, writes })
     }
 
-    /// Adds a read behind the others of a thread: its value, and the write that it reads, or none for the
+    /// Adds a read after the others of a thread: its value, and the write that it reads, or none for the
     /// initial value. Without memory for it the execution is unchanged.
     pub fn add_read(
         &mut self,
@@ -78,7 +78,7 @@ impl Execution {
         Ok(())
     }
 
-    /// Adds a write behind the others of a place. Without memory for it the execution is unchanged.
+    /// Adds a write after the others of a place. Without memory for it the execution is unchanged.
     pub fn add_write(&mut self, place: u8, write: WriteAt) -> Result<(), NoMemory>
         requires { place < length self.old.orders }
         ensures ok { OnOk result (self.new ≡ with_write self.old place write) }

@@ -29,7 +29,7 @@ fn add_registers<A: Arch>(state: &mut Final, thread: u8, trace: &Trace) -> Resul
     Ok(())
 }
 
-/// Adds those of each thread.
+/// Adds the registers of each thread.
 fn add_threads<A: Arch>(state: &mut Final, traces: &[Trace]) -> Result<(), NoMemory>
     requires { length traces.now ≤ 255 }
     ensures { OnOk result (state.new ≡ state.old ++ all_registers A.writing.registers 0 (map held_by traces.now)) }

@@ -18,7 +18,7 @@ reading value = record {
   control_mask = 0;
 }
 
--- two of them are an observer
+-- two such reads are an observer
 two_reads-observe : Observes (reading 1 ∷ reading 2 ∷ [])
 unfolding reading
 two_reads-observe = (
@@ -29,27 +29,27 @@ two_reads-observe = (
   (refl, refl, refl, record { address = refl; stored = refl; control = refl }, tt),
 )
 
--- with a barrier before the second they are none
+-- with a barrier before the second read they are no observer
 fenced-observe_not : Observes (reading 1 ∷ record (reading 2) { barriers = record { kind = Fence Sync; control = 0 } ∷ [] } ∷ []) → ⊥
 unfolding reading
 fenced-observe_not h = cc h.4.2
 
--- nor where the address of the second depends on the first
+-- where the address of the second depends on the first, they are no observer
 dependent-observe_not : Observes (reading 1 ∷ record (reading 2) { address_mask = 1 } ∷ []) → ⊥
 unfolding reading
 dependent-observe_not h = cc h.4.3.address
 
--- nor where a branch between them does
+-- where a branch between them depends on the first, they are no observer
 branching-observe_not : Observes (reading 1 ∷ record (reading 2) { control_mask = 1 } ∷ []) → ⊥
 unfolding reading
 branching-observe_not h = cc h.4.3.control
 
--- nor is a load-acquire one
+-- a load-acquire is no observer
 acquire-observes_not : Observes (record (reading 1) { mark = Acquire } ∷ []) → ⊥
 unfolding reading
 acquire-observes_not h = cc h.1
 
--- nor a write
+-- a write is no observer
 write-observes_not : Observes (record (reading 1) { access = record { dir = W; place = 0; value = 1 } } ∷ []) → ⊥
 unfolding reading
 write-observes_not h = cc h.0

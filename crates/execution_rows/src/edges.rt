@@ -89,14 +89,14 @@ const POWER: [Case; 9] = [
         execution: FLAG_READ,
         stand: &[true, true, false, true],
     },
-    // A stray fence stands before the second load.
+    // A stray fence comes before the second load.
     Case {
         edges: "LwSyncdWW Rfe DpAddrdR Fre",
         text: "PPC A\n{\n0:r2=x; 0:r4=y;\n1:r2=y; 1:r5=x;\n}\n P0 | P1 ;\n li r1,1 | lwz r1,0(r2) ;\n stw r1,0(r2) | xor r3,r1,r1 ;\n lwsync | sync ;\n li r3,1 | lwzx r4,r3,r5 ;\n stw r3,0(r4) | ;\nexists (1:r1=1)\n",
         execution: FLAG_READ,
         stand: &[true, true, false, true],
     },
-    // The fence of thread 0 stands after both stores.
+    // The fence of thread 0 comes after both stores.
     Case {
         edges: "LwSyncdWW Rfe DpAddrdR Fre",
         text: "PPC A\n{\n0:r2=x; 0:r4=y;\n1:r2=y; 1:r5=x;\n}\n P0 | P1 ;\n li r1,1 | lwz r1,0(r2) ;\n stw r1,0(r2) | xor r3,r1,r1 ;\n li r3,1 | lwzx r4,r3,r5 ;\n stw r3,0(r4) | ;\n lwsync | ;\nexists (1:r1=1)\n",
@@ -126,7 +126,7 @@ const POWER: [Case; 9] = [
         stand: &[true, true, true, false, true],
     },
     // Three writes to a place, with an observer that has a fence: the observer has no event of the cycle, so
-    // no edge asks what stands between its reads.
+    // no edge asks what comes between its reads.
     Case {
         edges: "Wse PodWW Wse PodWW Wse",
         text: "PPC A\n{\n0:r2=x;\n1:r2=x; 1:r4=y;\n2:r2=y; 2:r4=x;\n3:r2=x;\n}\n P0 | P1 | P2 | P3 ;\n li r1,2 | li r1,3 | li r1,2 | lwz r1,0(r2) ;\n stw r1,0(r2) | stw r1,0(r2) | stw r1,0(r2) | sync ;\n | li r3,1 | li r3,1 | lwz r3,0(r2) ;\n | stw r3,0(r4) | stw r3,0(r4) | lwz r4,0(r2) ;\nexists (3:r1=1)\n",

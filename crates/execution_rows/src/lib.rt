@@ -1,4 +1,4 @@
-//! Executions that are given, of a test that is read, with what is said of each. Tests alone.
+//! Given executions of tests that are read, with what is said of each. Tests alone.
 #![tactic(auto)]
 
 #[cfg(test)]

@@ -9,10 +9,10 @@ use Rattle.std.proofs.lemmas.Option.{slice_get_within, get_or_from_slice_get}
 abbrev pub further : List (List ℕ) → List ℕ
 further words = flat_map (λ word. codes " " ++ word) words
 
--- a piece is appended
+-- with one piece appended, the text and what is left still make up the whole
 pub one_more : (text piece rest whole more : List ℕ) → text ++ (piece ++ rest) ≡ whole → more ≡ text ++ piece → more ++ rest ≡ whole
 one_more text piece rest whole more h e = ap (λ t. t ++ rest) e ∙ append_assoc text piece rest ∙ h
 
--- the elements from k on, of which the first is given
+-- the elements from k on begin with element k, where it is given
 pub given_from : {X : Type 0} (xs : List X) (k : ℕ) (x : X) → slice_get xs k ≡ Some x → drop k xs ≡ x ∷ drop (k + 1) xs
 given_from xs k x e = drop_more xs k x (slice_get_within xs k x e) ∙ ap (λ y. y ∷ drop (k + 1) xs) (get_or_from_slice_get xs k x x e)

@@ -92,7 +92,7 @@ few_threads threads places x f =
     let short : length (flat_map ended (lines ++ others)) ≤ MAX_TEXT = f.short in
     omega (arith, many, few, short, length-append lines others)
 
--- what is written reads back
+-- the text that is written of an execution is read as that execution
 pub written_reads_back : ReadsBack
 unfolding text_of_execution
 written_reads_back threads places x f =

@@ -21,7 +21,7 @@ before_others : (front : List ℕ) (pieces : List (List ℕ)) → 0 < length pie
 before_others front [] h = absurd (omega arith)
 before_others front (piece ∷ pieces) h = refl
 
--- a text that is cut at a line feed
+-- a text that is cut at a line feed has the line before it, and then the lines after it
 pub line_cut : (text front rest : List ℕ) → CutParts 10 text front rest → lines_of text ≡ without_return front ∷ lines_of rest
 line_cut text front rest c =
     let split : slice_split is_line_feed text ≡ front ∷ slice_split is_line_feed rest =

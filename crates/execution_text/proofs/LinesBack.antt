@@ -1,4 +1,4 @@
--- A line that is written has the words of which it is made, and tells what these name; the lines of a text that is written are
+-- A line that is written has the words of which it is made, and gives what these name; the lines of a text that is written are
 -- those of which it is made.
 use Rattle.std.proofs.Common.{◌≡◌, ◌==◌, ◌≤◌, ℕ, List, [], ◌∷◌, ◌++◌, map, length, get_or, true, false, refl, ap, ◌∙◌, arith, append_assoc, length-append}
 use Rattle.std.specs.Prelude.{Bool, not, ◌&&◌, nat_le, nat_lt, codes, Option, Some, Ok}
@@ -64,7 +64,7 @@ named_back : {X : Type 0} (bad : ExecKind) (name : List ℕ → Option X) (word 
 named_back bad name word [] h = refl
 named_back bad name word (x ∷ xs) h = rw (h.0, named_back bad name word xs h.1) refl
 
--- a line that was written of things after a head tells these
+-- a line that was written of things after a head gives these
 pub line_back : {X : Type 0} (bad_head bad : ExecKind) (name : List ℕ → Option X) (word : X → List ℕ) (head : List ℕ) (xs : List X) → IsWord head → AllByRecursion IsWord (map word xs)
     → AllByRecursion (λ x. name (word x) ≡ Some x) xs → line_told bad_head bad name head (words (line_of (head ∷ map word xs))) ≡ Ok xs
 unfolding line_told

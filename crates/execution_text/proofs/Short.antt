@@ -98,7 +98,7 @@ places_short threads (place ∷ places) (order ∷ orders) h names f few =
     omega (arith, line, rest, suc_times (length orders) 1200, length-append (ended (place_line (place, order))) (flat_map ended (map place_line (zip places orders))))
 
 -- An execution that has no more threads and places than a test, and no more reads in a thread and writes of a place than a
--- thread has accesses; names, reads and writes can be told.
+-- thread has accesses. A text can name its places, reads and writes.
 pub record IsSmall (threads : ℕ) (places : List (List ℕ)) (x : Execution) : Type 0 where
   pub few_threads : threads ≤ MAX_THREADS
   pub few_places : length places ≤ 64
@@ -110,7 +110,7 @@ pub record IsSmall (threads : ℕ) (places : List (List ℕ)) (x : Execution) : 
   pub few_reads : All (λ reads. length reads ≤ MAX_ACCESSES) x.reads
   pub few_writes : All (λ order. length order ≤ MAX_ACCESSES) x.orders
 
--- its text isn't too long
+-- the text of such an execution isn't too long
 pub text_short : (threads : ℕ) (places : List (List ℕ)) (x : Execution) → IsSmall threads places x → length (text_of_execution places x) ≤ MAX_TEXT
 unfolding text_of_execution
 text_short threads places x s =
@@ -120,7 +120,7 @@ text_short threads places x s =
     let last = places_short threads places x.orders s.few_threads s.names s.orders s.few_writes in
     omega (arith, first, last, s.few_threads, s.few_places, s.thread_lists, s.place_lists, ap length (flat_map-append ended lines others), length-append (flat_map ended lines) (flat_map ended others))
 
--- so that it reads back
+-- such an execution reads back from its text
 pub small_fits : (threads : ℕ) (places : List (List ℕ)) (x : Execution) → IsSmall threads places x → ExecutionFits threads places x
 small_fits threads places x s = record {
   thread_lists = s.thread_lists;

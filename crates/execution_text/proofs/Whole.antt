@@ -1,4 +1,4 @@
--- The execution that all lines of a text tell.
+-- The execution that all lines of a text give.
 use Rattle.std.proofs.Common.{◌≡◌, ℕ, suc, ◌+◌, ◌≤◌, List, [], ◌∷◌, ◌++◌, map, length, set, refl, sym, ap, ◌∙◌, append_assoc, length-append}
 use Rattle.std.specs.Prelude.{Result, Ok, Err, Option}
 use Rattle.std.proofs.lemmas.List.{append-nil, length-replicate, length-map}
@@ -21,7 +21,7 @@ use Rattle.execution_text.specs.declared.errors.ExecError.{ExecError}
 use Rattle.execution_text.specs.declared.errors.ExecError.TheVariants as errors
 use Rattle.execution_text.specs.Steps.{Adds, ReadsLines, ReadsText, all_added, each_added, lines_added}
 
--- the parts of an answer
+-- the first part of a right answer
 abbrev first_or : {A B F : Type 0} → A → Result (A × B) F → A
 first_or a (Ok p) = p.0
 first_or a (Err f) = a
@@ -30,12 +30,13 @@ abbrev second_or : {A B F : Type 0} → B → Result (A × B) F → B
 second_or b (Ok p) = p.1
 second_or b (Err f) = b
 
--- what lines tell, by what it adds
+-- lines are read without a fault: what they give is added to one execution and makes the other
 pub record IsTold {X : Type 0} (add : Adds X) (x y : Execution) (k : ℕ) (told : Result (List (List X) × List (List ℕ)) ExecFault) (left : List (List ℕ)) : Type 0 where
   pub lists : List (List X)
   pub is : told ≡ Ok (lists, left)
   pub grown : each_added add x k lists ≡ y
 
+-- lines that lead from one execution to another are read without a fault
 pub is_told : {X : Type 0} (add : Adds X) (x y : Execution) (k : ℕ) (told : Result (List (List X) × List (List ℕ)) ExecFault) (left : List (List ℕ)) → lines_added add x k told ≡ Ok (y, left) → IsTold add x y k told left
 is_told add x y k (Ok told) left h = record {
   lists = told.0;
@@ -44,17 +45,19 @@ is_told add x y k (Ok told) left h = record {
 }
 is_told add x y k (Err fault) left h = cc
 
+-- a fault in what is added is a fault of the lines
 pub is_wrong : {X : Type 0} (add : Adds X) (x : Execution) (k : ℕ) (told : Result (List (List X) × List (List ℕ)) ExecFault) (fault : ExecFault) → lines_added add x k told ≡ Err fault → told ≡ Err fault
 is_wrong add x k (Ok told) fault h = cc
 is_wrong add x k (Err other) fault h = let e : other ≡ fault = cc in ap (λ f. Err f) e
 
--- there are as many lists as heads
+-- with one line more there is one list more
 put_length : {X : Type 0} (m : ℕ) (one : Result (List X) ExecFault) (rest : Result (List (List X) × List (List ℕ)) ExecFault) (lists : List (List X)) (left : List (List ℕ))
     → ((ls : List (List X)) (l : List (List ℕ)) → rest ≡ Ok (ls, l) → length ls ≡ m) → put_line one rest ≡ Ok (lists, left) → length lists ≡ suc m
 put_length m (Ok xs) (Ok rest) lists left f h = sym (ap (λ r. length (first_or lists r)) h) ∙ ap suc (f rest.0 rest.1 refl)
 put_length m (Ok xs) (Err fault) lists left f h = cc
 put_length m (Err fault) rest lists left f h = cc
 
+-- lines that are read give as many lists as there are heads
 pub told_length : {X : Type 0} (told : List ℕ → List (List ℕ) → Result (List X) ExecKind) (n : ℕ) (heads lines : List (List ℕ)) (lists : List (List X)) (left : List (List ℕ)) → lines_told told n heads lines ≡ Ok (lists, left) → length lists ≡ length heads
 unfolding lines_told
 told_length told n [] lines lists left h = sym (ap (λ r. length (first_or lists r)) h)
@@ -62,7 +65,7 @@ told_length told n (head ∷ heads) [] lists left h = cc
 told_length told n (head ∷ heads) (line ∷ lines) lists left h =
     put_length (length heads) (at_line n (told head (words line))) (lines_told told (n + 1) heads lines) lists left (λ ls l e. told_length told (n + 1) heads lines ls l e) h
 
--- one thing is added to the list behind others
+-- a thing is added to the list after others
 added_at : {X : Type 0} (done rest : List (List X)) (so_far : List X) (item : X) → added (done ++ so_far ∷ rest) (length done) item ≡ done ++ (so_far ++ item ∷ []) ∷ rest
 added_at done rest so_far item =
     ap (λ found. set (done ++ so_far ∷ rest) (length done) (found ++ item ∷ [])) (unwrap_or-slice_get (done ++ so_far ∷ rest) (length done) [] ∙ get_or-append_seam done so_far rest [])
@@ -102,53 +105,57 @@ all_writes reads done (items ∷ lists) =
     ∙ ap (λ k. each_added with_write (record { reads = reads; orders = (done ++ items ∷ []) ++ replicate (length lists) [] }) k lists) e
     ∙ all_writes reads (done ++ items ∷ []) lists ∙ ap (λ l. record { reads = reads; orders = l }) (append_assoc done (items ∷ []) lists)
 
--- what was added to an execution without reads and writes
+-- reads that are added to an execution without reads and writes are its reads
 pub reads_are : (threads places : ℕ) (lists : List (List (ℕ × Option WriteAt))) → length lists ≡ threads → each_added with_read (nothing_kept threads places) 0 lists ≡ record { reads = lists; orders = empty_lists places }
 reads_are threads places lists h = rw (sym h) (all_reads (empty_lists places) [] lists)
 
+-- writes that are added to an execution without writes are its writes
 pub writes_are : (places : ℕ) (reads : List (List (ℕ × Option WriteAt))) (lists : List (List WriteAt)) → length lists ≡ places → each_added with_write (record { reads = reads; orders = empty_lists places }) 0 lists ≡ record { reads = reads; orders = lists }
 writes_are places reads lists h = rw (sym h) (all_writes reads [] lists)
 
--- what the lines of the threads and those of the places tell
+-- what the lines of the threads give, and the lines that are left
 abbrev pub threads_told : ℕ → List (List ℕ) → Result (List (List (ℕ × Option WriteAt)) × List (List ℕ)) ExecFault
 threads_told threads lines = lines_told (line_told BadThread BadRead (read_named threads)) 1 (map thread_head (range_with_len 0 threads)) lines
 
+-- what the lines of the places give, and the lines that are left
 abbrev pub places_told : ℕ → List (List ℕ) → List (List ℕ) → Result (List (List WriteAt) × List (List ℕ)) ExecFault
 places_told threads places lines = lines_told (line_told BadPlace BadWrite (access_named threads)) (threads + 1) (map place_head places) lines
 
--- a text that isn't too long
+-- the reading of a text that isn't too long is that of its lines
 pub short_read : (threads : ℕ) (places : List (List ℕ)) (text : List ℕ) → length text ≤ MAX_TEXT → execution_read threads places text ≡ lines_read threads places (lines_of text)
 unfolding execution_read
 short_read threads places text h = rw (le-ltb MAX_TEXT (length text) h) refl
 
--- a fault in the lines of the threads
+-- a fault in the lines of the threads is the fault of the text
 pub threads_wrong : (threads : ℕ) (places lines : List (List ℕ)) (fault : ExecFault) → lines_added with_read (nothing_kept threads (length places)) 0 (threads_told threads lines) ≡ Err fault → lines_read threads places lines ≡ Err fault
 unfolding lines_read
 threads_wrong threads places lines fault h = rw (is_wrong with_read (nothing_kept threads (length places)) 0 (threads_told threads lines) fault h) refl
 
--- the lines of the threads are read
+-- the lines of the threads are read without a fault
 pub record ThreadsRead (threads : ℕ) (places lines : List (List ℕ)) (x : Execution) (left : List (List ℕ)) : Type 0 where
   pub reads : List (List (ℕ × Option WriteAt))
   pub is : threads_told threads lines ≡ Ok (reads, left)
   pub many : length reads ≡ threads
   pub x_is : record { reads = reads; orders = empty_lists (length places) } ≡ x
 
+-- lines of threads that lead to an execution are read without a fault
 pub threads_read : (threads : ℕ) (places lines : List (List ℕ)) (x : Execution) (left : List (List ℕ)) → lines_added with_read (nothing_kept threads (length places)) 0 (threads_told threads lines) ≡ Ok (x, left) → ThreadsRead threads places lines x left
 threads_read threads places lines x left h =
     let t = is_told with_read (nothing_kept threads (length places)) x 0 (threads_told threads lines) left h in
     let many : length t.lists ≡ threads = told_length (line_told BadThread BadRead (read_named threads)) 1 (map thread_head (range_with_len 0 threads)) lines t.lists left t.is ∙ length-map-range_with_len thread_head 0 threads in
     record { reads = t.lists; is = t.is; many = many; x_is = sym (reads_are threads (length places) t.lists many) ∙ t.grown }
 
+-- after the lines of the threads the execution has an order for each place
 pub orders_many : (threads : ℕ) (places lines : List (List ℕ)) (x : Execution) (left : List (List ℕ)) → ThreadsRead threads places lines x left → length x.orders ≡ length places
 orders_many threads places lines x left t = sym (ap (λ (y : Execution). length y.orders) t.x_is) ∙ length-replicate (length places) []
 
--- a fault in the lines of the places
+-- a fault in the lines of the places is the fault of the text
 pub places_wrong : (threads : ℕ) (places lines : List (List ℕ)) (x : Execution) (left : List (List ℕ)) (fault : ExecFault) → ThreadsRead threads places lines x left
     → lines_added with_write x 0 (places_told threads places left) ≡ Err fault → lines_read threads places lines ≡ Err fault
 unfolding lines_read
 places_wrong threads places lines x left fault t h = rw (t.is, is_wrong with_write x 0 (places_told threads places left) fault h) refl
 
--- all lines are read
+-- the lines of the threads and the places are read without a fault
 pub record AllRead (threads : ℕ) (places lines : List (List ℕ)) (y : Execution) (left : List (List ℕ)) : Type 0 where
   pub reads : List (List (ℕ × Option WriteAt))
   pub orders : List (List WriteAt)
@@ -157,12 +164,13 @@ pub record AllRead (threads : ℕ) (places lines : List (List ℕ)) (y : Executi
   pub write_lists : length orders ≡ length places
   pub y_is : record { reads = reads; orders = orders } ≡ y
 
--- what lines tell, by what those of the threads and those of the places do
+-- what lines give is made of what the lines of the threads and those of the places give
 pub read_as : (threads : ℕ) (places lines left last : List (List ℕ)) (reads : List (List (ℕ × Option WriteAt))) (orders : List (List WriteAt))
     → threads_told threads lines ≡ Ok (reads, left) → places_told threads places left ≡ Ok (orders, last) → lines_read threads places lines ≡ execution_of (threads + length places + 1) reads (orders, last)
 unfolding lines_read
 read_as threads places lines left last reads orders e f = rw (e, f) refl
 
+-- lines of places that lead to an execution are read without a fault
 pub all_read : (threads : ℕ) (places lines : List (List ℕ)) (x y : Execution) (left last : List (List ℕ)) → ThreadsRead threads places lines x left
     → lines_added with_write x 0 (places_told threads places left) ≡ Ok (y, last) → AllRead threads places lines y last
 all_read threads places lines x y left last t h =
@@ -177,20 +185,22 @@ all_read threads places lines x y left last t h =
       y_is = sym (writes_are (length places) t.reads p.lists many) ∙ ap (λ z. each_added with_write z 0 p.lists) t.x_is ∙ p.grown;
     }
 
+-- where no line is left, the lines give this execution
 pub ended_read : (threads : ℕ) (places lines : List (List ℕ)) (y : Execution) (left : List (List ℕ)) → AllRead threads places lines y left → left ≡ [] → lines_read threads places lines ≡ Ok y
 ended_read threads places lines y left a e = a.is ∙ ap (λ l. execution_of (threads + length places + 1) a.reads (a.orders, l)) e ∙ ap (λ z. Ok z) a.y_is
 
--- it has as many lists of reads as threads, and as many orders as places
+-- the execution has as many lists of reads as threads, and as many orders as places
 pub shape_read : (threads : ℕ) (places lines : List (List ℕ)) (y : Execution) (left : List (List ℕ)) → AllRead threads places lines y left → (length y.reads ≡ threads) × (length y.orders ≡ length places)
 shape_read threads places lines y left a = (
   sym (ap (λ (z : Execution). length z.reads) a.y_is) ∙ a.read_lists,
   sym (ap (λ (z : Execution). length z.orders) a.y_is) ∙ a.write_lists,
 )
 
+-- where a line is left, there is a line too many
 pub stray_read : (threads : ℕ) (places lines : List (List ℕ)) (y : Execution) (left more : List (List ℕ)) (line : List ℕ) → AllRead threads places lines y left → left ≡ line ∷ more → lines_read threads places lines ≡ Err (record { line = threads + length places + 1; kind = StrayLine })
 stray_read threads places lines y left more line a e = a.is ∙ ap (λ l. execution_of (threads + length places + 1) a.reads (a.orders, l)) e
 
--- what can't be read
+-- an error of the lines is the error of the text
 pub wrong_text : (error : ExecError) (x : Execution) (lines : Result (Execution × List (List ℕ)) ExecFault) (read : Result Execution ExecFault)
     → ReadsLines (Err error) x lines → ((fault : ExecFault) → lines ≡ Err fault → read ≡ Err fault) → ReadsText (Err error) read
 wrong_text (errors.Text fault) x lines read r f = f fault r

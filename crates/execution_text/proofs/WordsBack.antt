@@ -112,13 +112,14 @@ read_is_word threads h r f = record {
   bytes = all_both is_graphic (decimal r.0) (codes "@" ++ source_word r.1) (digits_graphic r.0 f.0) (source_graphic threads h r.1 f.1);
 }
 
--- the head of a thread's line is a word, and that of a place's
+-- the head of a thread's line is a word
 pub thread_is_word : (thread : ℕ) → thread < 2 ^ 32 → IsWord (thread_head thread)
 thread_is_word thread h = record {
   some = refl;
   bytes = all_both is_graphic (decimal thread) (codes ":") (digits_graphic thread h) refl;
 }
 
+-- the head of a place's line is a word
 pub place_is_word : (place : List ℕ) → is_place_name place ≡ true → IsWord (place_head place)
 place_is_word place h = record {
   some = some_text place [] 58;

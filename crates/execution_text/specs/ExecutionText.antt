@@ -17,10 +17,11 @@ use Rattle.execution_text.specs.declared.errors.ExecKind.TheVariants.{BadThread,
 use Rattle.execution_text.specs.declared.errors.ExecFault.{ExecFault}
 use Rattle.litmus_text.specs.declared.limits.TheConstants.{MAX_TEXT, MAX_ACCESSES}
 
--- the number below a bound that digits write, without leading zeros
+-- a number, where it is below a bound
 abbrev pub kept_below : ℕ → ℕ → Option ℕ
 kept_below bound n = cond (nat_lt n bound) (Some n) None
 
+-- the number below a bound that digits write, without leading zeros
 abbrev pub number_below : ℕ → List ℕ → Option ℕ
 number_below bound digits = option_and_then (kept_below bound) (number_of digits)
 
@@ -30,6 +31,7 @@ access_of None access = None
 access_of (Some thread) None = None
 access_of (Some thread) (Some access) = Some (record { thread = thread; access = access })
 
+-- the access that is written in two parts: its thread, and its number below 64
 abbrev pub access_in : ℕ → Option (List ℕ × List ℕ) → Option WriteAt
 access_in threads None = None
 access_in threads (Some parts) = access_of (number_below threads parts.0) (number_below MAX_ACCESSES parts.1)
@@ -48,15 +50,16 @@ read_of None source = None
 read_of (Some value) None = None
 read_of (Some value) (Some source) = Some (value, source)
 
+-- the read that is written in two parts: its value, and what it reads
 abbrev pub read_in : ℕ → Option (List ℕ × List ℕ) → Option (ℕ × Option WriteAt)
 read_in threads None = None
 read_in threads (Some parts) = read_of (number_of parts.0) (source_named threads parts.1)
 
--- the read that `VALUE@init` or `VALUE@T.N` tells
+-- the read that `VALUE@init` or `VALUE@T.N` names
 unfoldable pub read_named : ℕ → List ℕ → Option (ℕ × Option WriteAt)
 read_named threads word = read_in threads (cut_at 64 word)
 
--- one more before others, if there is it and they are right
+-- a thing before others; or the first fault, where the thing isn't there or the others have one
 abbrev pub put_first : {X F : Type 0} → F → Option X → Result (List X) F → Result (List X) F
 put_first fault None rest = Err fault
 put_first fault (Some x) (Err later) = Err later
@@ -67,7 +70,7 @@ abbrev pub all_named : {X : Type 0} → ExecKind → (List ℕ → Option X) →
 all_named bad name [] = Ok []
 all_named bad name (word ∷ rest) = put_first bad (name word) (all_named bad name rest)
 
--- what a line tells whose first word is its head
+-- what the words of a line after its head name; the first word must be the head
 unfoldable pub line_told : {X : Type 0} → ExecKind → ExecKind → (List ℕ → Option X) → List ℕ → List (List ℕ) → Result (List X) ExecKind
 line_told bad_head bad name head [] = Err bad_head
 line_told bad_head bad name head (word ∷ rest) = cond (bytes_eq word head) (all_named bad name rest) (Err bad_head)
@@ -79,27 +82,28 @@ reads_told threads = line_told BadThread BadRead (read_named threads)
 abbrev pub writes_told : ℕ → List ℕ → List (List ℕ) → Result (List WriteAt) ExecKind
 writes_told threads = line_told BadPlace BadWrite (access_named threads)
 
--- a fault at a line
+-- a fault, with the number of its line
 abbrev pub at_line : {A : Type 0} → ℕ → Result A ExecKind → Result A ExecFault
 at_line n (Ok a) = Ok a
 at_line n (Err kind) = Err (record { line = n; kind = kind })
 
--- what stands on the lines, and the lines that are left
+-- what a line gives before what the others give, and the lines that are left; the first fault where there is one
 abbrev pub put_line : {X : Type 0} → Result (List X) ExecFault → Result (List (List X) × List (List ℕ)) ExecFault → Result (List (List X) × List (List ℕ)) ExecFault
 put_line (Err fault) rest = Err fault
 put_line (Ok xs) (Err fault) = Err fault
 put_line (Ok xs) (Ok rest) = Ok (xs ∷ rest.0, rest.1)
 
--- a line for each head, from line number n on
+-- what lines give, one line for each head, from line number n on, and the lines that are left
 unfoldable pub lines_told : {X : Type 0} → (List ℕ → List (List ℕ) → Result (List X) ExecKind) → ℕ → List (List ℕ) → List (List ℕ) → Result (List (List X) × List (List ℕ)) ExecFault
 lines_told told n [] lines = Ok ([], lines)
 lines_told told n (head ∷ heads) [] = Err (record { line = n; kind = EndMissing })
 lines_told told n (head ∷ heads) (line ∷ lines) = put_line (at_line n (told head (words line))) (lines_told told (n + 1) heads lines)
 
--- the head of a thread's line, and of a place's
+-- the head of a thread's line: `P`, its number and a colon
 abbrev pub thread_head : ℕ → List ℕ
 thread_head thread = codes "P" ++ (decimal thread ++ codes ":")
 
+-- the head of a place's line: its name and a colon
 abbrev pub place_head : List ℕ → List ℕ
 place_head place = place ++ codes ":"
 
@@ -120,18 +124,19 @@ execution_of n reads (orders, []) = Ok (record { reads = reads; orders = orders 
 execution_of n reads (orders, line ∷ lines) = Err (record { line = n; kind = StrayLine })
 
 infixl 10 ◌>>=◌
+-- what follows from a right answer; a fault stays as it is
 abbrev pub ◌>>=◌ : {A B : Type 0} → Result A ExecFault → (A → Result B ExecFault) → Result B ExecFault
 (Ok x) >>= f = f x
 (Err e) >>= f = Err e
 
--- the execution that lines tell, of a program of so many threads and of these places
+-- the execution that lines give, of a program of so many threads and of these places
 unfoldable pub lines_read : ℕ → List (List ℕ) → List (List ℕ) → Result Execution ExecFault
 lines_read threads places lines = do
   reads ← all_reads_told threads lines
   orders ← all_writes_told threads places reads.1
   execution_of (threads + length places + 1) reads.0 orders
 
--- what stands after the last line feed is a line if it has a byte
+-- what comes after the last line feed is a line if it has a byte
 abbrev pub last_line : List ℕ → List (List ℕ)
 last_line [] = []
 last_line (byte ∷ bytes) = (byte ∷ bytes) ∷ []
@@ -142,10 +147,11 @@ lines_in [] = []
 lines_in (piece ∷ []) = last_line piece
 lines_in (piece ∷ next ∷ pieces) = without_return piece ∷ lines_in (next ∷ pieces)
 
+-- the lines of a text
 abbrev pub lines_of : List ℕ → List (List ℕ)
 lines_of text = lines_in (slice_split is_line_feed text)
 
--- the execution that a text tells
+-- the execution that a text gives, of a program of so many threads and of these places
 unfoldable pub execution_read : ℕ → List (List ℕ) → List ℕ → Result Execution ExecFault
 execution_read threads places text =
     cond (nat_lt MAX_TEXT (length text)) (Err (record { line = 1; kind = TooLarge })) (lines_read threads places (lines_of text))

@@ -18,12 +18,12 @@ abbrev pub SourceFits : ℕ → Option WriteAt → Type 0
 SourceFits threads None = Unit {0}
 SourceFits threads (Some w) = AccessFits threads w
 
--- a read that a text can tell: a value of 32 bits, and what is read
+-- a read that a text can name: a value of 32 bits, and what is read
 abbrev pub ReadFits : ℕ → ℕ × Option WriteAt → Type 0
 ReadFits threads r = (r.0 < 2 ^ 32) × SourceFits threads r.1
 
 -- An execution whose text reads back: it has so many threads and an order for each name of a place, the names have the form
--- of those in tests, reads and writes can be told, and the text is no longer than a text may be.
+-- of those in tests, a text can name its reads and writes, and the text is no longer than a text may be.
 pub record ExecutionFits (threads : ℕ) (places : List (List ℕ)) (x : Execution) : Type 0 where
   pub thread_lists : length x.reads ≡ threads
   pub place_lists : length x.orders ≡ length places
@@ -32,7 +32,7 @@ pub record ExecutionFits (threads : ℕ) (places : List (List ℕ)) (x : Executi
   pub orders : All (All (AccessFits threads)) x.orders
   pub short : length (text_of_execution places x) ≤ MAX_TEXT
 
--- what is written reads back
+-- the text that is written of such an execution is read as that execution
 abbrev pub ReadsBack : Type 0
 ReadsBack = (threads : ℕ) (places : List (List ℕ)) (x : Execution) → ExecutionFits threads places x
     → execution_read threads places (text_of_execution places x) ≡ Ok x

@@ -20,22 +20,22 @@ abbrev pub all_added : {X : Type 0} → Adds X → Execution → ℕ → List X 
 all_added add x k [] = x
 all_added add x k (item ∷ items) = all_added add (add x k item) k items
 
--- after things were added to each of its lists from number k on
+-- an execution after things were added to each of its lists from number k on
 abbrev pub each_added : {X : Type 0} → Adds X → Execution → ℕ → List (List X) → Execution
 each_added add x k [] = x
 each_added add x k (items ∷ lists) = each_added add (all_added add x k items) (k + 1) lists
 
--- after those were added that a line tells
+-- an execution after what a line gives was added to its list number k, or the line's fault
 abbrev pub line_added : {X : Type 0} → Adds X → Execution → ℕ → Result (List X) ExecKind → Result Execution ExecKind
 line_added add x k (Ok items) = Ok (all_added add x k items)
 line_added add x k (Err kind) = Err kind
 
--- after those were added that lines tell, and the lines that are left
+-- an execution after what lines give was added to its lists from number k on, and the lines that are left; or their fault
 abbrev pub lines_added : {X : Type 0} → Adds X → Execution → ℕ → Result (List (List X) × List (List ℕ)) ExecFault → Result (Execution × List (List ℕ)) ExecFault
 lines_added add x k (Ok told) = Ok (each_added add x k told.0, told.1)
 lines_added add x k (Err fault) = Err fault
 
--- a line was read, and the execution is this one; or its fault is told; or there was no memory, of which nothing is said
+-- a line was read, and the execution is this one; or its fault is given; or there was no memory, of which nothing is said
 abbrev pub ReadsLine : Result (Unit {0}) LineError → Execution → Result Execution ExecKind → Type 0
 ReadsLine (Ok done) x read = read ≡ Ok x
 ReadsLine (Err (line_errors.Kind kind)) x read = read ≡ Err kind
@@ -47,7 +47,7 @@ ReadsLines (Ok rest) x read = read ≡ Ok (x, lines_of rest.now)
 ReadsLines (Err (errors.Text fault)) x read = read ≡ Err fault
 ReadsLines (Err errors.NoMemory) x read = Unit {0}
 
--- the execution is the one that a text tells
+-- the execution is the one that a text gives, or the fault is the text's; where there was no memory, nothing is said
 abbrev pub ReadsText : Result Execution ExecError → Result Execution ExecFault → Type 0
 ReadsText (Ok x) read = read ≡ Ok x
 ReadsText (Err (errors.Text fault)) read = read ≡ Err fault

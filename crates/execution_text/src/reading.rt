@@ -20,7 +20,7 @@ use litmus_text::MAX_TEXT;
 use std::alloc::Global;
 use text_parts::next_word;
 
-/// What is faulty in a line, or that there is no memory for what it tells.
+/// What is faulty in a line, or that there is no memory for what it names.
 pub(crate) enum LineError {
     Kind(ExecKind),
     NoMemory,
@@ -35,7 +35,7 @@ impl From<NoMemory> for LineError {
 }
 
 impl LineError {
-    /// The same at a line.
+    /// The error with the number of its line.
     fn at(self, line: u64) -> ExecError
         ensures { AtLine line self result }
     {
@@ -46,7 +46,7 @@ impl LineError {
     }
 }
 
-/// Adds the reads that the words of a text tell to those of a thread.
+/// Adds the reads that the words of a text name to those of a thread.
 fn add_reads(thread: u8, threads: u8, text: &[u8], exec: &mut Execution) -> Result<(), LineError>
     requires { thread < length exec.old.reads }
     ensures { ReadsLine result exec.new (line_added with_read exec.old thread (all_named BadRead (read_named threads) (words text.now))) }
@@ -160,7 +160,7 @@ fn read_places<'a>(
     Ok(left)
 }
 
-/// A line is missing.
+/// The error of a line that is missing.
 fn missing(line: u64) -> ExecError
     ensures { result ≡ Text (record { line = line; kind = EndMissing }) }
 {
@@ -170,10 +170,10 @@ fn missing(line: u64) -> ExecError
     })
 }
 
-/// The execution that a text tells, of a program of so many threads and of these places: a line for each
+/// The execution that a text gives, of a program of so many threads and of these places: a line for each
 /// thread, `Pk:` and for each of its reads `VALUE@init` or `VALUE@T.N`, the value and the access that is
 /// read; then a line for each place, its name, a colon and its writes in coherence order, each as `T.N`.
-/// A text that tells none is answered with its first faulty line, and the leftmost fault in it. One of more
+/// A text that gives none is answered with its first faulty line, and the leftmost fault in it. One of more
 /// than `MAX_TEXT` bytes is TooLarge at line 1, whatever it holds. The execution has as many lists of reads
 /// as threads, and as many orders as places.
 ///

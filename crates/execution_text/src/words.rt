@@ -42,7 +42,7 @@ fn source_named(threads: u8, word: &[u8]) -> Option<Option<WriteAt>>
     }
 }
 
-/// The value of a read and what it reads, which `VALUE@init` or `VALUE@T.N` tells.
+/// The value of a read and what it reads, which `VALUE@init` or `VALUE@T.N` names.
 #[tactic(auto, unfolding(crate::specs::ExecutionText::read_named))]
 pub(crate) fn read_named(threads: u8, word: &[u8]) -> Option<(u32, Option<WriteAt>)>
     ensures { result ≡ read_named threads word.now }

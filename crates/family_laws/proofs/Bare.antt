@@ -1,4 +1,5 @@
--- The bare edge of an edge: a communication, or program order, that joins the same accesses. The bare edges of a cycle resolve as the cycle does.
+-- The bare edge of an edge: a communication, or program order, that joins the same accesses. The bare edges of a cycle resolve as
+-- the cycle does.
 use Rattle.std.proofs.Common.{◌≡◌, ℕ, ◌%◌, Bool, ◌==◌, ◌&&◌, true, false, cond, List, [], ◌∷◌, ◌++◌, length, map, take, drop, filter, refl, sym, ◌∙◌, ap, arith}
 use Rattle.std.specs.Prelude.{Option, Some, None, unwrap_or, count_by}
 use Rattle.std.specs.List.{find, list_any}
@@ -26,13 +27,15 @@ bare_kind (kinds.Fenced _ place from to) = edges.Po place from to
 bare_kind (kinds.Dep _ place to) = edges.Po place dirs.R to
 bare_kind (kinds.Data place) = edges.Po place dirs.R dirs.W
 
+-- the bare edge of an edge
 abbrev pub bare : Edge → Edge
 bare edge = bare_kind (kind_of edge)
 
+-- the bare edges of some edges
 abbrev pub bare_edges : List Edge → List Edge
 bare_edges es = map bare es
 
--- it goes outside, moves and begins as the edge does
+-- it leads to another thread, and to another location, where the edge does, and leaves an access that does the same
 record IsAlike (e : Edge) : Type 0 where
   external : is_external (bare e) ≡ is_external e
   diff : is_diff (bare e) ≡ is_diff e
@@ -59,9 +62,11 @@ count_bare t same (e ∷ es) =
       count_bare t same es,
     )
 
+-- as many bare edges lead to another thread
 pub externals_bare : (es : List Edge) → external_count (bare_edges es) ≡ external_count es
 externals_bare es = count_bare is_external (λ e. (alike e).external) es
 
+-- as many bare edges lead to another location
 pub moves_bare : (es : List Edge) → move_count (bare_edges es) ≡ move_count es
 moves_bare es = count_bare is_diff (λ e. (alike e).diff) es
 
@@ -85,6 +90,7 @@ unfolding location_of
 location_bare es i =
     ap (λ n. n % move_count (bare_edges es)) (before_bare es i) ∙ ap (λ n. moves_before es i % n) (moves_bare es)
 
+-- the events in each thread are the same
 pub events_bare : (es : List Edge) → events_in (bare_edges es) ≡ events_in es
 unfolding events_in
 events_bare es = fun_ext (λ k.
@@ -108,12 +114,14 @@ write_bare es location i =
     ap (λ d. same_dir d dirs.W && (location_of (bare_edges es) i == location)) (ap source_of (edge_bare es i) ∙ (alike (edge_at es i)).source)
     ∙ ap (λ l. same_dir (source_of (edge_at es i)) dirs.W && (l == location)) (location_bare es i)
 
+-- the number of writes at each location is the same
 pub writes_bare : (es : List Edge) → write_count (bare_edges es) ≡ write_count es
 unfolding write_count
 writes_bare es = fun_ext (λ location.
     ap (λ n. count_by (is_write_at (bare_edges es) location) (upto n)) (length_bare es)
     ∙ ap (λ (passes : ℕ → Bool). count_by passes (upto (length es))) (fun_ext (λ i. write_bare es location i)))
 
+-- whether one thread has all edges to another location, or there is none, is the same
 pub coherence_bare : (es : List Edge) → is_coherence_only (bare_edges es) ≡ is_coherence_only es
 unfolding is_coherence_only
 coherence_bare es =
@@ -149,6 +157,7 @@ picked_bare : (o : Option (List Edge)) (es : List Edge) → unwrap_or (option_ma
 picked_bare (Some us) es = refl
 picked_bare None es = refl
 
+-- turning the bare edges gives the bare edges of the turned list
 pub turned_bare : (es : List Edge) → turned (bare_edges es) ≡ bare_edges (turned es)
 unfolding turned
 turned_bare es =

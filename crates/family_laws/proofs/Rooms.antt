@@ -60,13 +60,13 @@ uncrowded a room steps short =
     let places = places-le-length steps in
     le-ltb a.registers (a.need (shape_of steps)) (room.enough (shape_of steps) (omega arith) (omega arith) (omega arith) (omega arith))
 
--- where what holds of each element makes it fail a test, none is the first that passes
+-- where what holds of each element makes it fail a test, none is the first that passes it
 position_never : {X : Type 0} (P : X → Type 0) (t : X → Bool) → ((x : X) → P x → t x ≡ false) → (i : ℕ) (xs : List X) → AllByRecursion P xs → position_from t i xs ≡ None
 position_never P t fails i [] h = refl
 position_never P t fails i (x ∷ xs) h =
     ap (λ b. cond b (Some i) (position_from t (i + 1) xs)) (fails x h.0) ∙ position_never P t fails (i + 1) xs h.1
 
--- threads are short whose numbers of accesses pass
+-- threads whose numbers of accesses pass the test are short
 short_mapped : {X : Type 0} (thread : X → List Step) (count : X → ℕ) → ((x : X) → length (thread x) ≡ count x) → (xs : List X) → list_all (λ x. nat_le (count x) 2) xs ≡ true → AllByRecursion IsShort (map thread xs)
 short_mapped thread count same [] h = tt
 short_mapped thread count same (x ∷ xs) h =
@@ -75,7 +75,7 @@ short_mapped thread count same (x ∷ xs) h =
     let l = leb-true (count x) 2 p.0 in
     (omega arith, short_mapped thread count same xs p.1)
 
--- what passes for each element passes for those that are kept
+-- what holds of each element of a list holds of those that a filter keeps
 kept_pass : {X : Type 0} (t keeps : X → Bool) (xs : List X) → list_all t xs ≡ true → list_all t (filter keeps xs) ≡ true
 kept_pass t keeps [] h = refl
 kept_pass t keeps (x ∷ xs) h =
@@ -91,6 +91,7 @@ short_steps es small =
     (short_mapped (observer_steps es plain) (write_count es) (λ location. length-map-upto (observing (plain location)) (write_count es location)) (observed_locations es Accept)
     (kept_pass (λ location. nat_le (write_count es location) 2) (is_observed es Accept) (upto (move_count es)) p.1))
 
+-- no thread of a small cycle has too few registers
 pub none_crowded : (a : Puts) → HasRoom a → (es : List Edge) → is_small es ≡ true → crowded_thread a es Accept ≡ None
 none_crowded a room es small =
     ap (option_map (λ thread. TooManyRegisters thread))

@@ -1,4 +1,4 @@
--- The edges that stand for those of a family's cycle are of the architecture, and their bare edges are the family's.
+-- The edges that replace those of a family's cycle are of the architecture, and their bare edges are the family's.
 use Rattle.std.proofs.Common.{◌≡◌, Bool, true, false, not, List, [], ◌∷◌, refl, sym, ◌∙◌, ap}
 use Rattle.std.specs.Prelude.{MatchBool}
 use Rattle.std.specs.List.{list_all}
@@ -48,7 +48,7 @@ inner_bare edge inner moves = by (kind_of edge) refl inner moves
     by (kinds.Data Diff) h inner moves = rw h refl
     by (kinds.Data Same) h inner moves = absurd (no_test (sym (rw h at moves)))
 
--- an edge that stands for one of a family's
+-- an edge that replaces one of a family's
 record Stands (arch : ArchName) (slot edge : Edge) : Type 0 where
   bare_is : bare edge ≡ slot
   of_arch : is_of_arch edge arch ≡ true
@@ -80,11 +80,12 @@ slot_stands arch (edges.Dep kind place to) edge s h = cc
 slot_stands arch (edges.Data place) edge s h = cc
 slot_stands arch (edges.Marked marked) edge s h = cc
 
--- edges that stand for those of a family's cycle
+-- edges that replace those of a family's cycle: their bare edges are the family's, and they are of the architecture
 pub record AllStand (arch : ArchName) (slots es : List Edge) : Type 0 where
   pub bare_are : bare_edges es ≡ slots
   pub of_arch : list_all (λ e. is_of_arch e arch) es ≡ true
 
+-- edges picked for those of a family's cycle are such
 pub filled_stand : (arch : ArchName) (slots es : List Edge) → list_all is_slot slots ≡ true → IsFilled arch slots es → AllStand arch slots es
 filled_stand arch [] [] s h = record { bare_are = refl; of_arch = refl }
 filled_stand arch [] (e ∷ es) s h = absurd h

@@ -71,6 +71,7 @@ among_passes t xs x h among =
     (λ e. e)
     (λ e. let fails = list_all_at t xs among.0 x among.1.0 (ap t (sym among.1.1) ∙ e) in cc)
 
+-- each cycle that is made of a family's has a test
 pub makes_all : (a : Puts) → HasRoom a → MakesAll a
 makes_all a room family among es filled =
     let slots = family_edges family in

@@ -20,14 +20,14 @@ is_choice arch from to edge =
     not (is_external edge) && is_diff edge && is_of_arch edge arch && same_dir (source_of edge) from && same_dir (target_of edge) to
     && same_mark (source_mark edge) Plain && same_mark (target_mark edge) Plain
 
--- edges stand for those of a family's cycle, whatever is drawn: an external one stays, and for a link there is a choice
+-- edges picked for those of a family's cycle: an external edge stays as it is, and a link is replaced by a choice for it
 abbrev pub IsFilled : ArchName → List Edge → List Edge → Type 0
 IsFilled arch [] [] = ⊤
 IsFilled arch (slot ∷ slots) (edge ∷ edges) =
     MatchBool (is_external slot) (edge ≡ slot) (is_choice arch (source_of slot) (target_of slot) edge ≡ true) × IsFilled arch slots edges
 IsFilled _ _ _ = ⊥
 
--- every cycle that is made so of a family's has a test
+-- every cycle that is made of a family's in this way has a test
 abbrev pub MakesAll : Puts → Type 0
 MakesAll puts =
     (family : Family) → IsAmong all_families family → (edges : List Edge) →

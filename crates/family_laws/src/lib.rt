@@ -8,7 +8,7 @@ ghost use Rattle.arch_aarch64.specs.Puts as aarch64;
 ghost use Rattle.arch_riscv.specs.Puts as riscv;
 
 /// On each architecture, a cycle of a family has a test in the mode that accepts observers, whichever edge of the
-/// architecture stands for each link: one that stays in its thread, leads to another location, and joins the same accesses.
+/// architecture is picked for each link: one that stays in its thread, leads to another location, and joins the same accesses.
 pub fn families_have_tests()
     ensures on_x86 { MakesAll x86.puts }
     ensures on_power { MakesAll power.puts }

@@ -14,7 +14,7 @@ named_word words place name word = sym (get_or_from_slice_get words place name [
 pub file_before : (old mid : ShelfSeen) (name text : List ℕ) → mid.files ≡ old.files → IsFile mid.files name text → IsFile old.files name text
 file_before old mid name text files named = subst (λ o. IsFile o name text) files named
 
--- and one that isn't there wasn't
+-- a file that isn't there after others were read wasn't there before
 pub absent_before : (old mid new : ShelfSeen) (name : List ℕ) → mid.files ≡ old.files → mid.faults ≡ old.faults
     → MatchOption mid.files (Rose mid.faults new.faults) (λ there. there name ≡ None)
     → MatchOption old.files (Rose old.faults new.faults) (λ there. there name ≡ None)

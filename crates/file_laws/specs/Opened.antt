@@ -1,4 +1,4 @@
--- Files of a shelf that are opened one after another, as far as it tells and counts that.
+-- Files of a shelf that are opened one after another, as far as the shelf shows and counts them.
 -- Source: own.
 use Rattle.std.specs.Prelude.{◌≡◌, ◌+◌, ℕ, List, [], ◌∷◌, length, slice_index_or, Option, Some, IfSome}
 use Rattle.diy_io.specs.Count.{count_of}
@@ -8,11 +8,11 @@ use Rattle.diy_io.specs.Shelf.{Files, ShelfSeen}
 abbrev pub name_at : List (List ℕ) → ℕ → List ℕ
 name_at words place = slice_index_or words place []
 
--- a file of a name is there and has these bytes, where the files are told
+-- a file of a name is there and has these bytes, where the files are known
 abbrev pub IsFile : Option Files → List ℕ → List ℕ → Type 0
 IsFile files name bytes = IfSome files (λ there. there name ≡ Some bytes)
 
--- how many bytes were taken of the file that was opened last, after these were taken of one file each, one after another
+-- how many bytes were taken of the file that was opened last, where these were taken of one file each, one after another
 abbrev pub last_taken : ℕ → List (List ℕ) → ℕ
 last_taken taken [] = taken
 last_taken taken (bytes ∷ more) = last_taken (length bytes) more

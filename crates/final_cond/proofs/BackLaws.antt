@@ -1,4 +1,4 @@
--- Printed conditions read back, part by part, whatever follows a part, and whichever left sides pass beside those of their form.
+-- Printed conditions read back, part by part, whatever follows a part, and whichever left sides are accepted beside those of their form.
 use Rattle.std.proofs.Common.{◌≡◌, ℕ, zero, suc, ◌^◌, ◌<◌, ◌≤◌, List, [], ◌∷◌, ◌++◌, length, refl, sym, ap, ◌∙◌, arith, append_assoc, append-nil}
 use Rattle.std.specs.Prelude.{Bool, true, false, not, codes, nat_eq, nat_lt, Some, Ok}
 use Rattle.std.specs.Char.{is_ascii_alphabetic, is_ascii_alphanumeric, is_ascii_digit}
@@ -22,7 +22,7 @@ use Rattle.final_cond.specs.Reading.{sign_read, opening_read, left_at_front, reg
 use Rattle.text_laws.proofs.NameLaws.{place_shaped, register_shaped, shaped_all}
 use Rattle.text_laws.proofs.NumberLaws.{own, number_of-decimal}
 
--- no byte that passes stands at the front
+-- a text doesn't begin with a byte that passes
 abbrev pub stops : (ℕ → Bool) → List ℕ → Bool
 stops passes [] = true
 stops passes (byte ∷ text) = not (passes byte)
@@ -65,6 +65,7 @@ pub record Digits (n : ℕ) : Type 0 where
   pub all : list_all is_ascii_digit (decimal n) ≡ true
   pub some : 0 < length (decimal n)
 
+-- the digits of a number of 32 bits are digits, and at least one
 pub digits_of : (n : ℕ) → n < 2 ^ 32 → Digits n
 digits_of n h = record { all = digits_decimal own n (omega arith); some = decimal_nonempty n (omega arith) }
 
@@ -76,6 +77,7 @@ pub record Named (thread : ℕ) (name : List ℕ) : Type 0 where
   pub few : thread < 64
   pub bytes : list_all is_ascii_alphanumeric name ≡ true
 
+-- a register of a form has a thread below 64 and a name of a register's form
 pub named : (thread : ℕ) (name : List ℕ) → has_form (InRegister thread name) ≡ true → Named thread name
 named thread name h =
     let p : (nat_lt thread 64 ≡ true) × (is_register_name name ≡ true) = and_parts (nat_lt thread 64) (is_register_name name) h in
@@ -84,6 +86,7 @@ named thread name h =
       bytes = shaped_all is_ascii_alphabetic is_ascii_alphanumeric is_ascii_alphanumeric (λ byte l. grind (arith, nat_tests)) (λ byte l. l) name (register_shaped name p.1);
     }
 
+-- each byte of a name of a place's form is one that such names may have
 pub place_bytes : (name : List ℕ) → has_form (AtPlace name) ≡ true → list_all is_place_byte name ≡ true
 place_bytes name h = shaped_all begins_place is_place_byte is_place_byte (λ byte l. grind (arith, nat_tests)) (λ byte l. l) name (place_shaped name h)
 
@@ -167,7 +170,7 @@ joining rest = refl
 abbrev pub Known : (LeftSeen → Bool) → List TermSeen → Type 0
 Known known terms = AllByRecursion (λ term. known term.left ≡ true) terms
 
--- terms read back, up to the `)` behind them
+-- terms read back, up to the `)` after them
 pub terms_back : (known : LeftSeen → Bool) (room : ℕ) (term : TermSeen) (terms : List TermSeen) (rest : List ℕ) → length terms < room
     → AllByRecursion IsFormedTerm (term ∷ terms) → Known known (term ∷ terms) → terms_read known room (terms_text (term ∷ terms) ++ 41 ∷ rest) ≡ Ok (term ∷ terms, rest)
 unfolding terms_read
@@ -194,7 +197,7 @@ all_terms_back : (known : LeftSeen → Bool) (room : ℕ) (terms : List TermSeen
 all_terms_back known room [] rest some few f k = absurd (omega arith)
 all_terms_back known room (term ∷ terms) rest some few f k = terms_back known room term terms rest (omega arith) f k
 
--- a whole condition reads back, with blanks behind it
+-- a whole condition reads back, with blanks after it
 pub parts_back : (known : LeftSeen → Bool) (condition : CondSeen) (blanks : List ℕ) → IsFormed condition → Known known condition.terms → unblanked blanks ≡ [] → parts_read known (cond_text condition ++ blanks) ≡ Ok condition
 unfolding parts_read cond_text
 parts_back known condition blanks f k b =

@@ -15,7 +15,7 @@ use Rattle.final_cond.specs.declared.print.TheConstants.{TERM_ROOM}
 use Rattle.final_cond.specs.Conditions.{term_view}
 use Rattle.final_cond.specs.CondText.{term_text, further_term_text, terms_text}
 
--- the text of terms of which each stands after ` /\ `
+-- the text of terms, each after ` /\ `
 abbrev pub further : List Term → List ℕ
 further terms = flat_map further_term_text (map term_view terms)
 
@@ -30,14 +30,16 @@ further_more terms i term inside is =
     ∙ ap (λ t. t ++ further_term_text (term_view (get_or terms i term))) (further_is (take i terms))
     ∙ ap (λ t. further (take i terms) ++ further_term_text (term_view t)) (sym is)
 
--- the terms so far are put, and are short
+-- the terms so far are on the page, and are short
 pub record Further (old new : List ℕ) (terms : List Term) (count : ℕ) : Type 0 where
   pub text : new ≡ page_after old (further (take count terms))
   pub short : length (further (take count terms)) ≤ TERM_ROOM * count
 
+-- before the first term nothing is added
 pub none_put : (page : List ℕ) (terms : List Term) → Further page page terms 0
 none_put page terms = record { text = sym (page_nothing page); short = omega arith }
 
+-- one more term is added after those so far
 pub one_more_put : (old page new : List ℕ) (terms : List Term) (i : ℕ) (term : Term) → i < length terms → term ≡ get_or terms i term
     → Further old page terms i → new ≡ page_after page (further_term_text (term_view term)) → length (further_term_text (term_view term)) ≤ TERM_ROOM
     → Further old new terms (i + 1)

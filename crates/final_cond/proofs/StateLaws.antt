@@ -29,6 +29,7 @@ first_is_later pairs i pair left whole inside is same h =
 abbrev pub Met : (LeftSeen → Option Value) → Term → Type 0
 Met final term = final (left_view term.left) ≡ Some (Num term.value)
 
+-- each of these terms has its value in the state
 abbrev pub AllMet : (LeftSeen → Option Value) → List Term → Type 0
 AllMet final terms = AllByRecursion (λ term. final term.left ≡ Some (Num term.value)) (map term_view terms)
 

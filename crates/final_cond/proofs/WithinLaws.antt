@@ -1,4 +1,4 @@
--- A fault stands within the text that is read.
+-- A fault lies within the text that is read.
 use Rattle.std.proofs.Common.{◌≡◌, ℕ, zero, suc, ◌≤◌, List, [], ◌∷◌, length, subst, arith}
 use Rattle.std.specs.Prelude.{Bool, nat_eq, Option, Some, None, Result, Ok, Err, IfSome}
 use Rattle.std.specs.Char.{is_ascii_digit, is_ascii_alphanumeric}
@@ -16,7 +16,7 @@ use Rattle.final_cond.specs.Reading.{Fault, Read, ◌>>=◌, sign_at_front, sign
 use Rattle.text_laws.specs.Words.{is_word_byte}
 use Rattle.text_laws.proofs.RunLaws.{by_test, after_run-le}
 
--- the text behind what was read, or from the fault on, has at most so many bytes
+-- the text after what was read, or from the fault on, has at most so many bytes
 abbrev Stays : {A : Type 0} → (A → List ℕ) → ℕ → Result A Fault → Type 0
 Stays rest n (Ok x) = length (rest x) ≤ n
 Stays rest n (Err f) = length f.rest ≤ n

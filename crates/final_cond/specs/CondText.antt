@@ -22,7 +22,7 @@ left_text (AtPlace name) = codes "[" ++ name ++ codes "]"
 unfoldable pub term_text : TermSeen → List ℕ
 term_text term = left_text term.left ++ codes "=" ++ decimal term.value
 
--- a term behind ` /\ `
+-- a term after ` /\ `
 abbrev pub further_term_text : TermSeen → List ℕ
 further_term_text term = codes " /\\ " ++ term_text term
 

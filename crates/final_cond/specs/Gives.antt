@@ -1,4 +1,4 @@
--- What code that reads answers, as the definitions see it.
+-- What code that reads a text answers, as the definitions see it.
 use Rattle.std.specs.Prelude.{◌≡◌, ℕ, List, Result, Ok, Err}
 use Rattle.std.specs.Borrow.{Bor}
 use Rattle.final_cond.specs.declared.cond.Left.{Left}
@@ -16,10 +16,10 @@ abbrev pub Gives : {X Y : Type 0} → (X → Y) → Result X CondFault → Resul
 Gives view (Ok x) read = read ≡ Ok (view x)
 Gives view (Err fault) read = read ≡ Err (fault_view fault)
 
--- a left side and the text behind it, as bytes
+-- a left side and the text after it, as bytes
 abbrev pub left_and_rest : Left × Bor (List ℕ) → LeftSeen × List ℕ
 left_and_rest left = (left_view left.0, left.1.now)
 
--- a term and the text behind it, as bytes
+-- a term and the text after it, as bytes
 abbrev pub term_and_rest : Term × Bor (List ℕ) → TermSeen × List ℕ
 term_and_rest term = (term_view term.0, term.1.now)

@@ -24,11 +24,12 @@ pub record Fault : Type 0 where
   pub kind : CondKind
   pub rest : List ℕ
 
--- A part is read from the front of a text: the answer is what it means and the text behind it, or the fault.
+-- A part is read from the start of a text: the answer is what it means and the text after it, or the fault.
 abbrev pub Read : Type 0 → Type 0
 Read A = Result (A × List ℕ) Fault
 
 infixl 10 ◌>>=◌
+-- what is read goes on with the answer of the part before, and a fault stays the fault
 abbrev pub ◌>>=◌ : {A B : Type 0} → Result A Fault → (A → Result B Fault) → Result B Fault
 (Ok x) >>= f = f x
 (Err e) >>= f = Err e
@@ -37,12 +38,12 @@ abbrev pub ◌>>=◌ : {A B : Type 0} → Result A Fault → (A → Result B Fau
 abbrev pub fault : {A : Type 0} → CondKind → List ℕ → Result A Fault
 fault kind text = Err (record { kind = kind; rest = text })
 
--- the text behind a sign, with which it begins
+-- the text after a sign, with which it begins
 abbrev pub sign_at_front : CondKind → ℕ → List ℕ → Result (List ℕ) Fault
 sign_at_front kind sign [] = fault kind []
 sign_at_front kind sign (byte ∷ rest) = cond (byte == sign) (Ok rest) (fault kind (byte ∷ rest))
 
--- the text behind a sign, before which blanks may stand
+-- the text after a sign, before which blanks may stand
 unfoldable pub sign_read : CondKind → ℕ → List ℕ → Result (List ℕ) Fault
 sign_read kind sign text = sign_at_front kind sign (unblanked text)
 
@@ -58,66 +59,66 @@ abbrev pub found : {A : Type 0} → CondKind → List ℕ → Option (A × List 
 found kind text None = fault kind text
 found kind text (Some part) = Ok part
 
--- a value and the text behind it, where there is a value
+-- a value and the text after it, where there is a value
 abbrev pub before_text : {A : Type 0} → Option A → List ℕ → Option (A × List ℕ)
 before_text None rest = None
 before_text (Some x) rest = Some (x, rest)
 
--- the quantifier at the front of a text
+-- the quantifier at the start of a text
 abbrev pub quantifier_at_front : List ℕ → Read Quantifier
 quantifier_at_front text = found BadQuantifier text (before_text (quantifier_of (run_of is_word_byte text)) (after_run is_word_byte text))
 
--- the quantifier and the `(` behind it
+-- the quantifier and the `(` after it
 unfoldable pub opening_read : List ℕ → Read Quantifier
 opening_read text = do
   quantifier ← quantifier_at_front (unblanked text)
   inside ← sign_read BadQuantifier 40 quantifier.1
   Ok (quantifier.0, inside)
 
--- `PLACE` at the front of a text
+-- `PLACE` at the start of a text
 abbrev pub place_at_front : List ℕ → Option (LeftSeen × List ℕ)
 place_at_front text = Some (AtPlace (run_of is_place_byte text), after_run is_place_byte text)
 
--- `]` behind the name of a place
+-- `]` after the name of a place
 abbrev pub bracket_closed : List ℕ → List ℕ → Option (LeftSeen × List ℕ)
 bracket_closed name [] = None
 bracket_closed name (byte ∷ rest) = cond (byte == 93) (Some (AtPlace name, rest)) None
 
--- `PLACE]` at the front of a text, behind a `[`
+-- `PLACE]` at the start of a text, after a `[`
 abbrev pub bracketed_at_front : List ℕ → Option (LeftSeen × List ℕ)
 bracketed_at_front text = bracket_closed (run_of is_place_byte text) (after_run is_place_byte text)
 
--- `:REG` behind the number of a thread
+-- `:REG` after the number of a thread
 abbrev pub register_of_thread : Option ℕ → List ℕ → Option (LeftSeen × List ℕ)
 register_of_thread None text = None
 register_of_thread (Some thread) [] = None
 register_of_thread (Some thread) (byte ∷ rest) =
     cond (byte == 58) (Some (InRegister thread (run_of is_ascii_alphanumeric rest), after_run is_ascii_alphanumeric rest)) None
 
--- `T:REG` at the front of a text
+-- `T:REG` at the start of a text
 abbrev pub register_at_front : List ℕ → Option (LeftSeen × List ℕ)
 register_at_front text = register_of_thread (number_of (run_of is_ascii_digit text)) (after_run is_ascii_digit text)
 
--- a left side at the front of a text: `[PLACE]`, `T:REG` or `PLACE`
+-- a left side at the start of a text: `[PLACE]`, `T:REG` or `PLACE`
 unfoldable pub left_at_front : List ℕ → Option (LeftSeen × List ℕ)
 left_at_front [] = None
 left_at_front (byte ∷ rest) =
     cond (byte == 91) (bracketed_at_front rest) (cond (is_ascii_digit byte) (register_at_front (byte ∷ rest)) (place_at_front (byte ∷ rest)))
 
--- a left side, where it passes
+-- a left side, where it is accepted
 abbrev pub known_left : (LeftSeen → Bool) → LeftSeen → Option LeftSeen
 known_left known left = cond (known left) (Some left) None
 
--- a left side at the front of a text, where it passes
+-- a left side at the start of a text, where it is accepted
 abbrev pub only_known : (LeftSeen → Bool) → Option (LeftSeen × List ℕ) → Option (LeftSeen × List ℕ)
 only_known known None = None
 only_known known (Some left) = before_text (known_left known left.0) left.1
 
--- a left side that passes, at the front of a text
+-- a left side that is accepted, at the start of a text
 unfoldable pub left_read : (LeftSeen → Bool) → List ℕ → Read LeftSeen
 left_read known text = found BadTerm text (only_known known (left_at_front text))
 
--- a number at the front of a text
+-- a number at the start of a text
 abbrev pub value_at_front : List ℕ → Read ℕ
 value_at_front text = found BadValue text (before_text (number_of (run_of is_ascii_digit text)) (after_run is_ascii_digit text))
 
@@ -131,14 +132,14 @@ right_read text = do
   right ← sign_read BadTerm 61 text
   value_read right
 
--- a left side that passes, `=` and a value
+-- a left side that is accepted, `=` and a value
 unfoldable pub term_read : (LeftSeen → Bool) → List ℕ → Read TermSeen
 term_read known text = do
   left ← left_read known (unblanked text)
   right ← right_read left.1
   Ok (record { left = left.0; value = right.0 }, right.1)
 
--- the `\` of `/\`, behind the `/` with which the text begins
+-- the `\` of `/\`, after the `/` with which the text begins
 abbrev pub and_at_front : List ℕ → List ℕ → Read Follow
 and_at_front text [] = fault BadEnd text
 and_at_front text (byte ∷ rest) = cond (byte == 92) (Ok (follows.Term, rest)) (fault BadEnd text)
@@ -164,7 +165,7 @@ and_further term further follows.Term rest = do
   others ← further rest
   Ok (before_terms term others)
 
--- at most so many terms, with `/\` between, up to the `)` behind the last; a term too many is a fault where it begins
+-- at most so many terms, with `/\` between, up to the `)` after the last; a term too many is a fault where it begins
 unfoldable pub terms_read : (LeftSeen → Bool) → ℕ → List ℕ → Read (List TermSeen)
 terms_read known zero text = do
   term ← term_read known text
@@ -197,6 +198,6 @@ abbrev pub has_form : LeftSeen → Bool
 has_form (InRegister thread name) = nat_lt thread 64 && is_register_name name
 has_form (AtPlace name) = is_place_name name
 
--- the condition that a text writes, or the first fault and its place
+-- the condition that a text represents, or the first fault and its place
 unfoldable pub cond_read : List ℕ → Result CondSeen CondError
 cond_read text = placed text (parts_read has_form text)

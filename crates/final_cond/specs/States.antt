@@ -23,7 +23,8 @@ abbrev pub value_in : State → LeftSeen → Option Value
 value_in [] left = None
 value_in (pair ∷ state) left = cond (same_left pair.0 left) (Some pair.1) (value_in state left)
 
--- A final state, which gives left sides their values, meets a condition where each term's left side has the term's value there. The quantifier isn't looked at.
+-- A final state, which gives left sides their values, meets a condition where each term's left side has the term's value there.
+-- The quantifier isn't looked at.
 abbrev pub Meets : (LeftSeen → Option Value) → CondSeen → Type 0
 Meets final condition = AllByRecursion (λ term. final term.left ≡ Some (Num term.value)) condition.terms
 

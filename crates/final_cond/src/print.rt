@@ -23,7 +23,7 @@ fn opening(quantifier: Quantifier) -> &'static [u8]
     }
 }
 
-/// Puts the left side of a term.
+/// Adds the left side of a term.
 #[tactic(auto, using(diy_io::specs::PageLaws::page_more, std::proofs::Common::append_assoc), unfolding(crate::specs::CondText::left_text))]
 fn print_left(left: &Left, page: &mut Page)
     ensures text { page.new ≡ page_after page.old (left_text (left_view left.now)) }
@@ -43,7 +43,7 @@ fn print_left(left: &Left, page: &mut Page)
     }
 }
 
-/// Puts a term after `before`.
+/// Adds a term after `before`.
 #[tactic(auto, using(diy_io::specs::PageLaws::page_more, std::proofs::Common::append_assoc), unfolding(crate::specs::CondText::term_text))]
 fn print_term(before: &[u8], term: &Term, page: &mut Page)
     ensures text { page.new ≡ page_after page.old (before.now ++ term_text (term_view term.now)) }
@@ -55,7 +55,7 @@ fn print_term(before: &[u8], term: &Term, page: &mut Page)
     page.put(Buffer::new().format(term.value).as_bytes());
 }
 
-/// Puts terms, each with ` /\ ` before it.
+/// Adds terms, each with ` /\ ` before it.
 fn print_further(terms: &[Term], page: &mut Page)
     ensures text { page.new ≡ page_after page.old (flat_map further_term_text (map term_view terms.now)) }
     ensures short { length (flat_map further_term_text (map term_view terms.now)) ≤ TERM_ROOM * length terms.now }
@@ -65,7 +65,7 @@ fn print_further(terms: &[Term], page: &mut Page)
     }
 }
 
-/// Puts terms, with ` /\ ` between.
+/// Adds terms, with ` /\ ` between.
 #[tactic(auto, using(diy_io::specs::PageLaws::page_more, crate::proofs::PrintLaws::first_and_further, crate::proofs::PrintLaws::no_terms))]
 fn print_terms(terms: &[Term], page: &mut Page)
     ensures text { page.new ≡ page_after page.old (terms_text (map term_view terms.now)) }
@@ -80,7 +80,7 @@ fn print_terms(terms: &[Term], page: &mut Page)
     }
 }
 
-/// Puts the text of a condition to a page, without a line feed, for which there is room too.
+/// Adds the text of a condition to a page, without a line feed, for which there is room too.
 #[tactic(auto, using(diy_io::specs::PageLaws::page_more, std::proofs::Common::append_assoc), unfolding(crate::specs::CondText::cond_text))]
 pub fn put_cond(cond: &Cond, page: &mut Page)
     ensures text { page.new ≡ page_after page.old (cond_text (cond_view cond.now)) }

@@ -45,7 +45,7 @@ fn quantifier_of(word: &[u8]) -> Option<Quantifier>
     }
 }
 
-/// The quantifier and the `(` with which the text of a condition begins, and the text behind them.
+/// The quantifier and the `(` with which the text of a condition begins, and the text after them.
 #[tactic(auto, unfolding(crate::specs::Reading::opening_read))]
 pub fn read_opening(text: &[u8]) -> Result<(Quantifier, &[u8]), CondFault<'_>>
     ensures { Gives (λ x. (x.0, x.1.now)) result (opening_read text.now) }
@@ -130,7 +130,7 @@ fn left(text: &[u8]) -> Option<(Left, &[u8])>
 }
 
 /// The left side with which a text begins, of a register of a thread below 64 or of a place, and
-/// the text behind it. Blanks may stand before it.
+/// the text after it. Blanks may stand before it.
 #[tactic(auto, unfolding(crate::specs::Reading::left_read))]
 pub fn read_left(text: &[u8]) -> Result<(Left, &[u8]), CondFault<'_>>
     ensures { Gives left_and_rest result (left_read has_form (unblanked text.now)) }
@@ -160,7 +160,7 @@ fn read_value(text: &[u8]) -> Result<(u32, &[u8]), CondFault<'_>>
     }
 }
 
-/// The value behind the `=` with which a text begins, and the text behind it. Blanks may stand
+/// The value after the `=` with which a text begins, and the text after it. Blanks may stand
 /// before both.
 #[tactic(auto, unfolding(crate::specs::Reading::right_read))]
 pub fn read_right(text: &[u8]) -> Result<(u32, &[u8]), CondFault<'_>>
@@ -170,7 +170,7 @@ pub fn read_right(text: &[u8]) -> Result<(u32, &[u8]), CondFault<'_>>
     read_value(right)
 }
 
-/// The term with which a text begins, and the text behind it. Blanks may stand before it and around
+/// The term with which a text begins, and the text after it. Blanks may stand before it and around
 /// its `=`.
 #[tactic(auto, unfolding(crate::specs::Reading::term_read))]
 pub fn read_term(text: &[u8]) -> Result<(Term, &[u8]), CondFault<'_>>
@@ -184,7 +184,7 @@ pub fn read_term(text: &[u8]) -> Result<(Term, &[u8]), CondFault<'_>>
     Ok((Term { left, value }, rest))
 }
 
-/// What follows a term, and the text behind it. Blanks may stand before it.
+/// What follows a term, and the text after it. Blanks may stand before it.
 #[tactic(auto, unfolding(crate::specs::Reading::follow_read))]
 pub fn read_follow(text: &[u8]) -> Result<(Follow, &[u8]), CondFault<'_>>
     ensures { Gives (λ x. (x.0, x.1.now)) result (follow_read text.now) }
@@ -200,7 +200,7 @@ pub fn read_follow(text: &[u8]) -> Result<(Follow, &[u8]), CondFault<'_>>
     }
 }
 
-/// Puts the terms of a text into `terms`, which is empty, up to the `)` behind the last.
+/// Appends the terms of a text to `terms`, which is empty, up to the `)` after the last.
 #[tactic(auto, using(crate::proofs::TermLaws::nothing_behind))]
 fn read_terms<'a>(
     text: &'a [u8],
@@ -246,7 +246,7 @@ fn read_parts(text: &[u8]) -> Result<Cond, CondFault<'_>>
     Ok(Cond { quantifier, terms })
 }
 
-/// The condition that a text writes: a quantifier, `(`, terms with `/\` between, and `)`. Blanks
+/// The condition that a text represents: a quantifier, `(`, terms with `/\` between, and `)`. Blanks
 /// may stand anywhere but inside a word, a left side or a number.
 ///
 /// There are 1 to `MAX_TERMS` terms, threads are below 64, and names are of their forms. Else the

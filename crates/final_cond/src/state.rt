@@ -69,7 +69,7 @@ impl Final {
         }
     }
 
-    /// Adds a value behind the others. Without memory for it the state is unchanged.
+    /// Adds a value after the others. Without memory for it the state is unchanged.
     pub fn add(&mut self, left: Left, value: Value) -> Result<(), NoMemory>
         ensures ok { OnOk result (self.new ≡ self.old ++ (left_view left, value) ∷ []) }
         ensures err { OnErr result (self.new ≡ self.old) }

@@ -1,4 +1,4 @@
--- Every barrier, and what a test of all of them tells of each.
+-- Every barrier, and what a test of all of them says of each.
 -- Source: own.
 use Rattle.std.proofs.Common.{ℕ, zero, suc, ◌≡◌, refl, true, false, Bool, not, ◌||◌, List, [], ◌∷◌, Some, arith}
 use Rattle.std.specs.List.{list_all, slice_get}
@@ -55,15 +55,16 @@ each_barrier p h (barriers.Fence (fences.Fence picks.RW picks.R)) = found p all_
 each_barrier p h (barriers.Fence (fences.Fence picks.RW picks.W)) = found p all_barriers 16 (barriers.Fence (fences.Fence picks.RW picks.W)) h refl
 each_barrier p h (barriers.Fence (fences.Fence picks.RW picks.RW)) = found p all_barriers 17 (barriers.Fence (fences.Fence picks.RW picks.RW)) h refl
 
--- and what holds of all fences of each
+-- a test of fences as a test of barriers
 abbrev pub on_fence : (FenceKind → Bool) → Barrier → Bool
 on_fence p (barriers.Fence kind) = p kind
 on_fence p barriers.Isb = true
 
+-- what holds of all fences holds of each
 pub each_fence : (p : FenceKind → Bool) → list_all (on_fence p) all_barriers ≡ true → (kind : FenceKind) → p kind ≡ true
 each_fence p h kind = each_barrier (on_fence p) h (barriers.Fence kind)
 
--- a table that has all fences of an architecture has each
+-- a table has a fence, or it isn't one of the architecture's
 abbrev pub has_or_not : ArchName → TableText → FenceKind → Bool
 has_or_not name t kind = not (fence_is_of kind name) || table_has t (ops.Barrier (barriers.Fence kind))
 
@@ -71,6 +72,7 @@ implied : (a b : Bool) → (not a || b) ≡ true → a ≡ true → b ≡ true
 implied true b h e = h
 implied false b h e = cc
 
+-- a table that has all fences of an architecture has each
 pub fences_had : (name : ArchName) (t : TableText) → list_all (on_fence (has_or_not name t)) all_barriers ≡ true →
     (kind : FenceKind) → fence_is_of kind name ≡ true → table_has t (ops.Barrier (barriers.Fence kind)) ≡ true
 fences_had name t h kind e = implied (fence_is_of kind name) (table_has t (ops.Barrier (barriers.Fence kind))) (each_fence (has_or_not name t) h kind) e

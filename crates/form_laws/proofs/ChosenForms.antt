@@ -40,7 +40,7 @@ pub record Done (op : Micro) (f : FormText) : Type 0 where
   pub some : is_some (operands_of f.kind op) ≡ true
   pub fit : fits f.pieces (given (operands_of f.kind op)) ≡ true
 
--- what a form does by its test, in those parts
+-- a form that passes its test does the operation, in those parts
 pub done : (op : Micro) (f : FormText) → does op f ≡ true → Done op f
 done op f h = let p = by_operands f.pieces (operands_of f.kind op) h in record { some = p.0; fit = p.1 }
   where

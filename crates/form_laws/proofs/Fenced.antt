@@ -200,7 +200,7 @@ makes_stores a f = record {
       (writes_none r g g ready.places) refl refl refl refl);
 }
 
--- it keeps the laws of architectures, and makes one access where it should
+-- such an architecture keeps the laws of architectures
 pub fenced_laws : (a : Puts) → IsFenced a → IsArch a
 fenced_laws a f = subst IsArch (base_is a f) (record {
   few = f.few;
@@ -210,6 +210,7 @@ fenced_laws a f = subst IsArch (base_is a f) (record {
   shapes = record { none = refl; grows = λ h i w. w.loads };
 })
 
+-- such an architecture makes one access where it should
 pub fenced_once : (a : Puts) → IsFenced a → MakesOneAccess a
 fenced_once a f = subst MakesOneAccess (base_is a f) (record {
   link = λ link from n. no_access link;

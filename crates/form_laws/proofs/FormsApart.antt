@@ -24,7 +24,7 @@ not_some : {A : Type 0} (o : Option A) → not (is_some o) ≡ true → o ≡ No
 not_some None h = refl
 not_some (Some x) h = cc
 
--- a text whose front differs from a fixed text doesn't begin with it
+-- a text that differs at its beginning from a fixed text doesn't begin with it
 differ_none : (xs ys rest : List ℕ) → differ xs ys ≡ true → after_prefix xs (ys ++ rest) ≡ None
 unfolding differ after_prefix
 differ_none [] ys rest h = cc
@@ -132,7 +132,7 @@ pieces_none names (p ∷ ps) (q ∷ qs) vs apart good fit =
     (λ h. ap (λ o. joined (piece_found p (piece_text names q vs)) o) (pieces_none names ps qs (after_hole q.hole vs) h g.1 f.1) ∙
     joined_none (piece_found p (piece_text names q vs)))
 
--- of forms that are apart, the instruction of one is none of the other
+-- of two forms that are apart, the instruction of one is none of the other
 pub form_none : (names : ℕ → List ℕ) (f g : FormText) (vs : List Operand) → forms_apart f g ≡ true → list_all is_piece_good g.pieces ≡ true →
     fits g.pieces vs ≡ true → form_found f g.word (piece_texts names g.pieces vs) ≡ None
 unfolding forms_apart

@@ -1,4 +1,4 @@
--- What a clear table writes stands in the cells of a table.
+-- What a clear table writes fits into the cells of a table.
 use Rattle.std.proofs.Common.{ℕ, ◌+◌, ◌<◌, ◌≤◌, ◌≡◌, ◌==◌, refl, true, false, not, ◌&&◌, nat_le, List, [], ◌∷◌, ◌++◌, length, ◌∙◌, ap, length-append, arith}
 use Rattle.std.specs.List.{list_all, list_any}
 use Rattle.std.specs.Str.{bytes_eq}
@@ -31,7 +31,7 @@ use Rattle.form_laws.proofs.OperationBacks.{is_named_operand, operands_named}
 use Rattle.form_laws.proofs.ChosenForms.{form_is_good, done, op_texts, chosen}
 use Rattle.form_laws.proofs.PlainForms.{left_named, first_word_fixed, filled_all}
 
--- fixed texts stand in cells
+-- fixed texts fit into cells
 fixed_cell_byte : (b : ℕ) → is_fixed_byte b ≡ true → is_cell_byte b ≡ true
 fixed_cell_byte b h = (and_parts (is_cell_byte b) (not (is_blank b) && not (b == 44)) h).0
 
@@ -58,7 +58,7 @@ abbrev total : List (List ℕ) → ℕ
 total [] = 0
 total (t ∷ ts) = 1 + length t + total ts
 
--- the operands of one form stand in a cell, and are no longer than the most that they can be
+-- the operands of one form fit into a cell, and are no longer than the most that they can be
 record InCell (ps : List PieceText) (ts : List (List ℕ)) : Type 0 where
   pub cells : list_all (list_all is_cell_byte) ts ≡ true
   pub short : total ts ≤ most_of ps
@@ -82,7 +82,7 @@ pieces_cell names (p ∷ ps) vs good fit named =
       short = omega (arith, length-append p.before (filled names p.hole vs ++ p.after), length-append (filled names p.hole vs) p.after);
     }
 
--- the same after a blank, with commas between
+-- the operands after a blank, with commas between, fit into a cell too
 comma_cell : (a b : List ℕ) → list_all is_cell_byte a ≡ true → list_all is_cell_byte b ≡ true → list_all is_cell_byte (a ++ 44 ∷ b) ≡ true
 comma_cell a b h k = all_both is_cell_byte a (44 ∷ b) h (and_from true (list_all is_cell_byte b) refl k)
 
@@ -198,7 +198,7 @@ short : (t : TableText) (names : ℕ → List ℕ) (op : Micro) → is_clear t.f
 short t names (ops.Label l) clear has named = label_short t names l
 short t names op clear has named = (stands t names op clear has named refl).short
 
--- what a clear table writes stands in the cells of a table
+-- what a clear table writes fits into the cells of a table
 pub writes_cells : (a : Puts) (t : TableText) (registers : List (List ℕ)) → is_clear t.forms ≡ true →
     ((op : Micro) → a.has op ≡ true → table_has t op ≡ true) → WritesCells a (table_writing t registers)
 writes_cells a t registers clear covers = record {

@@ -1,4 +1,4 @@
--- Instructions of which architectures whose accesses name a register with the address make their code: a branch on a register,
+-- The instructions that make up the code of architectures whose accesses name a register that holds the address: a branch on a register,
 -- accesses at an address that depends on a register, and what joins a dependency to a number. What each sort of them keeps is
 -- proved here once; an architecture says of which sort its own are, and that its table has them.
 -- Source: own.
@@ -59,7 +59,7 @@ pub record IsJoining (joins : ℕ → ℕ → Micro) : Type 0 where
   pub short : (d n : ℕ) → IsShort (joins d n ∷ [])
   pub no_access : (d n : ℕ) → is_access (joins d n) ≡ false
 
--- a branch where a register equals itself, and one where a register isn't 0
+-- a comparison of a register with itself and a branch where the two are equal depend on the register
 pub compares : IsBranch (λ s n. ops.Cmp s s ∷ ops.BranchEq n ∷ [])
 compares = record {
   runs = λ s n v k r e. record {
@@ -80,6 +80,7 @@ compares = record {
   no_access = λ s n rest. refl;
 }
 
+-- a branch where a register isn't 0 depends on the register
 pub tests : IsBranch (λ s n. ops.BranchNz s n ∷ [])
 tests = record {
   runs = λ s n v k r e. record {
@@ -98,7 +99,7 @@ tests = record {
   no_access = λ s n rest. refl;
 }
 
--- accesses with an index register
+-- accesses with an index register depend on it
 pub indexed : AreDependent (λ d v a. ops.Load v a (Some d) ∷ []) (λ d v a. ops.Store v a (Some d) ∷ [])
 indexed = record {
   load_runs = λ d v a p n mask vs r e g reads. record {
@@ -121,7 +122,7 @@ indexed = record {
   store_once = λ d v a. refl;
 }
 
--- accesses at an address that is added to the register first
+-- accesses at an address that is added to a register first depend on it
 pub added : AreDependent (λ d v a. ops.Add d d a ∷ ops.Load v d None ∷ []) (λ d v a. ops.Add d d a ∷ ops.Store v d None ∷ [])
 added = record {
   load_runs = λ d v a p n mask vs r e g reads.
@@ -157,7 +158,7 @@ added = record {
   store_once = λ d v a. refl;
 }
 
--- a number that is added to a register, and one that is joined to it by a bitwise or
+-- a number that is added to a register keeps its dependency
 pub sums : IsJoining (λ d n. ops.AddImm d d n)
 sums = record {
   runs = λ d n mask r small e.
@@ -168,6 +169,7 @@ sums = record {
   no_access = λ d n. refl;
 }
 
+-- a number that is joined to a register by a bitwise or keeps its dependency
 pub ors : IsJoining (λ d n. ops.OrImm d d n)
 ors = record {
   runs = λ d n mask r small e. run_or_imm d d n 0 mask r e ∙ ap (λ m. At (holding r d (num m mask))) (zero_or n);
@@ -228,10 +230,11 @@ keeps_instructions own code = record {
   marked_has = code.marked_has;
 }
 
--- it keeps the laws of architectures, and makes one access where it should
+-- such an architecture keeps the laws of architectures
 pub own_code_laws : (own : Instructions) → HasOwnCode own → IsArch (puts_of own)
 own_code_laws own code = keeps_laws own (keeps_instructions own code)
 
+-- such an architecture makes one access where it should
 pub own_code_once : (own : Instructions) → HasOwnCode own → MakesOneAccess (puts_of own)
 own_code_once own code = accesses_once own (record {
   branch = code.branch.no_access;

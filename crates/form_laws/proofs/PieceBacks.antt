@@ -36,7 +36,7 @@ held _ (v ∷ vs) = v ∷ []
 abbrev pub piece_text : (ℕ → List ℕ) → PieceText → List Operand → List ℕ
 piece_text names p vs = p.before ++ (filled names p.hole vs ++ p.after)
 
--- a fixed text at the front, and one at the end, are taken off
+-- fixed texts at the beginning and at the end are taken off:
 -- what is left of a text after its prefix
 pub prefix_back : (prefix rest : List ℕ) → after_prefix prefix (prefix ++ rest) ≡ Some rest
 unfolding after_prefix

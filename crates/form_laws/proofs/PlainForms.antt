@@ -42,6 +42,7 @@ fixed_word t h = all_weaker is_fixed_byte is_word_byte fixed_word_byte t h
 first_fixed : (b : ℕ) → is_first_byte b ≡ true → is_fixed_byte b ≡ true
 first_fixed b h = (and_parts (is_fixed_byte b) (not (b == 40)) h).0
 
+-- the bytes of a first word may be in fixed texts
 pub first_word_fixed : (t : List ℕ) → list_all is_first_byte t ≡ true → list_all is_fixed_byte t ≡ true
 first_word_fixed t h = all_weaker is_first_byte is_fixed_byte first_fixed t h
 
@@ -49,7 +50,7 @@ first_word_fixed t h = all_weaker is_first_byte is_fixed_byte first_fixed t h
 pub word_plain : (t : List ℕ) → nat_le 1 (length t) ≡ true → list_all is_first_byte t ≡ true → is_plain t ≡ true
 word_plain t some h = some_plain t (leb-true 1 (length t) some) (fixed_word t (first_word_fixed t h))
 
--- names: a plain one has plain bytes, and that of a place has a byte
+-- a plain name has plain bytes, and the name of a place has a byte
 plain_bytes : (t : List ℕ) → is_plain t ≡ true → list_all is_word_byte t ≡ true
 plain_bytes [] h = refl
 plain_bytes (b ∷ t) h = h

@@ -30,7 +30,7 @@ abbrev pub is_small_kind : Kind → Bool
 is_small_kind (kinds.LoadInto r) = nat_lt r 32
 is_small_kind _ = true
 
--- so is each register of a form
+-- each register of a form is below 32
 abbrev pub is_small_form : FormText → Bool
 is_small_form f = is_small_kind f.kind && list_all (λ (p : PieceText). is_small_hole p.hole) f.pieces
 
@@ -116,7 +116,7 @@ pub in_range : (t : TableText) (op : Micro) → list_all is_small_form t.forms �
 in_range t (ops.Label l) small h = tt
 in_range t op small h = any_in_range op t.forms small h
 
--- so what is read by such a table is an instruction of the architecture that has it, and in that range
+-- what such a table reads is an instruction of the architecture that has it, and in the range of the machine
 pub reads_own : (a : Puts) (t : TableText) (registers : List (List ℕ)) → list_all is_small_form t.forms ≡ true →
     ((op : Micro) → a.has op ≡ table_has t op) → ReadsOwn a (table_writing t registers)
 reads_own a t registers small same = record {

@@ -84,7 +84,7 @@ label_table_back t names l clear known =
     let w : Written = record { word = label_word l; operands = none } in
     label_passed t.forms l [] (label_read t.labels w) clear ∙ (known_read t.labels w known ∙ label_back l)
 
--- so each operation that the table has
+-- each operation that the table has reads back so
 back : (t : TableText) (names : ℕ → List ℕ) (op : Micro) → is_clear t.forms ≡ true → table_has t op ≡ true →
     table_raw t (table_written t names op) ≡ Some (raw_of names op)
 back t names (ops.Label l) clear h = label_table_back t names l clear h

@@ -1,4 +1,4 @@
--- A test of a table which shows that what it writes reads back, and stands in a cell.
+-- A test of a table which shows that what it writes reads back and fits into a cell.
 -- Source: own.
 use Rattle.std.specs.Prelude.{ℕ, ◌+◌, ◌==◌, Bool, true, false, not, ◌&&◌, ◌||◌, nat_le, List, [], ◌∷◌, ◌++◌, is_some, length, codes}
 use Rattle.std.specs.List.{list_all, list_any}
@@ -15,14 +15,16 @@ differ [] ys = false
 differ (x ∷ xs) [] = false
 differ (x ∷ xs) (y ∷ ys) = not (x == y) || differ xs ys
 
--- an operand that is a fixed text, and the text
+-- an operand without a hole
 abbrev pub is_empty : Hole → Bool
 is_empty holes.Empty = true
 is_empty _ = false
 
+-- the operand is a fixed text
 abbrev pub is_fixed : PieceText → Bool
 is_fixed p = is_empty p.hole
 
+-- the text of an operand without a hole
 abbrev pub fixed_text : PieceText → List ℕ
 fixed_text p = p.before ++ p.after
 
@@ -57,11 +59,12 @@ abbrev pub is_filled : Hole → List ℕ → Bool
 is_filled holes.Empty text = nat_le 1 (length text)
 is_filled _ text = true
 
+-- a good operand: its fixed texts have bytes that may be there, its registers have short numbers, and it isn't empty
 unfoldable pub is_piece_good : PieceText → Bool
 is_piece_good p = list_all is_fixed_byte p.before && (list_all is_fixed_byte p.after &&
     (is_hole_good p.hole && is_filled p.hole (fixed_text p)))
 
--- the most bytes that stand in a hole
+-- the most bytes that a hole takes
 abbrev pub most_in : Hole → ℕ
 most_in holes.Empty = 0
 most_in (holes.Register first count) = 3
@@ -82,7 +85,7 @@ ending_words = codes "exists" ∷ codes "~exists" ∷ codes "forall" ∷ codes "
 abbrev pub is_first_byte : ℕ → Bool
 is_first_byte b = is_fixed_byte b && not (b == 40)
 
--- an instruction of this form stands in a cell: a word of its own, at most four operands, at most 40 bytes
+-- an instruction of this form fits into a cell: a word of its own, at most four operands, at most 40 bytes
 unfoldable pub is_form_good : FormText → Bool
 is_form_good f = (nat_le 1 (length f.word) && list_all is_first_byte f.word) &&
     (not (list_any (bytes_eq f.word) ending_words) &&

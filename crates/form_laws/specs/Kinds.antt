@@ -14,19 +14,20 @@ use Rattle.form_laws.specs.declared.kind.Operand.{Operand}
 use Rattle.form_laws.specs.declared.kind.Operand.TheVariants as operands
 use Rattle.arch_trait.specs.Writing.{RawInstr, nothing, place, label}
 
--- an operand as it is read: the name of a place or a label has no number yet
+-- an operand as it is read, where a place or a label has its name and no number
 pub data FoundOperand : Type 0 where
   found_register : ℕ → FoundOperand
   found_number : ℕ → FoundOperand
   found_place : List ℕ → FoundOperand
   found_label : List ℕ → FoundOperand
 
--- each barrier has a number of its own
+-- the number of what is ordered, by which fences of RISC-V are numbered
 abbrev pub pick_number : Pick → ℕ
 pick_number picks.R = 0
 pick_number picks.W = 1
 pick_number picks.RW = 2
 
+-- each barrier has a number of its own
 abbrev pub barrier_number : Barrier → ℕ
 barrier_number (barriers.Fence fences.MFence) = 0
 barrier_number (barriers.Fence fences.Sync) = 1
@@ -41,6 +42,7 @@ barrier_number (barriers.Fence (fences.Fence picks.R s)) = 9 + pick_number s
 barrier_number (barriers.Fence (fences.Fence picks.W s)) = 12 + pick_number s
 barrier_number (barriers.Fence (fences.Fence picks.RW s)) = 15 + pick_number s
 
+-- two barriers are one, by their numbers
 abbrev pub same_barrier : Barrier → Barrier → Bool
 same_barrier a b = barrier_number a == barrier_number b
 
@@ -67,13 +69,15 @@ operands_of kinds.BranchNotZero (ops.BranchNz a l) = Some (operands.Register a �
 operands_of (kinds.Order kind) (ops.Barrier other) = cond (same_barrier kind other) (Some []) None
 operands_of _ _ = None
 
--- an operation without a name, and one with the name of a place or a label and 0 for its number
+-- an operation that names neither a place nor a label
 abbrev pub unnamed : Micro → Option RawInstr
 unnamed op = Some (record { op = op; name = nothing })
 
+-- an operation with the name of its place, and 0 for its number
 abbrev pub at_place : Micro → List ℕ → Option RawInstr
 at_place op name = Some (record { op = op; name = place name })
 
+-- an operation with the name of its label, and 0 for its number
 abbrev pub at_label : Micro → List ℕ → Option RawInstr
 at_label op name = Some (record { op = op; name = label name })
 

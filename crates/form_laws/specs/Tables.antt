@@ -22,7 +22,7 @@ use Rattle.form_laws.specs.declared.kind.Operand.{Operand}
 use Rattle.form_laws.specs.declared.kind.Operand.TheVariants as operands
 use Rattle.form_laws.specs.Kinds.{FoundOperand, found_register, found_number, found_place, found_label, operands_of, raw_with}
 
--- the form of an operand: a fixed text, what stands in the hole, a fixed text
+-- the form of an operand: a fixed text, what is in the hole, a fixed text
 pub record PieceText : Type 0 where
   pub before : List ℕ
   pub hole : Hole
@@ -39,23 +39,27 @@ pub record TableText : Type 0 where
   pub forms : List FormText
   pub labels : Labels
 
--- an operand with a hole, one that is a fixed text, and an instruction, as a table lists them
+-- an operand with a hole, as a table lists it
 abbrev pub piece : List ℕ → Hole → List ℕ → PieceText
 piece before hole after = record { before = before; hole = hole; after = after }
 
+-- an operand that is a fixed text, as a table lists it
 abbrev pub fixed : List ℕ → PieceText
 fixed text = piece text holes.Empty []
 
+-- an instruction, as a table lists it
 abbrev pub form : List ℕ → List PieceText → Kind → FormText
 form word pieces kind = record { word = word; pieces = pieces; kind = kind }
 
--- what the code sees of a table
+-- what the code sees of the form of an operand
 abbrev pub piece_seen : Piece → PieceText
 piece_seen p = record { before = p.before.now; hole = p.hole; after = p.after.now }
 
+-- what the code sees of the form of an instruction
 abbrev pub form_seen : Form → FormText
 form_seen f = record { word = f.word.now; pieces = map piece_seen f.pieces.now; kind = f.kind }
 
+-- what the code sees of a table
 abbrev pub table_seen : Table → TableText
 table_seen t = record { forms = map form_seen t.forms.now; labels = t.labels }
 
@@ -80,6 +84,7 @@ fits [] [] = true
 fits [] (v ∷ vs) = false
 fits (p ∷ ps) vs = fits_first p.hole vs && fits ps (after_hole p.hole vs)
 
+-- the holes can hold the operands of an operation, where it is of the kind
 abbrev pub fits_if : List PieceText → Option (List Operand) → Bool
 fits_if ps (Some vs) = fits ps vs
 fits_if ps None = false
@@ -111,6 +116,7 @@ unfoldable pub piece_texts : (ℕ → List ℕ) → List PieceText → List Oper
 piece_texts names [] vs = []
 piece_texts names (p ∷ ps) vs = (p.before ++ (filled names p.hole vs ++ p.after)) ∷ piece_texts names ps (after_hole p.hole vs)
 
+-- the operands of an operation, none where it is of another kind
 abbrev pub given : Option (List Operand) → List Operand
 given (Some vs) = vs
 given None = []
@@ -124,16 +130,18 @@ unfoldable pub first_written : (ℕ → List ℕ) → Micro → List FormText �
 first_written names op [] = record { word = []; operands = none }
 first_written names op (f ∷ fs) = cond (does op f) (form_written names op f) (first_written names op fs)
 
+-- an operation as the table writes it: a label by its word, any other by the first form that does it
 abbrev pub table_written : TableText → (ℕ → List ℕ) → Micro → Written
 table_written t names (ops.Label l) = record { word = label_word l; operands = none }
 table_written t names op = first_written names op t.forms
 
--- what is left of a text after a fixed text at its beginning, and before one at its end
+-- what is left of a text after a fixed text at its beginning
 unfoldable pub after_prefix : List ℕ → List ℕ → Option (List ℕ)
 after_prefix [] text = Some text
 after_prefix (b ∷ prefix) [] = None
 after_prefix (b ∷ prefix) (c ∷ text) = cond (b == c) (after_prefix prefix text) None
 
+-- what is left of a text before a fixed text at its end
 unfoldable pub before_suffix : List ℕ → List ℕ → Option (List ℕ)
 before_suffix suffix text = cond (nat_le (length suffix) (length text) && bytes_eq (drop (length text - length suffix) text) suffix)
     (Some (take (length text - length suffix) text)) None
@@ -151,6 +159,7 @@ hole_found holes.Label text = Some (found_label text ∷ [])
 unfoldable pub piece_found : PieceText → List ℕ → Option (List FoundOperand)
 piece_found p text = option_and_then (hole_found p.hole) (option_and_then (before_suffix p.after) (after_prefix p.before text))
 
+-- the operands of one text and those of the next, where both are operands
 abbrev pub joined : Option (List FoundOperand) → Option (List FoundOperand) → Option (List FoundOperand)
 joined (Some xs) (Some ys) = Some (xs ++ ys)
 joined _ _ = None
@@ -166,6 +175,7 @@ pieces_found (p ∷ ps) (t ∷ ts) = joined (piece_found p t) (pieces_found ps t
 abbrev pub form_found : FormText → List ℕ → List (List ℕ) → Option (List FoundOperand)
 form_found f word ts = cond (bytes_eq word f.word) (pieces_found f.pieces ts) None
 
+-- the instruction that operands make, if they were found, else another
 abbrev pub raw_or : Kind → Option (List FoundOperand) → Option RawInstr → Option RawInstr
 raw_or kind (Some vs) other = raw_with kind vs
 raw_or kind None other = other
@@ -184,10 +194,12 @@ texts_in (three a b c) = Some (a ∷ b ∷ c ∷ [])
 texts_in (four a b c d) = Some (a ∷ b ∷ c ∷ d ∷ [])
 texts_in more = None
 
+-- a label that is an instruction of its own, where the table has labels
 abbrev pub label_read : Labels → Written → Option RawInstr
 label_read labels.Known w = label_alone w.word w.operands
 label_read labels.Unknown w = None
 
+-- the instruction of a word and its operands by the table, none where there are more than four
 abbrev pub raw_if : TableText → Written → Option (List (List ℕ)) → Option RawInstr
 raw_if t w (Some ts) = first_read t.forms w.word ts (label_read t.labels w)
 raw_if t w None = None

@@ -15,7 +15,7 @@ pub enum Hole {
     Label,
 }
 
-/// The form of one operand: a fixed text, what stands in the hole, and a fixed text.
+/// The form of one operand: a fixed text, what is in the hole, and a fixed text.
 #[derive(Clone, Copy, Debug)]
 pub struct Piece {
     pub before: &'static str,

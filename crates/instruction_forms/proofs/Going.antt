@@ -17,6 +17,7 @@ pub record Going (names : ℕ → List ℕ) (whole : List ℕ) (all : Bool) (out
   pub fit : fits (map piece_seen left) vs ≡ all
   pub ready : Ready names (length out) (map piece_seen left) vs
 
+-- there is room for the first operand that is left
 pub going_piece : (names : ℕ → List ℕ) (whole : List ℕ) (all : Bool) (out : List ℕ) (left : List Piece) (vs : List Operand) (d : Piece) → 1 ≤ length left →
     Going names whole all out left vs → ReadyPiece names (length out) (piece_seen (get_or left 0 d)) vs
 unfolding most_of
@@ -27,6 +28,7 @@ going_piece names whole all out (p ∷ ps) vs d l g = record {
   room = omega (arith, g.ready.room);
 }
 
+-- where the first hole that is left can't hold its operand, the operands don't fit
 pub going_stops : (names : ℕ → List ℕ) (whole : List ℕ) (all : Bool) (out : List ℕ) (left : List Piece) (vs : List Operand) (d : Piece) → 1 ≤ length left →
     Going names whole all out left vs → fits_first (get_or left 0 d).hole vs ≡ false → all ≡ false
 unfolding fits
@@ -62,6 +64,7 @@ first_done names whole all out p ps vs g f =
       };
     }
 
+-- after an operand there is room for the comma before the next
 pub going_comma : (names : ℕ → List ℕ) (whole : List ℕ) (all : Bool) (out : List ℕ) (left : List Piece) (vs : List Operand) (d : Piece) (more : List ℕ) → 1 ≤ length left →
     Going names whole all out left vs → fits_first (get_or left 0 d).hole vs ≡ true → more ≡ out ++ piece_text names (piece_seen (get_or left 0 d)) vs →
     length (more ++ byte_before 44 (map piece_seen (take (length left - 1) (drop 1 left)))) ≤ 40
@@ -72,6 +75,7 @@ going_comma names whole all out (p ∷ ps) vs d more l g f e =
     let Q : List ℕ → Type 0 = (λ text. length (text ++ byte_before 44 (map piece_seen ps)) ≤ 40) in
     subst P (sym (ap (λ n. take n ps) n ∙ take-length ps)) (subst Q (sym e) (first_done names whole all out p ps vs g f).comma)
 
+-- after an operand and its comma the printing goes on with the others
 pub going_on : (names : ℕ → List ℕ) (whole : List ℕ) (all : Bool) (out : List ℕ) (left : List Piece) (vs : List Operand) (d : Piece) (more next : List ℕ) (rest : List Operand) →
     1 ≤ length left → Going names whole all out left vs → fits_first (get_or left 0 d).hole vs ≡ true →
     more ≡ out ++ piece_text names (piece_seen (get_or left 0 d)) vs →
@@ -88,6 +92,7 @@ going_on names whole all out (p ∷ ps) vs d more next rest l g f e k m =
     let R : List Operand → Type 0 = (λ us. Going names whole all ((out ++ piece_text names (piece_seen p) vs) ++ byte_before 44 (map piece_seen ps)) ps us) in
     subst P (sym b) (subst Q (sym t) (subst R (sym m) (first_done names whole all out p ps vs g f).going))
 
+-- all forms of operands are printed: the text is whole, and the operands fit if none is left
 pub record Ended (whole : List ℕ) (all : Bool) (out : List ℕ) (vs : List Operand) : Type 0 where
   pub text : out ≡ whole
   pub fit : (length vs == 0) ≡ all
@@ -97,6 +102,7 @@ unfolding fits
 empty_fits [] = refl
 empty_fits (v ∷ vs) = grind (arith, nat_tests)
 
+-- where no form of an operand is left, the printing has ended
 pub going_ends : (names : ℕ → List ℕ) (whole : List ℕ) (all : Bool) (out : List ℕ) (left : List Piece) (vs : List Operand) → length left < 1 →
     Going names whole all out left vs → Ended whole all out vs
 going_ends names whole all out [] vs l g = record { text = sym (append-nil out) ∙ g.same; fit = empty_fits vs ∙ g.fit }

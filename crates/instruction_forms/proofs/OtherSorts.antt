@@ -30,5 +30,6 @@ apart kinds.BranchNotZero (ops.BranchNz a l) h = absurd (h refl)
 apart (kinds.Order kind) (ops.Barrier other) h = absurd (h refl)
 apart _ _ h = refl
 
+-- a form of another sort than the operation doesn't do it
 pub other_sort : (f : FormText) (op : Micro) → (kind_sort f.kind ≡ op_sort op → ⊥) → does op f ≡ false
 other_sort f op h = ap (fits_if f.pieces) (apart f.kind op h)

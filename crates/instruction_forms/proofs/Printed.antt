@@ -29,11 +29,12 @@ few_pieces : (f : FormText) → is_form_good f ≡ true → nat_le (length f.pie
 unfolding is_form_good
 few_pieces f good = (and_parts _ _ (and_parts (list_all is_piece_good f.pieces) _ (and_parts _ _ (and_parts _ _ good).1).1).1).0
 
+-- the first form of a clear table is good
 pub good_here : (f : FormText) (fs : List FormText) → is_clear (f ∷ fs) ≡ true → is_form_good f ≡ true
 unfolding is_clear
 good_here f fs h = (and_parts (is_form_good f) (list_all (forms_apart f) fs && is_clear fs) h).0
 
--- the first form does the operation, or doesn't
+-- where the first form does the operation, its text is that of the operation
 pub first_here : (names : ℕ → List ℕ) (op : Micro) (f : FormText) (fs : List FormText) → does op f ≡ true → is_clear (f ∷ fs) ≡ true →
     text_of (first_written names op (f ∷ fs)) ≡ form_text names f.word f.pieces (given (operands_of f.kind op))
 unfolding first_written is_clear
@@ -41,15 +42,18 @@ first_here names op f fs h c =
     ap (λ b. text_of (cond b (form_written names op f) (first_written names op fs))) h ∙
     ap (λ t. f.word ++ t) (commas_are names f.pieces (given (operands_of f.kind op)) (few_pieces f (good_here f fs c)))
 
+-- where the first form doesn't do the operation, the others write it
 pub first_behind : (names : ℕ → List ℕ) (op : Micro) (f : FormText) (fs : List FormText) → does op f ≡ false →
     first_written names op (f ∷ fs) ≡ first_written names op fs
 unfolding first_written
 first_behind names op f fs h = ap (λ b. cond b (form_written names op f) (first_written names op fs)) h
 
+-- where the first form doesn't do the operation, one of the others does
 pub has_behind : (op : Micro) (f : FormText) (fs : List FormText) → does op f ≡ false →
     list_any (does op) (f ∷ fs) ≡ true → list_any (does op) fs ≡ true
 has_behind op f fs h e = rw h at e
 
+-- without its first form a clear table is clear
 pub clear_behind : (f : FormText) (fs : List FormText) → is_clear (f ∷ fs) ≡ true → is_clear fs ≡ true
 unfolding is_clear
 clear_behind f fs h = (and_parts _ _ (and_parts (is_form_good f) _ h).1).1
@@ -60,12 +64,13 @@ pub record Walk (names : ℕ → List ℕ) (op : Micro) (whole left : List Form)
   pub has : list_any (does op) (map form_seen left) ≡ true
   pub same : first_written names op (map form_seen left) ≡ first_written names op (map form_seen whole)
 
--- the first of the forms that are left is good; where it doesn't do the operation, the others have the form that does
+-- the first of the forms that are left is good
 pub walk_good : (names : ℕ → List ℕ) (op : Micro) (whole left : List Form) (d : Form) → 1 ≤ length left → Walk names op whole left →
     is_form_good (form_seen (get_or left 0 d)) ≡ true
 walk_good names op whole [] d l w = absurd (omega (arith, l))
 walk_good names op whole (f ∷ fs) d l w = good_here (form_seen f) (map form_seen fs) w.clear
 
+-- where the first form that is left doesn't do the operation, the walk goes on with the others
 pub walk_on : (names : ℕ → List ℕ) (op : Micro) (whole left : List Form) (d : Form) → 1 ≤ length left → Walk names op whole left →
     does op (form_seen (get_or left 0 d)) ≡ false → Walk names op whole (take (length left - 1) (drop 1 left))
 walk_on names op whole [] d l w h = absurd (omega (arith, l))
@@ -78,7 +83,7 @@ walk_on names op whole (f ∷ fs) d l w h =
       same = sym (first_behind names op (form_seen f) (map form_seen fs) h) ∙ w.same;
     })
 
--- where it does, its text is that of the operation
+-- where the first form that is left does the operation, its text is that of the operation
 pub walk_found : (names : ℕ → List ℕ) (op : Micro) (whole left : List Form) (d : Form) → 1 ≤ length left → Walk names op whole left →
     does op (form_seen (get_or left 0 d)) ≡ true → form_text names (get_or left 0 d).word.now (map piece_seen (get_or left 0 d).pieces.now)
     (given (operands_of (get_or left 0 d).kind op)) ≡ text_of (first_written names op (map form_seen whole))
@@ -86,6 +91,7 @@ walk_found names op whole [] d l w h = absurd (omega (arith, l))
 walk_found names op whole (f ∷ fs) d l w h =
     sym (first_here names op (form_seen f) (map form_seen fs) h w.clear) ∙ ap text_of w.same
 
+-- a walk that is under way has a form left
 pub walk_ends : (names : ℕ → List ℕ) (op : Micro) (whole left : List Form) → length left < 1 → Walk names op whole left → ⊥
 walk_ends names op whole [] l w = cc (w.has)
 walk_ends names op whole (f ∷ fs) l w = omega (arith, l)

@@ -5,12 +5,14 @@ use Rattle.std.proofs.lemmas.Fmt.{decimal_digit, decimal_step}
 use Rattle.text_laws.specs.Numbers.{number_of}
 use Rattle.text_laws.proofs.NumberLaws.{number_of-decimal}
 
+-- a digit is the decimal of its number
 pub one_read : (a : ℕ) → 48 ≤ a → a ≤ 57 → number_of (a ∷ []) ≡ Some (a - 48)
 one_read a l h =
     let e : 48 + (a - 48) ≡ a = omega arith in
     let d : decimal (a - 48) ≡ a ∷ [] = decimal_digit (a - 48) (omega arith) ∙ ap (λ b. b ∷ []) e in
     ap number_of (sym d) ∙ number_of-decimal (a - 48) (omega arith)
 
+-- two digits without a leading zero are the decimal of their number
 pub two_read : (a b : ℕ) → 49 ≤ a → a ≤ 57 → 48 ≤ b → b ≤ 57 → number_of (a ∷ b ∷ []) ≡ Some (10 * (a - 48) + (b - 48))
 two_read a b l h m k =
     let n : ℕ = 10 * (a - 48) + (b - 48) in
@@ -25,12 +27,13 @@ two_read a b l h m k =
     ap (λ x. a ∷ x ∷ []) r)) in
     ap number_of (sym d) ∙ number_of-decimal (10 * (a - 48) + (b - 48)) (omega arith)
 
--- the bytes of a text of one or two
+-- a text of one byte
 pub one_is : (t : List ℕ) (d : ℕ) → 1 ≤ length t → length t < 2 → t ≡ get_or t 0 d ∷ []
 one_is [] d l h = absurd (omega (arith, l))
 one_is (a ∷ []) d l h = refl
 one_is (a ∷ b ∷ t) d l h = absurd (omega (arith, h))
 
+-- a text of two bytes
 pub two_are : (t : List ℕ) (d : ℕ) → 2 ≤ length t → length t < 3 → t ≡ get_or t 0 d ∷ get_or t 1 d ∷ []
 two_are [] d l h = absurd (omega (arith, l))
 two_are (a ∷ []) d l h = absurd (omega (arith, l))

@@ -15,18 +15,19 @@ use Rattle.form_laws.specs.Kinds.{FoundOperand, raw_with}
 use Rattle.form_laws.specs.Tables.{FormText, piece_seen, form_seen, joined, pieces_found, form_found, after_prefix, before_suffix, raw_or, first_read, label_read, texts_in, raw_if}
 use Rattle.instruction_forms.specs.Founds.{texts_seen, form_raw, forms_raw}
 
--- what is joined to nothing, and what is joined twice
+-- no operands, joined to others, change nothing
 pub join_nothing : (o : Option (List FoundOperand)) → joined (Some []) o ≡ o
 join_nothing None = refl
 join_nothing (Some xs) = refl
 
+-- operands that are joined twice may be joined in any grouping
 pub join_joined : (o p q : Option (List FoundOperand)) → joined (joined o p) q ≡ joined o (joined p q)
 join_joined None p q = refl
 join_joined (Some xs) None q = refl
 join_joined (Some xs) (Some ys) None = refl
 join_joined (Some xs) (Some ys) (Some zs) = ap (λ l. Some l) (append_assoc xs ys zs)
 
--- there are more forms than texts
+-- where there are more forms than texts, the operands aren't found
 pub no_text : (pieces : List Piece) (texts : List (Bor (List ℕ))) → 1 ≤ length pieces → length texts < 1 →
     pieces_found (map piece_seen pieces) (texts_seen texts) ≡ None
 unfolding pieces_found
@@ -64,12 +65,13 @@ form_not f fs labels word texts h = by_texts (texts_in texts) h
     by_texts None h = refl
     by_texts (Some ts) h = by_none f.kind (form_found f word ts) (first_read fs word ts (label_read labels (record { word = word; operands = texts }))) h
 
--- the same of the forms that are left
+-- where the first form that is left fits, its instruction is read
 pub first_fits : (left : List Form) (d : Form) (labels : Labels) (word : List ℕ) (texts : OperandTexts) (raw : Option RawInstr) → 1 ≤ length left →
     Some raw ≡ form_raw (form_seen (get_or left 0 d)) word texts → raw ≡ forms_raw (map form_seen left) labels word texts
 first_fits [] d labels word texts raw l h = absurd (omega (arith, l))
 first_fits (f ∷ fs) d labels word texts raw l h = sym (form_fits (form_seen f) (map form_seen fs) labels word texts raw (sym h))
 
+-- where the first form that is left doesn't fit, the others are tried
 pub first_not : (left : List Form) (d : Form) (labels : Labels) (word : List ℕ) (texts : OperandTexts) → 1 ≤ length left →
     None ≡ form_raw (form_seen (get_or left 0 d)) word texts →
     forms_raw (map form_seen (take (length left - 1) (drop 1 left))) labels word texts ≡ forms_raw (map form_seen left) labels word texts
@@ -95,18 +97,20 @@ no_form [] kept word texts l = by_texts kept texts
     by_texts labels.Unknown more = refl
 no_form (f ∷ fs) kept word texts l = absurd (omega (arith, l))
 
--- a fixed text at the beginning is passed byte by byte
+-- a fixed text at the beginning is passed byte by byte: where it has ended, the rest is left
 pub prefix_ends : (left rest : List ℕ) → length left < 1 → after_prefix left rest ≡ Some rest
 unfolding after_prefix
 prefix_ends [] rest l = refl
 prefix_ends (b ∷ left) rest l = absurd (omega (arith, l))
 
+-- a text that ends before the fixed text doesn't begin with it
 pub prefix_longer : (left rest : List ℕ) → 1 ≤ length left → length rest < 1 → after_prefix left rest ≡ None
 unfolding after_prefix
 prefix_longer [] rest l h = absurd (omega (arith, l))
 prefix_longer (b ∷ left) [] l h = refl
 prefix_longer (b ∷ left) (c ∷ rest) l h = absurd (omega (arith, h))
 
+-- a text with another byte at that place doesn't begin with the fixed text
 pub prefix_fails : (left rest : List ℕ) → 1 ≤ length left → 1 ≤ length rest → (get_or left 0 0 ≡ get_or rest 0 0 → ⊥) → after_prefix left rest ≡ None
 unfolding after_prefix
 prefix_fails [] rest l h d = absurd (omega (arith, l))
@@ -118,6 +122,7 @@ one_on b xs =
     let e : length (b ∷ xs) - 1 ≡ length xs = omega arith in
     ap (λ n. take n xs) e ∙ take-length xs
 
+-- where the bytes at that place are the same, both texts go on
 pub prefix_on : (left rest : List ℕ) → 1 ≤ length left → 1 ≤ length rest → get_or left 0 0 ≡ get_or rest 0 0 →
     after_prefix (take (length left - 1) (drop 1 left)) (take (length rest - 1) (drop 1 rest)) ≡ after_prefix left rest
 unfolding after_prefix

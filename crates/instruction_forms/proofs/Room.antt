@@ -18,7 +18,7 @@ use Rattle.form_laws.specs.Tables.{PieceText, FormText, fits_first, after_hole, 
 use Rattle.form_laws.specs.Clear.{is_fixed_byte, is_first_byte, is_hole_good, is_piece_good, is_form_good, most_in, most_of}
 use Rattle.instruction_forms.specs.Printing.{byte_before, place_short, AllShort, Ready, ReadyPiece}
 
--- what is in a hole is short
+-- a number below 10000 has at most four digits
 four_digits : (n : ℕ) → n < 10000 → length (decimal n) ≤ 4
 four_digits n h = length-decimal-le 4 n (omega arith) (omega arith) (omega arith)
 
@@ -30,6 +30,7 @@ barrier_here : (names : ℕ → List ℕ) (b : Bool) → AllShort names (given (
 barrier_here names true = tt
 barrier_here names false = tt
 
+-- where the name of its place is short, an operation has short operands
 pub operands_short : (names : ℕ → List ℕ) (kind : Kind) (op : Micro) → place_short names op ≡ true → AllShort names (given (operands_of kind op))
 operands_short names kinds.SetNumber (ops.Imm d n) h = tt
 operands_short names kinds.ExclusiveOr (ops.Xor d a b) h = tt
@@ -59,6 +60,7 @@ short_tail names (operands.Register r ∷ vs) h = h
 short_tail names (operands.Number n ∷ vs) h = h
 short_tail names (operands.Label l ∷ vs) h = h
 
+-- operands that are left after a hole are short too
 pub short_after : (names : ℕ → List ℕ) (hole : Hole) (vs : List Operand) → AllShort names vs → AllShort names (after_hole hole vs)
 short_after names holes.Empty vs h = h
 short_after names (holes.Register first count) [] h = tt
@@ -70,6 +72,7 @@ short_after names holes.Place (v ∷ vs) h = short_tail names (v ∷ vs) h
 short_after names holes.Label [] h = tt
 short_after names holes.Label (v ∷ vs) h = short_tail names (v ∷ vs) h
 
+-- what is in a hole is no longer than the most that the hole takes
 pub filled_short : (names : ℕ → List ℕ) (hole : Hole) (vs : List Operand) → AllShort names vs → is_hole_good hole ≡ true →
     fits_first hole vs ≡ true → length (filled names hole vs) ≤ most_in hole
 filled_short names holes.Empty vs short g f = omega arith
@@ -83,15 +86,17 @@ filled_short names holes.Place (operands.Place p ∷ vs) short g f = short.0
 filled_short names holes.Label (operands.Label l ∷ vs) short g f = omega arith
 filled_short _ _ _ short g f = cc
 
+-- the hole of a good operand is good
 pub hole_good : (p : PieceText) → is_piece_good p ≡ true → is_hole_good p.hole ≡ true
 unfolding is_piece_good
 hole_good p g = (and_parts _ _ (and_parts (list_all is_fixed_byte p.after) _ (and_parts (list_all is_fixed_byte p.before) _ g).1).1).0
 
--- what a good form has
+-- what a good form has: good operands, and at most 40 bytes
 pub record Parts (f : FormText) : Type 0 where
   pub pieces : list_all is_piece_good f.pieces ≡ true
   pub most : length f.word + most_of f.pieces ≤ 40
 
+-- a good form has those parts
 pub parts_of : (f : FormText) → is_form_good f ≡ true → Parts f
 unfolding is_form_good
 parts_of f good =
@@ -100,29 +105,32 @@ parts_of f good =
     let c = and_parts (nat_le (length f.pieces) 4) (nat_le (length f.word + most_of f.pieces) 40) b.1 in
     record { pieces = b.0; most = leb-true (length f.word + most_of f.pieces) 40 c.1 }
 
--- there is room for what is in a hole, and for what comes after it
+-- there is room for what is in a hole
 pub hole_room : (names : ℕ → List ℕ) (used : ℕ) (p : PieceText) (vs : List Operand) (out : List ℕ) → ReadyPiece names used p vs → fits_first p.hole vs ≡ true →
     length out ≡ used + length p.before → length (out ++ filled names p.hole vs) ≤ 40
 hole_room names used p vs out h f e =
     let here = filled_short names p.hole vs h.short (hole_good p h.good) f in
     omega (arith, h.room, here, e, length-append out (filled names p.hole vs))
 
+-- there is room for the fixed text after a hole
 pub after_room : (names : ℕ → List ℕ) (used : ℕ) (p : PieceText) (vs : List Operand) (out : List ℕ) → ReadyPiece names used p vs → fits_first p.hole vs ≡ true →
     length out ≡ used + length p.before + length (filled names p.hole vs) → length (out ++ p.after) ≤ 40
 after_room names used p vs out h f e =
     let here = filled_short names p.hole vs h.short (hole_good p h.good) f in
     omega (arith, h.room, here, e, length-append out p.after)
 
+-- a byte before operands is counted among the most bytes of these
 pub behind_of : (ps : List PieceText) (b : ℕ) → length (byte_before b ps) ≤ most_of ps
 unfolding most_of
 behind_of [] b = omega arith
 behind_of (p ∷ ps) b = omega arith
 
+-- before operands there is at most one byte
 pub byte_one : (ps : List PieceText) (b : ℕ) → length (byte_before b ps) ≤ 1
 byte_one [] b = omega arith
 byte_one (p ∷ ps) b = omega arith
 
--- there is room for a word and its blank, and then for the operands of a good form
+-- after a word and its blank there is room for the operands of a good form
 pub form_ready : (names : ℕ → List ℕ) (f : FormText) (vs : List Operand) (more next : List ℕ) → is_form_good f ≡ true → AllShort names vs →
     more ≡ f.word → next ≡ more ++ byte_before 32 f.pieces → Ready names (length next) f.pieces vs
 form_ready names f vs more next good short e k =
@@ -133,15 +141,17 @@ form_ready names f vs more next good short e k =
       room = omega (arith, parts.most, byte_one f.pieces 32, ap length e, ap length k, length-append more (byte_before 32 f.pieces));
     }
 
+-- there is room for the word of a good form and the blank after it
 pub blank_room : (f : FormText) (more : List ℕ) → is_form_good f ≡ true → more ≡ f.word → length (more ++ byte_before 32 f.pieces) ≤ 40
 blank_room f more good e =
     let parts = parts_of f good in
     omega (arith, parts.most, behind_of f.pieces 32, ap length e, length-append more (byte_before 32 f.pieces))
 
+-- there is room for the word of a good form
 pub word_room : (f : FormText) → is_form_good f ≡ true → length f.word ≤ 40
 word_room f good = let parts = parts_of f good in omega (arith, parts.most)
 
--- the operands that an operation gives have short names
+-- the operands that an operation gives are short
 pub given_are_short : (names : ℕ → List ℕ) (kind : Kind) (op : Micro) (vs : List Operand) → place_short names op ≡ true → Some vs ≡ operands_of kind op → AllShort names vs
 given_are_short names kind op vs h e =
     let P : Option (List Operand) → Type 0 = (λ r. AllShort names (given r)) in

@@ -49,12 +49,13 @@ AllShort names (operands.Register r ∷ vs) = AllShort names vs
 AllShort names (operands.Number n ∷ vs) = AllShort names vs
 AllShort names (operands.Label l ∷ vs) = AllShort names vs
 
--- after so many bytes there is room for an operand, and for operands with commas between
+-- after so many bytes there is room for an operand
 pub record ReadyPiece (names : ℕ → List ℕ) (used : ℕ) (p : PieceText) (vs : List Operand) : Type 0 where
   pub good : is_piece_good p ≡ true
   pub short : AllShort names vs
   pub room : used + (length p.before + (most_in p.hole + length p.after)) ≤ 40
 
+-- after so many bytes there is room for operands with commas between
 pub record Ready (names : ℕ → List ℕ) (used : ℕ) (ps : List PieceText) (vs : List Operand) : Type 0 where
   pub good : list_all is_piece_good ps ≡ true
   pub short : AllShort names vs
@@ -66,7 +67,7 @@ place_short names (ops.LoadAt _ p) = nat_le (length (names p)) 16
 place_short names (ops.StoreAt p _) = nat_le (length (names p)) 16
 place_short names _ = true
 
--- what a kind does, but for the order of operands, and what an operation does
+-- what a kind does, but for the order of operands
 abbrev pub kind_sort : Kind → Sort
 kind_sort kinds.SetNumber = sorts.Imm
 kind_sort kinds.ExclusiveOr = sorts.Xor
@@ -88,6 +89,7 @@ kind_sort kinds.BranchEqual = sorts.BranchEq
 kind_sort kinds.BranchNotZero = sorts.BranchNz
 kind_sort (kinds.Order _) = sorts.Barrier
 
+-- what an operation does, but for its operands
 abbrev pub op_sort : Micro → Sort
 op_sort (ops.Imm _ _) = sorts.Imm
 op_sort (ops.Xor _ _ _) = sorts.Xor

@@ -11,7 +11,7 @@ use arrayvec::ArrayVec;
 use form_laws::{Hole, Kind};
 use micro_ops::Micro;
 
-/// An operand as it is read: the name of a place or a label has no number yet.
+/// An operand as it is read, where a place or a label has its name and no number.
 #[derive(Clone, Copy, Debug)]
 pub(crate) enum Found<'a> {
     Register(u8),
@@ -29,7 +29,7 @@ impl Default for Found<'_> {
 /// The operands of an instruction as they are read, in order: at most four.
 pub(crate) type Founds<'a> = ArrayVec<Found<'a>, 4>;
 
-/// Appends the operand that a text in a hole is, if there is one. Tells whether the text may be there.
+/// Appends the operand that a text in a hole is, if there is one. True where the text may be there.
 pub(crate) fn add_found<'a>(hole: Hole, text: &'a [u8], founds: &mut Founds<'a>) -> bool
     requires room { array_vec_len founds.old < 4 }
     ensures found { founds_if result founds.new.items ≡ and_founds founds.old.items (hole_found hole text.now) }

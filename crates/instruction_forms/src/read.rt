@@ -46,7 +46,7 @@ fn before_suffix<'a>(suffix: &[u8], text: &'a [u8]) -> Option<&'a [u8]>
     if end == suffix { Some(rest) } else { None }
 }
 
-/// Appends the operand that a text is by its form, if it has one. Tells whether the text is of the form.
+/// Appends the operand that a text is by its form, if it has one. True where the text is of the form.
 #[tactic(auto, unfolding(form_laws::specs::Tables::piece_found))]
 fn add_piece<'a>(piece: &Piece, text: &'a [u8], founds: &mut Founds<'a>) -> bool
     requires room { array_vec_len founds.old < 4 }
@@ -62,7 +62,7 @@ fn add_piece<'a>(piece: &Piece, text: &'a [u8], founds: &mut Founds<'a>) -> bool
     }
 }
 
-/// Appends the operands that texts are by their forms. Tells whether there are as many and each is of its form.
+/// Appends the operands that texts are by their forms. True where there are as many and each is of its form.
 #[tactic(auto, unfolding(form_laws::specs::Tables::pieces_found), using(crate::proofs::Readings::join_joined, crate::proofs::Readings::no_text))]
 fn add_pieces<'a>(pieces: &[Piece], texts: &[&'a [u8]], founds: &mut Founds<'a>) -> bool
     requires room { array_vec_len founds.old + length texts.now ≤ 4 }
@@ -118,7 +118,7 @@ fn read_form<'a>(form: &Form, word: &[u8], operands: &Operands<'a>) -> Option<Op
 }
 
 /// The instruction with this first word and these operands, by the first form of the table that fits: none where
-/// no form does. A place or a label has no number yet.
+/// no form does. A place or a label has its name and no number.
 #[tactic(auto, using(crate::proofs::Readings::first_fits, crate::proofs::Readings::first_not, crate::proofs::Readings::no_form))]
 pub fn read_by<'a>(table: &Table, word: &'a [u8], operands: Operands<'a>) -> Option<Raw<'a>>
     ensures { raw_seen result ≡ table_raw (table_seen table.now) (record { word = word.now; operands = texts_of operands.entry }) }

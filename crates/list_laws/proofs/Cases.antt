@@ -3,10 +3,12 @@ use Rattle.std.proofs.Common.{◌≡◌, ℕ, ◌<◌, ◌≤◌, Bool, true, fa
 use Rattle.std.specs.Prelude.{◌⊎◌}
 use Rattle.std.proofs.lemmas.Bool.{cases_lt, cases_eq}
 
+-- a test is true, or it is false
 pub by_test : {G : Type 0} (b : Bool) → (b ≡ true → G) → (b ≡ false → G) → G
 by_test true t f = t refl
 by_test false t f = f refl
 
+-- a number is below another, or at least that one
 pub by_less : {G : Type 0} (m n : ℕ) → (m < n → G) → (n ≤ m → G) → G
 by_less {G} m n l g = either (cases_lt m n)
   where
@@ -14,6 +16,7 @@ by_less {G} m n l g = either (cases_lt m n)
     either (inl a) = l a
     either (inr b) = g b
 
+-- two numbers are equal, or they are not
 pub by_same : {G : Type 0} (m n : ℕ) → (m ≡ n → G) → ((m ≡ n → ⊥) → G) → G
 by_same {G} m n s d = either (cases_eq m n)
   where
@@ -21,6 +24,7 @@ by_same {G} m n s d = either (cases_eq m n)
     either (inl a) = s a
     either (inr b) = d b
 
+-- an option is empty, or it has a value
 pub by_option : {A G : Type 0} (o : Option A) → (o ≡ None → G) → ((x : A) → o ≡ Some x → G) → G
 by_option None n s = n refl
 by_option (Some x) n s = s x refl

@@ -7,23 +7,27 @@ use Rattle.list_laws.specs.Numbers.{upto}
 use Rattle.list_laws.proofs.Cases.{by_test, by_less}
 use Rattle.list_laws.proofs.Numbers.{length-upto}
 
--- one number more
+-- with one number more, the count grows by one where that number passes
 pub count_upto-suc : (p : ℕ → Bool) (n : ℕ) → count_by p (upto (suc n)) ≡ count_by p (upto n) + cond (p n) 1 0
 count_upto-suc p n = sum_by_push (λ i. cond (p i) 1 0) (upto n) n
 
+-- the same, with n + 1 in place of the successor
 pub count_upto_more : (p : ℕ → Bool) (n : ℕ) → count_by p (upto (n + 1)) ≡ count_by p (upto n) + cond (p n) 1 0
 count_upto_more p n = rw add-one (count_upto-suc p n)
 
+-- a number more that passes adds one to the count
 pub count_upto_more_yes : (p : ℕ → Bool) (n : ℕ) → p n ≡ true → count_by p (upto (n + 1)) ≡ count_by p (upto n) + 1
 count_upto_more_yes p n h = omega (arith, count_upto_more p n, cond-true {A = ℕ} (p n) 1 0 h)
 
+-- a number more that fails adds nothing to the count
 pub count_upto_more_no : (p : ℕ → Bool) (n : ℕ) → p n ≡ false → count_by p (upto (n + 1)) ≡ count_by p (upto n)
 count_upto_more_no p n h = omega (arith, count_upto_more p n, cond-false {A = ℕ} (p n) 1 0 h)
 
+-- of n numbers at most n pass
 pub count_upto-le : (p : ℕ → Bool) (n : ℕ) → count_by p (upto n) ≤ n
 count_upto-le p n = omega (arith, count_by-le-length p (upto n), length-upto n)
 
--- two tests that agree below n
+-- two tests that agree below n count the same
 pub count_upto_same : (p q : ℕ → Bool) (n : ℕ) → ((i : ℕ) → i < n → p i ≡ q i) → count_by p (upto n) ≡ count_by q (upto n)
 count_upto_same p q zero h = refl
 count_upto_same p q (suc n) h =
@@ -34,13 +38,13 @@ one_le : (a b : Bool) → (a ≡ true → b ≡ true) → cond a 1 0 ≤ cond b 
 one_le false b h = omega arith
 one_le true b h = rw (h refl) (omega arith)
 
--- a test that passes less
+-- a test that passes less counts no more
 pub count_upto_fewer : (p q : ℕ → Bool) (n : ℕ) → ((i : ℕ) → i < n → p i ≡ true → q i ≡ true) → count_by p (upto n) ≤ count_by q (upto n)
 count_upto_fewer p q zero h = omega arith
 count_upto_fewer p q (suc n) h =
     omega (arith, count_upto-suc p n, count_upto-suc q n, count_upto_fewer p q n (λ i l. h i (omega arith)), one_le (p n) (q n) (h n (omega arith)))
 
--- the numbers below a lower bound
+-- below a lower bound no more numbers pass
 pub count_upto_up : (p : ℕ → Bool) (m n : ℕ) → m ≤ n → count_by p (upto m) ≤ count_by p (upto n)
 count_upto_up p m zero h = let e : m ≡ 0 = omega arith in rw e (omega arith)
 count_upto_up p m (suc n) h =
@@ -48,13 +52,13 @@ count_upto_up p m (suc n) h =
     (λ g. let e : m ≡ suc n = omega arith in rw e (omega arith))
     (λ l. omega (arith, count_upto-suc p n, count_upto_up p m n l))
 
--- nothing to count
+-- where no number passes, the count is 0
 pub count_upto_none : (p : ℕ → Bool) (n : ℕ) → ((i : ℕ) → i < n → p i ≡ false) → count_by p (upto n) ≡ 0
 count_upto_none p zero h = refl
 count_upto_none p (suc n) h =
     omega (arith, count_upto-suc p n, count_upto_none p n (λ i l. h i (omega arith)), cond-false {A = ℕ} (p n) 1 0 (h n (omega arith)))
 
--- nothing more to count from m on
+-- where no number from m on passes, the count stays that of the numbers below m
 pub count_upto_stays : (p : ℕ → Bool) (m n : ℕ) → m ≤ n → ((i : ℕ) → m ≤ i → i < n → p i ≡ false) → count_by p (upto n) ≡ count_by p (upto m)
 count_upto_stays p m zero h f = let e : m ≡ 0 = omega arith in rw e refl
 count_upto_stays p m (suc n) h f =
@@ -62,11 +66,11 @@ count_upto_stays p m (suc n) h f =
     (λ g. let e : m ≡ suc n = omega arith in rw e refl)
     (λ l. omega (arith, count_upto-suc p n, count_upto_stays p m n l (λ i a b. f i a (omega arith)), cond-false {A = ℕ} (p n) 1 0 (f n l (omega arith))))
 
--- a number that passes is counted once, and a greater count has passed it
+-- a number that passes is not counted below itself, but is counted below each greater bound
 pub count_upto_past : (p : ℕ → Bool) (i n : ℕ) → i < n → p i ≡ true → count_by p (upto i) + 1 ≤ count_by p (upto n)
 count_upto_past p i n h t = omega (arith, count_upto_more_yes p i t, count_upto_up p (i + 1) n (omega arith))
 
--- a number that passes
+-- a number below n that passes
 pub record Passing (p : ℕ → Bool) (n : ℕ) : Type 0 where
   pub number : ℕ
   pub below : number < n
@@ -81,7 +85,7 @@ counted p (suc n) h =
     (λ f. let w = counted p n (omega (arith, h, count_upto-suc p n, cond-false {A = ℕ} (p n) 1 0 f)) in
     record { number = w.number; below = omega (arith, w.below); passes = w.passes })
 
--- a test that passes one number more
+-- a test that passes one number more counts one more
 pub count_upto_one_more : (p q : ℕ → Bool) (m n : ℕ) → m < n → p m ≡ false → q m ≡ true → ((i : ℕ) → i < n → (i ≡ m → ⊥) → q i ≡ p i) → count_by q (upto n) ≡ count_by p (upto n) + 1
 count_upto_one_more p q m zero h f t e = absurd (omega arith)
 count_upto_one_more p q m (suc n) h f t e =
@@ -93,7 +97,7 @@ count_upto_one_more p q m (suc n) h f t e =
     let b : ◌≡◌ {A = ℕ} (cond (p n) 1 0) 0 = cond-false {A = ℕ} (p n) 1 0 (rw s at f) in
     omega (arith, count_upto-suc p n, count_upto-suc q n, a, b, count_upto_same q p n (λ i k. e i (omega arith) (λ z. omega (arith, z, k, s)))))
 
--- a test that passes less, and not number m
+-- a test that passes less, and not number m, counts at least one less
 pub count_upto_less : (p q : ℕ → Bool) (m n : ℕ) → m < n → p m ≡ false → q m ≡ true → ((i : ℕ) → i < n → p i ≡ true → q i ≡ true) → count_by p (upto n) + 1 ≤ count_by q (upto n)
 count_upto_less p q m zero h f t e = absurd (omega arith)
 count_upto_less p q m (suc n) h f t e =

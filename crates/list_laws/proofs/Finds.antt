@@ -8,14 +8,14 @@ use Rattle.list_laws.specs.Numbers.{upto}
 use Rattle.list_laws.proofs.Cases.{by_test, by_less, by_option}
 use Rattle.list_laws.proofs.Counts.{Passing}
 
--- no number below n passes
+-- where no number below n passes, none is found
 pub find_upto_none : (p : ℕ → Bool) (n : ℕ) → ((i : ℕ) → i < n → p i ≡ false) → find p (upto n) ≡ None
 find_upto_none p zero h = refl
 find_upto_none p (suc n) h =
     find-append p (upto n) (n ∷ [])
     ∙ rw (find_upto_none p n (λ i l. h i (omega arith)), h n (omega arith)) refl
 
--- number i is the first that passes
+-- where number i is the first that passes, it is found
 pub find_upto_first : (p : ℕ → Bool) (n i : ℕ) → i < n → p i ≡ true → ((j : ℕ) → j < i → p j ≡ false) → find p (upto n) ≡ Some i
 find_upto_first p zero i h t b = absurd (omega arith)
 find_upto_first p (suc n) i h t b =
@@ -25,7 +25,7 @@ find_upto_first p (suc n) i h t b =
     let y : p n ≡ true = rw e at t in
     find-append p (upto n) (n ∷ []) ∙ rw (find_upto_none p n (λ j l. b j (omega arith)), y, e) refl)
 
--- number i is the only one that passes
+-- where number i is the only one that passes, it is found
 pub find_upto_only : (p : ℕ → Bool) (n i : ℕ) → i < n → p i ≡ true → ((j : ℕ) → j < n → p j ≡ true → j ≡ i) → find p (upto n) ≡ Some i
 find_upto_only p n i h t o =
     find_upto_first p n i h t (λ j l. fails j l (p j) refl)
@@ -51,6 +51,7 @@ pub record First (p : ℕ → Bool) (n i : ℕ) : Type 0 where
   pub passes : p i ≡ true
   pub before : (j : ℕ) → j < i → p j ≡ false
 
+-- the number that is found is the first that passes
 pub find_upto : (p : ℕ → Bool) (n i : ℕ) → find p (upto n) ≡ Some i → First p n i
 find_upto p zero i h = cc
 find_upto p (suc n) i h =
@@ -66,7 +67,7 @@ find_upto p (suc n) i h =
     let r = find_upto p n i (rw s at e) in
     record { below = omega (arith, r.below); passes = r.passes; before = r.before })
 
--- some number below n passes
+-- where some number below n passes, the test of the list is true
 pub any_upto : (p : ℕ → Bool) (n i : ℕ) → i < n → p i ≡ true → list_any p (upto n) ≡ true
 any_upto p zero i h t = absurd (omega arith)
 any_upto p (suc n) i h t =
@@ -76,18 +77,18 @@ any_upto p (suc n) i h t =
     (λ g. let e : i ≡ n = omega arith in
     or_right (list_any p (upto n)) (p n || false) (or_left (p n) false (rw e at t)))
 
--- no number below n passes
+-- where no number below n passes, the test of the list is false
 pub any_upto_none : (p : ℕ → Bool) (n : ℕ) → ((i : ℕ) → i < n → p i ≡ false) → list_any p (upto n) ≡ false
 any_upto_none p zero h = refl
 any_upto_none p (suc n) h =
     list_any-append p (upto n) (n ∷ [])
     ∙ rw (any_upto_none p n (λ i l. h i (omega arith)), h n (omega arith)) refl
 
--- where none passes by the test of the list, each number fails
+-- where the test of the list is false, each number fails
 pub any_upto_fails : (p : ℕ → Bool) (n i : ℕ) → list_any p (upto n) ≡ false → i < n → p i ≡ false
 any_upto_fails p n i h l = by_test (p i) (λ t. let a : true ≡ false = sym (any_upto p n i l t) ∙ h in cc) (λ f. f)
 
--- where one passes by the test of the list, there is one
+-- where the test of the list is true, there is a number that passes
 pub any_upto_passing : (p : ℕ → Bool) (n : ℕ) → list_any p (upto n) ≡ true → Passing p n
 any_upto_passing p zero h = cc
 any_upto_passing p (suc n) h =
@@ -98,7 +99,7 @@ any_upto_passing p (suc n) h =
     let r = any_upto_passing p n e in
     record { number = r.number; below = omega (arith, r.below); passes = r.passes })
 
--- the first that passes among what a function makes of the elements
+-- the first that passes among the images of the elements is the image of the first whose image passes
 pub find-map : {X Y : Type 0} (p : Y → Bool) (f : X → Y) (xs : List X) → find p (map f xs) ≡ option_map f (find (λ x. p (f x)) xs)
 find-map p f [] = refl
 find-map p f (x ∷ xs) = by_test (p (f x)) (λ t. rw t refl) (λ e. rw e (find-map p f xs))

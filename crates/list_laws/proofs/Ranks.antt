@@ -16,6 +16,7 @@ filter_upto_yes p n h = filter-append p (upto n) (n ∷ []) ∙ ap (λ l. filter
 filter_upto_no : (p : ℕ → Bool) (n : ℕ) → p n ≡ false → filter p (upto (suc n)) ≡ filter p (upto n)
 filter_upto_no p n h = filter-append p (upto n) (n ∷ []) ∙ ap (λ l. filter p (upto n) ++ l) (cond-false (p n) (n ∷ []) [] h) ∙ append-nil (filter p (upto n))
 
+-- as many numbers are filtered as are counted
 pub length-filter-upto : (p : ℕ → Bool) (n : ℕ) → length (filter p (upto n)) ≡ count_by p (upto n)
 length-filter-upto p n = length-filter p (upto n)
 
@@ -30,7 +31,7 @@ get_or_rank p (suc n) i d h t =
     let y : p n ≡ true = rw e at t in
     rw (e, filter_upto_yes p n y) (get_or_push (filter p (upto n)) n d (count_by p (upto n)) (length-filter p (upto n))))
 
--- a number that passes stands at the place of its rank
+-- the place of a number that passes is its rank
 pub rank_upto : (p : ℕ → Bool) (n i : ℕ) → i < n → p i ≡ true → slice_get (filter p (upto n)) (count_by p (upto i)) ≡ Some i
 rank_upto p n i h t =
     slice_get-get_or (filter p (upto n)) (count_by p (upto i)) 0 (omega (arith, length-filter p (upto n), count_upto_past p i n h t))
@@ -42,7 +43,7 @@ pub record Ranked (p : ℕ → Bool) (n s i : ℕ) : Type 0 where
   pub passes : p i ≡ true
   pub rank : count_by p (upto i) ≡ s
 
--- what stands at place s passes, and has rank s
+-- the number at place s passes, and has rank s
 pub unrank_upto : (p : ℕ → Bool) (n s i : ℕ) → slice_get (filter p (upto n)) s ≡ Some i → Ranked p n s i
 unrank_upto p zero s i h = absurd (omega (arith, slice_get_within [] s i h))
 unrank_upto p (suc n) s i h =

@@ -1,4 +1,4 @@
--- Listed cycles behind others that are listed.
+-- Listed cycles after others that are listed.
 use Rattle.std.proofs.Common.{◌≡◌, ◌⊎◌, inl, inr, Option, Some, List, [], ◌∷◌, ◌++◌, refl, sym, ◌∙◌, ap, subst}
 use Rattle.relax_edges.specs.declared.edge.Edge.{Edge}
 use Rattle.walk_laws.specs.Order.{Follows}
@@ -26,7 +26,7 @@ rising_both (u ∷ us) vs r s h = (
 )
 
 module _ (listed : List Edge → Type 0) (given : Option (List Edge)) where
-  -- the listed cycles up to one, and those behind it up to another
+  -- the listed cycles up to one, and those after it up to another
   pub listed_behind : (last : Option (List Edge)) (c : List Edge) (us vs : List (List Edge)) → AreListedTo listed given (Some c) us → AreListedTo listed (Some c) last vs → AreListedTo listed given last (us ++ vs)
   listed_behind last c us vs a b = record {
     each = λ w o. elim (one_of_parts us vs w o) [ inl front ↦ a.each w front | inr back ↦ b.each w back ];
@@ -40,7 +40,7 @@ module _ (listed : List Edge → Type 0) (given : Option (List Edge)) where
     ];
   }
 
-  -- the listed cycles up to one, and all behind it
+  -- the listed cycles up to one, and all after it
   pub all_behind : (c : List Edge) (us vs : List (List Edge)) → AreListedTo listed given (Some c) us → AreAllListed listed (Some c) vs → AreAllListed listed given (us ++ vs)
   all_behind c us vs a b = record {
     each = λ w o. elim (one_of_parts us vs w o) [ inl front ↦ a.each w front | inr back ↦ b.each w back ];
@@ -57,7 +57,7 @@ pub record GoesOn (us all : List (List Edge)) : Type 0 where
   pub rest : List (List Edge)
   pub parts : all ≡ us ++ rest
 
--- a list of cycles in order begins another one, where all of the other one that aren't in it come behind it
+-- a list of cycles in order begins another one, where all of the other one that aren't in it come after it
 begins : (us all : List (List Edge)) → AreRising us → AreRising all → ((w : List Edge) → IsOneOf us w → IsOneOf all w)
     → ((w : List Edge) → IsOneOf all w → (IsOneOf us w) ⊎ ((u : List Edge) → IsOneOf us u → Follows u w)) → GoesOn us all
 begins [] all r s h k = record { rest = all; parts = refl }

@@ -1,4 +1,4 @@
--- The steps of putting files on a shelf one after another, and what they come to.
+-- The steps of writing files on a shelf one after another, and what they come to.
 use Rattle.std.proofs.Common.{◌≡◌, ◌<◌, ℕ, ◌+◌, get_or, drop, map, List, [], ◌∷◌, ◌++◌, length, refl, sym, ◌∙◌, ap, subst, append-nil, append_assoc}
 use Rattle.std.proofs.lemmas.List.{drop_more, map-append}
 use Rattle.diy_io.specs.Shelf.{ShelfSeen, Idle}
@@ -20,7 +20,7 @@ files_first files a idle = record { done = []; parts = refl; put = put_nothing a
 left_at : (files : List File) (i : ℕ) (f : File) → i < length files → f ≡ get_or files i f → drop i files ≡ f ∷ drop (i + 1) files
 left_at files i f h e = drop_more files i f h ∙ ap (λ v. v ∷ drop (i + 1) files) (sym e)
 
--- one file more
+-- one more file
 pub files_more : (files : List File) (i : ℕ) (f : File) (a b c : ShelfSeen) → i < length files → f ≡ get_or files i f
     → FilesPut files (drop i files) a b → Put b c (file_put f ∷ []) → FilesPut files (drop (i + 1) files) a c
 files_more files i f a b c h e p put = record {

@@ -31,7 +31,7 @@ module _ (folder : Option (List ℕ)) (text : List Edge → List ℕ) (cycles : 
     counted = refl;
   }
 
-  -- one cycle more
+  -- one more cycle
   pub puts_more : (rest more : List (List Edge)) (u : List Edge) (a b c : ShelfSeen) (number next : ℕ)
       → Puts folder text cycles rest a b number → rest ≡ u ∷ more → next ≡ number_of (number + 1)
       → Put b c ((path_of folder (file_of number u), text u) ∷ []) → Puts folder text cycles more a c next
@@ -120,7 +120,7 @@ module _ (path : List ℕ) (cycles : List (List Edge)) where
     counted = l.counted;
   }
 
-  -- one line more waits
+  -- one more line waits
   pub lists_more : (rest more : List (List Edge)) (u : List Edge) (a b : ShelfSeen) (number next : ℕ) (waiting new : List ℕ)
       → Lists path cycles rest a b number waiting → rest ≡ u ∷ more → next ≡ number_of (number + 1) → new ≡ waiting ++ (file_of number u ++ codes "\n")
       → Lists path cycles more a b next new

@@ -44,7 +44,7 @@ module _ (listed : List Edge → Type 0) (folder : Option (List ℕ)) (text : Li
     counted = k.room.1 ∙ d ∙ ap number_of (sym (length_more cycles u));
   }
 
-  -- one cycle more
+  -- one more cycle
   pub goes_on : (last : Option (List Edge)) (a b c : ShelfSeen) (u : List Edge) (number next : ℕ) (lines new : List ℕ) (before after : Option Closed)
       → Goes listed folder text given last a b number lines before → IsNext listed last u → IsNormal u → next ≡ number_of (number + 1)
       → Put b c ((path_of folder (file_of number u), text u) ∷ [])
@@ -78,7 +78,7 @@ module _ (listed : List Edge → Type 0) (folder : Option (List ℕ)) (text : Li
         (subst (λ file. PutPart b c [] (path_of folder file) (text u)) (file_counted number (length g.cycles) _ (ap number_of g.counted ∙ counted_once (length g.cycles))) p);
   }
 
-  -- there is no cycle more
+  -- there is no further cycle
   pub goes_end : (last : Option (List Edge)) (a b : ShelfSeen) (number : ℕ) (lines : List ℕ) (closed : Option Closed)
       → Goes listed folder text given last a b number lines closed → IsAnswer listed last None → HasGone listed folder text given a b number lines closed
   goes_end last a b number lines closed g none = record {
@@ -89,7 +89,7 @@ module _ (listed : List Edge → Type 0) (folder : Option (List ℕ)) (text : Li
     kept = g.kept;
   }
 
-  -- the lines behind those that are kept
+  -- the lines after those that are kept
   lines_behind : (kept more : List (List Edge)) (lines : List ℕ) (number : ℕ) → lines ≡ file_lines 0 kept → number ≡ number_of (length kept) → lines ++ file_lines number more ≡ file_lines 0 (kept ++ more)
   lines_behind kept more lines number e f =
       let plus : 0 + length kept ≡ length kept = omega arith in
@@ -167,7 +167,7 @@ module _ (listed : List Edge → Type 0) (path lines : List ℕ) (closed : Close
     counted = n.counted;
   }
 
-  -- one line more waits
+  -- one more line waits
   pub naming_more : (last : Option (List Edge)) (a b : ShelfSeen) (number next : ℕ) (waiting new : List ℕ) (u : List Edge)
       → Naming listed path lines closed last a b number waiting → IsNext listed last u → next ≡ number_of (number + 1) → new ≡ waiting ++ (file_of number u ++ codes "\n")
       → Naming listed path lines closed (Some u) a b next new

@@ -8,6 +8,7 @@ use Rattle.std.specs.List.{enumerate_from, flat_map}
 use Rattle.relax_edges.specs.declared.edge.Edge.{Edge}
 use Rattle.listed_tests.specs.Files.{number_of, file_named, stem_named, file_of, path_of, file_lines, test_files, count_line}
 
+-- a list with one more cycle is longer by one
 pub length_more : (us : List (List Edge)) (u : List Edge) → length (us ++ u ∷ []) ≡ length us + 1
 length_more us u = omega (arith, length-append us (u ∷ []))
 
@@ -27,6 +28,7 @@ file_lines-append n xs ys =
     ap (flat_map (λ test. file_of test.0 test.1 ++ codes "\n")) (enumerate_from-append n xs ys)
     ∙ flat_map-append (λ test. file_of test.0 test.1 ++ codes "\n") (enumerate_from n xs) (enumerate_from (n + length xs) ys)
 
+-- no cycles have no lines
 pub file_lines_none : (n : ℕ) → file_lines n [] ≡ []
 unfolding file_lines
 file_lines_none n = refl
@@ -39,11 +41,12 @@ pub file_lines_first : (n : ℕ) (u : List Edge) (us : List (List Edge)) → fil
 unfolding file_lines
 file_lines_first n u us = refl
 
+-- no cycles have no files
 pub test_files_none : (folder : Option (List ℕ)) (text : List Edge → List ℕ) → test_files folder text [] ≡ []
 unfolding test_files
 test_files_none folder text = refl
 
--- the file of one cycle more
+-- the file of one more cycle
 pub test_files_more : (folder : Option (List ℕ)) (text : List Edge → List ℕ) (us : List (List Edge)) (u : List Edge)
     → test_files folder text (us ++ u ∷ []) ≡ test_files folder text us ++ (path_of folder (file_of (length us) u), text u) ∷ []
 unfolding test_files
@@ -56,6 +59,7 @@ test_files_more folder text us u =
 pub counted_once : (n : ℕ) → number_of (number_of n) ≡ number_of n
 counted_once n = omega arith
 
+-- numbers that count as one still do so when both are one more
 pub counted_next : (m n : ℕ) → number_of m ≡ number_of n → number_of (m + 1) ≡ number_of (n + 1)
 counted_next m n h = omega arith
 
@@ -64,6 +68,7 @@ pub file_counted : (m n : ℕ) (name : List ℕ) → number_of m ≡ number_of n
 unfolding file_named stem_named
 file_counted m n name h = rw h refl
 
+-- numbers that count as one number the lines alike
 pub lines_counted : (m n : ℕ) (us : List (List Edge)) → number_of m ≡ number_of n → file_lines m us ≡ file_lines n us
 lines_counted m n [] h = file_lines_none m ∙ sym (file_lines_none n)
 lines_counted m n (u ∷ us) h =
@@ -72,7 +77,7 @@ lines_counted m n (u ∷ us) h =
 pub counted_itself : (n : ℕ) → n < 2 ^ 128 → number_of n ≡ n
 counted_itself n h = omega arith
 
--- the lines up to one cycle more
+-- the lines up to one more cycle
 pub lines_more : (first : ℕ) (us : List (List Edge)) (u : List Edge) (n : ℕ) → number_of n ≡ number_of (first + length us)
     → file_lines first us ++ (file_of n u ++ codes "\n") ≡ file_lines first (us ++ u ∷ [])
 lines_more first us u n h =
@@ -83,7 +88,7 @@ lines_more first us u n h =
 pub lines_so_far : (us : List (List Edge)) (u : List Edge) (n : ℕ) → number_of n ≡ number_of (length us) → file_lines 0 us ++ (file_of n u ++ codes "\n") ≡ file_lines 0 (us ++ u ∷ [])
 lines_so_far us u n h = lines_more 0 us u n (h ∙ ap number_of (sym (zero_plus (length us))))
 
--- a text is written but for what waits, and a line more waits
+-- a text is written but for what waits, and one more line waits
 pub waits_more : (written waiting new text line : List ℕ) → written ++ waiting ≡ text → new ≡ waiting ++ line → written ++ new ≡ text ++ line
 waits_more written waiting new text line h e = ap (λ t. written ++ t) e ∙ sym (append_assoc written waiting line) ∙ ap (λ t. t ++ line) h
 

@@ -14,6 +14,7 @@ after_more : (given : Option (List Edge)) (u v : List Edge) → ComesAfter given
 after_more None u v h f = tt
 after_more (Some w) u v h f = follows_transitive w u v h f
 
+-- before the first cycle none is passed over
 pub passes_first : (listed : List Edge → Type 0) (given : Option (List Edge)) → Passes listed given given
 passes_first listed given = record { beyond = λ v h. h; none = λ v is h. h }
 

@@ -1,4 +1,4 @@
--- Laws of putting files on a shelf.
+-- Laws of writing files on a shelf.
 use Rattle.std.proofs.Common.{◌≡◌, inl, inr, ◌≤◌, ℕ, Bool, true, false, cond, List, [], ◌∷◌, ◌++◌, Option, Some, None, refl, sym, ◌∙◌, ap, subst, append_assoc, append-nil}
 use Rattle.std.proofs.Math.Path.{fun_ext}
 use Rattle.std.proofs.lemmas.Slice.Eq.{bytes_eq-Decides}
@@ -10,7 +10,7 @@ use Rattle.diy_io.specs.Count.{Rose}
 use Rattle.diy_io.specs.Shelf.{Files, ShelfSeen, Idle, Writing, name_written, with_file, with_more, bytes_in, CountsStay, Faulted, Created, NotCreated, Appended, AppendedPart, Finished, Stopped}
 use Rattle.listed_tests.specs.Putting.{with_files, Put, PutPart, Filling}
 
--- a file that is put again
+-- a file that is written again
 tested_again : {X : Type 0} (t : Bool) (x y z : X) → cond t x (cond t y z) ≡ cond t x z
 tested_again true x y z = refl
 tested_again false x y z = refl
@@ -45,7 +45,7 @@ told_one : (path a : List ℕ) (files : Option Files) → option_map (with_file 
 told_one path a None = refl
 told_one path a (Some files) = refl
 
--- counts that stay, and then stay
+-- counts that stay, and then stay again
 stay : (a b c : ShelfSeen) → CountsStay a b → CountsStay b c → CountsStay a c
 stay a b c p q = record { taken = q.taken ∙ p.taken; opened = q.opened ∙ p.opened }
 
@@ -55,7 +55,7 @@ later_fault a b c e f = record {
   never_falls = subst (λ m. m ≤ c.faults) e f.never_falls;
 }
 
--- nothing is put
+-- nothing is written
 pub put_nothing : (a : ShelfSeen) → a.mode ≡ Idle → Put a a []
 put_nothing a idle = record { mode = idle; files = sym (told_nothing a.files); no_fault = refl; counts = record { taken = refl; opened = refl } }
 
@@ -162,6 +162,7 @@ pub closed_ok : (a b c : ShelfSeen) (path bytes : List ℕ) (result : Result (Un
 closed_ok a b c path bytes (Ok _) f x = filling_done a b c path bytes f x
 closed_ok a b c path bytes (Err _) f x = tt
 
+-- a file whose closing fails is as it was, or there in part
 pub closed_err : (a b c : ShelfSeen) (path bytes : List ℕ) (result : Result (Unit {0}) Failed) → Filling a b path bytes → OnErr result (Stopped b c) → OnErr result (PutPart a c [] path bytes)
 closed_err a b c path bytes (Ok _) f x = tt
 closed_err a b c path bytes (Err _) f x = filling_stopped a b c path bytes f x
@@ -171,6 +172,7 @@ pub ok_so : {P Q : Type 0} (result : Result (Unit {0}) Failed) → (P → Q) →
 ok_so (Ok _) f p = f p
 ok_so (Err _) f p = tt
 
+-- what holds where a call failed may be weakened
 pub err_so : {P Q : Type 0} (result : Result (Unit {0}) Failed) → (P → Q) → OnErr result P → OnErr result Q
 err_so (Ok _) f p = tt
 err_so (Err _) f p = f p

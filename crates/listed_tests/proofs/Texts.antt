@@ -1,4 +1,4 @@
--- The text of a test that is put to its file part by part.
+-- The text of a test that is written to its file part by part.
 use Rattle.std.proofs.Common.{◌≡◌, ◌≤◌, ◌<◌, ℕ, List, [], ◌++◌, length, sym, ap, ◌∙◌, subst, arith, append_assoc, append-nil}
 use Rattle.std.specs.Prelude.{Option, Some, None}
 use Rattle.diy_io.specs.declared.page.TheConstants.{SPILL, LINE_ROOM}
@@ -13,7 +13,7 @@ use Rattle.litmus_text.specs.TextParts.{text_from, PutsPart}
 use Rattle.listed_tests.specs.Putting.{Filling, PutPart}
 use Rattle.listed_tests.proofs.Shelves.{filling_more, filling_part, part_more}
 
--- a file has a text so far, but for what the page holds and what stands from a part on
+-- a file has a text so far, but for what the page holds and what comes from a part on
 pub record FilledTo (w : Writing) (test : TestSeen) (old : ShelfSeen) (path whole : List ℕ) (new : ShelfSeen) (page : List ℕ) (next : Option TextPart) : Type 0 where
   pub written : List ℕ
   pub file : Filling old new path written
@@ -44,7 +44,7 @@ module _ (w : Writing) (test : TestSeen) (a : ShelfSeen) (path whole : List ℕ)
       (filling_part a b c path f.written page f.file (subst (AppendedPart b c (name_written b.mode)) same x))
       (sym f.text ∙ sym (append_assoc f.written page (text_from w test next)))
 
-  -- a part is put to the page
+  -- a part is added to the page
   pub filled_more : (b : ShelfSeen) (page new : List ℕ) (part : TextPart) (next : Option TextPart) → FilledTo w test a path whole b page (Some part) → length page < SPILL
       → PutsPart w test part page new next → FilledTo w test a path whole b new next
   filled_more b page new part next f room put =
@@ -59,7 +59,7 @@ module _ (w : Writing) (test : TestSeen) (a : ShelfSeen) (path whole : List ℕ)
             ∙ f.text;
       }
 
-  -- all parts are put, and the page goes to the file
+  -- all parts are added, and the page goes to the file
   pub filled_whole : (b c : ShelfSeen) (page bytes : List ℕ) → FilledTo w test a path whole b page None → bytes ≡ page → Appended b c (name_written b.mode) bytes
       → Filling a c path whole
   filled_whole b c page bytes f same x =

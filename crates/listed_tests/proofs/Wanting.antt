@@ -1,4 +1,4 @@
--- Which cycles a listing wants, and what its walk is told of that.
+-- Which cycles a listing wants, and what its walk knows of that.
 use Rattle.std.proofs.Common.{◌≡◌, ◌<◌, ◌≤◌, ◌+◌, ◌&&◌, nat_lt, nat_le, ℕ, Bool, true, false, cond, not, List, ◌++◌, Option, Some, None, refl, sym, ◌∙◌, ap, arith}
 use Rattle.std.specs.Prelude.{◌↔◌, is_none}
 use Rattle.std.specs.List.{list_all, position_from}

@@ -12,14 +12,14 @@ use Rattle.listed_tests.specs.Files.{file_of, path_of, all_path, file_lines, tes
 use Rattle.listed_tests.specs.Plans.{Plan, IsPlanned, planned_text}
 use Rattle.listed_tests.specs.Putting.{Put, PutPart}
 
--- a listing goes on behind the normal form of a cycle, where there is one
+-- a listing goes on after the normal form of a cycle, where there is one
 abbrev pub BeginsBehind : Option (List Edge) → Option (List Edge) → Type 0
 BeginsBehind None None = ⊤
 BeginsBehind (Some cycle) (Some given) = IsLeast cycle given
 BeginsBehind _ _ = ⊥
 
--- The listed cycles behind one that is given each have a file with their text, in order, and then there is the file that
--- names them; and this is said of the line on their number.
+-- The listed cycles after one that is given each have a file with their text, in order, and then there is the file that
+-- names them; and this holds of the line on their number.
 pub record WritesAll (listed : List Edge → Type 0) (folder : Option (List ℕ)) (text : List Edge → List ℕ) (given : Option (List Edge)) (old new : ShelfSeen) (SaysLine : List ℕ → Type 0) : Type 0 where
   pub cycles : List (List Edge)
   pub all : AreAllListed listed given cycles
@@ -41,7 +41,7 @@ pub record StopsAtAll (listed : List Edge → Type 0) (folder : Option (List ℕ
   pub all : AreAllListed listed given cycles
   pub part : PutPart old new (test_files folder text cycles) (all_path folder) (file_lines 0 cycles)
 
--- what a listing behind a cycle that is given leaves: all files and the line, with no fault; all files and a front of the
+-- what a listing after a cycle that is given leaves: all files and the line, with no fault; all files and a prefix of the
 -- line, where the sink failed; or files up to the one at which the shelf failed, and the sink as it was
 abbrev pub EndsBehind : {Sink : Type 0} → (Sink → SinkSeen) → Plan → Option (List Edge) → ListingEnd → ShelfSeen → ShelfSeen → Sink → Sink → Type 0
 EndsBehind seen plan given Done old new out out' =
@@ -52,7 +52,7 @@ EndsBehind seen plan given ShelfFault old new out out' =
     (out' ≡ out)
     × (StopsAtTest (IsPlanned plan) plan.folder (planned_text plan) given old new ⊎ StopsAtAll (IsPlanned plan) plan.folder (planned_text plan) given old new)
 
--- what a listing leaves that goes on behind a cycle, where there is one
+-- what a listing leaves that goes on after a cycle, where there is one
 pub record EndsListing {Sink : Type 0} (seen : Sink → SinkSeen) (plan : Plan) (after : Option (List Edge)) (end : ListingEnd) (old new : ShelfSeen) (out out' : Sink) : Type 0 where
   pub given : Option (List Edge)
   pub begins : BeginsBehind after given

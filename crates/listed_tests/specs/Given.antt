@@ -23,7 +23,7 @@ given_files folder text cycles = test_files folder text cycles ++ (all_path fold
 abbrev pub given_files_of : Puts → Writing → Wanted → List (List Edge) → List (List ℕ × List ℕ)
 given_files_of puts writing wanted cycles = given_files (folder_of wanted) (named_text puts writing wanted.mode) cycles
 
--- the first of some files were put on a shelf, and then it failed at the next one
+-- the first of some files were written on a shelf, and then it failed at the next one
 pub record PutUpTo (old new : ShelfSeen) (files : List (List ℕ × List ℕ)) : Type 0 where
   pub before : List (List ℕ × List ℕ)
   pub next : List ℕ × List ℕ

@@ -18,7 +18,7 @@ use Rattle.listed_tests.specs.Files.{number_of, all_path, file_lines, test_files
 use Rattle.listed_tests.specs.Plans.{HaveTests, folder_in, folder_of, named_text}
 use Rattle.listed_tests.specs.Putting.{Put, PutPart, Filling}
 
--- the lines that are kept are those of the listed cycles up to one, and this is the number of the next
+-- the lines that are kept are those of the listed cycles up to one, and the number of the next one is kept
 pub record KeptTo (listed : List Edge → Type 0) (given : Option (List Edge)) (lines : List ℕ) (cycle : List Edge) (number : ℕ) : Type 0 where
   pub cycles : List (List Edge)
   pub so_far : AreListedTo listed given (Some cycle) cycles
@@ -26,7 +26,7 @@ pub record KeptTo (listed : List Edge → Type 0) (given : Option (List Edge)) (
   pub lines_are : lines ≡ file_lines 0 cycles
   pub counted : number ≡ number_of (length cycles)
 
--- the lines of these cycles are all kept, and there is room for one more; or those up to a cycle are
+-- the lines of these cycles are all kept, and there is room for one more; or those up to a cycle are kept
 abbrev pub Keeps : (List Edge → Type 0) → Option (List Edge) → List (List Edge) → List ℕ → Option Closed → Type 0
 Keeps listed given cycles lines None = (lines ≡ file_lines 0 cycles) × (length lines + MAX_LINE ≤ MAX_LINES)
 Keeps listed given cycles lines (Some closed) = KeptTo listed given lines closed.cycle closed.number
@@ -71,20 +71,20 @@ abbrev pub StopsPutting : Puts → Writing → Wanted → (List Edge → Type 0)
 StopsPutting puts writing wanted listed given old new =
     StopsAtTest (HaveTests puts wanted.mode listed) (folder_of wanted) (named_text puts writing wanted.mode) given old new
 
--- the file that names all is there: it has the lines that were kept, and those of all listed cycles behind
+-- the file that names all is there: it has the lines that were kept, and those of all listed cycles after the last one kept
 pub record NamesBehind (listed : List Edge → Type 0) (path lines : List ℕ) (closed : Closed) (old new : ShelfSeen) : Type 0 where
   pub cycles : List (List Edge)
   pub all : AreAllListed listed (Some closed.cycle) cycles
   pub file : Put old new ((path, lines ++ file_lines closed.number cycles) ∷ [])
 
--- the shelf failed at the file that names all, which is as it was or has a front of the lines of the listed cycles behind up to one
+-- the shelf failed at the file that names all, which is as it was or has a prefix of the lines of the listed cycles up to one
 pub record StopsBehind (listed : List Edge → Type 0) (path lines : List ℕ) (closed : Closed) (old new : ShelfSeen) : Type 0 where
   pub last : Option (List Edge)
   pub cycles : List (List Edge)
   pub so_far : AreListedTo listed (Some closed.cycle) last cycles
   pub part : PutPart old new [] path (lines ++ file_lines closed.number cycles)
 
--- the file that names all is there, with the lines that were kept and, where not all were, those behind
+-- the file that names all is there, with the lines that were kept and, where not all were, those that come after
 abbrev pub NamesAll : (List Edge → Type 0) → List ℕ → List ℕ → Option Closed → ShelfSeen → ShelfSeen → Type 0
 NamesAll listed path lines None old new = Put old new ((path, lines) ∷ [])
 NamesAll listed path lines (Some closed) old new = NamesBehind listed path lines closed old new
@@ -109,7 +109,7 @@ NamesRest puts mode listed path lines closed old new = NamesBehind (HaveTests pu
 abbrev pub StopsRest : Puts → ObsMode → (List Edge → Type 0) → List ℕ → List ℕ → Closed → ShelfSeen → ShelfSeen → Type 0
 StopsRest puts mode listed path lines closed old new = StopsBehind (HaveTests puts mode listed) path lines closed old new
 
--- the file that names all has the lines of the listed cycles behind up to the last one, but for those that wait
+-- the file that names all has the lines of the listed cycles up to the last one, but for those that wait
 pub record Naming (listed : List Edge → Type 0) (path lines : List ℕ) (closed : Closed) (last : Option (List Edge)) (old new : ShelfSeen) (number : ℕ) (waiting : List ℕ) : Type 0 where
   pub cycles : List (List Edge)
   pub so_far : AreListedTo listed (Some closed.cycle) last cycles

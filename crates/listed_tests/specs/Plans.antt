@@ -37,11 +37,12 @@ unfoldable pub is_wanted : Puts → ObsMode → ℕ → Option ℕ → List Edge
 is_wanted puts mode threads accesses cycle =
     is_none (refusal_of puts cycle mode) && (has_few_threads threads cycle && has_few_accesses accesses cycle)
 
--- such a cycle may begin with these edges: all are of the architecture, and there are no more threads yet
+-- such a cycle may begin with these edges: all are of the architecture, and there are no more threads so far
 unfoldable pub may_lead : ArchName → ℕ → List Edge → Bool
 may_lead arch threads edges = list_all (λ edge. is_of_arch edge arch) edges && has_few_threads threads edges
 
--- a cycle is wanted if it has a test: it has two threads or more, such a cycle may begin with its edges, and it has few accesses in each thread
+-- a cycle is wanted if it has a test: it has two threads or more, a wanted one may begin with its edges, and each of its threads
+-- has few accesses
 unfoldable pub is_sought : ArchName → ℕ → Option ℕ → List Edge → Bool
 is_sought arch threads accesses cycle = nat_le 2 (external_count cycle) && (may_lead arch threads cycle && has_few_accesses accesses cycle)
 

@@ -1,27 +1,27 @@
--- What it means that files were put on a shelf, or that it failed at one of them.
+-- What it means that files were written on a shelf, or that it failed at one of them.
 -- Source: own.
 use Rattle.std.specs.Prelude.{◌≡◌, ◌⊎◌, ℕ, List, [], ◌∷◌, ◌++◌}
 use Rattle.std.specs.Option.{option_map}
 use Rattle.listed_tests.specs.declared.putting.File.{File}
 use Rattle.diy_io.specs.Shelf.{Files, ShelfSeen, Idle, Writing, with_file, CountsStay, Faulted}
 
--- a file that is to be put, by its path and its bytes
+-- a file that is to be written, by its path and its bytes
 abbrev pub file_put : File → List ℕ × List ℕ
 file_put file = (file.path.bytes, file.bytes.now)
 
--- files with these put to them, one after another, each by its path and its bytes
+-- files to which these are added, one after another, each by its path and its bytes
 abbrev pub with_files : List (List ℕ × List ℕ) → Files → Files
 with_files [] files = files
 with_files (file ∷ rest) files = with_files rest (with_file file.0 file.1 files)
 
--- these files were put on a shelf, and nothing failed
+-- these files were written on a shelf, and nothing failed
 pub record Put (old new : ShelfSeen) (added : List (List ℕ × List ℕ)) : Type 0 where
   pub mode : new.mode ≡ Idle
   pub files : new.files ≡ option_map (with_files added) old.files
   pub no_fault : new.faults ≡ old.faults
   pub counts : CountsStay old new
 
--- these files were put on a shelf, and then it failed at one with this text: that one is as it was, or has a front of the text
+-- these files were written on a shelf, and then it failed at one with this text: that one is as it was, or has a prefix of the text
 pub record PutPart (old new : ShelfSeen) (added : List (List ℕ × List ℕ)) (path text : List ℕ) : Type 0 where
   pub front : List ℕ
   pub rest : List ℕ

@@ -59,7 +59,7 @@ pub fn put_cycles<A: Arch, H: Shelf, O: Sink>(
     }
 }
 
-/// Puts the files of cycles on the shelf, and then the one that names them.
+/// Writes the files of cycles on the shelf, and then the one that names them.
 fn put_given<A: Arch, H: Shelf>(
     wanted: &Wanted,
     cycles: &[Cycle],
@@ -76,7 +76,7 @@ fn put_given<A: Arch, H: Shelf>(
     put_names_of(path.as_str(), cycles, shelf)
 }
 
-/// Puts the files of the tests of cycles on the shelf. Each test is made in `test`.
+/// Writes the files of the tests of cycles on the shelf. Each test is made in `test`.
 #[inline(never)]
 fn put_tests_of<A: Arch, H: Shelf>(
     wanted: &Wanted,
@@ -99,7 +99,7 @@ fn put_tests_of<A: Arch, H: Shelf>(
     Ok(())
 }
 
-/// Puts the file on the shelf that names the files of cycles.
+/// Writes the file on the shelf that names the files of cycles.
 fn put_names_of<H: Shelf>(path: &str, cycles: &[Cycle], shelf: &mut H) -> Result<(), Failed>
     requires idle { (H.seen shelf.old).mode ≡ Idle }
     ensures ok { OnOk result (Put (H.seen shelf.old) (H.seen shelf.new) ((path.now, file_lines 0 cycles.now) ∷ [])) }

@@ -49,7 +49,7 @@ pub struct Listing<'a> {
     pub accesses: Option<u8>,
     /// How observers are treated.
     pub mode: ObsMode,
-    /// The cycle behind whose normal form the listing begins, where it doesn't begin with the first.
+    /// The cycle after whose normal form the listing begins, where it doesn't begin with the first.
     pub after: Option<Cycle>,
     /// The folder of the files, of at most `MAX_FOLDER` bytes.
     pub folder: Option<&'a str>,
@@ -63,14 +63,14 @@ pub struct Listing<'a> {
 /// accesses in each of its own threads; after a cycle, where it also follows that cycle's normal form.
 /// Its file has the text of its test under
 /// its name. The file is called by that name where it has at most 200 bytes, else by `long` and the
-/// number of the test in this listing, from 0; then `.litmus`. In a folder the file's name stands
-/// behind the folder's and a slash; `@all` has the names alone, each on a line. Numbers stop at the
+/// number of the test in this listing, from 0; then `.litmus`. In a folder the file's name comes
+/// after the folder's and a slash; `@all` has the names alone, each on a line. Numbers stop at the
 /// last value of 128 bits.
 ///
 /// `ShelfFault` comes only where the shelf's count of faults rose. Then the files up to one are
-/// whole, that one is as it was or has a front of its text, no other file changed, and nothing is
+/// whole, that one is as it was or has a prefix of its text, no other file changed, and nothing is
 /// written to `out`. `OutFault` comes only where the count of `out` rose. Then all files are whole,
-/// and `out` has a front of the line. In each case the shelf is at nothing again.
+/// and `out` has a prefix of the line. In each case the shelf is at nothing again.
 #[inline(never)]
 #[tactic(auto, using(crate::proofs::Wanting::refused_leads_none, crate::proofs::Wanting::long_run_leads_none))]
 pub fn list_tests<A: Arch, H: Shelf, O: Sink>(
@@ -109,7 +109,7 @@ pub fn list_tests<A: Arch, H: Shelf, O: Sink>(
     list_walk::<A, H, O, _, _, _>(&wanted, &mut walk, &mut test, shelf, out)
 }
 
-/// Lets a walk go on behind a cycle, where there is one.
+/// Lets a walk go on after a cycle, where there is one.
 fn begin_behind<K: Fn(&[Edge]) -> bool, J: Fn(&[Edge]) -> bool, P: Fn(&Cycle) -> bool>(
     walk: &mut Walk<K, J, P>,
     after: &Option<Cycle>,
@@ -124,7 +124,7 @@ fn begin_behind<K: Fn(&[Edge]) -> bool, J: Fn(&[Edge]) -> bool, P: Fn(&Cycle) ->
     }
 }
 
-/// Writes the files of those of a walk's cycles that have a test, from where it stands, and the line on their number. Each test
+/// Writes the files of those of a walk's cycles that have a test, from where it is, and the line on their number. Each test
 /// is made in `test`.
 #[inline(never)]
 fn list_walk<
@@ -162,7 +162,7 @@ fn list_walk<
     }
 }
 
-/// Puts the files of those of a walk's cycles on the shelf that have a test, from where it stands, keeps
+/// Writes on the shelf the files of those of a walk's cycles that have a test, from where it is, keeps
 /// the lines that name them, and gives their number. Each test is made in `test`.
 fn put_tests<
     A: Arch,
@@ -218,7 +218,7 @@ fn next_made<A: Arch, K: Fn(&[Edge]) -> bool, J: Fn(&[Edge]) -> bool, P: Fn(&Cyc
     None
 }
 
-/// Puts the file of a cycle's test on the shelf, and gives its name. The test is made in `test`, and what that was before
+/// Writes the file of a cycle's test on the shelf, and gives its name. The test is made in `test`, and what that was before
 /// doesn't count.
 pub(crate) fn put_test<A: Arch, H: Shelf>(
     wanted: &Wanted,
@@ -241,7 +241,7 @@ pub(crate) fn put_test<A: Arch, H: Shelf>(
     put_made::<A, H>(wanted, cycle, number, test, desk, shelf)
 }
 
-/// Puts the file of a cycle's test, which is made, on the shelf, and gives its name.
+/// Writes the file of a cycle's test, which is made, on the shelf, and gives its name.
 fn put_made<A: Arch, H: Shelf>(
     wanted: &Wanted,
     cycle: &Cycle,

@@ -12,7 +12,7 @@ use litmus_text::{KeptTable, Test};
 use relax_edges::ObsMode;
 use test_maker::make_into;
 
-/// Where tests are put to their files, one after another: the name of a test, the path of its file, what is kept of its
+/// What writing tests to their files, one after another, needs: the name of a test, the path of its file, what is kept of its
 /// table, and the page that it is printed to. What these held before doesn't count.
 #[derive(Drop)]
 pub(crate) struct Desk {

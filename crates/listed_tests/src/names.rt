@@ -91,8 +91,8 @@ pub(crate) fn file_of(cycle: &Cycle, number: u128) -> FileName
     file_named(number, name.as_str())
 }
 
-/// Puts the file that names all others on the shelf. The lines that weren't kept are those of the
-/// walk's cycles that have a test, behind the last one that was.
+/// Writes the file that names all others on the shelf. The lines that weren't kept are those of the
+/// walk's cycles that have a test, after the last one that was.
 pub(crate) fn put_names<
     A: Arch,
     H: Shelf,
@@ -127,8 +127,8 @@ pub(crate) fn put_names<
     }
 }
 
-/// Puts a file on the shelf that has the lines, and then those of the walk's cycles that have a test,
-/// behind a cycle.
+/// Writes a file on the shelf that has the lines, and then those of the walk's cycles that have a test,
+/// after a cycle.
 fn put_behind<
     A: Arch,
     H: Shelf,

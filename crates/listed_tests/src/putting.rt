@@ -13,7 +13,7 @@ use arch_trait::Arch;
 use diy_io::{Failed, Page, SPILL, Shelf};
 use litmus_text::{KeptTable, Test, TextPart, put_header, put_part};
 
-/// A file that is to be put on a shelf.
+/// A file that is to be written on a shelf.
 #[derive(Debug, Drop)]
 pub struct File<'a> {
     /// Its name, with its folder.
@@ -21,7 +21,7 @@ pub struct File<'a> {
     pub bytes: &'a [u8],
 }
 
-/// Puts files on the shelf, one after another. Where the shelf fails, those before one are whole, and that
+/// Writes files on the shelf, one after another. Where the shelf fails, those before one are whole, and that
 /// one is as it was or has a prefix of its bytes.
 pub fn put_files<H: Shelf>(files: &[File], shelf: &mut H) -> Result<(), Failed>
     requires { (H.seen shelf.old).mode ≡ Idle }
@@ -34,7 +34,7 @@ pub fn put_files<H: Shelf>(files: &[File], shelf: &mut H) -> Result<(), Failed>
     Ok(())
 }
 
-/// Puts a file on the shelf. Where the shelf fails, the file is as it was, or has a front of the
+/// Writes a file on the shelf. Where the shelf fails, the file is as it was, or has a prefix of the
 /// bytes.
 pub(crate) fn put_file<H: Shelf>(path: &str, bytes: &[u8], shelf: &mut H) -> Result<(), Failed>
     requires { (H.seen shelf.old).mode ≡ Idle }
@@ -46,7 +46,7 @@ pub(crate) fn put_file<H: Shelf>(path: &str, bytes: &[u8], shelf: &mut H) -> Res
     shelf.finish()
 }
 
-/// Puts a file on the shelf that has the text of a test under a name, by way of a page, whose bytes from before don't count.
+/// Writes a file on the shelf that has the text of a test under a name, by way of a page, whose bytes from before don't count.
 /// Where the shelf fails, the file is as it was, or has a prefix of the text.
 pub(crate) fn put_text<A: Arch, H: Shelf>(
     path: &str,

@@ -29,7 +29,7 @@ module _ (listed : List Edge → Type 0) (keeps : List Edge → Type 0) where
         ];
       }
 
-  -- the list cut off the last one, with one sought behind it, goes on: what is to come is what is above the last one
+  -- the last list is cut and goes on: of the sought lists as long as the last one, those to come are those above it
   cut_above : (last list m : List Edge) → IsCut listed keeps last list → listed m → Above last m → Above list m
   cut_above last list m c is a =
       elim c.whole [
@@ -75,7 +75,7 @@ module _ (listed : List Edge → Type 0) (keeps : List Edge → Type 0) where
         ];
   }
 
-  -- none of the next length: those that are longer are longer by two at least
+  -- where none has the next length, those that are longer are longer by at least two
   pub answer_longer : (n : ℕ) (answer : Option (List Edge)) → IsAnswer (OfLength (suc n) listed) None None
       → IsAnswer (LongerThan (suc n) listed) None answer → IsAnswer (LongerThan n listed) None answer
   answer_longer n None none rest = λ v is h. elim (cases_lt (suc n) (length v)) [
@@ -102,7 +102,7 @@ module _ (listed : List Edge → Type 0) (keeps : List Edge → Type 0) where
     ];
   }
 
-  -- all that are sought have an edge
+  -- all that are sought have at least one edge
   pub answer_first : (answer : Option (List Edge)) → ((v : List Edge) → listed v → 0 < length v) → IsAnswer (LongerThan 0 listed) None answer → IsAnswer listed None answer
   answer_first None some f = λ v is h. f v (record { is = is; longer = some v is }) tt
   answer_first (Some m) some f = record {

@@ -56,7 +56,7 @@ module _ (relaxes : List (List Edge)) where
   one_of_single ((y ∷ z ∷ r) ∷ rs) e single (inl s) = absurd (omega (arith, single.0))
   one_of_single (r ∷ rs) e single (inr later) = inr (one_of_single rs e single.1 later)
 
-  -- the edges of a list, each alone
+  -- the edges of a list, each as a list of one edge
   singles : List Edge → List (List Edge)
   singles [] = []
   singles (x ∷ u) = (x ∷ []) ∷ singles u
@@ -105,6 +105,7 @@ module _ (relaxes : List (List Edge)) where
   smaller_nowhere f u e less r c =
       c.normal ((e ∷ r) ++ (f ∷ u)) (record { front = f ∷ u; back = e ∷ r; from = append_assoc (f ∷ u) (e ∷ []) r; to = refl }) (inl less)
 
+  -- no candidate goes on with an edge of a rank below that of its first edge
   pub none_smaller : (f : Edge) (u : List Edge) → NoneBetween (IsCandidate relaxes) (f ∷ u) 0 (rank_of f)
   none_smaller f u e h less = smaller_nowhere f u e less
 
@@ -114,6 +115,7 @@ pub raised_listed : (relaxes : List (List Edge)) (takes : List Edge → Type 0) 
 raised_listed relaxes takes size exact u v r =
     raised_within (IsCandidate relaxes) (IsListed takes relaxes size exact) u v (listed_candidate relaxes takes size exact) r
 
+-- nor does it when the search looks at longer lists
 pub extended_listed : (relaxes : List (List Edge)) (takes : List Edge → Type 0) (size : ℕ) (exact : Bool) (u v : List Edge) → IsExtended (IsCandidate relaxes) u v
     → IsExtended (IsListed takes relaxes size exact) u v
 extended_listed relaxes takes size exact u v x =

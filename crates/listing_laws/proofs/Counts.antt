@@ -44,7 +44,7 @@ one_more l p q h = let m : (l + 1) * (p + 1) ≤ (l + 1) * q = mul-le-mul_left {
 edges_left : (x : Edge) → EDGES - (rank_of x + 1) < EDGES
 edges_left x = omega (arith, rank_below x)
 
--- no more lists come behind a list than there are
+-- no more lists come after a list than there are
 pub behind_few : (d : ℕ) (u : List Edge) → lists_behind d u ≤ lists_within d
 behind_few zero u = rw (behind-zero u) (omega arith)
 behind_few (suc d) [] = rw (behind-nil (suc d)) (omega arith)
@@ -52,7 +52,7 @@ behind_few (suc d) (x ∷ u) =
     rw (behind-edge d x u, within-suc d)
     (omega (arith, behind_few d u, one_more (lists_within d) (EDGES - (rank_of x + 1)) EDGES (edges_left x)))
 
--- fewer lists come behind a list that is above
+-- fewer lists come after a list that is above another than after that one
 pub above_fewer : (d : ℕ) (u v : List Edge) → length u ≤ d → length v ≤ d → Above u v → lists_behind d v < lists_behind d u
 above_fewer d [] v a b h = absurd h
 above_fewer d (x ∷ u) [] a b h = absurd h
@@ -68,7 +68,7 @@ above_fewer (suc d) (x ∷ u) (y ∷ v) a b h =
           omega (arith, e, above_fewer d u v (omega arith) (omega arith) both.1)
     ])
 
--- fewer lists come behind a longer list
+-- fewer lists come after a list with one edge more
 pub longer_fewer : (d : ℕ) (u : List Edge) (e : Edge) → length u < d → lists_behind d (u ++ e ∷ []) < lists_behind d u
 longer_fewer zero u e l = absurd (omega arith)
 longer_fewer (suc d) [] e l =
@@ -77,7 +77,7 @@ longer_fewer (suc d) [] e l =
 longer_fewer (suc d) (x ∷ u) e l =
     rw (behind-edge d x (u ++ e ∷ []), behind-edge d x u) (omega (arith, longer_fewer d u e (omega arith)))
 
--- what is left of a search that stands at a list: nothing where it is over
+-- how much is left of a search that is at a list: nothing where it is over
 abbrev pub to_go : ℕ → List Edge → ℕ
 to_go n [] = 0
 to_go n (x ∷ u) = suc (lists_behind n (x ∷ u))
@@ -86,6 +86,7 @@ to_go_some : (n : ℕ) (u : List Edge) → 0 < length u → to_go n u ≡ suc (l
 to_go_some n [] h = absurd (omega arith)
 to_go_some n (x ∷ u) h = refl
 
+-- a step over a list and all that begin with it leaves less
 pub steps_fall : (n : ℕ) (u v : List Edge) → 0 < length u → length u ≤ n → StepsOver u v → to_go n v < to_go n u
 steps_fall n u v some l (over e) = rw (e, to_go_some n u some) (omega arith)
 steps_fall n u v some l (replaced front x y back a b more) =
@@ -93,9 +94,11 @@ steps_fall n u v some l (replaced front x y back a b more) =
     let short : length v ≡ length front + 1 = ap length b ∙ length-append front (y ∷ []) in
     omega (arith, to_go_some n u some, to_go_some n v (omega arith), above_fewer n u v (omega arith) (omega arith) (rw (a, b) (above_replaced front x y back more)))
 
+-- a list that goes on past all that begin with it leaves less
 pub raised_falls : (sought : List Edge → Type 0) (n : ℕ) (u v : List Edge) → 0 < length u → length u ≤ n → IsRaised sought u v → to_go n v < to_go n u
 raised_falls sought n u v some l r = steps_fall n u v some l r.step
 
+-- a list that goes on to a longer one, or past all that begin with it, leaves less
 pub extended_falls : (sought : List Edge → Type 0) (n : ℕ) (u v : List Edge) → 0 < length u → length u < n → IsExtended sought u v → to_go n v < to_go n u
 extended_falls sought n u v some l x =
     elim x.step [

@@ -31,6 +31,7 @@ pub after_more : (given : Option (List Edge)) (u v : List Edge) → ComesAfter g
 after_more None u v h f = tt
 after_more (Some w) u v h f = follows_transitive w u v h f
 
+-- at the start there are no answers
 pub listed_first : (listed : List Edge → Type 0) (given : Option (List Edge)) → AreListedTo listed given given []
 listed_first listed given = record {
   each = λ u none. absurd none;
@@ -41,6 +42,7 @@ listed_first listed given = record {
   all = λ u is h. inr h;
 }
 
+-- the answers so far and the next listed list are the answers up to that list
 pub listed_next : (listed : List Edge → Type 0) (given last : Option (List Edge)) (answers : List (List Edge)) (u : List Edge)
     → AreListedTo listed given last answers → IsNext listed last u → AreListedTo listed given (Some u) (answers ++ u ∷ [])
 listed_next listed given last answers u l n = record {
@@ -58,6 +60,7 @@ listed_next listed given last answers u l n = record {
   ];
 }
 
+-- where no listed list comes next, the answers so far are all that is listed
 pub listed_none : (listed : List Edge → Type 0) (given last : Option (List Edge)) (answers : List (List Edge))
     → AreListedTo listed given last answers → IsAnswer listed last None → AreAllListed listed given answers
 listed_none listed given last answers l none = record {
@@ -67,7 +70,7 @@ listed_none listed given last answers l none = record {
   all = λ v is h. elim (l.all v is h) [ inl here ↦ here | inr later ↦ absurd (none v is later) ];
 }
 
--- rising lists of the same lists are one
+-- two rising lists that have the same members are equal
 same_rising : (us vs : List (List Edge)) → AreRising us → AreRising vs → ((w : List Edge) → IsOneOf us w → IsOneOf vs w) → ((w : List Edge) → IsOneOf vs w → IsOneOf us w) → us ≡ vs
 same_rising [] [] r s h k = refl
 same_rising [] (v ∷ vs) r s h k = absurd (k v (inl refl))
@@ -90,11 +93,13 @@ same_rising (u ∷ us) (v ∷ vs) r s h k =
     rest u us v vs r w o same here =
         elim here [ inl e ↦ let one : u ≡ w = sym same ∙ e in absurd (follows_irreflexive w (rw one at (r w o))) | inr later ↦ later ]
 
+-- there is only one list of answers that is all that is listed
 pub listed_once : (listed : List Edge → Type 0) (given : Option (List Edge)) (answers others : List (List Edge))
     → AreAllListed listed given answers → AreAllListed listed given others → answers ≡ others
 listed_once listed given answers others a b =
     same_rising answers others a.rising b.rising (λ w o. b.all w (a.each w o) (a.after w o)) (λ w o. a.all w (b.each w o) (b.after w o))
 
+-- answers, each the next after the one before, are all that is listed
 pub next_after_next : NextAfterNext
 next_after_next takes relaxes size exact given =
     let listed = IsListed (λ u. takes u ≡ true) relaxes size exact in

@@ -7,14 +7,14 @@ use Rattle.listing_laws.specs.Search.{LeadsNowhere, OfLength}
 use Rattle.walk_laws.proofs.Beginnings.{begins_none}
 
 module _ (takes : List Edge → Type 0) (relaxes : List (List Edge)) (size : ℕ) (exact : Bool) where
-  -- a back part of it is less
+  -- one of its suffixes is less
   pub begins_nowhere : (u : List Edge) → may_begin u ≡ false → LeadsNowhere (IsListed takes relaxes size exact) u
   begins_nowhere u h r l = begins_none u r h l.normal
 
-  -- it stands in no concatenation of relaxations
+  -- it is part of no concatenation of relaxations
   pub unmade_nowhere : (u : List Edge) → LeadsNowhere (IsMadeOf relaxes) u → LeadsNowhere (IsListed takes relaxes size exact) u
   unmade_nowhere u h r l = h r l.made
 
-  -- of a number of edges that doesn't keep the limits there is none
+  -- there is none whose number of edges doesn't keep the limits
   pub none_of_length : (n : ℕ) → (KeepsLimits size exact n → ⊥) → (u : List Edge) → OfLength n (IsListed takes relaxes size exact) u → ⊥
   none_of_length n h u o = h (rw o.long at o.is.limits)

@@ -11,14 +11,15 @@ use Rattle.walk_laws.specs.Order.{Above}
 use Rattle.listing_laws.specs.Search.{Reaches, ToCome, LeadsNowhere, NoneBetween, IsNextEdge, StepsOver, over, replaced, IsLonger, IsRaised, IsExtended, IsCut}
 use Rattle.listing_laws.proofs.Searching.{reaches_cases, reaches_beyond, reaches_with, reaches_to_come}
 
--- what is sought among less is not left out
+-- where fewer lists are sought, none of them is left out either
 pub raised_within : (wide sought : List Edge → Type 0) (u v : List Edge) → ((m : List Edge) → sought m → wide m) → IsRaised wide u v → IsRaised sought u v
 raised_within wide sought u v w r = record { step = r.step; all = λ m is a. r.all m (w m is) a }
 
+-- the same where the list goes on to a longer one
 pub extended_within : (wide sought : List Edge → Type 0) (u v : List Edge) → ((m : List Edge) → sought m → wide m) → IsExtended wide u v → IsExtended sought u v
 extended_within wide sought u v w x = record { step = x.step; all = λ m is l h. x.all m (w m is) l h }
 
--- m begins with `front` and an edge greater than x
+-- m begins with the list and then an edge greater than x
 record GoesOn (front : List Edge) (x : Edge) (m : List Edge) : Type 0 where
   edge : Edge
   rest : List Edge
@@ -40,15 +41,17 @@ above_last (f ∷ front) x (z ∷ m) a =
     ]
 
 module _ (sought : List Edge → Type 0) where
-  -- edges were taken off the end of a list: what is sought behind it and all that begin with it is behind what is left of it
+  -- edges were taken off the end of a list: each sought list above the whole list is above what is left of it
   pub record Popped (u list : List Edge) : Type 0 where
     pub back : List Edge
     pub parts : u ≡ list ++ back
     pub all : (m : List Edge) → sought m → Above u m → Above list m
 
+  -- at first no edge is taken off
   pub popped_none : (u : List Edge) → Popped u u
   popped_none u = record { back = []; parts = sym (append-nil u); all = λ m is a. a }
 
+  -- where no sought list goes on with a greater edge, one edge more is taken off
   pub popped_more : (u list rest : List Edge) (x : Edge) → Popped u list → list ≡ rest ++ x ∷ [] → IsNextEdge sought rest (rank_of x + 1) None → Popped u rest
   popped_more u list rest x p is none = record {
     back = x ∷ p.back;
@@ -59,6 +62,7 @@ module _ (sought : List Edge → Type 0) where
     ];
   }
 
+  -- where an edge is taken off and a greater one put in its place, the list goes on past all that begin with it
   pub popped_replaced : (u list rest new : List Edge) (x y : Edge) → Popped u list → list ≡ rest ++ x ∷ [] → new ≡ rest ++ y ∷ [] → IsNextEdge sought rest (rank_of x + 1) (Some y)
       → IsRaised sought u new
   popped_replaced u list rest new x y p is to next = record {
@@ -73,14 +77,15 @@ module _ (sought : List Edge → Type 0) where
         ]);
   }
 
+  -- where all edges are taken off, no sought list is left
   pub popped_all : (u list new : List Edge) → Popped u list → list ≡ [] → new ≡ list → IsRaised sought u new
   popped_all u list new p is to = record { step = over (to ∙ is); all = λ m s a. absurd (rw is at (p.all m s a)) }
 
-  -- no sought list goes on with an edge of the one or the other ranks
+  -- no sought list goes on with an edge of these ranks or of those
   pub none_of_both : (front : List Edge) (from between to : ℕ) → NoneBetween sought front from between → NoneBetween sought front between to → NoneBetween sought front from to
   none_of_both front from between to a b e l h = elim (cases_lt (rank_of e) between) [ inl less ↦ a e l less | inr more ↦ b e more h ]
 
-  -- what is at or behind a list, and longer, begins with it and one more edge, or is above it
+  -- a list that is reached from another, and longer, begins with it and one more edge, or is above it
   extended_cases : (u m : List Edge) (G : Type 0) → Reaches u m → length u < length m → ((e : Edge) (rest : List Edge) → m ≡ (u ++ e ∷ []) ++ rest → G) → (Above u m → G) → G
   extended_cases u m G h l begins beyond = elim (reaches_cases u m h) [ inl b ↦ by b.rest b.is | inr a ↦ beyond a ]
     where
@@ -88,6 +93,7 @@ module _ (sought : List Edge → Type 0) where
       by [] is = absurd (omega (arith, ap length is, length-append u []))
       by (e ∷ rest) is = begins e rest (is ∙ sym (append_assoc u (e ∷ []) rest))
 
+  -- a list goes on with the first edge with which a sought list may go on
   pub extended_by : (u new : List Edge) (from : ℕ) (y : Edge) → NoneBetween sought u 0 from → IsNextEdge sought u from (Some y) → new ≡ u ++ y ∷ [] → IsExtended sought u new
   extended_by u new from y low next to = record {
     step = inl (record { edge = y; is = to });
@@ -100,6 +106,7 @@ module _ (sought : List Edge → Type 0) where
         (λ a. rw to (reaches_beyond u (y ∷ []) m a)));
   }
 
+  -- where no sought list goes on with any edge, the list goes on past all that begin with it
   pub extended_none : (u new : List Edge) (from : ℕ) → NoneBetween sought u 0 from → IsNextEdge sought u from None → IsRaised sought u new → IsExtended sought u new
   extended_none u new from low none r = record {
     step = inr r.step;
@@ -109,10 +116,11 @@ module _ (sought : List Edge → Type 0) where
   }
 
 module _ (sought : List Edge → Type 0) (keeps : List Edge → Type 0) where
-  -- a prefix is kept and all that are shorter
+  -- the empty list has no prefix with an edge, so all its prefixes are kept
   pub kept_none : KeptWhole keeps []
   kept_none k p l = absurd (omega arith)
 
+  -- a list with one edge more is kept with all its prefixes where it is kept itself
   pub kept_more : (list new : List Edge) (x : Edge) → new ≡ list ++ x ∷ [] → KeptWhole keeps list → keeps new → KeptWhole keeps new
   kept_more list new x is kept agreed k p l =
       elim (cases_lt k (suc (length list))) [
@@ -125,7 +133,7 @@ module _ (sought : List Edge → Type 0) (keeps : List Edge → Type 0) where
       let short : k ≤ length list = omega (arith, ap length is, length-append list (x ∷ [])) in
       rw (is, take-append-le k list (x ∷ []) short) (kept k p short)
 
-  -- no sought list begins with the front part: the list is cut
+  -- no sought list begins with the prefix: the list is cut there
   pub cut_refused : (u list new rest : List Edge) (x : Edge) → new ≡ list ++ x ∷ [] → u ≡ new ++ rest → KeptWhole keeps list → LeadsNowhere sought new → IsCut sought keeps u new
   cut_refused u list new rest x is parts kept none = record { rest = rest; front = parts; kept = kept_below list new x is kept; whole = inr none }
 
@@ -133,29 +141,33 @@ module _ (sought : List Edge → Type 0) (keeps : List Edge → Type 0) where
   pub cut_whole : (u list rest : List Edge) → u ≡ list ++ rest → rest ≡ [] → KeptWhole keeps list → IsCut sought keeps u list
   cut_whole u list rest parts none kept = record { rest = rest; front = parts; kept = λ k p l. kept k p (omega arith); whole = inl none }
 
--- one more edge of a list is taken over
+-- one more edge of a list is moved over
 drop_edge : (i : ℕ) (u : List Edge) (d : Edge) → i < length u → drop i u ≡ get_or u i d ∷ drop (suc i) u
 drop_edge i [] d h = absurd (omega arith)
 drop_edge zero (x ∷ u) d h = refl
 drop_edge (suc i) (x ∷ u) d h = drop_edge i u d (omega arith)
 
+-- a list and the edges still to come are all edges, also with one edge moved over
 pub one_further : (list new edges : List Edge) (i : ℕ) (d : Edge) → list ++ drop i edges ≡ edges → i < length edges → new ≡ list ++ get_or edges i d ∷ [] → new ++ drop (i + 1) edges ≡ edges
 one_further list new edges i d parts h is =
     rw (is, add-one i) (append_assoc list (get_or edges i d ∷ []) (drop (suc i) edges) ∙ ap (λ w. list ++ w) (sym (drop_edge i edges d h)) ∙ parts)
 
--- a list that went on is no longer, and its shorter prefixes are kept
+-- a list that went on past all that begin with it is no longer, and its shorter prefixes are kept
 steps_few : (u v : List Edge) → StepsOver u v → length v ≤ length u
 steps_few u v (over e) = omega (arith, ap length e)
 steps_few u v (replaced front x y back a b more) =
     omega (arith, ap length a, ap length b, length-append front (x ∷ back), length-append front (y ∷ []))
 
+-- a list that went on past all that begin with it is no longer
 pub raised_few : (sought : List Edge → Type 0) (u v : List Edge) → IsRaised sought u v → length v ≤ length u
 raised_few sought u v r = steps_few u v r.step
 
+-- a list that went on has at most one edge more
 pub extended_few : (sought : List Edge → Type 0) (u v : List Edge) → IsExtended sought u v → length v ≤ length u + 1
 extended_few sought u v x =
     elim x.step [ inl e ↦ omega (arith, ap length e.is, length-append u (e.edge ∷ [])) | inr o ↦ omega (arith, steps_few u v o) ]
 
+-- its shorter prefixes are kept
 pub raised_kept : (sought : List Edge → Type 0) (keeps : List Edge → Type 0) (u v : List Edge) → IsRaised sought u v → KeptBelow keeps (length u) u → KeptBelow keeps (length v) v
 raised_kept sought keeps u v r = by r.step
   where
@@ -166,11 +178,11 @@ raised_kept sought keeps u v r = by r.step
         let within : k < length u = omega (arith, ap length a, length-append front (x ∷ back)) in
         rw (b, take-append-le k front (y ∷ []) short) (rw (a, take-append-le k front (x ∷ back) short) at (kept k p within))
 
--- the front part that a list is cut to is no longer
+-- the prefix that a list is cut to is no longer than the list
 pub cut_few : (sought : List Edge → Type 0) (keeps : List Edge → Type 0) (u v : List Edge) → IsCut sought keeps u v → length v ≤ length u
 cut_few sought keeps u v c = omega (arith, ap length c.front, length-append v c.rest)
 
--- of one edge there is no shorter front part
+-- a list of one edge has no shorter prefix
 pub kept_one : (sought : List Edge → Type 0) (keeps : List Edge → Type 0) (v : List Edge) → IsExtended sought [] v → KeptBelow keeps (length v) v
 kept_one sought keeps v x k p l = by x.step
   where

@@ -1,4 +1,4 @@
--- Reading a list as relaxations tells exactly whether it is a concatenation of them, and which lists stand in none.
+-- Reading a list as relaxations decides whether it is a concatenation of them, and which lists are part of none.
 use Rattle.std.proofs.Common.{◌≡◌, ◌<◌, ◌≤◌, ◌⊎◌, inl, inr, ℕ, zero, suc, ◌-◌, Bool, true, false, nat_eq, List, [], ◌∷◌, ◌++◌, length, take, drop, get_or, refl, sym, ◌∙◌, ap, arith, append_assoc, length-append}
 use Rattle.std.specs.List.{AllByRecursion, list_any}
 use Rattle.std.proofs.lemmas.List.{append-nil, take_all}
@@ -24,7 +24,7 @@ fits_whole (x ∷ r) (y ∷ u) h =
     let b = fits_whole r u both.1 in
     record { rest = b.rest; is = cc (same, b.is) }
 
--- what begins with a relaxation fits it, and where it may end inside one, so does a front part
+-- what begins with a relaxation fits it, and where it may end inside one, so does a prefix
 fits_front : (inside : Bool) (r v : List Edge) → fits inside r (r ++ v) ≡ true
 fits_front inside [] v = refl
 fits_front inside (x ∷ r) v = and_from (nat_eq (rank_of x) (rank_of x)) (fits inside r (r ++ v)) (eq-eqb (rank_of x) (rank_of x) refl) (fits_front inside r v)
@@ -82,7 +82,7 @@ module _ {A : Type 0} where
   get_or_past (y ∷ u) d (suc i) h = get_or_past u d i (omega arith)
 
 module _ (relaxes : List (List Edge)) where
-  -- as many entries as back parts, and the empty one is read
+  -- there is an entry for each suffix, and the empty suffix is read
   pub length-read : (inside : Bool) (u : List Edge) → length (back_parts_read inside relaxes u) ≡ suc (length u)
   length-read inside [] = refl
   length-read inside (e ∷ u) =
@@ -204,7 +204,7 @@ module _ (relaxes : List (List Edge)) where
       ∙ any_of (leads inside (e ∷ u) (back_parts_read inside relaxes u)) relaxes (f.edge ∷ f.part) f.one
       (leads_from inside e u o.more f.edge f.part f.parts f.each o.ends f.whole (all_read inside u))
 
-  -- a list that stands in a concatenation begins with a back part of a relaxation, and is read on from there
+  -- a list that is part of a concatenation begins with a suffix of a relaxation, and is read on from there
   back_part_of : (e : Edge) (u front : List Edge) (y : Edge) (m : List Edge) → leads true (e ∷ u) (back_parts_read true relaxes u) (y ∷ m) ≡ true
       → back_part_leads (e ∷ u) (back_parts_read true relaxes u) (front ++ y ∷ m) ≡ true
   back_part_of e u [] y m h = or_left (leads true (e ∷ u) (back_parts_read true relaxes u) (y ∷ m)) (back_part_leads (e ∷ u) (back_parts_read true relaxes u) m) h
@@ -230,7 +230,7 @@ module _ (relaxes : List (List Edge)) where
           any_of (back_part_leads (e ∷ u) (back_parts_read true relaxes u)) relaxes p each.0
           (rw long (back_part_of e u front y m (leads_from true e u back y m parts each.1 (inl refl) rest (all_read true u))))
 
-  -- parts behind parts
+  -- parts after other parts
   concatenated_both : (ps qs : List (List Edge)) → concatenated (ps ++ qs) ≡ concatenated ps ++ concatenated qs
   concatenated_both [] qs = refl
   concatenated_both (p ∷ ps) qs = ap (λ w. p ++ w) (concatenated_both ps qs) ∙ sym (append_assoc p (concatenated ps) (concatenated qs))
@@ -239,7 +239,7 @@ module _ (relaxes : List (List Edge)) where
   each_both [] qs a b = b
   each_both (p ∷ ps) qs a b = (a.0, each_both ps qs a.1 b)
 
-  -- a list that may not stand in a concatenation begins no cycle that is made of relaxations
+  -- a list that can't be part of a concatenation begins no cycle that is made of relaxations
   pub stands_none : (e : Edge) (u r : List Edge) → list_any (back_part_leads (e ∷ u) (back_parts_read true relaxes u)) relaxes ≡ false
       → IsMadeOf relaxes ((e ∷ u) ++ r) → ⊥
   stands_none e u r fails m =
@@ -259,6 +259,7 @@ module _ (relaxes : List (List Edge)) where
   pub concatenation_read : (u : List Edge) → IsConcatenation relaxes u → get_or (back_parts_read false relaxes u) (length u) false ≡ true
   concatenation_read u c = all_read false u [] u refl (record { more = []; parts = c.parts; each = c.each; whole = append-nil u ∙ c.whole; ends = inr refl })
 
+  -- what is read whole is a concatenation
   pub read_concatenation : (u : List Edge) → get_or (back_parts_read false relaxes u) (length u) false ≡ true → IsConcatenation relaxes u
   read_concatenation u h = read_made u [] u refl h
 
@@ -266,12 +267,13 @@ module _ (relaxes : List (List Edge)) where
   pub made_at : (k : ℕ) (u : List Edge) → IsConcatenation relaxes (rotated k u) → IsMadeOf relaxes u
   made_at k u c = record { turned = rotated k u; rotation = rotation_of_place k u; made = c }
 
+  -- where no rotation by a place is a concatenation, the cycle is not made of relaxations
   pub made_nowhere : (u : List Edge) → 0 < length u → ((j : ℕ) → j < length u → IsConcatenation relaxes (rotated j u) → ⊥) → IsMadeOf relaxes u → ⊥
   made_nowhere u some none m =
       let p = place_of_rotation u m.turned some m.rotation in
       none p.place p.within (rw p.is at m.made)
 
-  -- a list that may not stand in a concatenation begins no cycle that is made of relaxations
+  -- a list that can't be part of a concatenation begins no cycle that is made of relaxations
   pub stands_nowhere : (u : List Edge) (read : List Bool) → 0 < length u → read ≡ back_parts_read true relaxes (take (length u - 1) (drop 1 u)) → list_any (back_part_leads u read) relaxes ≡ false
       → LeadsNowhere (IsMadeOf relaxes) u
   stands_nowhere [] read some is fails = absurd (omega arith)

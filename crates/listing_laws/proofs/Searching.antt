@@ -9,10 +9,12 @@ use Rattle.walk_laws.specs.Order.{Above}
 use Rattle.listing_laws.specs.Search.{Reaches, ToCome, LeadsNowhere, StepsOver, over, replaced, IsRaised, IsExtended, IsFirst, IsFirstFrom}
 use Rattle.walk_laws.proofs.Ordering.{by_rank, above_irreflexive, above_one_way}
 
+-- a list reaches itself
 pub reaches_itself : (u : List Edge) → Reaches u u
 reaches_itself [] = tt
 reaches_itself (x ∷ u) = inr (refl, reaches_itself u)
 
+-- a list with an edge is to come where the search is at it
 pub to_come_itself : (u : List Edge) → 0 < length u → ToCome u u
 to_come_itself [] h = absurd (omega arith)
 to_come_itself (x ∷ u) h = reaches_itself (x ∷ u)
@@ -27,11 +29,12 @@ reaches_above [] m h = tt
 reaches_above (x ∷ u) [] h = h
 reaches_above (x ∷ u) (y ∷ m) h = elim h [ inl less ↦ inl less | inr both ↦ inr (both.0, reaches_above u m both.1) ]
 
--- what is at or behind a list begins with it or is above it
+-- what a list reaches begins with it or is above it
 pub record BeginsWith (u m : List Edge) : Type 0 where
   pub rest : List Edge
   pub is : m ≡ u ++ rest
 
+-- what a list reaches begins with it or is above it
 pub reaches_cases : (u m : List Edge) → Reaches u m → (BeginsWith u m) ⊎ (Above u m)
 reaches_cases [] m h = inl (record { rest = m; is = refl })
 reaches_cases (x ∷ u) [] h = absurd h
@@ -44,11 +47,11 @@ reaches_cases (x ∷ u) (y ∷ m) h =
       ]
     ]
 
--- where no list that is sought begins with u, those at or behind it are above it
+-- where no sought list begins with u, those that it reaches are above it
 pub above_u : (u m : List Edge) → Reaches u m → ((r : List Edge) → m ≡ u ++ r → ⊥) → Above u m
 above_u u m h none = elim (reaches_cases u m h) [ inl b ↦ absurd (none b.rest b.is) | inr a ↦ a ]
 
--- a longer list, and one above it, are at or behind what the list is at or behind
+-- what reaches a list also reaches each longer one that begins with it, and each one above it
 pub reaches_longer : (u v r : List Edge) → Reaches u v → Reaches u (v ++ r)
 reaches_longer [] v r h = tt
 reaches_longer (x ∷ u) [] r h = absurd h
@@ -67,13 +70,13 @@ reaches_on (x ∷ u) (y ∷ v) (z ∷ w) h a =
       ]
     ]
 
--- what is above a list is at or behind each longer one that begins with it
+-- what is above a list is reached from each longer one that begins with it
 pub reaches_beyond : (u r m : List Edge) → Above u m → Reaches (u ++ r) m
 reaches_beyond [] r m a = absurd a
 reaches_beyond (x ∷ u) r [] a = absurd a
 reaches_beyond (x ∷ u) r (y ∷ m) a = elim a [ inl less ↦ inl less | inr both ↦ inr (both.0, reaches_beyond u r m both.1) ]
 
--- a list that goes on with the same or a greater edge is at or behind
+-- a list that goes on with the same or a greater edge is reached
 pub reaches_with : (front : List Edge) (y z : Edge) (r : List Edge) → rank_of y ≤ rank_of z → Reaches (front ++ y ∷ []) ((front ++ z ∷ []) ++ r)
 reaches_with [] y z r h = by_rank y z (λ l. inl l) (λ l. absurd (omega arith)) (λ s. inr (s, tt))
 reaches_with (f ∷ front) y z r h = inr (refl, reaches_with front y z r h)
@@ -83,15 +86,17 @@ pub above_replaced : (front : List Edge) (x y : Edge) (back : List Edge) → ran
 above_replaced [] x y back n = inl n
 above_replaced (f ∷ front) x y back n = inr (refl, above_replaced front x y back n)
 
+-- what is to come at a list is reached from it
 pub to_come_reaches : (u m : List Edge) → ToCome u m → Reaches u m
 to_come_reaches [] m h = absurd h
 to_come_reaches (x ∷ u) m h = h
 
+-- what a list with an edge reaches is to come there
 pub reaches_to_come : (u m : List Edge) → 0 < length u → Reaches u m → ToCome u m
 reaches_to_come [] m l h = absurd (omega arith)
 reaches_to_come (x ∷ u) m l h = h
 
--- where the search stands at the list from `start` on: what is still to come, and what it may ask of the list
+-- a search that began at `start` is at the list: what is still to come, and what it may ask of the list
 module _ (sought : List Edge → Type 0) (keeps : List Edge → Type 0) (n : ℕ) (sized : (m : List Edge) → sought m → length m ≡ n) where
   pub record Searching (start list : List Edge) : Type 0 where
     pub few : length list ≤ n
@@ -99,10 +104,11 @@ module _ (sought : List Edge → Type 0) (keeps : List Edge → Type 0) (n : ℕ
     pub since : (m : List Edge) → sought m → ToCome start m → ToCome list m
     pub from : 0 < length list → ToCome start list
 
+  -- the search begins at its start
   pub search_begins : (start : List Edge) → length start ≤ n → KeptBelow keeps (length start) start → Searching start start
   search_begins start few kept = record { few = few; kept = kept; since = λ m s h. h; from = to_come_itself start }
 
-  -- over: nothing is to come
+  -- the search is over: nothing is to come
   pub search_over : (start list : List Edge) → Searching start list → list ≡ [] → IsFirst sought start None
   search_over start list s e m is h = rw e at (s.since m is h)
 
@@ -114,7 +120,7 @@ module _ (sought : List Edge → Type 0) (keeps : List Edge → Type 0) (n : ℕ
   to_come_on [] v w h a = absurd h
   to_come_on (x ∷ u) v w h a = reaches_on (x ∷ u) v w h a
 
-  -- the search goes on behind all lists that begin with the list, and leaves out none that is sought
+  -- the search goes on after all lists that begin with the list, and leaves out none that is sought
   stepped : (start list new : List Edge) → Searching start list → 0 < length list → StepsOver list new → ((m : List Edge) → sought m → ToCome start m → ToCome new m) → Searching start new
   stepped start list new s some (over e) since = record {
     few = omega (arith, ap length e);

@@ -1,16 +1,16 @@
--- How many lists of edges come behind one: numbers that fall as a walk goes on.
+-- How many lists of edges come after one: numbers that fall as a walk goes on.
 -- Source: own.
 use Rattle.std.specs.Prelude.{ℕ, zero, suc, ◌+◌, ◌-◌, ◌*◌, Option, Some, None, List, [], ◌∷◌, length}
 use Rattle.relax_edges.specs.declared.order.TheConstants.{EDGES}
 use Rattle.relax_edges.specs.declared.edge.Edge.{Edge}
 use Rattle.relax_edges.specs.Order.{rank_of}
 
--- the number of lists of at most d edges that have an edge
+-- the number of lists of 1 to d edges
 unfoldable pub lists_within : ℕ → ℕ
 lists_within zero = 0
 lists_within (suc d) = (lists_within d + 1) * EDGES
 
--- the number of lists of at most d edges that come behind a list: those that begin with it, and those above it
+-- the number of lists of at most d edges that come after a list: the longer ones that begin with it, and those above it
 unfoldable pub lists_behind : ℕ → List Edge → ℕ
 lists_behind zero u = 0
 lists_behind (suc d) [] = lists_within (suc d)

@@ -7,12 +7,12 @@ use Rattle.walk_laws.specs.Composable.{IsCycle}
 use Rattle.walk_laws.specs.Rotation.{IsRotation}
 use Rattle.walk_laws.specs.Order.{Follows, IsNormal}
 
--- a list of edges is one of some
+-- a list of edges is one of some lists
 abbrev pub IsOneOf : List (List Edge) → List Edge → Type 0
 IsOneOf [] u = ⊥
 IsOneOf (r ∷ rs) u = (r ≡ u) ⊎ IsOneOf rs u
 
--- some lists of edges, one behind the other
+-- some lists of edges, one after the other, as one list
 abbrev pub concatenated : List (List Edge) → List Edge
 concatenated [] = []
 concatenated (r ∷ rs) = r ++ concatenated rs
@@ -79,7 +79,7 @@ pub record AreListedTo (listed : List Edge → Type 0) (given last : Option (Lis
   pub beyond : (u : List Edge) → ComesAfter last u → ComesAfter given u
   pub all : (u : List Edge) → listed u → ComesAfter given u → (IsOneOf answers u) ⊎ ComesAfter last u
 
--- answers, each the next after the one before, are all that is listed, where at last there is no next one
+-- answers, each the next after the one before, are all that is listed, where in the end there is no next one
 pub record AnswersAreAll (listed : List Edge → Type 0) (given : Option (List Edge)) : Type 0 where
   pub first : AreListedTo listed given given []
   pub next : (last : Option (List Edge)) (answers : List (List Edge)) (u : List Edge) → AreListedTo listed given last answers → IsNext listed last u
@@ -88,7 +88,7 @@ pub record AnswersAreAll (listed : List Edge → Type 0) (given : Option (List E
       → AreAllListed listed given answers
   pub once : (answers others : List (List Edge)) → AreAllListed listed given answers → AreAllListed listed given others → answers ≡ others
 
--- this is so of each listing by a test, relaxations and limits
+-- in each listing by a test, relaxations and limits the answers, each the next after the one before, are all that is listed
 abbrev pub NextAfterNext : Type 0
 NextAfterNext =
     (takes : List Edge → Bool) (relaxes : List (List Edge)) (size : ℕ) (exact : Bool) (given : Option (List Edge))

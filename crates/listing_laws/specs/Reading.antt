@@ -1,27 +1,27 @@
--- Reading a list of edges as relaxations, one behind the other.
+-- Reading a list of edges as relaxations, one after the other.
 -- Source: own.
 use Rattle.std.specs.Prelude.{◌-◌, Bool, true, false, ◌&&◌, ◌||◌, nat_eq, List, [], ◌∷◌, ◌++◌, length, get_or}
 use Rattle.std.specs.List.{list_any}
 use Rattle.relax_edges.specs.declared.edge.Edge.{Edge}
 use Rattle.relax_edges.specs.Order.{rank_of}
 
--- a list begins with a relaxation or, where it may end inside one, is a front part of it
+-- a list begins with a relaxation or, where it may end inside one, is a prefix of it
 abbrev pub fits : Bool → List Edge → List Edge → Bool
 fits inside [] u = true
 fits inside (_ ∷ _) [] = inside
 fits inside (x ∷ r) (y ∷ u) = nat_eq (rank_of x) (rank_of y) && fits inside r u
 
--- a list begins with a relaxation and is read on from there, as is told for each shorter back part by its length
+-- a list begins with a relaxation and is read on from there: the table says by its length whether each shorter suffix is read
 abbrev pub leads : Bool → List Edge → List Bool → List Edge → Bool
 leads inside u read r = fits inside r u && get_or read (length u - length r) false
 
--- whether the back parts of a list are read as relaxations, one behind the other, by their lengths
+-- for each suffix of a list, by its length, whether it is read as relaxations, one after the other
 abbrev pub back_parts_read : Bool → List (List Edge) → List Edge → List Bool
 back_parts_read inside relaxes [] = true ∷ []
 back_parts_read inside relaxes (e ∷ u) =
     back_parts_read inside relaxes u ++ list_any (leads inside (e ∷ u) (back_parts_read inside relaxes u)) relaxes ∷ []
 
--- some back part of a relaxation leads on
+-- the list begins with some suffix of the relaxation and is read on from there
 abbrev pub back_part_leads : List Edge → List Bool → List Edge → Bool
 back_part_leads u read [] = false
 back_part_leads u read (x ∷ r) = leads true u read (x ∷ r) || back_part_leads u read r

@@ -9,13 +9,13 @@ use Rattle.walk_laws.specs.Composable.{is_joined}
 use Rattle.walk_laws.specs.Order.{Above, IsNormal}
 use Rattle.listing_laws.specs.Asked.{KeptBelow}
 
--- m comes at or behind u: it begins with u, or has the greater edge at the first place where they differ, which both have
+-- u reaches m: m begins with u, or has the greater edge at the first place where they differ, which both have
 abbrev pub Reaches : List Edge → List Edge → Type 0
 Reaches [] m = ⊤
 Reaches (_ ∷ _) [] = ⊥
 Reaches (x ∷ u) (y ∷ m) = (rank_of x < rank_of y) ⊎ ((x ≡ y) × Reaches u m)
 
--- m is to come where the search stands at u: at the empty list it is over
+-- m is to come where the search is at u; at the empty list the search is over
 abbrev pub ToCome : List Edge → List Edge → Type 0
 ToCome [] m = ⊥
 ToCome (x ∷ u) m = Reaches (x ∷ u) m
@@ -45,7 +45,7 @@ abbrev pub IsFirst : (List Edge → Type 0) → List Edge → Option (List Edge)
 IsFirst sought u None = (v : List Edge) → sought v → ToCome u v → ⊥
 IsFirst sought u (Some m) = IsFirstFrom sought u m
 
--- an edge stands in a list
+-- an edge is in a list
 abbrev pub StandsIn : List Edge → Edge → Type 0
 StandsIn [] e = ⊥
 StandsIn (x ∷ u) e = (x ≡ e) ⊎ StandsIn u e
@@ -65,28 +65,28 @@ pub record IsCandidate (relaxes : List (List Edge)) (u : List Edge) : Type 0 whe
   pub occurs : AllByRecursion (OccursIn relaxes) u
   pub normal : IsNormal u
 
--- no sought list begins with `front` and then an edge of rank `from` or more, and below `to`
+-- no sought list begins with the list and then an edge of rank `from` or more and below `to`
 abbrev pub NoneBetween : (List Edge → Type 0) → List Edge → ℕ → ℕ → Type 0
 NoneBetween sought front from to = (e : Edge) → from ≤ rank_of e → rank_of e < to → LeadsNowhere sought (front ++ e ∷ [])
 
--- the answer is an edge of rank `from` or more, with no edge before it behind which a sought list goes on from `front`; where it
--- is none there is no such edge at all
+-- the answer is the first edge of rank `from` or more with which a sought list might go on from the list: with the edges
+-- of lower rank none does; where there is no answer, none goes on with any edge of rank `from` or more
 abbrev pub IsNextEdge : (List Edge → Type 0) → List Edge → ℕ → Option Edge → Type 0
 IsNextEdge sought front from None = NoneBetween sought front from EDGES
 IsNextEdge sought front from (Some e) = (from ≤ rank_of e) × NoneBetween sought front from (rank_of e)
 
--- from a list to one behind it and all that begin with it: to none, or to a front part of it with a greater edge in the place of
+-- a step from a list past all that begin with it: to none, or to a prefix of it with a greater edge in the place of
 -- the next one
 pub data StepsOver (u v : List Edge) : Type 0 where
   over : v ≡ [] → StepsOver u v
   replaced : (front : List Edge) (x y : Edge) (back : List Edge) → u ≡ front ++ x ∷ back → v ≡ front ++ y ∷ [] → rank_of x < rank_of y → StepsOver u v
 
--- a list goes on to v where all that begin with it are passed over: no sought list behind these is left out
+-- a list goes on to v where all that begin with it are passed over: no sought list after these is left out
 pub record IsRaised (sought : List Edge → Type 0) (u v : List Edge) : Type 0 where
   pub step : StepsOver u v
   pub all : (m : List Edge) → sought m → Above u m → ToCome v m
 
--- a front part of a list: the whole, or the shortest with which no sought list begins
+-- v is a prefix of u: the whole, or one with which no sought list begins, and its shorter prefixes are kept
 pub record IsCut (sought : List Edge → Type 0) (keeps : List Edge → Type 0) (u v : List Edge) : Type 0 where
   pub rest : List Edge
   pub front : u ≡ v ++ rest

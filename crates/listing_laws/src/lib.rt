@@ -4,7 +4,7 @@
 ghost use Rattle.listing_laws.specs.Listing.{NextAfterNext};
 
 /// Answers, each the next listed list after the one before, are all that is listed, in order and
-/// each once, where at last there is no next one.
+/// each once, where in the end there is no next one.
 pub fn next_after_next()
     ensures { NextAfterNext }
 {}

@@ -14,6 +14,7 @@ use Rattle.litmus_text.specs.Table.{Column, Among, instr_put, instr_in, instr_or
 use Rattle.litmus_text.proofs.CutBack.{by_test, both_are, without_class, all_both}
 use Rattle.text_laws.proofs.CutLaws.{cut_back, cut_none}
 
+-- so many blanks
 abbrev pub blanks : ℕ → List ℕ
 blanks k = replicate k 32
 
@@ -22,6 +23,7 @@ unfolding before_blanks
 blanks_before zero = refl
 blanks_before (suc k) = ap (kept_before 32) (blanks_before k)
 
+-- blanks that are added at the end of a text go with those at its end
 pub before_padded : (text : List ℕ) (k : ℕ) → before_blanks (text ++ blanks k) ≡ before_blanks text
 unfolding before_blanks
 before_padded [] k = blanks_before k
@@ -60,7 +62,7 @@ unfolding run_of
 run_padded [] k = inked_none k
 run_padded (b ∷ text) k = by_test (is_inked b) (λ e. rw e (ap (λ rest. b ∷ rest) (run_padded text k))) (λ e. rw e refl)
 
--- a text in its cell: a blank before it, and blanks behind it
+-- a text in its cell: a blank before it, and blanks after it
 abbrev pub padded : ℕ → List ℕ → List ℕ
 padded k text = 32 ∷ (text ++ blanks k)
 
@@ -101,18 +103,20 @@ nothing_left : (k : ℕ) → trimmed (blanks k) ≡ []
 unfolding before_blanks after_run
 nothing_left k = trimmed_padded [] k
 
--- nothing but blanks
+-- a text of blanks alone is no instruction
 pub nothing_back : (w : Writing) (n k : ℕ) (s : Among Column) → instr_or_nothing w n (blanks k) s ≡ Ok s
 nothing_back w n k s = rw (nothing_left k) refl
 
+-- blanks all pass a test that a blank passes
 pub blanks_class : (p : ℕ → Bool) (k : ℕ) → p 32 ≡ true → list_all p (blanks k) ≡ true
 blanks_class p zero h = refl
 blanks_class p (suc k) h = both_are (p 32) (list_all p (blanks k)) h (blanks_class p k h)
 
+-- a text in its cell passes a test that it and a blank pass
 pub padded_class : (p : ℕ → Bool) (k : ℕ) (text : List ℕ) → p 32 ≡ true → list_all p text ≡ true → list_all p (padded k text) ≡ true
 padded_class p k text h t = both_are (p 32) (list_all p (text ++ blanks k)) h (all_both p text (blanks k) t (blanks_class p k h))
 
--- an empty cell
+-- an empty cell is read as nothing
 pub empty_back : (w : Writing) (n k : ℕ) (s : Among Column) → cell_read w n (padded k []) s ≡ Ok s
 unfolding cell_read after_run instr_in
 empty_back w n k s =
@@ -127,7 +131,7 @@ begins_inked b text k e = rw e (kept_some b (before_blanks (text ++ blanks k)) e
     kept_some b [] e = rw e refl
     kept_some b (c ∷ rest) e = refl
 
--- a cell without a colon
+-- a cell without a colon is read as its instruction
 pub plain_back : (w : Writing) (n k : ℕ) (text : List ℕ) (s : Among Column) → Begins text → list_all is_cell_byte text ≡ true
     → cell_read w n (padded k text) s ≡ instr_put n s.value (instr_read w text s.names s.value.labels)
 unfolding cell_read instr_in
@@ -136,7 +140,7 @@ plain_back w n k text s h bytes =
     let some : is_nil (trimmed (padded k text)) ≡ false = ap (λ t. is_nil (trimmed (padded k t))) h.is ∙ begins_inked h.first h.rest k h.inked in
     rw (whole, some) (ap (instr_put n s.value) (instr_padded w text k s.names s.value.labels h))
 
--- a cell with a label
+-- a cell with a label is read as the label
 pub label_back : (w : Writing) (n k : ℕ) (name text : List ℕ) (s t : Among Column) → text ≡ name ++ 58 ∷ [] → Begins text → list_all is_cell_byte name ≡ true
     → instr_put n s.value (instr_read w text s.names s.value.labels) ≡ Ok t → cell_read w n (padded k text) s ≡ Ok t
 unfolding cell_read instr_in

@@ -103,6 +103,7 @@ joining : (rest : List ℕ) → follow_read (32 ∷ 47 ∷ 92 ∷ rest) ≡ Ok (
 unfolding follow_read after_run
 joining rest = refl
 
+-- the names of places stay among those of a table after a left side was read
 pub term_among : (w : Writing) (threads : ℕ) (table s : List (List ℕ)) (left : LeftSeen) → is_known w threads table left ≡ true → IsAmong s table → length table ≤ 64 → IsAmong (left_mention s left) table
 term_among w threads table s (InRegister thread name) known h few = h
 term_among w threads table s (AtPlace name) known h few = (place_added s table name h few known).among
@@ -145,6 +146,7 @@ here_back w here table s condition bytes some few fits among_table short =
     all [] some few fits = absurd (omega arith)
     all (term ∷ terms) some few fits = terms_back w here table s MAX_TERMS term terms [] (omega arith) fits among_table short
 
+-- the terms of a condition add names of places and take none away
 pub terms_within : (s : List (List ℕ)) (terms : List TermSeen) → Within s (terms_mention s terms)
 terms_within s [] = within_self s
 terms_within s (term ∷ terms) = within_trans s (left_mention s term.left) (terms_mention s (term ∷ terms)) (left_within s term.left) (terms_within (left_mention s term.left) terms)
@@ -153,7 +155,7 @@ terms_within s (term ∷ terms) = within_trans s (left_mention s term.left) (ter
     left_within s (InRegister thread name) = within_self s
     left_within s (AtPlace name) = added_within s name
 
--- the condition of a printed test
+-- the condition of a printed test is read as the condition
 pub condition_back : (w : Writing) (threads : ℕ) (table s : List (List ℕ)) (condition : CondSeen) (n m : ℕ) → 0 < length condition.terms → length condition.terms ≤ MAX_TERMS
     → AllByRecursion (TermFits w threads table) condition.terms → IsAmong s table → length table ≤ 64
     → condition_read w threads s (line n (cond_text condition) (ends m)) ≡ Ok (record { cond = condition; names = terms_mention s condition.terms })
@@ -161,7 +163,7 @@ unfolding condition_read all_joined
 condition_back w threads table s condition n m some few fits among_table short =
     here_back w (record { threads = threads; begins = n; text = with_text no_text n (cond_text condition) }) table s condition refl some few fits among_table short
 
--- the line of the condition ends the rows, and is no line of locations
+-- the line of the condition ends the rows
 pub cond_ends : (condition : CondSeen) → ends_rows (cond_text condition) ≡ true
 unfolding ends_rows cond_text run_of after_run
 cond_ends condition = of condition.quantifier
@@ -171,6 +173,7 @@ cond_ends condition = of condition.quantifier
     of NotExists = refl
     of Forall = refl
 
+-- the line of the condition is no line of locations
 pub no_locations : (condition : CondSeen) (n : ℕ) (rest : Lines) → after_locations (line n (cond_text condition) rest) ≡ line n (cond_text condition) rest
 unfolding after_locations cond_text run_of after_run
 no_locations condition n rest = of condition.quantifier
@@ -216,6 +219,7 @@ terms_bytes : (w : Writing) (threads : ℕ) (table : List (List ℕ)) (terms : L
 terms_bytes w threads table [] h = refl
 terms_bytes w threads table (term ∷ terms) h = all_both is_line_byte (term_text term) (flat_map further_term_text terms) (term_bytes term h.0.formed) (further_bytes w threads table terms h.1)
 
+-- a printed condition is a line that isn't passed over
 pub cond_line_is : (w : Writing) (threads : ℕ) (table : List (List ℕ)) (condition : CondSeen) → AllByRecursion (TermFits w threads table) condition.terms → IsLine (cond_text condition)
 unfolding cond_text
 cond_line_is w threads table condition h = of condition.quantifier

@@ -11,15 +11,17 @@ use Rattle.std.proofs.lemmas.List.Splits.{slice_split_none, slice_split_at}
 use Rattle.text_laws.specs.Cuts.{is_without}
 use Rattle.litmus_text.specs.Cuts.{pieces}
 
--- cases of a test
+-- what follows both from a test that holds and from one that fails follows
 pub by_test : {G : Type 0} (b : Bool) → (b ≡ true → G) → (b ≡ false → G) → G
 by_test true so other = so refl
 by_test false so other = other refl
 
+-- where two tests hold together, each holds
 pub both : (p q : Bool) → p && q ≡ true → (p ≡ true) × (q ≡ true)
 both true q h = (refl, h)
 both false q h = cc
 
+-- where two tests hold, they hold together
 pub both_are : (p q : Bool) → p ≡ true → q ≡ true → p && q ≡ true
 both_are p q h k = rw (h, k) refl
 
@@ -38,6 +40,7 @@ weaker p q f [] h = refl
 weaker p q f (byte ∷ text) h =
     let parts = both (p byte) (list_all p text) h in both_are (q byte) (list_all q text) (f byte parts.0) (weaker p q f text parts.1)
 
+-- bytes of two texts that pass a test pass it as one text
 pub all_both : (p : ℕ → Bool) (xs ys : List ℕ) → list_all p xs ≡ true → list_all p ys ≡ true → list_all p (xs ++ ys) ≡ true
 all_both p xs ys h k = list_all-append p xs ys ∙ both_are (list_all p xs) (list_all p ys) h k
 
@@ -48,11 +51,11 @@ not_true false e = refl
 none_pass : (sign : ℕ) (text : List ℕ) → is_without sign text ≡ true → All (λ byte. (byte == sign) ≡ false) text
 none_pass sign text h i d k = not_true (get_or text i d == sign) (AllPass-from_list_all (λ byte. not (byte == sign)) text h i d k)
 
--- a piece before a sign
+-- the first piece of a text is what comes before its first sign
 pub piece_back : (sign : ℕ) (front behind : List ℕ) → is_without sign front ≡ true → pieces sign (front ++ sign ∷ behind) ≡ front ∷ pieces sign behind
 piece_back sign front behind h = slice_split_at (λ byte. byte == sign) front sign behind (none_pass sign front h) (eq-eqb sign sign refl)
 
--- the last piece
+-- a text without a sign is one piece
 pub piece_last : (sign : ℕ) (text : List ℕ) → is_without sign text ≡ true → pieces sign text ≡ text ∷ []
 piece_last sign text h = slice_split_none (λ byte. byte == sign) text (none_pass sign text h)
 

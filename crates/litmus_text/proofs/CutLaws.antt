@@ -11,7 +11,7 @@ use Rattle.litmus_text.specs.Cuts.{pieces}
 use Rattle.litmus_text.specs.Lines.{is_comment, is_passed}
 use Rattle.litmus_text.proofs.CutBack.{by_test, piece_back}
 
--- the pieces of a text that is cut
+-- the pieces of a text that is cut are the first text and the pieces of the second
 pub pieces_cut : (sign : ℕ) (text front behind : List ℕ) → CutParts sign text front behind → pieces sign text ≡ front ∷ pieces sign behind
 pieces_cut sign text front behind p = ap (pieces sign) p.parts ∙ piece_back sign front behind p.first
 
@@ -36,12 +36,13 @@ nil_length : (t : List ℕ) → length t == 0 ≡ is_nil t
 nil_length [] = refl
 nil_length (b ∷ t) = by_test (suc (length t) == 0) (λ e. let n : suc (length t) ≡ 0 = eqb-true (suc (length t)) 0 e in absurd (omega arith)) (λ e. e)
 
--- a line that is passed over, as the code finds it
+-- a blank line is passed over
 pub passed_empty : (text u : List ℕ) → u ≡ trimmed text → length u == 0 ≡ true → is_passed text ≡ true
 passed_empty text u e h =
     let n : is_nil (trimmed text) ≡ true = sym (nil_length (trimmed text)) ∙ (rw (sym e) h) in
     passed_is text ∙ rw n refl
 
+-- a line that isn't blank is passed over where it is a comment
 pub passed_other : (text u : List ℕ) → u ≡ trimmed text → length u == 0 ≡ false → is_passed text ≡ is_comment u
 passed_other text u e h =
     let n : is_nil (trimmed text) ≡ false = sym (nil_length (trimmed text)) ∙ (rw (sym e) h) in

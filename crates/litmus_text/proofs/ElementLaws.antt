@@ -12,11 +12,11 @@ use Rattle.std.proofs.lemmas.Bool.{ltb-true}
 pub passes_at : {X : Type 0} (p : X → Bool) (xs : List X) (i : ℕ) (d : X) → list_all p xs ≡ true → i < length xs → p (get_or xs i d) ≡ true
 passes_at p xs i d all h = AllPass-from_list_all p xs all i d h
 
--- numbers that are all below a bound
+-- a number among numbers that are all below a bound is below it
 pub below_at : {X : Type 0} (f : X → ℕ) (n : ℕ) (xs : List X) (i : ℕ) (d : X) → list_all (λ x. nat_lt (f x) n) xs ≡ true → i < length xs → f (get_or xs i d) < n
 below_at f n xs i d all h = ltb-true (f (get_or xs i d)) n (passes_at (λ x. nat_lt (f x) n) xs i d all h)
 
--- an element with its number
+-- an element of a numbered list has its number
 pub numbered_at : {X Y : Type 0} (f : X → Y) (xs : List X) (i : ℕ) (d : X) (e : ℕ × Y) → i < length xs → get_or (enumerate_from 0 (map f xs)) i e ≡ (i, f (get_or xs i d))
 numbered_at f xs i d e h =
     let n : length (map f xs) ≡ length xs = length-map xs f in
@@ -26,7 +26,7 @@ one_short : (n x : ℕ) → x ≤ n → All (λ y. y ≤ n) (x ∷ [])
 one_short n x h zero d k = h
 one_short n x h (suc i) d k = absurd (omega arith)
 
--- one more number that is within a bound
+-- numbers within a bound and one more within it are all within it
 pub short_more : (n : ℕ) (old new : List ℕ) (x : ℕ) → new ≡ old ++ x ∷ [] → All (λ y. y ≤ n) old → x ≤ n → All (λ y. y ≤ n) new
 short_more n old new x e all h =
     subst (All (λ y. y ≤ n)) (sym e) (All-append (λ y. y ≤ n) old (x ∷ []) all (one_short n x h))

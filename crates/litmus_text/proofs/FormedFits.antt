@@ -51,7 +51,7 @@ code_fits a table names ss labels accesses (op ∷ code) places has within order
       code_fits a table names ss (labels_after labels op) (accesses + cond (is_access op) 1 0) code places h.1 w.1 o.1 (omega arith),
     )
 
--- how often a label stands
+-- how often code has a label
 count_labels : (label : ℕ) (code : List Micro) → count_by (is_label_of label) code ≡ count_by (λ l. l == label) (labels_of code)
 count_labels label [] = refl
 count_labels label (ops.Label l ∷ code) =
@@ -59,7 +59,7 @@ count_labels label (ops.Label l ∷ code) =
     ∙ sym (sum_by-cons (λ l. cond (l == label) 1 0) l (labels_of code))
 count_labels label (op ∷ code) = sum_by-cons (λ op. cond (is_label_of label op) 1 0) op code ∙ zero-add _ ∙ count_labels label code
 
--- in a range each number stands at most once
+-- in a range each number comes at most once
 later_none : (label a n : ℕ) → label < a → count_by (λ l. l == label) (range_with_len a n) ≡ 0
 later_none label a zero h = refl
 later_none label a (suc n) h =
@@ -80,7 +80,7 @@ range_once label a (suc n) =
     (λ e. let rest = range_once label (a + 1) n in
     let none : cond {A = ℕ} (a == label) 1 0 ≡ 0 = ap (λ b. cond {A = ℕ} b 1 0) e in omega arith)
 
--- a label that stands stands at least once
+-- code that has a label has it at least once
 stands_some : (label : ℕ) (code : List Micro) → stands label code ≡ true → 1 ≤ count_by (is_label_of label) code
 stands_some label [] h = absurd (cc)
 stands_some label (op ∷ code) h =
@@ -93,7 +93,7 @@ stands_some label (op ∷ code) h =
     rest (ops.Label l) h e = sym (ap (λ b. b || stands label code) e) ∙ h
     rest op h e = h
 
--- a label that stands behind a branch, in code whose labels stand at most once, stands once in all
+-- a label after a branch, in code whose labels come at most once each, comes once in all
 stands_exactly : (label : ℕ) (front behind : List Micro) → count_by (is_label_of label) (front ++ behind) ≤ 1 → stands label behind ≡ true → stands_once label (front ++ behind) behind ≡ true
 stands_exactly label front behind few h =
     let some = stands_some label behind h in
@@ -127,7 +127,7 @@ pub lands_once : (code : List Micro) (n : ℕ) → lands code ≡ true → label
 lands_once code n h e =
     lands_front [] code (λ label. subst (λ m. m ≤ 1) (sym (count_labels label code ∙ ap (λ ls. count_by (λ l. l == label) ls) e)) (range_once label 0 n)) h
 
--- address registers in ascending order stand once each
+-- address registers in ascending order fit a table that has their places
 pub links_fit : (w : Writing) (table : List (List ℕ)) (names : ℕ → List ℕ) (ss : List Step) (thread low : ℕ) (links : List (ℕ × ℕ)) → HasPlaces table names ss → thread < 64
     → InOrder low links (length w.registers) → list_all (λ (link : ℕ × ℕ). visits link.1 ss) links ≡ true → AllByRecursion (LinkFits w table names) (map (λ link. (thread, link)) links)
 links_fit w table names ss thread low [] places small order visited = tt
@@ -219,6 +219,6 @@ all_single thread high (t ∷ threads) done order h =
     thread_single thread 0 high t.links done (links_of (thread + 1) threads) order.0 (before_zero thread done h)
     (all_single (thread + 1) high threads (done ++ map (λ link. (thread, link)) t.links) order.1 (below_append thread t.links done h))
 
--- address registers in ascending order stand once each in their threads
+-- address registers in ascending order come once each in their threads
 pub links_single : (high : ℕ) (threads : List ThreadCode) → AllByRecursion (λ t. InOrder 0 t.links high) threads → links_once [] (links_of 0 threads) ≡ true
 links_single high threads order = all_single 0 high threads [] order refl

@@ -9,6 +9,7 @@ use Rattle.litmus_text.specs.Gives.{GivesInMemory}
 abbrev pub Fails : {Y : Type 0} → ReadError → Result Y TextError → Type 0
 Fails e read = GivesInMemory (λ y. y) (Err e) read
 
+-- a part that fails as a part of it does gives the same error
 pub fails_map : {Y Z : Type 0} (e : ReadError) (a : Result Y TextError) (b : Result Z TextError) → ((f : TextError) → a ≡ Err f → b ≡ Err f) → Fails e a → Fails e b
 fails_map (Text f) a b h k = h f k
 fails_map NoMemory a b h k = tt

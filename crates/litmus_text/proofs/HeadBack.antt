@@ -44,7 +44,7 @@ not_blank false e = refl
 none_blank : (text : List ℕ) → is_inked_word text ≡ true → All (λ b. is_blank b ≡ false) text
 none_blank text h i d k = not_blank (is_blank (get_or text i d)) (AllPass-from_list_all (λ b. not (is_blank b)) text h i d k)
 
--- two words between blanks
+-- two words with a blank between are read as two words
 pub two_back : (a : ℕ) (front : List ℕ) (b : ℕ) (behind : List ℕ) → is_inked_word (a ∷ front) ≡ true → is_inked_word (b ∷ behind) ≡ true
     → words ((a ∷ front) ++ 32 ∷ b ∷ behind) ≡ (a ∷ front) ∷ (b ∷ behind) ∷ []
 unfolding words
@@ -60,6 +60,7 @@ arch_two PPC b name h = two_back 80 (codes "PC") b name refl h
 arch_two AArch64 b name h = two_back 65 (codes "Arch64") b name refl h
 arch_two RISCV b name h = two_back 82 (codes "ISCV") b name refl h
 
+-- the printed header is read as the name of the test
 pub header_back : (arch : ArchName) (name : List ℕ) (n : ℕ) (rest : Lines) → IsTestName name → header_read arch (line n (header_line arch name) rest) ≡ Ok (name, rest)
 unfolding header_read header_line
 header_back arch [] n rest h = let clash : false ≡ true = h.some in absurd (cc)
@@ -86,12 +87,13 @@ edges_quoted (edge ∷ edges) = all_both is_quoted_byte (word_of edge) (flat_map
 quoted_on_line : (b : ℕ) → is_quoted_byte b ≡ true → is_line_byte b ≡ true
 quoted_on_line b h = (both (is_line_byte b) (not (b == 34)) h).0
 
+-- the printed edges are read as the quoted text
 pub quote_back : (edges : List Edge) (n : ℕ) (rest : Lines) → quote_read (line n (edges_line edges) rest) ≡ Ok (Some (join_by word_of (codes " ") edges), rest)
 unfolding quote_read edges_line
 quote_back edges n rest =
     ap (quote_cut n rest) (cut_back 34 (join_by word_of (codes " ") edges) [] (without_class is_quoted_byte 34 (join_by word_of (codes " ") edges) refl (edges_quoted edges)))
 
--- no line of letters and `=` is passed over before a brace
+-- a line that begins with a brace is no line of settings
 pub settings_back : (n : ℕ) (text : List ℕ) (rest : Lines) → after_settings (line n (123 ∷ text) rest) ≡ line n (123 ∷ text) rest
 unfolding after_settings is_setting run_of
 settings_back n text rest = refl
@@ -115,6 +117,7 @@ before_class p [] h = refl
 before_class p (b ∷ text) h =
     let parts = both (p b) (list_all p text) h in kept_class p b (before_blanks text) parts.0 (before_class p text parts.1)
 
+-- a trimmed text passes a test that the text passes
 pub trimmed_class : (p : ℕ → Bool) (text : List ℕ) → list_all p text ≡ true → list_all p (trimmed text) ≡ true
 trimmed_class p text h = before_class p (unblanked text) (trim_class p text h)
 
@@ -129,7 +132,7 @@ no_comment (a ∷ b ∷ text) h =
     let clash : true ≡ false = sym second.0 ∙ ap is_line_byte same in absurd (cc))
     (λ e. by_test (a == 40) (λ f. rw (f, e) refl) (λ f. rw f refl))
 
--- a printed line with a byte that is no blank stays
+-- a printed line with a byte that is no blank isn't passed over
 pub line_is : (text : List ℕ) → list_all is_line_byte text ≡ true → list_all is_blank text ≡ false → IsLine text
 unfolding is_passed
 line_is text h k = record {
@@ -137,7 +140,7 @@ line_is text h k = record {
   stays = rw (k, no_comment (trimmed text) (trimmed_class is_line_byte text h)) refl;
 }
 
--- a byte that is no blank
+-- a text with a byte that is no blank isn't blank
 pub not_all_blank : (front : List ℕ) (b : ℕ) (behind : List ℕ) → is_blank b ≡ false → list_all is_blank (front ++ b ∷ behind) ≡ false
 not_all_blank [] b behind h = rw h refl
 not_all_blank (a ∷ front) b behind h = by_test (is_blank a) (λ e. rw (e, not_all_blank front b behind h) refl) (λ e. rw e refl)
@@ -148,10 +151,12 @@ arch_on_line PPC rest h = line_is _ h refl
 arch_on_line AArch64 rest h = line_is _ h refl
 arch_on_line RISCV rest h = line_is _ h refl
 
+-- a printed header is a line that isn't passed over
 pub header_line_is : (arch : ArchName) (name : List ℕ) → IsTestName name → IsLine (header_line arch name)
 unfolding header_line
 header_line_is arch name h = arch_on_line arch (32 ∷ name) (weaker is_name_byte is_line_byte name_on_line name h.bytes)
 
+-- the printed edges are a line that isn't passed over
 pub edges_line_is : (edges : List Edge) → IsLine (edges_line edges)
 unfolding edges_line
 edges_line_is edges =

@@ -34,6 +34,7 @@ not_true : (b : Bool) → not b ≡ true → b ≡ false
 not_true true e = cc
 not_true false e = refl
 
+-- a text without blanks has none at its end
 pub inked_ends : (text : List ℕ) → list_all (λ b. not (is_blank b)) text ≡ true → before_blanks text ≡ text
 unfolding before_blanks
 inked_ends [] h = refl
@@ -79,7 +80,7 @@ head_bytes w places n (t ∷ threads) h =
       head_bytes w places (n + 1) threads (omega arith),
     )
 
--- the header of a test with threads
+-- the printed header of a table is read as the number of its threads
 pub head_back : (w : Writing) (places : List (List ℕ)) (n : ℕ) (t : ThreadCode) (threads : List ThreadCode) (begun : Begun) (rest : Lines) → length (t ∷ threads) ≤ 64
     → list_all (λ v. nat_lt v.0 (length (t ∷ threads))) begun.values ≡ true
     → head_read begun (line n (row_line (columns_of w places (t ∷ threads)) 0) rest) ≡ Ok (length (t ∷ threads), rest)
@@ -94,6 +95,7 @@ head_back w places n t threads begun rest few there =
     let go : (c : Cells) → c ≡ record { texts = map (spaced f) (x ∷ xs); whole = true } → heads_read n c.whole 0 c.texts ≡ Ok (length (t ∷ threads)) = λ c e. ap (λ c. heads_read n c.whole 0 c.texts) e ∙ heads in
     rw (go _ cells, there) refl
 
+-- the printed header of a table is a line that isn't passed over
 pub head_line_is : (w : Writing) (places : List (List ℕ)) (t : ThreadCode) (threads : List ThreadCode) → length (t ∷ threads) ≤ 64 → IsLine (row_line (columns_of w places (t ∷ threads)) 0)
 head_line_is w places t threads few =
     row_line_is 0 (column_of w places (0, t)) (map (column_of w places) (enumerate_from (0 + 1) threads)) (head_bytes w places 0 (t ∷ threads) (omega arith))

@@ -43,6 +43,7 @@ unfolding braced
 at_brace joined n (ends m) = rw (cut_back 125 [] [] refl) refl
 at_brace joined n (line m next rest) = rw (cut_back 125 [] [] refl) refl
 
+-- the lines between braces give one text
 pub gathered : (joined : Joined) (n : ℕ) (text : List ℕ) (m : ℕ) (lines : List (List ℕ)) (after : ℕ → Lines) → is_without 125 text ≡ true → AllByRecursion (λ l. is_without 125 l ≡ true) lines
     → Gathered joined n text m lines after
 gathered joined n text m [] after h all =
@@ -142,6 +143,7 @@ item_line_is a w table places n (link ∷ links) laws fits =
       tt,
     )
 
+-- what holds of all elements of two lists holds of all elements of both together
 pub all_join : {X : Type 0} (P : X → Type 0) (xs ys : List X) → AllByRecursion P xs → AllByRecursion P ys → AllByRecursion P (xs ++ ys)
 all_join P [] ys h k = k
 all_join P (x ∷ xs) ys h k = (h.0, all_join P xs ys h.1 k)
@@ -166,7 +168,7 @@ no_brace_in : (text : List ℕ) → ItemLine text → is_without 125 text ≡ tr
 unfolding is_items_byte
 no_brace_in text h = without_class is_items_byte 125 text refl h.bytes
 
--- the printed lines of the initial state
+-- the printed lines of the initial state are lines that aren't passed over
 pub initial_lines_are : (a : Puts) (w : Writing) (table places : List (List ℕ)) (threads : List ThreadCode) → WritesBack a w → AllByRecursion (LinkFits w table (name_in places)) (links_of 0 threads)
     → AllByRecursion IsLine (initial_lines w places threads)
 unfolding initial_lines
@@ -177,7 +179,7 @@ initial_lines_are a w table places threads laws fits = (
       (line_is (125 ∷ []) refl refl, tt),
 )
 
--- the initial state of a printed test
+-- the printed initial state is read as the values of the address registers
 pub initial_back : (a : Puts) (w : Writing) (table final places : List (List ℕ)) (threads : List ThreadCode) (n : ℕ) (after : ℕ → Lines)
     → WritesBack a w → AllByRecursion (LinkFits w table (name_in places)) (links_of 0 threads) → IsAmong [] table → length table ≤ 64
     → Within (links_mention (name_in places) [] (links_of 0 threads)) final → links_once [] (links_of 0 threads) ≡ true
@@ -195,7 +197,7 @@ initial_back a w table final places threads n after laws fits among_table short 
     ∙ ap (λ r. r >>= λ begun. brace_ends gather.at_line [] (after ((n + 1) + (length lines + 1))) begun) items
     ∙ ap (λ k. Ok (record { names = links_mention (name_in places) [] (links_of 0 threads); values = link_values final (name_in places) (links_of 0 threads) }, after k)) count
 
--- each initial value is that of a thread that is there
+-- each initial value is one of a thread that the test has
 pub links_there : (table : List (List ℕ)) (names : ℕ → List ℕ) (n m : ℕ) (threads : List ThreadCode) → n + length threads ≤ m
     → list_all (λ v. nat_lt v.0 m) (link_values table names (links_of n threads)) ≡ true
 links_there table names n m [] h = refl

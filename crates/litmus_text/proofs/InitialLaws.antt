@@ -8,6 +8,7 @@ use Rattle.arch_trait.specs.Threads.{ThreadCode}
 use Rattle.arch_trait.specs.Writing.{Writing}
 use Rattle.litmus_text.specs.TestText.{item_text, items_lines, initial_lines, ended}
 
+-- a list that is made in two steps can be made in one
 pub flat_map-flat_map : {X Y : Type 0} (g : Y → List ℕ) (f : X → List Y) (xs : List X) → flat_map g (flat_map f xs) ≡ flat_map (λ x. flat_map g (f x)) xs
 flat_map-flat_map g f [] = refl
 flat_map-flat_map g f (x ∷ xs) = flat_map-append g (f x) (flat_map f xs) ∙ ap (λ rest. flat_map g (f x) ++ rest) (flat_map-flat_map g f xs)
@@ -16,12 +17,12 @@ flat_map-flat_map g f (x ∷ xs) = flat_map-append g (f x) (flat_map f xs) ∙ a
 abbrev pub printed_items : Writing → List (List ℕ) → ℕ × ThreadCode → List ℕ
 printed_items w places t = flat_map ended (items_lines w places t.0 t.1.links)
 
--- no line where there are no items
+-- without items there is no line
 pub no_items : (w : Writing) (places : List (List ℕ)) (thread : ℕ) (links read : List (ℕ × ℕ)) → read ≡ links → length read ≡ 0 → [] ≡ flat_map ended (items_lines w places thread links)
 no_items w places thread [] read e h = refl
 no_items w places thread (link ∷ links) read e h = absurd (omega (arith, ap length e))
 
--- else one
+-- with items there is one line
 pub some_items : (w : Writing) (places : List (List ℕ)) (thread : ℕ) (links read : List (ℕ × ℕ)) → read ≡ links → length read ≢ 0
     → join_by (item_text w places thread) (codes " ") read ++ codes "\n" ≡ flat_map ended (items_lines w places thread links)
 some_items w places thread [] read e h = absurd (h (ap length e))
@@ -29,7 +30,7 @@ some_items w places thread (link ∷ links) read e h =
     ap (λ links. join_by (item_text w places thread) (codes " ") links ++ codes "\n") e
     ∙ sym (append-nil (join_by (item_text w places thread) (codes " ") (link ∷ links) ++ codes "\n"))
 
--- the lines of the initial state as they are printed
+-- the lines of the initial state, thread by thread, are those that are printed
 pub initial_is : (w : Writing) (places : List (List ℕ)) (threads : List ThreadCode)
     → codes "{\n" ++ (flat_map (λ t. flat_map ended (items_lines w places t.0 t.1.links)) (enumerate_from 0 threads) ++ codes "}\n") ≡ flat_map ended (initial_lines w places threads)
 unfolding initial_lines
@@ -38,9 +39,10 @@ initial_is w places threads =
     (ap (λ front. front ++ codes "}\n") (sym (flat_map-flat_map ended (λ t. items_lines w places t.0 t.1.links) (enumerate_from 0 threads)))
     ∙ sym (flat_map-append ended (flat_map (λ t. items_lines w places t.0 t.1.links) (enumerate_from 0 threads)) (codes "}" ∷ [])))
 
--- a test of emptiness
+-- a number that passes the test of 0 is 0
 pub empty_from : (b : Bool) (n : ℕ) → b ≡ nat_eq n 0 → b ≡ true → n ≡ 0
 empty_from b n e h = eqb-true n 0 (sym e ∙ h)
 
+-- a number that fails the test of 0 isn't 0
 pub some_from : (b : Bool) (n : ℕ) → b ≡ nat_eq n 0 → b ≡ false → n ≢ 0
 some_from b n e h = eqb-false n 0 (sym e ∙ h)

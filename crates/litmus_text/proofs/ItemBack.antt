@@ -52,6 +52,7 @@ place_in_item b h = grind (arith, nat_tests)
 item_inked : (b : ℕ) → is_item_byte b ≡ true → not (is_blank b) ≡ true
 item_inked b h = (both (not (is_blank b)) (not (b == 59 || b == 125)) (both (is_line_byte b) (not (is_blank b) && not (b == 59 || b == 125)) h).1).0
 
+-- a byte of an item is one of a line
 pub item_on_line : (b : ℕ) → is_item_byte b ≡ true → is_line_byte b ≡ true
 item_on_line b h = (both (is_line_byte b) (not (is_blank b) && not (b == 59 || b == 125)) h).0
 
@@ -80,6 +81,7 @@ side_text w link = left_text (InRegister link.0 (name_in w.registers link.1.0))
 abbrev pub core : (w : Writing) → (ℕ → List ℕ) → Link → List ℕ
 core w names link = side_text w link ++ 61 ∷ names link.1.1
 
+-- an item is its text without the semicolon, and a semicolon
 pub core_is : (w : Writing) (places : List (List ℕ)) (link : Link) → item_text w places link.0 link.1 ≡ core w (name_in places) link ++ 59 ∷ []
 unfolding item_text side_text left_text
 core_is w places link =
@@ -138,6 +140,7 @@ side_bytes a w link laws small h =
 name_bytes : (name : List ℕ) → is_place_name name ≡ true → list_all is_item_byte name ≡ true
 name_bytes name h = weaker is_place_byte is_item_byte place_in_item name (place_bytes name h)
 
+-- the bytes of an item without its semicolon are those of an item
 pub core_bytes : (a : Puts) (w : Writing) (table : List (List ℕ)) (names : ℕ → List ℕ) (link : Link) → WritesBack a w → LinkFits w table names link → list_all is_item_byte (core w names link) ≡ true
 core_bytes a w table names link laws fits =
     all_both is_item_byte (side_text w link) (61 ∷ names link.1.1) (side_bytes a w link laws fits.thread fits.register)
@@ -171,7 +174,7 @@ core_some : (w : Writing) (text : List ℕ) (name : List ℕ) → some_item w (t
 core_some w [] name = refl
 core_some w (b ∷ text) name = refl
 
--- an item, with a blank before it
+-- an item is read as its register and the address of its place, with a blank before it
 pub item_back : (a : Puts) (w : Writing) (table : List (List ℕ)) (names : ℕ → List ℕ) (link : Link) → WritesBack a w → LinkFits w table names link
     → item_of w (32 ∷ core w names link) ≡ Some (gives link.0 link.1.0 (a_place (names link.1.1)))
 unfolding item_of
@@ -217,11 +220,13 @@ item_step a w table final s names done link joined place laws fits among_table s
     (ap (λ i. Ok (record { names = names_added s (names link.1.1); values = link_values final names done ++ (link.0, (link.1.0, values.Place i)) ∷ [] })) (sym last)
     ∙ ap (λ v. Ok (record { names = names_added s (names link.1.1); values = v })) (values_more final names done link))
 
+-- the items add names of places and take none away
 pub links_within : (names : ℕ → List ℕ) (s : List (List ℕ)) (links : List Link) → Within s (links_mention names s links)
 links_within names s [] = within_self s
 links_within names s (link ∷ links) =
     within_trans s (names_added s (names link.1.1)) (links_mention names s (link ∷ links)) (added_within s (names link.1.1)) (links_within names (names_added s (names link.1.1)) links)
 
+-- the names of places stay among those of a table after items were read
 pub links_among : (w : Writing) (table s : List (List ℕ)) (names : ℕ → List ℕ) (links : List Link) → AllByRecursion (LinkFits w table names) links → IsAmong s table → length table ≤ 64
     → IsAmong (links_mention names s links) table
 links_among w table s names [] fits h few = h
@@ -264,7 +269,7 @@ item_pieces a w table names (link ∷ links) laws fits =
     ∙ piece_back 59 (32 ∷ text) rest (both_are true (is_without 59 text) refl (without_class is_item_byte 59 text refl (core_bytes a w table names link laws fits.0)))
     ∙ ap (λ ps. (32 ∷ text) ∷ ps) (item_pieces a w table names links laws fits.1)
 
--- the text of all items, read
+-- the text of all items is read as the values of the address registers
 pub all_items_back : (a : Puts) (w : Writing) (table final : List (List ℕ)) (names : ℕ → List ℕ) (links : List Link) (joined : Joined)
     → WritesBack a w → AllByRecursion (LinkFits w table names) links → IsAmong [] table → length table ≤ 64 → Within (links_mention names [] links) final
     → links_once [] links ≡ true → joined.bytes ≡ flat_map (λ link. 32 ∷ (core w names link ++ 59 ∷ [])) links ++ 32 ∷ []

@@ -16,7 +16,7 @@ use Rattle.text_laws.specs.Words.{is_nil}
 use Rattle.litmus_text.specs.InitialState.{item_with, whole_left, item_if}
 use Rattle.litmus_text.proofs.CutBack.{by_test, both}
 
--- a text without blanks at its ends has none at its front
+-- a text without blanks at its ends has none at its beginning
 inked_front : (b : ℕ) (t : List ℕ) → is_blank b ≡ false → unblanked (kept_before b t) ≡ kept_before b t
 unfolding after_run
 inked_front b [] e = rw (e, e) refl
@@ -27,6 +27,7 @@ unfolding after_run before_blanks
 trimmed_front [] = refl
 trimmed_front (b ∷ t) = by_test (is_blank b) (λ e. rw e (trimmed_front t)) (λ e. rw e (inked_front b (before_blanks t) e))
 
+-- a text without the blanks at its end is no longer
 pub before_blanks-le : (t : List ℕ) → length (before_blanks t) ≤ length t
 unfolding before_blanks
 before_blanks-le [] = omega arith
@@ -69,7 +70,7 @@ found_none : (t : List ℕ) (o : Option (LeftSeen × List ℕ)) (f : Fault) → 
 found_none t None f e = refl
 found_none t (Some y) f e = cc
 
--- the item of two sides, by what read_left answers
+-- two sides whose left side is read make the item of that left side
 pub item_found : (w : Writing) (text right : List ℕ) (left : LeftSeen) (rest : List ℕ) → list_all is_register_name w.registers ≡ true → (t : List ℕ) → t ≡ trimmed text → left_read has_form (unblanked t) ≡ Ok (left, rest)
     → item_if w (whole_left (left_at_front (trimmed text))) right ≡ item_if w (cond (is_nil rest) (Some left) None) right
 unfolding left_read
@@ -79,6 +80,7 @@ item_found w text right left rest h u same d =
     let f : found BadTerm t (only_known has_form (left_at_front t)) ≡ Ok (left, rest) = ap (left_read has_form) (sym (trimmed_front text)) ∙ e in
     item_known w (left_at_front t) right h ∙ ap (λ l. item_if w (whole_left l) right) (found_some t (only_known has_form (left_at_front t)) (left, rest) f)
 
+-- two sides whose left side isn't read make no item
 pub item_missing : (w : Writing) (text right : List ℕ) (f : Fault) → list_all is_register_name w.registers ≡ true → (t : List ℕ) → t ≡ trimmed text → left_read has_form (unblanked t) ≡ Err f
     → item_if w (whole_left (left_at_front (trimmed text))) right ≡ None
 unfolding left_read
@@ -88,11 +90,12 @@ item_missing w text right f h u same d =
     let g : found BadTerm t (only_known has_form (left_at_front t)) ≡ Err f = ap (left_read has_form) (sym (trimmed_front text)) ∙ e in
     item_known w (left_at_front t) right h ∙ ap (λ l. item_if w (whole_left l) right) (found_none t (only_known has_form (left_at_front t)) f g)
 
--- a left side with something behind it, and one with nothing
+-- a left side with something after it makes no item
 pub item_left : (w : Writing) (left : LeftSeen) (rest right : List ℕ) → length rest == 0 ≡ false → item_if w (cond (is_nil rest) (Some left) None) right ≡ None
 item_left w left [] right h = absurd (cc)
 item_left w left (b ∷ rest) right h = refl
 
+-- a left side with nothing after it makes its item
 pub item_whole : (w : Writing) (left : LeftSeen) (rest right : List ℕ) → length rest == 0 ≡ true → item_if w (cond (is_nil rest) (Some left) None) right ≡ item_with w left right
 item_whole w left [] right h = refl
 item_whole w left (b ∷ rest) right h = let e : suc (length rest) ≡ 0 = eqb-true (suc (length rest)) 0 h in absurd (omega arith)

@@ -1,4 +1,4 @@
--- Texts that are put to a page with a separator between.
+-- Texts that are appended to a page with a separator between.
 use Rattle.std.proofs.Common.{◌≡◌, ◌≤◌, ◌<◌, ◌≢◌, ◌+◌, ◌*◌, ℕ, List, [], ◌∷◌, ◌++◌, zero, suc, length, take, get_or}
 use Rattle.std.proofs.Common.{refl, sym, ap, ◌∙◌, subst, arith, append_assoc, append-nil, length-append}
 use Rattle.std.specs.List.{flat_map, join_by}
@@ -10,16 +10,17 @@ use Rattle.diy_io.specs.Page.{page_after}
 use Rattle.diy_io.specs.PageLaws.{page_nothing, page_more}
 use Rattle.litmus_text.specs.Separators.{separator_at}
 
--- the separator before an element after the first
+-- before the first element there is no separator
 pub separator_first : (separator : List ℕ) (i : ℕ) → i ≡ 0 → [] ≡ separator_at separator i
 separator_first separator zero h = refl
 separator_first separator (suc i) h = absurd (omega arith)
 
+-- before each later element there is the separator
 pub separator_later : (separator : List ℕ) (i : ℕ) → i ≢ 0 → separator ≡ separator_at separator i
 separator_later separator zero h = absurd (h refl)
 separator_later separator (suc i) h = refl
 
--- a separator is no longer than itself
+-- what comes before an element is no longer than the separator
 pub separator_short : (separator : List ℕ) (i : ℕ) → length (separator_at separator i) ≤ length separator
 separator_short separator zero = omega arith
 separator_short separator (suc i) = omega arith
@@ -38,26 +39,29 @@ join_take f separator xs i d h =
     ap (join_by f separator) (take_more xs i d h) ∙ join_more f separator (take i xs) (get_or xs i d)
     ∙ ap (λ n. join_by f separator (take i xs) ++ (separator_at separator n ++ f (get_or xs i d))) (length-take-le i xs (omega arith))
 
--- texts that are put one after another
+-- two texts that are appended one after the other are appended as one text
 pub two_put : (page mid new x y text : List ℕ) → mid ≡ page_after page x → new ≡ page_after mid y → x ++ y ≡ text → new ≡ page_after page text
 two_put page mid new x y text p q same = q ∙ ap (λ m. page_after m y) p ∙ page_more page x y ∙ ap (page_after page) same
 
+-- three texts that are appended one after another are appended as one text
 pub three_put : (page mid last new x y z text : List ℕ) → mid ≡ page_after page x → last ≡ page_after mid y → new ≡ page_after last z
     → x ++ (y ++ z) ≡ text → new ≡ page_after page text
 three_put page mid last new x y z text p q r same = two_put page mid new x (y ++ z) text p (two_put mid last new y z (y ++ z) q r refl) same
 
--- nothing is put
+-- a page is as it was after nothing is appended
 pub nothing_put : (page text : List ℕ) → [] ≡ text → page ≡ page_after page text
 nothing_put page text e = sym (page_nothing page) ∙ ap (page_after page) e
 
--- the first elements are put with a separator between, each of so many bytes at most with its separator
+-- the first elements are appended with a separator between, each of so many bytes at most with its separator
 pub record Put {X : Type 0} (f : X → List ℕ) (separator : List ℕ) (room : ℕ) (old new : List ℕ) (xs : List X) (count : ℕ) : Type 0 where
   pub text : new ≡ page_after old (join_by f separator (take count xs))
   pub short : length (join_by f separator (take count xs)) ≤ room * count
 
+-- at the beginning no element is appended
 pub none_put : {X : Type 0} (f : X → List ℕ) (separator : List ℕ) (room : ℕ) (page : List ℕ) (xs : List X) → Put f separator room page page xs 0
 none_put f separator room page xs = record { text = sym (page_nothing page); short = omega arith }
 
+-- one more element is appended, with the separator before it
 pub one_put : {X : Type 0} (f : X → List ℕ) (separator : List ℕ) (room : ℕ) (old page new : List ℕ) (xs : List X) (i : ℕ) (d : X) → i < length xs
     → Put f separator room old page xs i → new ≡ page_after page (separator_at separator i ++ f (get_or xs i d))
     → length (separator_at separator i ++ f (get_or xs i d)) ≤ room → Put f separator room old new xs (i + 1)
@@ -76,7 +80,7 @@ one_put f separator room old page new xs i d h so_far put short =
           omega arith;
     }
 
--- the same, where the text of the element has another name
+-- one more element is appended, where its text has another name
 pub one_text_put : {X : Type 0} (f : X → List ℕ) (separator : List ℕ) (room : ℕ) (old page new : List ℕ) (xs : List X) (i : ℕ) (d : X) (text : List ℕ)
     → i < length xs → Put f separator room old page xs i → text ≡ f (get_or xs i d) → new ≡ page_after page (separator_at separator i ++ text)
     → length (separator_at separator i ++ text) ≤ room → Put f separator room old new xs (i + 1)
@@ -84,11 +88,12 @@ one_text_put f separator room old page new xs i d text h so_far is put short =
     one_put f separator room old page new xs i d h so_far (subst (λ t. new ≡ page_after page (separator_at separator i ++ t)) is put)
     (subst (λ t. length (separator_at separator i ++ t) ≤ room) is short)
 
--- all are put
+-- where all elements are appended, the page has the whole text
 pub all_put : {X : Type 0} (f : X → List ℕ) (separator : List ℕ) (room : ℕ) (old new : List ℕ) (xs : List X) (i : ℕ) → length xs ≤ i
     → Put f separator room old new xs i → new ≡ page_after old (join_by f separator xs)
 all_put f separator room old new xs i h put = put.text ∙ ap (λ ys. page_after old (join_by f separator ys)) (take_all i xs h)
 
+-- where all elements are appended, their text is no longer than there is room for
 pub all_short : {X : Type 0} (f : X → List ℕ) (separator : List ℕ) (room : ℕ) (old new : List ℕ) (xs : List X) (i n : ℕ) → length xs ≤ i → i ≡ n
     → Put f separator room old new xs i → length (join_by f separator xs) ≤ room * n
 all_short f separator room old new xs i n h same put =

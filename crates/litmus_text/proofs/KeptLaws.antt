@@ -14,37 +14,37 @@ take_again zero a b = refl
 take_again (suc n) [] b = refl
 take_again (suc n) (x ∷ a) b = ap (λ rest. x ∷ rest) (take_again n a b)
 
--- a text is kept where there is room
+-- where there is room, one more text is kept
 pub text_kept : {A : Type 0} (f : A → List ℕ) (n : ℕ) (old new : List A) (x : A) → length old < n → new ≡ old ++ x ∷ [] → map f new ≡ take n (map f old ++ f x ∷ [])
 text_kept f n old new x room e =
     let all : length (map f old ++ f x ∷ []) ≤ n = omega (arith, length-append (map f old) (f x ∷ []), length-map old f) in
     ap (map f) e ∙ map-append f old (x ∷ []) ∙ sym (take_all n (map f old ++ f x ∷ []) all)
 
--- and not where there is none
+-- where there is no room, one more text isn't kept
 pub text_lost : {A : Type 0} (f : A → List ℕ) (n : ℕ) (old new : List A) (x : A) → n ≡ length old → new ≡ old → map f new ≡ take n (map f old ++ f x ∷ [])
 text_lost f n old new x full e =
     let all : length (map f old) ≤ n = omega (arith, full, length-map old f) in
     let cut : n ≤ length (map f old) = omega (arith, full, length-map old f) in
     ap (map f) e ∙ sym (take_all n (map f old) all) ∙ sym (take-append-le n (map f old) (f x ∷ []) cut)
 
--- before the first text of a list
+-- before the first text of a list what is kept is as it was
 pub kept_none : (n : ℕ) (start : List (List ℕ)) → length start ≤ n → start ≡ take n (start ++ [])
 kept_none n start h = sym (ap (take n) (append-nil start) ∙ take_all n start h)
 
--- one more text is kept after those of a list
+-- of a list one more text is kept
 pub kept_more : (n : ℕ) (start texts old new : List (List ℕ)) (i : ℕ) (text : List ℕ) → i < length texts → text ≡ get_or texts i []
     → old ≡ take n (start ++ take i texts) → new ≡ take n (old ++ text ∷ []) → new ≡ take n (start ++ take (i + 1) texts)
 kept_more n start texts old new i text h is old_is new_is =
     new_is ∙ ap (λ old. take n (old ++ text ∷ [])) old_is ∙ take_again n (start ++ take i texts) (text ∷ [])
     ∙ ap (take n) (append_assoc start (take i texts) (text ∷ []) ∙ ap (λ more. start ++ (take i texts ++ more ∷ [])) is ∙ ap (λ all. start ++ all) (sym (take_more texts i [] h)))
 
--- the widest text of one row more
+-- with the text of one more row the width is the greater of its length and the width so far
 pub wider : (column : List (List ℕ)) (row width new : ℕ) (text : List ℕ) → row < length column → text ≡ get_or column row []
     → width ≡ widest (take row column) → new ≡ max width (length text) → new ≡ widest (take (row + 1) column)
 wider column row width new text h is e f =
     f ∙ ap (λ width. max width (length text)) e ∙ ap (λ text. max (widest (take row column)) (length text)) is ∙ sym (widest_more column row h)
 
--- all of them are
+-- of a list that is at its end all texts are kept, as far as there is room
 pub kept_whole : (n : ℕ) (start texts kept : List (List ℕ)) (i : ℕ) → length texts ≤ i → kept ≡ take n (start ++ take i texts) → kept ≡ take n (start ++ texts)
 kept_whole n start texts kept i h e = e ∙ ap (λ all. take n (start ++ all)) (take_all i texts h)
 
@@ -74,13 +74,13 @@ column_more n w places threads i code old new h is old_is new_is =
     new_is ∙ ap (λ old. take n (old ++ column_of w places (i, thread_of code))) old_is ∙ take_again n (all_texts (take i columns)) (column_of w places (i, thread_of code))
     ∙ ap (λ column. take n (all_texts (take i columns) ++ column)) (sym (column_at w places threads i code h is)) ∙ ap (take n) (sym (texts_more columns i long))
 
--- all columns are
+-- where no column is left, all columns are kept, as far as there is room
 pub columns_whole : (n : ℕ) (w : Writing) (places : List (List ℕ)) (threads : List Code) (i : ℕ) (kept : List (List ℕ)) → length threads ≤ i
     → kept ≡ take n (all_texts (take i (columns_of w places (map thread_of threads)))) → kept ≡ take n (all_texts (columns_of w places (map thread_of threads)))
 columns_whole n w places threads i kept h e =
     e ∙ ap (λ columns. take n (all_texts columns)) (take_all i (columns_of w places (map thread_of threads)) (omega (arith, length_columns w places threads)))
 
--- where the next column begins
+-- the next column begins after the texts of this one
 pub first_more : (w : Writing) (places : List (List ℕ)) (threads : List Code) (i : ℕ) (code : Code) (old new : ℕ) → i < length threads → code ≡ get_or threads i code
     → old ≡ length (all_texts (take i (columns_of w places (map thread_of threads)))) → new ≡ old + (length code.instrs.items + 1)
     → new ≡ length (all_texts (take (i + 1) (columns_of w places (map thread_of threads))))

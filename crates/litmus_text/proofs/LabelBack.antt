@@ -1,4 +1,4 @@
--- The labels of printed threads are judged to stand as they must.
+-- The labels of printed threads are judged to be right: each is in its thread once, after the branch.
 use Rattle.std.proofs.Common.{◌≡◌, ◌+◌, ℕ, List, [], ◌∷◌, Ok, true, cond, map, refl, sym, ap, ◌∙◌}
 use Rattle.std.specs.Prelude.{count_by}
 use Rattle.std.specs.List.{AllByRecursion}
@@ -41,6 +41,7 @@ judged_back table names n m all (op ∷ code) h =
     let parts = both (op_lands op all code) (code_lands all code) h in
     rw (landing_kept op table names n (m + 1) all code, parts.0) (judged_back table names n (m + 1) all code parts.1)
 
+-- the labels of printed threads are judged to be right
 pub labels_back : (table : List (List ℕ)) (names : ℕ → List ℕ) (n : ℕ) (codes : List (List Micro)) → AllByRecursion (λ code. code_lands code code ≡ true) codes
     → all_labels_judged (map (column_so_far table names n) codes) ≡ Ok tt
 unfolding all_labels_judged

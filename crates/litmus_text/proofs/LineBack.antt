@@ -37,6 +37,7 @@ one_line : (n : ℕ) (text : List ℕ) (pieces : List (List ℕ)) (piece : List 
 unfolding lines_in
 one_line n text pieces piece h = rw (keeps_end text h.bytes, h.stays) refl
 
+-- the text of printed lines is read as these lines
 pub lines_back : (n : ℕ) (texts : List (List ℕ)) → AllByRecursion IsLine texts → lines_from n (flat_map ended texts) ≡ before n texts ends
 unfolding lines_from lines_in
 lines_back n [] h = refl

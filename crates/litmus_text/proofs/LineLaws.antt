@@ -8,10 +8,12 @@ use Rattle.litmus_text.proofs.CutBack.{piece_last}
 use Rattle.text_laws.proofs.PieceLaws.{first_piece}
 use Rattle.litmus_text.proofs.CutLaws.{pieces_cut}
 
+-- a text without bytes has no lines
 pub no_lines : (n : ℕ) → lines_from n [] ≡ ends n
 unfolding lines_from lines_in
 no_lines n = refl
 
+-- the lines of a text that is cut at its first line feed are that line and those of the rest
 pub line_cut : (n : ℕ) (text front behind : List ℕ) → CutParts 10 text front behind → lines_from n text ≡ kept n (without_return front) (lines_from (n + 1) behind)
 unfolding lines_from lines_in
 line_cut n text front behind p =
@@ -19,18 +21,21 @@ line_cut n text front behind p =
     ap (lines_in n) (pieces_cut 10 text front behind p ∙ ap (λ ps. front ∷ ps) first.is)
     ∙ ap (λ ps. kept n (without_return front) (lines_in (n + 1) ps)) (sym first.is)
 
+-- a text without a line feed is one line
 pub line_last : (n : ℕ) (text : List ℕ) → 0 < length text → is_without 10 text ≡ true → lines_from n text ≡ kept n text (lines_from (n + 1) [])
 unfolding lines_from lines_in
 line_last n [] h w = absurd (omega arith)
 line_last n (b ∷ text) h w = ap (lines_in n) (piece_last 10 (b ∷ text) w)
 
--- a line that stays, and one that is passed over
+-- a line that isn't passed over is the first of those that are left
 pub line_stays : (a rest : Lines) (n : ℕ) (t : List ℕ) → a ≡ kept n t rest → is_passed t ≡ false → line n t rest ≡ a
 line_stays a rest n t e h = sym (e ∙ rw h refl)
 
+-- after a line that is passed over the lines are those of the rest
 pub line_passed : (a rest : Lines) (n : ℕ) (t : List ℕ) → a ≡ kept n t rest → is_passed t ≡ true → rest ≡ a
 line_passed a rest n t e h = sym (e ∙ rw h refl)
 
+-- a text that is found to be at its end has no lines
 pub lines_end : (n : ℕ) (text : List ℕ) → length text == 0 ≡ true → ends n ≡ lines_from n text
 lines_end n [] h = sym (no_lines n)
 lines_end n (b ∷ text) h = let e : suc (length text) ≡ 0 = eqb-true (suc (length text)) 0 h in absurd (omega arith)

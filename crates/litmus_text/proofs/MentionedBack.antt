@@ -1,4 +1,4 @@
--- All names that a test uses stand in the table of its reading.
+-- All names that a test uses are in the table of its reading.
 use Rattle.std.proofs.Common.{◌≡◌, ◌≤◌, ◌+◌, ℕ, suc, List, [], ◌∷◌, Some, true, length, map, refl, sym, ap, ◌∙◌, subst, arith}
 use Rattle.std.specs.Prelude.{Option, is_some}
 use Rattle.std.specs.List.{AllByRecursion, range_with_len}
@@ -31,7 +31,7 @@ use Rattle.litmus_text.proofs.WholeBack.{longest, covers, start_ready, drop_none
 some_of : {o : Option ℕ} {i : ℕ} → o ≡ Some i → is_some o ≡ true
 some_of e = ap is_some e
 
--- a name of a table stands in a larger one
+-- a name of a table is in a larger one
 in_larger : (s S : List (List ℕ)) (name : List ℕ) → Within s S → is_in s name ≡ true → is_in S name ≡ true
 in_larger s S name h e = let n = numbered_in s name e in ap is_some (within_number s S name n.number h n.is)
 
@@ -49,7 +49,7 @@ op_mentioned table s names op h few placed = refl
 abbrev OpsIn : List (List ℕ) → (ℕ → List ℕ) → List Micro → Type 0
 OpsIn table names code = AllByRecursion (λ op. op_is_in table names op ≡ true) code
 
--- the first operation that is left stands in a table
+-- the first operation that is left is in a table
 abbrev FirstIn : List (List ℕ) → (ℕ → List ℕ) → List Micro → Type 0
 FirstIn table names [] = Unit {0}
 FirstIn table names (op ∷ left) = op_is_in table names op ≡ true
@@ -63,7 +63,7 @@ first_among : (a : Puts) (table s : List (List ℕ)) (names : ℕ → List ℕ) 
 first_among a table s names labels accesses [] fits h few = h
 first_among a table s names labels accesses (op ∷ left) fits h few = mention_among table names s op h few fits.0.placed
 
--- after a row the first operations stand in the table
+-- after a row the first operations are in the table
 row_in : (a : Puts) (table s final : List (List ℕ)) (names : ℕ → List ℕ) (first n : ℕ) (ps : List Progress) → AllByRecursion (IsReady a table names first n) ps → IsAmong s table → length table ≤ 64
     → Within (row_mentions names s ps) final → AllByRecursion (λ p. FirstIn final names p.left) ps
 row_in a table s final names first n [] ready h few within = tt
@@ -91,7 +91,7 @@ shorter m (p ∷ ps) h = (one p.done p.left h.0, shorter m ps h.1)
     one done [] h = omega arith
     one done (op ∷ left) h = omega arith
 
--- after all rows all operations stand in the table
+-- after all rows all operations are in the table
 rows_in : (a : Puts) (table s final : List (List ℕ)) (names : ℕ → List ℕ) (first n : ℕ) (texts : List (List ℕ)) (ps : List Progress) → AllByRecursion (IsReady a table names first n) ps
     → AllByRecursion (λ p. length p.left ≤ length texts) ps → IsAmong s table → length table ≤ 64 → Within (rows_mention names s texts ps) final → AllByRecursion (λ p. OpsIn final names p.left) ps
 rows_in a table s final names first n [] ps ready short h few within = none ps short
@@ -145,7 +145,7 @@ start_in : (table : List (List ℕ)) (names : ℕ → List ℕ) (threads : List 
 start_in table names [] h = tt
 start_in table names (t ∷ threads) h = (subst (OpsIn table names) (drop_none t.instrs) h.0, start_in table names threads h.1)
 
--- the law of reading back
+-- the text of a readable test is read as that test, its places numbered by a table
 pub reads_back : (a : Puts) (arch : ArchName) (w : Writing) (name : List ℕ) (test : TestSeen) → WritesBack a w → WritesCells a w → IsReadable a arch w name test → ReadsBack arch w name test
 unfolding mentions
 reads_back a arch w name test laws cells h =

@@ -18,7 +18,7 @@ none_some e = cc
 some_none : {i : ℕ} {G : Type 0} → Some i ≡ None → G
 some_none e = cc
 
--- where a test passes first
+-- the place at which a test passes first
 pub record Found (t : List ℕ → Bool) (k : ℕ) (xs : List (List ℕ)) (i : ℕ) : Type 0 where
   pub low : k ≤ i
   pub high : i < k + length xs
@@ -29,6 +29,7 @@ found_here t k x xs i h e =
     let none_left : i - k ≡ 0 = omega arith in
     record { low = omega arith; high = omega arith; passes = rw none_left h }
 
+-- where a position is found, the test passes at it
 pub found : (t : List ℕ → Bool) (k : ℕ) (xs : List (List ℕ)) (i : ℕ) → position_from t k xs ≡ Some i → Found t k xs i
 found t k [] i e = none_some e
 found t k (x ∷ xs) i e =
@@ -40,6 +41,7 @@ found t k (x ∷ xs) i e =
     let step : i - k ≡ suc (i - (k + 1)) = omega arith in
     record { low = omega arith; high = omega arith; passes = rw step later.passes })
 
+-- a position in a list is the same in a longer one
 pub pos_more : (t : List ℕ → Bool) (k : ℕ) (xs ys : List (List ℕ)) (i : ℕ) → position_from t k xs ≡ Some i → position_from t k (xs ++ ys) ≡ Some i
 pos_more t k [] ys i e = none_some e
 pos_more t k (x ∷ xs) ys i e =
@@ -47,6 +49,7 @@ pos_more t k (x ∷ xs) ys i e =
     (λ h. rw h (sym (ap (λ b. cond b (Some k) (position_from t (k + 1) xs)) h) ∙ e))
     (λ h. rw h (pos_more t (k + 1) xs ys i (sym (ap (λ b. cond b (Some k) (position_from t (k + 1) xs)) h) ∙ e)))
 
+-- the position of an element that is added last, where no earlier one passes the test
 pub pos_last : (t : List ℕ → Bool) (k : ℕ) (xs : List (List ℕ)) (y : List ℕ) → position_from t k xs ≡ None → t y ≡ true → position_from t k (xs ++ y ∷ []) ≡ Some (k + length xs)
 pos_last t k [] y e h = rw (h, add-zero k) refl
 pos_last t k (x ∷ xs) y e h =
@@ -60,35 +63,40 @@ pub record Within (s S : List (List ℕ)) : Type 0 where
   pub more : List (List ℕ)
   pub is : S ≡ s ++ more
 
+-- a table goes on to itself
 pub within_self : (s : List (List ℕ)) → Within s s
 within_self s = record { more = []; is = sym (append-nil s) }
 
+-- a table that goes on to one which goes on to a third goes on to the third
 pub within_trans : (r s S : List (List ℕ)) → Within r s → Within s S → Within r S
 within_trans r s S h k = record { more = h.more ++ k.more; is = k.is ∙ ap (λ x. x ++ k.more) h.is ∙ append_assoc r h.more k.more }
 
+-- a name has its number in a larger table too
 pub within_number : (s S : List (List ℕ)) (name : List ℕ) (i : ℕ) → Within s S → number_in s name ≡ Some i → number_in S name ≡ Some i
 within_number s S name i h e = ap (λ x. number_in x name) h.is ∙ pos_more (λ x. bytes_eq x name) 0 s h.more i e
 
--- names that all stand in a table
+-- names that are all in a table
 abbrev pub AreIn : List (List ℕ) → List (List ℕ) → Type 0
 AreIn table names = AllByRecursion (λ name. is_some (number_in table name) ≡ true) names
 
--- a table of names of another one
+-- a table whose names are all in another table, and once each
 pub record IsAmong (s table : List (List ℕ)) : Type 0 where
   pub once : IsDistinct bytes_eq s
   pub inside : AreIn table s
 
+-- a table without names is among each table
 pub none_among : (table : List (List ℕ)) → IsAmong [] table
 unfolding IsDistinct
 none_among table = record { once = tt; inside = tt }
 
--- the number of a name that stands in a table
+-- the number of a name that is in a table
 pub record Numbered (table : List (List ℕ)) (name : List ℕ) : Type 0 where
   pub number : ℕ
   pub is : number_in table name ≡ Some number
   pub below : number < length table
   pub names : get_or table number [] ≡ name
 
+-- a name that is in a table has its number there
 pub numbered_in : (table : List (List ℕ)) (name : List ℕ) → is_some (number_in table name) ≡ true → Numbered table name
 numbered_in table name h = of_some (number_in table name) refl h
   where
@@ -138,7 +146,7 @@ numbers_below table (a ∷ names) k q e =
     let below = n.below in omega arith)
     (λ f. numbers_below table names k.1 q (sym (ap (λ b. b || list_any (eqb q) (map (place_in table) names)) f) ∙ e))
 
--- a table of names of another one is no longer
+-- a table whose names are all in another table is no longer
 pub few_names : (s table : List (List ℕ)) → IsAmong s table → length s ≤ length table
 few_names s table h =
     let short : length (map (place_in table) s) ≤ length table =
@@ -161,13 +169,14 @@ unfolding IsDistinct
 distinct_push [] name d h = (tt, tt)
 distinct_push (x ∷ names) name d h = (all_push (λ y. bytes_eq x y ≡ false) names name d.0 h.0, distinct_push names name d.1 h.1)
 
+-- a table among another one stays so when a new name of that one is added
 pub push_among : (s table : List (List ℕ)) (name : List ℕ) → IsAmong s table → number_in s name ≡ None → is_some (number_in table name) ≡ true → IsAmong (s ++ name ∷ []) table
 push_among s table name h new inside = record {
   once = distinct_push s name h.once (none_passes (λ x. bytes_eq x name) 0 s new);
   inside = all_push (λ x. is_some (number_in table x) ≡ true) s name h.inside inside;
 }
 
--- a name of a table of at most 64 gets its number
+-- a name gets its number in a table that stays among another one
 pub record Added (s table : List (List ℕ)) (name : List ℕ) : Type 0 where
   pub number : ℕ
   pub added : number_added s name ≡ Some number
@@ -175,6 +184,7 @@ pub record Added (s table : List (List ℕ)) (name : List ℕ) : Type 0 where
   pub within : Within s (names_added s name)
   pub among : IsAmong (names_added s name) table
 
+-- a name of a table of at most 64 names gets its number
 pub place_added : (s table : List (List ℕ)) (name : List ℕ) → IsAmong s table → length table ≤ 64 → is_some (number_in table name) ≡ true → Added s table name
 place_added s table name h few inside = of_number (number_in s name) refl
   where

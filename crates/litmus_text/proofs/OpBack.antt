@@ -51,12 +51,13 @@ all_formed : list_all (λ i. is_register_name (label_name i)) (range_with_len 0 
 unfolding is_register_name
 all_formed = refl
 
+-- the name of a label below 64 has the form of a label
 pub label_formed : (i : ℕ) → i < 64 → is_register_name (label_name i) ≡ true
 label_formed i h =
     let row = AllPass-from_list_all (λ i. is_register_name (label_name i)) (range_with_len 0 64) all_formed i 0 h in
     ap (λ n. is_register_name (label_name n)) (sym (get_or-range_with_len 0 64 i 0 h ∙ zero-add i)) ∙ row
 
--- where a label stands in the table
+-- the place of a label in the table
 stands : (a count label : ℕ) → a ≤ label → label < a + count → a + count ≤ 64
     → position_from (λ x. bytes_eq x (label_name label)) a (map label_name (range_with_len a count)) ≡ Some label
 stands a zero label low high few = absurd (omega arith)
@@ -74,7 +75,7 @@ absent a (suc count) label high few =
     (λ e. let same : a ≡ label = eqb-true a label e in absurd (omega arith))
     (λ e. rw (label_same a label (omega arith) few, e) (absent (a + 1) count label (omega arith) few))
 
--- a label in the table, or the next one
+-- a label gets its number in the table
 pub record LabelAdded (count label : ℕ) : Type 0 where
   pub number : number_added (label_table count) (label_name label) ≡ Some label
   pub after : names_added (label_table count) (label_name label) ≡ label_table (max count (label + 1))
@@ -102,6 +103,7 @@ next_label count label e few =
           ∙ sym (ap label_table grown ∙ map-range_with_len_more label_name 0 count label (omega arith));
     }
 
+-- a label that is in the table, or is the next one, gets its number
 pub label_added : (count label : ℕ) → label ≤ count → label < 64 → count ≤ 64 → LabelAdded count label
 label_added count label low few small =
     elim (cases_lt label count) [ inl h ↦ known_label count label h small | inr h ↦ next_label count label (omega arith) few ]
@@ -125,7 +127,7 @@ label_step op s count label next small =
     let added = label_added count label low high small in
     rw (label_formed label high, added.number, added.after) refl
 
--- the operation, its place and its label with their numbers
+-- an operation gets the numbers of its place and its label
 pub numbers_back : (op : Micro) (names : ℕ → List ℕ) (s table final : List (List ℕ)) (count : ℕ) → IsAmong s table → length table ≤ 64
     → is_placed table names op ≡ true → is_next count op ≡ true → count ≤ 64 → Within (mentioned names s op) final
     → numbered (with_number op 0) (name_of names op) s (label_table count)

@@ -18,15 +18,17 @@ use Rattle.litmus_text.specs.InitialState.{Begun}
 use Rattle.litmus_text.specs.Table.{Column, among, rows_read, no_columns, all_labels_judged}
 use Rattle.litmus_text.specs.TestReading.{ThreadRead, values_of, threads_of, lines_read}
 
--- the lines of settings
+-- a line of settings is passed over
 pub settings_more : (n : ℕ) (text : List ℕ) (rest ls : Lines) → line n text rest ≡ ls → is_setting text ≡ true → after_settings rest ≡ after_settings ls
 unfolding after_settings
 settings_more n text rest ls e h = rw (sym e, h) refl
 
+-- a line that is none of settings stays
 pub settings_stop : (n : ℕ) (text : List ℕ) (rest ls : Lines) → line n text rest ≡ ls → is_setting text ≡ false → after_settings ls ≡ ls
 unfolding after_settings
 settings_stop n text rest ls e h = rw (sym e, h) refl
 
+-- where no line is left, none is passed over
 pub settings_end : (n : ℕ) (ls : Lines) → ends n ≡ ls → after_settings ls ≡ ls
 unfolding after_settings
 settings_end n ls e = rw (sym e) refl
@@ -34,13 +36,14 @@ settings_end n ls e = rw (sym e) refl
 filter_push : {A : Type 0} (p : A → Bool) (xs : List A) (x : A) → filter p (xs ++ x ∷ []) ≡ filter p xs ++ filter p (x ∷ [])
 filter_push p xs x = filter-append p xs (x ∷ [])
 
--- a value of the thread, and one of another
+-- a value of the thread is added to those of the thread
 pub value_more : (thread : ℕ) (values : List (ℕ × (ℕ × Value))) (i : ℕ) (d : ℕ × (ℕ × Value)) → i < length values → (get_or values i d).0 == thread ≡ true
     → values_of thread (take (i + 1) values) ≡ values_of thread (take i values) ++ (get_or values i d).1 ∷ []
 value_more thread values i d inside h =
     let p = λ (v : ℕ × (ℕ × Value)). v.0 == thread in
     ap (values_of thread) (take_more values i d inside) ∙ ap (map (λ v. v.1)) (filter_push p (take i values) (get_or values i d)) ∙ rw h (map_push (λ v. v.1) (filter p (take i values)) (get_or values i d))
 
+-- a value of another thread isn't added
 pub value_other : (thread : ℕ) (values : List (ℕ × (ℕ × Value))) (i : ℕ) (d : ℕ × (ℕ × Value)) → i < length values → (get_or values i d).0 == thread ≡ false
     → values_of thread (take (i + 1) values) ≡ values_of thread (take i values)
 value_other thread values i d inside h =
@@ -51,7 +54,7 @@ numbered_push : {A : Type 0} (n : ℕ) (xs : List A) (x : A) → enumerate_from 
 numbered_push n [] x = ap (λ k. (k, x) ∷ []) (sym (add-zero n))
 numbered_push n (y ∷ xs) x = let e : (n + 1) + length xs ≡ n + suc (length xs) = omega arith in ap (λ l. (n, y) ∷ l) (numbered_push (n + 1) xs x ∙ ap (λ k. enumerate_from (n + 1) xs ++ (k, x) ∷ []) e)
 
--- a thread more
+-- one more column gives one more thread
 pub thread_more : (begun : Begun) (columns : List Column) (i : ℕ) (d : Column) → i < length columns
     → threads_of begun (take (i + 1) columns) ≡ threads_of begun (take i columns) ++ (record { init = values_of i begun.values; code = map (λ placed. placed.op) (get_or columns i d).ops }) ∷ []
 thread_more begun columns i d inside =
@@ -60,7 +63,7 @@ thread_more begun columns i d inside =
     ap (threads_of begun) (take_more columns i d inside) ∙ ap (map f) (numbered_push 0 (take i columns) (get_or columns i d) ∙ ap (λ k. enumerate_from 0 (take i columns) ++ (k, get_or columns i d) ∷ []) n)
     ∙ map_push f (enumerate_from 0 (take i columns)) (i, get_or columns i d)
 
--- a thread more, of the code's columns
+-- one more column of the code gives one more thread
 pub thread_step : (begun : Begun) (xs : List ThreadColumn) (i : ℕ) (d : ThreadColumn) (threads : List ThreadRead) (t : ThreadRead) → i < length xs → d ≡ get_or xs i d
     → t ≡ record { init = values_of i begun.values; code = map (λ placed. placed.op) d.ops.items }
     → threads ≡ threads_of begun (take i (map column_seen xs)) → threads ++ t ∷ [] ≡ threads_of begun (take (i + 1) (map column_seen xs))
@@ -70,7 +73,7 @@ thread_step begun xs i d threads t inside is e so_far =
     let m = thread_more begun (map column_seen xs) i (column_seen d) k in
     rw (so_far, e) (sym (m ∙ rw g refl))
 
--- a test from its table on, of the columns of the code
+-- the test of a table that was read is that of the columns of the code
 pub table_is : (w : Writing) (l4 l5 : Lines) (name : List ℕ) (quoted : Option (List ℕ)) (begun : Begun) (threads count : ℕ) (c0 c r j t : List ThreadColumn) (names : List (List ℕ))
     → map column_seen c0 ≡ no_columns threads → c ≡ c0 → rows_read w 0 (among begun.names (map column_seen c)) l4 ≡ Ok (among names (map column_seen r), l5) → j ≡ r → all_labels_judged (map column_seen j) ≡ Ok tt
     → t ≡ r → count ≡ threads → (values : List (ℕ × (ℕ × Value))) → values ≡ begun.values
@@ -81,7 +84,7 @@ table_is w l4 l5 name quoted begun threads count c0 c r j t names n m e p f q k 
     let b : all_labels_judged (map column_seen r) ≡ Ok tt = ap (λ z. all_labels_judged (map column_seen z)) (sym p) ∙ f in
     rw (a, b, q, k, u) refl
 
--- an error of a part, on the way to it
+-- a fault of the rows is a fault of the test
 pub table_rows_bad : (w : Writing) (l4 : Lines) (name : List ℕ) (quoted : Option (List ℕ)) (begun : Begun) (threads : ℕ) (c0 c : List ThreadColumn) (x : TextError)
     → map column_seen c0 ≡ no_columns threads → c ≡ c0 → rows_read w 0 (among begun.names (map column_seen c)) l4 ≡ Err x → table_read w name quoted begun threads l4 ≡ Err x
 unfolding table_read
@@ -89,6 +92,7 @@ table_rows_bad w l4 name quoted begun threads c0 c x n m e =
     let a : rows_read w 0 (among begun.names (no_columns threads)) l4 ≡ Err x = ap (λ z. rows_read w 0 (among begun.names z) l4) (sym (ap (map column_seen) m ∙ n)) ∙ e in
     rw a refl
 
+-- a fault of the labels is a fault of the test
 pub table_labels_bad : (w : Writing) (l4 l5 : Lines) (name : List ℕ) (quoted : Option (List ℕ)) (begun : Begun) (threads : ℕ) (c0 c r j : List ThreadColumn) (names : List (List ℕ)) (x : TextError)
     → map column_seen c0 ≡ no_columns threads → c ≡ c0 → rows_read w 0 (among begun.names (map column_seen c)) l4 ≡ Ok (among names (map column_seen r), l5) → j ≡ r → all_labels_judged (map column_seen j) ≡ Err x
     → table_read w name quoted begun threads l4 ≡ Err x
@@ -98,7 +102,7 @@ table_labels_bad w l4 l5 name quoted begun threads c0 c r j names x n m e p f =
     let b : all_labels_judged (map column_seen r) ≡ Err x = ap (λ z. all_labels_judged (map column_seen z)) (sym p) ∙ f in
     rw (a, b) refl
 
--- the body of a test behind its header
+-- a test is its header, its quoted text and what is read after the settings
 pub lines_body : (arch : ArchName) (w : Writing) (ls l1 l2 l2' : Lines) (name : List ℕ) (quoted : Option (List ℕ)) → header_read arch ls ≡ Ok (name, l1) → quote_read l1 ≡ Ok (quoted, l2) → l2' ≡ after_settings l2
     → lines_read arch w ls ≡ body_read w name quoted l2'
 unfolding lines_read body_read table_read rest_read

@@ -159,7 +159,7 @@ items : test_read PPC ppc (text (codes "PPC MP" ∷ codes "{" ∷ codes "0:r2=x;
 unfolding test_read lines_read lines_from lines_in is_passed without_return header_read quote_read is_setting after_settings words cut_at initial_read braced items_read item_read item_of head_read heads_read cells_of rows_read row_read cell_read instr_in ends_rows labels_judged all_labels_judged after_locations condition_read cond_here terms_here term_here all_joined opening_read sign_read left_read left_at_front right_read value_read follow_read run_of after_run is_place_name is_register_name number_of before_blanks operands_in immediate inside_brackets digits arch_in_text arch_read x86 x86_registers dollar mov_of x86_raw x86_of mov text thread term ppc ppc_registers ppc_raw label_of base_of
 items = refl
 
--- a branch to a label that stands before it
+-- a branch to a label that comes before it
 bad_label : test_read PPC ppc (text (codes "PPC MP" ∷ codes "{" ∷ codes "0:r2=x; 0:r4 = y" ∷ codes "; [z]=0; }" ∷ codes " P0           | P1            ;" ∷ codes " li r1,1 | LC00: ;" ∷ codes " stw r1,0(r2) | beq LC00 ;" ∷ codes "exists (1:r1=1 /\\ w=2)" ∷ [])) ≡ bad BadLabel 7
 unfolding test_read lines_read lines_from lines_in is_passed without_return header_read quote_read is_setting after_settings words cut_at initial_read braced items_read item_read item_of head_read heads_read cells_of rows_read row_read cell_read instr_in ends_rows labels_judged all_labels_judged after_locations condition_read cond_here terms_here term_here all_joined opening_read sign_read left_read left_at_front right_read value_read follow_read run_of after_run is_place_name is_register_name number_of before_blanks operands_in immediate inside_brackets digits arch_in_text arch_read x86 x86_registers dollar mov_of x86_raw x86_of mov text thread term ppc ppc_registers ppc_raw label_of base_of
 bad_label = refl
@@ -184,7 +184,7 @@ thread_not_there : test_read PPC ppc (text (codes "PPC MP" ∷ codes "{" ∷ cod
 unfolding test_read lines_read lines_from lines_in is_passed without_return header_read quote_read is_setting after_settings words cut_at initial_read braced items_read item_read item_of head_read heads_read cells_of rows_read row_read cell_read instr_in ends_rows labels_judged all_labels_judged after_locations condition_read cond_here terms_here term_here all_joined opening_read sign_read left_read left_at_front right_read value_read follow_read run_of after_run is_place_name is_register_name number_of before_blanks operands_in immediate inside_brackets digits arch_in_text arch_read x86 x86_registers dollar mov_of x86_raw x86_of mov text thread term ppc ppc_registers ppc_raw label_of base_of
 thread_not_there = refl
 
--- something behind the brace
+-- something after the brace
 behind_brace : test_read X86 x86 (text (codes "X86 SB" ∷ codes "\"PodWR Fre PodWR Fre\"" ∷ codes "{" ∷ codes "} " ∷ codes " P0          | P1          ;" ∷ codes " MOV [x],$1  | MOV [y],$1  ;" ∷ codes " MOV EAX,[y] | MOV EAX,[x] ;" ∷ codes "exists (0:EAX=0 /\\ 1:EAX=0)" ∷ [])) ≡ bad BadInit 4
 unfolding test_read lines_read lines_from lines_in is_passed without_return header_read quote_read is_setting after_settings words cut_at initial_read braced items_read item_read item_of head_read heads_read cells_of rows_read row_read cell_read instr_in ends_rows labels_judged all_labels_judged after_locations condition_read cond_here terms_here term_here all_joined opening_read sign_read left_read left_at_front right_read value_read follow_read run_of after_run is_place_name is_register_name number_of before_blanks operands_in immediate inside_brackets digits arch_in_text arch_read x86 x86_registers dollar mov_of x86_raw x86_of mov text thread term ppc ppc_registers ppc_raw label_of base_of
 behind_brace = refl
@@ -249,7 +249,7 @@ cell_too_many : test_read X86 x86 (text (codes "X86 SB" ∷ codes "\"PodWR Fre P
 unfolding test_read lines_read lines_from lines_in is_passed without_return header_read quote_read is_setting after_settings words cut_at initial_read braced items_read item_read item_of head_read heads_read cells_of rows_read row_read cell_read instr_in ends_rows labels_judged all_labels_judged after_locations condition_read cond_here terms_here term_here all_joined opening_read sign_read left_read left_at_front right_read value_read follow_read run_of after_run is_place_name is_register_name number_of before_blanks operands_in immediate inside_brackets digits arch_in_text arch_read x86 x86_registers dollar mov_of x86_raw x86_of mov text thread term ppc ppc_registers ppc_raw label_of base_of
 cell_too_many = refl
 
--- a blank behind the semicolon
+-- a blank after the semicolon
 behind_semicolon : test_read X86 x86 (text (codes "X86 SB" ∷ codes "\"PodWR Fre PodWR Fre\"" ∷ codes "{" ∷ codes "}" ∷ codes " P0          | P1          ;" ∷ codes " MFENCE | MFENCE ; " ∷ codes " MOV EAX,[y] | MOV EAX,[x] ;" ∷ codes "exists (0:EAX=0 /\\ 1:EAX=0)" ∷ [])) ≡ bad BadTable 6
 unfolding test_read lines_read lines_from lines_in is_passed without_return header_read quote_read is_setting after_settings words cut_at initial_read braced items_read item_read item_of head_read heads_read cells_of rows_read row_read cell_read instr_in ends_rows labels_judged all_labels_judged after_locations condition_read cond_here terms_here term_here all_joined opening_read sign_read left_read left_at_front right_read value_read follow_read run_of after_run is_place_name is_register_name number_of before_blanks operands_in immediate inside_brackets digits arch_in_text arch_read x86 x86_registers dollar mov_of x86_raw x86_of mov text thread term ppc ppc_registers ppc_raw label_of base_of
 behind_semicolon = refl
@@ -269,7 +269,7 @@ no_condition : test_read X86 x86 (text (codes "X86 SB" ∷ codes "\"PodWR Fre Po
 unfolding test_read lines_read lines_from lines_in is_passed without_return header_read quote_read is_setting after_settings words cut_at initial_read braced items_read item_read item_of head_read heads_read cells_of rows_read row_read cell_read instr_in ends_rows labels_judged all_labels_judged after_locations condition_read cond_here terms_here term_here all_joined opening_read sign_read left_read left_at_front right_read value_read follow_read run_of after_run is_place_name is_register_name number_of before_blanks operands_in immediate inside_brackets digits arch_in_text arch_read x86 x86_registers dollar mov_of x86_raw x86_of mov text thread term ppc ppc_registers ppc_raw label_of base_of
 no_condition = refl
 
--- no condition behind the locations
+-- no condition after the locations
 locations_alone : test_read X86 x86 (text (codes "X86 SB" ∷ codes "\"PodWR Fre PodWR Fre\"" ∷ codes "{" ∷ codes "}" ∷ codes " P0          | P1          ;" ∷ codes " MOV [x],$1  | MOV [y],$1  ;" ∷ codes " MOV EAX,[y] | MOV EAX,[x] ;" ∷ codes "locations [x;]" ∷ [])) ≡ bad EndMissing 9
 unfolding test_read lines_read lines_from lines_in is_passed without_return header_read quote_read is_setting after_settings words cut_at initial_read braced items_read item_read item_of head_read heads_read cells_of rows_read row_read cell_read instr_in ends_rows labels_judged all_labels_judged after_locations condition_read cond_here terms_here term_here all_joined opening_read sign_read left_read left_at_front right_read value_read follow_read run_of after_run is_place_name is_register_name number_of before_blanks operands_in immediate inside_brackets digits arch_in_text arch_read x86 x86_registers dollar mov_of x86_raw x86_of mov text thread term ppc ppc_registers ppc_raw label_of base_of
 locations_alone = refl
@@ -284,7 +284,7 @@ unknown_register : test_read X86 x86 (text (codes "X86 SB" ∷ codes "\"PodWR Fr
 unfolding test_read lines_read lines_from lines_in is_passed without_return header_read quote_read is_setting after_settings words cut_at initial_read braced items_read item_read item_of head_read heads_read cells_of rows_read row_read cell_read instr_in ends_rows labels_judged all_labels_judged after_locations condition_read cond_here terms_here term_here all_joined opening_read sign_read left_read left_at_front right_read value_read follow_read run_of after_run is_place_name is_register_name number_of before_blanks operands_in immediate inside_brackets digits arch_in_text arch_read x86 x86_registers dollar mov_of x86_raw x86_of mov text thread term ppc ppc_registers ppc_raw label_of base_of
 unknown_register = refl
 
--- something behind the condition
+-- something after the condition
 behind_condition : test_read X86 x86 (text (codes "X86 SB" ∷ codes "\"PodWR Fre PodWR Fre\"" ∷ codes "{" ∷ codes "}" ∷ codes " P0          | P1          ;" ∷ codes " MOV [x],$1  | MOV [y],$1  ;" ∷ codes " MOV EAX,[y] | MOV EAX,[x] ;" ∷ codes "exists (0:EAX=0 /\\ 1:EAX=0)" ∷ codes "x" ∷ [])) ≡ bad BadCondition 8
 unfolding test_read lines_read lines_from lines_in is_passed without_return header_read quote_read is_setting after_settings words cut_at initial_read braced items_read item_read item_of head_read heads_read cells_of rows_read row_read cell_read instr_in ends_rows labels_judged all_labels_judged after_locations condition_read cond_here terms_here term_here all_joined opening_read sign_read left_read left_at_front right_read value_read follow_read run_of after_run is_place_name is_register_name number_of before_blanks operands_in immediate inside_brackets digits arch_in_text arch_read x86 x86_registers dollar mov_of x86_raw x86_of mov text thread term ppc ppc_registers ppc_raw label_of base_of
 behind_condition = refl
@@ -294,7 +294,7 @@ place_65 : test_read X86 x86 (text (codes "X86 SB" ∷ codes "\"PodWR Fre PodWR 
 unfolding test_read lines_read lines_from lines_in is_passed without_return header_read quote_read is_setting after_settings words cut_at initial_read braced items_read item_read item_of head_read heads_read cells_of rows_read row_read cell_read instr_in ends_rows labels_judged all_labels_judged after_locations condition_read cond_here terms_here term_here all_joined opening_read sign_read left_read left_at_front right_read value_read follow_read run_of after_run is_place_name is_register_name number_of before_blanks operands_in immediate inside_brackets digits arch_in_text arch_read x86 x86_registers dollar mov_of x86_raw x86_of mov text thread term ppc ppc_registers ppc_raw label_of base_of
 place_65 = refl
 
--- a place that is one too many in a later line, and a fault behind it
+-- a place that is one too many in a later line, and a fault after it
 place_65_later : test_read X86 x86 (text (codes "X86 SB" ∷ codes "\"PodWR Fre PodWR Fre\"" ∷ codes "{" ∷ codes "}" ∷ codes " P0          | P1          ;" ∷ codes " MOV [x],$1  | MOV [y],$1  ;" ∷ codes " MOV EAX,[y] | MOV EAX,[x] ;" ∷ codes "exists (p0=0 /\\ p1=0 /\\ p2=0 /\\ p3=0 /\\ p4=0 /\\ p5=0 /\\ p6=0 /\\ p7=0 /\\ p8=0 /\\ p9=0 /\\ p10=0 /\\ p11=0 /\\ p12=0 /\\ p13=0 /\\ p14=0 /\\ p15=0 /\\ p16=0 /\\ p17=0 /\\ p18=0 /\\ p19=0 /\\ p20=0 /\\ p21=0 /\\ p22=0 /\\ p23=0 /\\ p24=0 /\\ p25=0 /\\ p26=0 /\\ p27=0 /\\ p28=0 /\\ p29=0 /\\ p30=0 /\\ p31=0 /\\ p32=0 /\\ p33=0 /\\ p34=0 /\\ p35=0 /\\ p36=0 /\\ p37=0 /\\ p38=0 /\\ p39=0 /\\ p40=0 /\\ p41=0 /\\ p42=0 /\\ p43=0 /\\ p44=0 /\\ p45=0 /\\ p46=0 /\\ p47=0 /\\ p48=0 /\\ p49=0 /\\ p50=0 /\\ p51=0 /\\ p52=0 /\\ p53=0 /\\ p54=0 /\\ p55=0 /\\ p56=0 /\\ p57=0 /\\ p58=0 /\\ p59=0 /\\ p60=0 /\\ p61=0" ∷ codes "/\\ p62=0" ∷ codes "/\\ 0:EXX=0)" ∷ [])) ≡ bad BadCondition 8
 unfolding test_read lines_read lines_from lines_in is_passed without_return header_read quote_read is_setting after_settings words cut_at initial_read braced items_read item_read item_of head_read heads_read cells_of rows_read row_read cell_read instr_in ends_rows labels_judged all_labels_judged after_locations condition_read cond_here terms_here term_here all_joined opening_read sign_read left_read left_at_front right_read value_read follow_read run_of after_run is_place_name is_register_name number_of before_blanks operands_in immediate inside_brackets digits arch_in_text arch_read x86 x86_registers dollar mov_of x86_raw x86_of mov text thread term ppc ppc_registers ppc_raw label_of base_of
 place_65_later = refl

@@ -118,5 +118,6 @@ unfolding initial_read
 read_below w (ends n) b = tt
 read_below w (line n text rest) b = line_below w n text rest b
 
+-- the registers of an initial state that was read are the machine's
 pub initial_below : (w : Writing) (ls rest : Lines) (begun : Begun) → length w.registers ≤ 32 → initial_read w ls ≡ Ok (begun, rest) → AllNameRegisters begun.values
 initial_below w ls rest begun b h = subst (Gives FirstBelow) h (read_below w ls b)

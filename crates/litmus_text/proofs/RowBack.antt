@@ -36,13 +36,14 @@ named_op (ops.BranchNz a label) table names count placed next = label_formed lab
 named_op (ops.Label label) table names count placed next = label_formed label (ltb-true label 64 (both (nat_le label count) (nat_lt label 64) next).1)
 named_op op table names count placed next = refl
 
+-- after an operation at most 64 labels have numbers
 pub few_labels : (op : Micro) (count : ℕ) → is_next count op ≡ true → count ≤ 64 → labels_after count op ≤ 64
 few_labels (ops.BranchEq label) count next h = let small = ltb-true label 64 (both (nat_le label count) (nat_lt label 64) next).1 in omega arith
 few_labels (ops.BranchNz a label) count next h = let small = ltb-true label 64 (both (nat_le label count) (nat_lt label 64) next).1 in omega arith
 few_labels (ops.Label label) count next h = let small = ltb-true label 64 (both (nat_le label count) (nat_lt label 64) next).1 in omega arith
 few_labels op count next h = h
 
--- mentions make a table grow, within a larger one
+-- a table goes on to the one to which a name is added
 pub added_within : (s : List (List ℕ)) (name : List ℕ) → Within s (names_added s name)
 added_within s name = of (number_in s name) refl
   where
@@ -53,11 +54,13 @@ added_within s name = of (number_in s name) refl
         (λ f. subst (Within s) (sym (ap (λ o. with_name o s name) e ∙ rw f refl)) (record { more = name ∷ []; is = refl }))
         (λ f. subst (Within s) (sym (ap (λ o. with_name o s name) e ∙ rw f refl)) (within_self s))
 
+-- a table goes on to the one after an operation was mentioned
 pub mention_within : (names : ℕ → List ℕ) (s : List (List ℕ)) (op : Micro) → Within s (mentioned names s op)
 mention_within names s (ops.LoadAt dst place) = added_within s (names place)
 mention_within names s (ops.StoreAt place n) = added_within s (names place)
 mention_within names s op = within_self s
 
+-- the names of places stay among those of a table after an operation was mentioned
 pub mention_among : (table : List (List ℕ)) (names : ℕ → List ℕ) (s : List (List ℕ)) (op : Micro) → IsAmong s table → length table ≤ 64 → is_placed table names op ≡ true
     → IsAmong (mentioned names s op) table
 mention_among table names s (ops.LoadAt dst place) h few placed = (place_added s table (names place) h few (both (is_place_name (names place)) (is_some (number_in table (names place))) placed).1).among
@@ -72,6 +75,7 @@ first_within : (names : ℕ → List ℕ) (s : List (List ℕ)) (left : List Mic
 first_within names s [] = within_self s
 first_within names s (op ∷ left) = mention_within names s op
 
+-- a table goes on to the one after a row
 pub row_within : (names : ℕ → List ℕ) (s : List (List ℕ)) (ps : List Progress) → Within s (row_mentions names s ps)
 row_within names s [] = within_self s
 row_within names s (p ∷ ps) =
@@ -147,6 +151,7 @@ next_text w names (op ∷ left) = op_text w names op
 all_label_bytes : list_all (λ i. list_all is_cell_byte (label_name i)) (range_with_len 0 64) ≡ true
 all_label_bytes = refl
 
+-- the name of a label below 64 has only bytes of a cell
 pub label_bytes : (label : ℕ) → label < 64 → list_all is_cell_byte (label_name label) ≡ true
 label_bytes label h =
     let row = AllPass-from_list_all (λ i. list_all is_cell_byte (label_name i)) (range_with_len 0 64) all_label_bytes label 0 h in
@@ -168,7 +173,7 @@ op_cell a w names op count n k s t cells has named next begins put =
     (λ e. labelled op a w names count n k s t e cells has next begins put)
     (λ e. plain_back w n k (op_text w names op) s begins (cells.cells names op has named e) ∙ put)
 
--- the cell of a thread
+-- the cell of a thread is read as its next operation, or as nothing
 pub thread_back : (a : Puts) (w : Writing) (table final s : List (List ℕ)) (names : ℕ → List ℕ) (first n k : ℕ) (p : Progress)
     → WritesBack a w → WritesCells a w → IsReady a table names first n p → IsAmong s table → length table ≤ 64 → Within (mentioned_first names s p.left) final
     → cell_read w n (padded k (next_text w names p.left)) (among s (column_at final names first p))
@@ -192,7 +197,7 @@ AreCells w names [] [] = Unit {0}
 AreCells w names (cell ∷ cells) (p ∷ ps) = ((k : ℕ) × (cell ≡ padded k (next_text w names p.left))) × AreCells w names cells ps
 AreCells w names _ _ = ⊥
 
--- a row
+-- a printed row is read as the next operations of all threads
 pub row_back : (a : Puts) (w : Writing) (table final : List (List ℕ)) (names : ℕ → List ℕ) (first n : ℕ) (cells : List (List ℕ)) (ps : List Progress) (s : List (List ℕ))
     → WritesBack a w → WritesCells a w → AreCells w names cells ps → AllByRecursion (IsReady a table names first n) ps → IsAmong s table → length table ≤ 64
     → Within (row_mentions names s ps) final
@@ -214,7 +219,7 @@ row_back a w table final names first n (cell ∷ cells) (p ∷ ps) s laws spoken
     first_among table names s [] labels accesses fits h few = h
     first_among table names s (op ∷ left) labels accesses fits h few = mention_among table names s op h few fits.0.placed
 
--- the threads after a row are ready for the next
+-- a thread after a row is ready for the next
 advance_ready : (a : Puts) (table : List (List ℕ)) (names : ℕ → List ℕ) (first n : ℕ) (p : Progress) → IsReady a table names first n p → IsReady a table names first (n + 1) (advanced p)
 advance_ready a table names first n p ready = go p.done p.left ready.code ready.few ready.line
   where
@@ -231,6 +236,7 @@ advance_ready a table names first n p ready = go p.done p.left ready.code ready.
           line = λ h. omega arith;
         }
 
+-- the threads after a row are ready for the next
 pub all_advance : (a : Puts) (table : List (List ℕ)) (names : ℕ → List ℕ) (first n : ℕ) (ps : List Progress) → AllByRecursion (IsReady a table names first n) ps
     → AllByRecursion (IsReady a table names first (n + 1)) (map advanced ps)
 all_advance a table names first n [] h = tt
@@ -261,11 +267,13 @@ abbrev pub rows_mention : (ℕ → List ℕ) → List (List ℕ) → List (List 
 rows_mention names s [] ps = s
 rows_mention names s (text ∷ texts) ps = rows_mention names (row_mentions names s ps) texts (map advanced ps)
 
+-- a table goes on to the one after rows
 pub rows_within : (names : ℕ → List ℕ) (s texts : List (List ℕ)) (ps : List Progress) → Within s (rows_mention names s texts ps)
 rows_within names s [] ps = within_self s
 rows_within names s (text ∷ texts) ps =
     within_trans s (row_mentions names s ps) (rows_mention names s (text ∷ texts) ps) (row_within names s ps) (rows_within names (row_mentions names s ps) texts (map advanced ps))
 
+-- the names of places stay among those of a table after a row
 pub row_among : (a : Puts) (table : List (List ℕ)) (names : ℕ → List ℕ) (first n : ℕ) (ps : List Progress) (s : List (List ℕ)) → AllByRecursion (IsReady a table names first n) ps
     → IsAmong s table → length table ≤ 64 → IsAmong (row_mentions names s ps) table
 row_among a table names first n [] s ready h few = h
@@ -276,13 +284,14 @@ row_among a table names first n (p ∷ ps) s ready h few =
     one [] labels accesses fits = h
     one (op ∷ left) labels accesses fits = mention_among table names s op h few fits.0.placed
 
+-- the names of places stay among those of a table after rows
 pub rows_among : (a : Puts) (table : List (List ℕ)) (names : ℕ → List ℕ) (first n : ℕ) (texts : List (List ℕ)) (ps : List Progress) (s : List (List ℕ)) → AllByRecursion (IsReady a table names first n) ps
     → IsAmong s table → length table ≤ 64 → IsAmong (rows_mention names s texts ps) table
 rows_among a table names first n [] ps s ready h few = h
 rows_among a table names first n (text ∷ texts) ps s ready h few =
     rows_among a table names first (n + 1) texts (map advanced ps) (row_mentions names s ps) (all_advance a table names first n ps ready) (row_among a table names first n ps s ready h few) few
 
--- rows, up to a line that ends them
+-- printed rows are read up to a line that ends them
 pub rows_back : (a : Puts) (w : Writing) (table final : List (List ℕ)) (names : ℕ → List ℕ) (first n k : ℕ) (texts : List (List ℕ)) (ps : List Progress) (s : List (List ℕ)) (rest : ℕ → Lines)
     (m : ℕ) (last : List ℕ) (behind : Lines) → rest (n + length texts) ≡ line m last behind → ends_rows last ≡ true
     → WritesBack a w → WritesCells a w → AreRows w names texts ps → AllByRecursion (IsReady a table names first n) ps → IsAmong s table → length table ≤ 64

@@ -72,21 +72,23 @@ raw_ranged (Some raw) places labels h = name_ranged raw.op raw.name places label
 instr_ranged : (w : Writing) (text : List ℕ) (places labels : List (List ℕ)) → RawInRange w → Ranged (instr_read w text places labels)
 instr_ranged w text places labels h = raw_ranged (w.raw (written_in text)) places labels (h (written_in text))
 
--- a fact of what is read, if it is read
+-- a fact of what is read, where it is read without a fault
 abbrev pub Gives : {A : Type 0} → (A → Type 0) → Result A TextError → Type 0
 Gives P (Ok x) = P x
 Gives P (Err e) = Unit
 
+-- where a fact of what is read first gives one of what is read after it, this one holds of the whole
 pub then_gives : {A B : Type 0} (P : A → Type 0) (Q : B → Type 0) (r : Result A TextError) (f : A → Result B TextError) → Gives P r → ((x : A) → P x → Gives Q (f x)) → Gives Q (r >>= f)
 then_gives P Q (Ok x) f g h = h x g
 then_gives P Q (Err e) f g h = tt
 
--- operations of a column so far, at most so many
+-- operations of a column so far: at most so many, on registers of the machine, with at most 64 accesses
 record IsGood (most : ℕ) (placed : List Placed) : Type 0 where
   pub in_range : AllByRecursion (λ (p : Placed). InRange p.op) placed
   pub few : count_by (λ (p : Placed). is_access p.op) placed ≤ 64
   pub short : length placed ≤ most
 
+-- what holds of all elements and of one more holds of all with this one added last
 pub all_push : {X : Type 0} (P : X → Type 0) (xs : List X) (x : X) → AllByRecursion P xs → P x → AllByRecursion P (xs ++ x ∷ [])
 all_push P [] x h p = (p, tt)
 all_push P (y ∷ ys) x h p = (h.0, all_push P ys x h.1 p)
@@ -163,7 +165,7 @@ no_columns_good : (threads : ℕ) → AllGood 0 (no_columns threads)
 no_columns_good threads = recursion_from_All (λ (c : Column). IsGood 0 c.ops) (no_columns threads)
     (All-replicate (λ (c : Column). IsGood 0 c.ops) threads no_column (record { in_range = tt; few = omega arith; short = omega arith }))
 
--- a branch's label stands later
+-- a branch's label comes later
 label_same : (l : ℕ) (op : Micro) → is_label_of l op ≡ run.is_label l op
 label_same l (ops.Label k) = refl
 label_same l op = refl
@@ -233,7 +235,7 @@ all_run (column ∷ columns) g h =
     let p = then_ok (labels_judged column.ops column.ops) (all_labels_judged columns) h in
     (column_runs column g.0 p.0, all_run columns g.1 p.1)
 
--- the columns of a table that was read
+-- the columns of a table that was read can be run
 pub columns_run : (w : Writing) (names : List (List ℕ)) (threads : ℕ) (columns : List Column) (s : Among (List Column)) (ls rest : Lines) → RawInRange w
     → columns ≡ no_columns threads → rows_read w 0 (among names columns) ls ≡ Ok (s, rest) → all_labels_judged s.value ≡ Ok tt → AllRunnable s.value
 columns_run w names threads columns s ls rest r e h j =
@@ -241,7 +243,7 @@ columns_run w names threads columns s ls rest r e h j =
     let f = rows_good w 0 0 (among names columns) ls r (omega arith) (omega arith) g in
     all_run s.value (subst (Gives (λ (x : Among (List Column) × Lines). AllGood 2048 x.0.value)) h f) j
 
--- a column of the code
+-- the column of a thread can be run
 pub runnable_at : (columns : List ThreadColumn) (i : ℕ) (d : ThreadColumn) → AllRunnable (map column_seen columns) → i < length columns → d ≡ get_or columns i d → IsRunnable (ops_in (column_seen d))
 runnable_at columns i d h inside is =
     let all = All-from_recursion (λ (column : Column). IsRunnable (ops_in column)) (map column_seen columns) h in
@@ -250,13 +252,13 @@ runnable_at columns i d h inside is =
     let g : get_or (map column_seen columns) i (column_seen d) ≡ column_seen d = get_or-map column_seen columns i d ∙ ap column_seen (sym is) in
     subst (λ c. IsRunnable (ops_in c)) g at_i
 
--- the values of a thread
+-- the registers of the values of a thread are the machine's
 pub registers_of : (thread : ℕ) (values : List (ℕ × (ℕ × Value))) → AllNameRegisters values → NamesRegisters (values_of thread values)
 registers_of thread values h =
     All-map (λ (named : ℕ × Value). named.0 < 32) (λ (v : ℕ × (ℕ × Value)). v.1) (filter (λ (v : ℕ × (ℕ × Value)). v.0 == thread) values)
     (All-filter (λ (v : ℕ × (ℕ × Value)). v.0 == thread) (λ (v : ℕ × (ℕ × Value)). v.1.0 < 32) values (All-from_recursion (λ (v : ℕ × (ℕ × Value)). v.1.0 < 32) values h))
 
--- the columns of the code, from its table on
+-- the columns of the code, after their table was read, can be run
 pub table_runs : (w : Writing) (l4 l5 : Lines) (before : List (List ℕ)) (threads : ℕ) (c0 c r j t : List ThreadColumn) (names : List (List ℕ)) → RawInRange w
     → map column_seen c0 ≡ no_columns threads → c ≡ c0 → rows_read w 0 (among before (map column_seen c)) l4 ≡ Ok (among names (map column_seen r), l5) → j ≡ r → all_labels_judged (map column_seen j) ≡ Ok tt
     → t ≡ r → AllRunnable (map column_seen t)

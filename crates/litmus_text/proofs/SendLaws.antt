@@ -17,7 +17,7 @@ use Rattle.litmus_text.specs.TextParts.{text_from, PutsPart}
 abbrev Answer : Type 0
 Answer = Result (Unit {0}) Failed
 
--- a page that holds nothing
+-- what is sent by way of a page that holds nothing is sent by way of an empty page
 pub from_nothing : (a b : SinkSeen) (held kept text : List ℕ) (result : Answer) → held ≡ [] → Sends a held b kept text result → Sends a [] b kept text result
 from_nothing a b held kept text result e h = subst (λ p. Sends a p b kept text result) e h
 
@@ -28,10 +28,11 @@ pub record SentTo (w : Writing) (test : TestSeen) (old new : SinkSeen) (held kep
   pub text : text_from w test (Some Edges) ≡ done ++ text_from w test next
 
 module _ (w : Writing) (test : TestSeen) where
+  -- before the edges nothing is sent
   pub parts_first : (a : SinkSeen) (held : List ℕ) → SentTo w test a a held held (Some Edges)
   parts_first a held = record { done = []; sent = sent_nothing a held; text = refl }
 
-  -- one part more
+  -- after one part more the text is sent up to the next
   pub parts_more : (a b c : SinkSeen) (held mid low kept : List ℕ) (part : TextPart) (next : Option TextPart) → SentTo w test a b held mid (Some part) → SentAll b mid c low [] → length low < SPILL
       → PutsPart w test part low kept next → SentTo w test a c held kept next
   parts_more a b c held mid low kept part next s room spilled put = record {
@@ -53,6 +54,6 @@ module _ (w : Writing) (test : TestSeen) where
             (sent_part_more a c held (s.done ++ []) (text_from w test next) (sent_part a b c held mid s.done [] s.sent h));
       }
 
-  -- all parts
+  -- after all parts the whole text is sent
   pub parts_end : (a b : SinkSeen) (held kept : List ℕ) (u : Unit {0}) → SentTo w test a b held kept None → Sends a held b kept (text_from w test (Some Edges)) (Ok u)
   parts_end a b held kept u s = record { ok = sent_same a b held kept s.done (text_from w test (Some Edges)) s.sent (sym (s.text ∙ append-nil s.done)); failed = tt }

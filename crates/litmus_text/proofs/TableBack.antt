@@ -61,7 +61,7 @@ each_without : (f : List (List ℕ) → List ℕ) (xs : List (List (List ℕ))) 
 each_without f [] h = refl
 each_without f (y ∷ ys) h = all_both (λ b. not (b == 59)) (f y) (flat_map (λ y. codes " | " ++ f y) ys) h.0 (each_without f ys h.1)
 
--- the cells of a printed row
+-- a printed row is read as its cells
 pub row_cells : (f : List (List ℕ) → List ℕ) (x : List (List ℕ)) (xs : List (List (List ℕ))) → AreWithout 124 f (x ∷ xs) → AreWithout 59 f (x ∷ xs)
     → cells_of (codes " " ++ (join_by f (codes " | ") (x ∷ xs) ++ codes " ;")) ≡ record { texts = map (spaced f) (x ∷ xs); whole = true }
 unfolding cells_of
@@ -88,6 +88,7 @@ moved_cons : (op : Micro) (done left : List Micro) → moved (op ∷ done) left 
 moved_cons op done [] = refl
 moved_cons op done (x ∷ left) = refl
 
+-- a thread after one more row has one more operation read
 pub advance_at : (code : List Micro) (i : ℕ) → moved (take i code) (drop i code) ≡ progress (take (suc i) code) (drop (suc i) code)
 advance_at [] zero = refl
 advance_at [] (suc i) = refl
@@ -106,12 +107,13 @@ padded_cell w places t i =
           ∙ ap (λ x. padded (left + 1) x) (sym (next_at w (name_in places) t.1.instrs i)),
     )
 
+-- the cells of a printed row are those of the threads
 pub are_cells : (w : Writing) (places : List (List ℕ)) (i n : ℕ) (threads : List ThreadCode)
     → AreCells w (name_in places) (map (spaced (cell_text (suc i))) (map (column_of w places) (enumerate_from n threads))) (map (at_row i) threads)
 are_cells w places i n [] = tt
 are_cells w places i n (t ∷ threads) = (padded_cell w places (n, t) i, are_cells w places i (n + 1) threads)
 
--- the text of an operation stands in a row
+-- the text of an operation may be in a row
 pub record OpText (w : Writing) (names : ℕ → List ℕ) (op : Micro) : Type 0 where
   pub bytes : list_all is_row_byte (op_text w names op) ≡ true
   pub begins : Begins (op_text w names op)
@@ -140,6 +142,7 @@ op_text_is a w table names count accesses op laws cells fits =
       row = cells.rows names op fits.has named;
     }
 
+-- the operations of a thread that fits may be in rows
 pub code_texts : (a : Puts) (w : Writing) (table : List (List ℕ)) (names : ℕ → List ℕ) (count accesses : ℕ) (code : List Micro) → WritesBack a w → WritesCells a w
     → CodeFits a table names count accesses code → AllByRecursion (OpText w names) code
 code_texts a w table names count accesses [] laws cells fits = tt
@@ -157,7 +160,7 @@ next_cell w names [] (suc i) h = record { bytes = refl; kind = inl refl }
 next_cell w names (op ∷ code) zero h = record { bytes = h.0.bytes; kind = inr (h.0.begins, h.0.row) }
 next_cell w names (op ∷ code) (suc i) h = next_cell w names code i h.1
 
--- behind a cell a blank stands, and then a bar or a semicolon
+-- after a cell there is a blank, and then a bar or a semicolon
 pub record Tail (text : List ℕ) : Type 0 where
   pub sign : ℕ
   pub more : List ℕ
@@ -213,7 +216,7 @@ keeps_row text k tail cell behind = elim cell.kind [
     keywords : List (List ℕ)
     keywords = codes "exists" ∷ codes "~exists" ∷ codes "forall" ∷ codes "locations" ∷ []
 
--- the operations of each thread stand in rows
+-- the operations of each thread may be in rows
 abbrev pub AreTexts : Writing → (ℕ → List ℕ) → List ThreadCode → Type 0
 AreTexts w names threads = AllByRecursion (λ t. AllByRecursion (OpText w names) t.instrs) threads
 
@@ -234,6 +237,7 @@ all_cells : (w : Writing) (places : List (List ℕ)) (i n : ℕ) (threads : List
 all_cells w places i n [] h = tt
 all_cells w places i n (t ∷ threads) h = (cell_bytes w places (n, t) i h.0, all_cells w places i (n + 1) threads h.1)
 
+-- cells of bytes of a row are without a sign that isn't one
 pub cells_without : (sign : ℕ) (f : List (List ℕ) → List ℕ) (columns : List (List (List ℕ))) → is_row_byte sign ≡ false → AllByRecursion (λ c. list_all is_row_byte (f c) ≡ true) columns → AreWithout sign f columns
 cells_without sign f [] e h = tt
 cells_without sign f (c ∷ columns) e h = (without_class is_row_byte sign (f c) e h.0, cells_without sign f columns e h.1)
@@ -246,7 +250,7 @@ more_on_line f [] h = refl
 more_on_line f (y ∷ ys) h =
     all_both is_line_byte (f y) (flat_map (λ y. codes " | " ++ f y) ys) (weaker is_row_byte is_line_byte row_on_line (f y) h.0) (more_on_line f ys h.1)
 
--- a row of such cells is a printed line
+-- a row of such cells is a line that isn't passed over
 pub row_line_is : (row : ℕ) (x : List (List ℕ)) (xs : List (List (List ℕ))) → AllByRecursion (λ c. list_all is_row_byte (cell_text row c) ≡ true) (x ∷ xs) → IsLine (row_line (x ∷ xs) row)
 unfolding row_line
 row_line_is row x xs h =
@@ -265,7 +269,7 @@ first_cell w places i t more cell tail =
     let k = width_of (column_of w places (0, t)) - length text in
     ap (λ x. ends_rows (32 ∷ x)) (append_assoc (text ++ replicate k 32) more (codes " ;")) ∙ keeps_row text k (more ++ codes " ;") cell tail
 
--- a row of operations
+-- a printed row is the row of the threads
 pub row_is_read : (w : Writing) (places : List (List ℕ)) (i : ℕ) (t : ThreadCode) (threads : List ThreadCode) → AreTexts w (name_in places) (t ∷ threads)
     → IsRow w (name_in places) (row_line (columns_of w places (t ∷ threads)) (suc i)) (map (at_row i) (t ∷ threads))
 unfolding row_line
@@ -285,7 +289,7 @@ all_advance_at : (i : ℕ) (threads : List ThreadCode) → map advanced (map (at
 all_advance_at i [] = refl
 all_advance_at i (t ∷ threads) = rw (advance_at t.instrs i, all_advance_at i threads) refl
 
--- the rows of operations, from one on
+-- the printed rows, from one on, are the rows of the threads
 pub rows_are_read : (w : Writing) (places : List (List ℕ)) (i count : ℕ) (t : ThreadCode) (threads : List ThreadCode) → AreTexts w (name_in places) (t ∷ threads)
     → AreRows w (name_in places) (map (row_line (columns_of w places (t ∷ threads))) (range_with_len (suc i) count)) (map (at_row i) (t ∷ threads))
 rows_are_read w places i zero t threads h = tt
@@ -296,6 +300,7 @@ rows_are_read w places i (suc count) t threads h = (
       (rows_are_read w places (suc i) count t threads h)),
 )
 
+-- the printed rows, from one on, are lines that aren't passed over
 pub rows_are_lines : (w : Writing) (places : List (List ℕ)) (i count : ℕ) (t : ThreadCode) (threads : List ThreadCode) → AreTexts w (name_in places) (t ∷ threads)
     → AllByRecursion IsLine (map (row_line (columns_of w places (t ∷ threads))) (range_with_len (suc i) count))
 rows_are_lines w places i zero t threads h = tt

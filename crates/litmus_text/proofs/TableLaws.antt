@@ -18,7 +18,7 @@ use Rattle.std.proofs.lemmas.List.FromFn.{length-enumerate_from}
 use Rattle.std.proofs.Math.ListN.{replicate}
 use Rattle.litmus_text.proofs.ElementLaws.{numbered_at}
 
--- the header, piece by piece
+-- the first cell of a column is the header, made piece by piece
 pub header_cell : (w : Writing) (places : List (List ℕ)) (t : ℕ × ThreadCode) (row : ℕ) (start a b number : List ℕ) → row ≡ 0
     → start ≡ [] → a ≡ start ++ codes "P" → b ≡ a ++ number → number ≡ decimal t.0 → b ≡ get_or (column_of w places t) row []
 unfolding column_of
@@ -26,7 +26,7 @@ header_cell w places t zero start a b number h start_is a_is b_is number_is =
     b_is ∙ ap (λ x. x ++ number) (a_is ∙ ap (λ x. x ++ codes "P") start_is) ∙ ap (λ x. codes "P" ++ x) number_is
 header_cell w places t (suc row) start a b number h start_is a_is b_is number_is = absurd (omega arith)
 
--- an instruction
+-- the next cell of a column is an instruction
 pub op_cell : (w : Writing) (places : List (List ℕ)) (t : ℕ × ThreadCode) (row i : ℕ) (op : Micro) (read : List Micro) (text : List ℕ) → row ≡ i + 1 → read ≡ t.1.instrs
     → i < length read → op ≡ get_or read i op → text ≡ (op_text w (name_in places)) op → text ≡ get_or (column_of w places t) row []
 unfolding column_of
@@ -34,13 +34,14 @@ op_cell w places t row i op read text e same h is text_is =
     let at_i : get_or (map (op_text w (name_in places)) read) i [] ≡ (op_text w (name_in places)) (get_or read i op) = get_or-map (op_text w (name_in places)) read i op [] h in
     text_is ∙ rw (e, add-one i, ← same) (ap (op_text w (name_in places)) is ∙ sym at_i)
 
--- nothing
+-- after the last operation a cell of a column is empty
 pub no_cell : (w : Writing) (places : List (List ℕ)) (t : ℕ × ThreadCode) (row i : ℕ) (read : List Micro) (text : List ℕ) → row ≡ i + 1 → read ≡ t.1.instrs
     → length read ≤ i → text ≡ [] → text ≡ get_or (column_of w places t) row []
 unfolding column_of
 no_cell w places t row i read text e same h text_is =
     text_is ∙ rw (e, add-one i, ← same) (sym (get_or_past (map (op_text w (name_in places)) read) i [] (omega (arith, length-map read (op_text w (name_in places))))))
 
+-- a column has one text more than the thread has operations
 pub length-column_of : (w : Writing) (places : List (List ℕ)) (t : ℕ × ThreadCode) → length (column_of w places t) ≡ length t.1.instrs + 1
 unfolding column_of
 length-column_of w places t = omega (arith, length-map t.1.instrs (op_text w (name_in places)))
@@ -49,10 +50,12 @@ length-column_of w places t = omega (arith, length-map t.1.instrs (op_text w (na
 abbrev pub widest : List (List ℕ) → ℕ
 widest column = fold (λ width text. max width (length text)) 0 column
 
+-- the widest of all texts of a column is as wide as the column
 pub width_is : (column : List (List ℕ)) → widest column ≡ width_of column
 unfolding width_of
 width_is column = refl
 
+-- with one more text the width is the greater of its length and the width so far
 pub widest_more : (column : List (List ℕ)) (i : ℕ) → i < length column → widest (take (i + 1) column) ≡ max (widest (take i column)) (length (get_or column i []))
 widest_more column i h = fold_more (λ width text. max width (length text)) 0 column i [] h
 
@@ -71,10 +74,11 @@ unfolding width_of
 within_width column i =
     elim (cases_lt i (length column)) [ inl h ↦ covers 0 column i h | inr h ↦ rw (get_or_past column i [] h) (omega arith) ]
 
+-- a cell that is one of a column's texts is no wider than the column
 pub cell_within : (column : List (List ℕ)) (row : ℕ) (cell : List ℕ) (width : ℕ) → cell ≡ get_or column row [] → width ≡ width_of column → length cell ≤ width
 cell_within column row cell width e f = omega (arith, within_width column row, ap length e, f)
 
--- the column of a thread
+-- the column of a thread is the one at its number
 pub column_at : (w : Writing) (places : List (List ℕ)) (codes : List Code) (i : ℕ) (code : Code) → i < length codes → code ≡ get_or codes i code → get_or (columns_of w places (map thread_of codes)) i [] ≡ column_of w places (i, thread_of code)
 column_at w places codes i code h is =
     get_or-map (column_of w places) (enumerate_from 0 (map thread_of codes)) i (i, thread_of code) [] (omega (arith, length-enumerate_from 0 (map thread_of codes), length-map codes thread_of))
@@ -87,22 +91,23 @@ longest w places n count (code ∷ threads) =
     ap (λ m. fold (λ count code. max count (length code.instrs.items + 1)) (max count m) threads) (sym (length-column_of w places (n, thread_of code)))
     ∙ longest w places (n + 1) (max count (length (column_of w places (n, thread_of code)))) threads
 
--- the rows of the longest column
+-- the table has as many rows as the longest column has cells
 pub rows_are : (w : Writing) (places : List (List ℕ)) (codes : List Code) → fold (λ count code. max count (length code.instrs.items + 1)) 0 codes ≡ row_count (columns_of w places (map thread_of codes))
 unfolding row_count
 rows_are w places codes = longest w places 0 0 codes
 
--- the width of a column whose texts were all seen
+-- the widest text of a column whose texts were all seen is as wide as the column
 pub whole_width : (w : Writing) (places : List (List ℕ)) (t : ℕ × ThreadCode) (row width : ℕ) → length t.1.instrs + 1 ≤ row
     → width ≡ widest (take row (column_of w places t)) → width ≡ width_of (column_of w places t)
 whole_width w places t row width h e =
     e ∙ ap widest (take_all row (column_of w places t) (omega (arith, length-column_of w places t))) ∙ width_is (column_of w places t)
 
+-- there are as many columns as threads
 pub length_columns : (w : Writing) (places : List (List ℕ)) (threads : List Code) → length (columns_of w places (map thread_of threads)) ≡ length threads
 length_columns w places threads =
     omega (arith, length-map (enumerate_from 0 (map thread_of threads)) (column_of w places), length-enumerate_from 0 (map thread_of threads), length-map threads thread_of)
 
--- one more width
+-- one more column has one more width
 pub widths_more : (w : Writing) (places : List (List ℕ)) (threads : List Code) (i : ℕ) (code : Code) (width : ℕ) (old new : List ℕ) → i < length threads → code ≡ get_or threads i code
     → width ≡ width_of (column_of w places (i, thread_of code)) → old ≡ map width_of (take i (columns_of w places (map thread_of threads))) → new ≡ old ++ width ∷ []
     → new ≡ map width_of (take (i + 1) (columns_of w places (map thread_of threads)))
@@ -112,31 +117,31 @@ widths_more w places threads i code width old new h is width_is old_is new_is =
     ∙ ap (λ column. map width_of (take i (columns_of w places (map thread_of threads))) ++ width_of column ∷ []) (sym (column_at w places threads i code h is))
     ∙ sym (ap (map width_of) (take_more (columns_of w places (map thread_of threads)) i [] long) ∙ map-append width_of (take i (columns_of w places (map thread_of threads))) (get_or (columns_of w places (map thread_of threads)) i [] ∷ []))
 
--- all widths
+-- where no column is left, the widths are those of all columns
 pub widths_whole : (w : Writing) (places : List (List ℕ)) (threads : List Code) (i : ℕ) (widths : List ℕ) → length threads ≤ i
     → widths ≡ map width_of (take i (columns_of w places (map thread_of threads))) → widths ≡ map width_of (columns_of w places (map thread_of threads))
 widths_whole w places threads i widths h e =
     e ∙ ap (map width_of) (take_all i (columns_of w places (map thread_of threads)) (omega (arith, length_columns w places threads)))
 
--- as many widths as threads
+-- there are as many widths as threads
 pub widths_long : (w : Writing) (places : List (List ℕ)) (threads : List Code) (widths : List ℕ) → widths ≡ map width_of (columns_of w places (map thread_of threads)) → length widths ≡ length threads
 widths_long w places threads widths e = ap length e ∙ length-map (columns_of w places (map thread_of threads)) width_of ∙ length_columns w places threads
 
--- the width of a thread's column
+-- the width at the number of a thread is that of its column
 pub width_at : (w : Writing) (places : List (List ℕ)) (threads : List Code) (i : ℕ) (code : Code) (widths : List ℕ) (d : ℕ) → i < length threads → code ≡ get_or threads i code
     → widths ≡ map width_of (columns_of w places (map thread_of threads)) → get_or widths i d ≡ width_of (column_of w places (i, thread_of code))
 width_at w places threads i code widths d h is e =
     let long : i < length (columns_of w places (map thread_of threads)) = omega (arith, length_columns w places threads) in
     ap (λ widths. get_or widths i d) e ∙ get_or-map width_of (columns_of w places (map thread_of threads)) i [] d long ∙ ap width_of (column_at w places threads i code h is)
 
--- what is printed of a cell
+-- a cell is its text and the blanks that fill it
 pub cell_is : (w : Writing) (places : List (List ℕ)) (threads : List Code) (row i : ℕ) (code : Code) (cell : List ℕ) (width : ℕ) → i < length threads → code ≡ get_or threads i code
     → cell ≡ get_or (column_of w places (i, thread_of code)) row [] → width ≡ width_of (column_of w places (i, thread_of code))
     → cell ++ replicate (width - length cell) 32 ≡ cell_text row (get_or (columns_of w places (map thread_of threads)) i [])
 unfolding cell_text
 cell_is w places threads row i code cell width h is e f = rw (column_at w places threads i code h is, e, f) refl
 
--- a row, as it is printed
+-- a row as it is printed is its line
 pub row_is : (columns : List (List (List ℕ))) (row : ℕ) → codes " " ++ (join_by (cell_text row) (codes " | ") columns ++ codes " ;\n") ≡ ended (row_line columns row)
 unfolding row_line
 row_is columns row = ap (λ rest. 32 ∷ rest) (sym (append_assoc (join_by (cell_text row) (codes " | ") columns) (codes " ;") (codes "\n")))
@@ -145,6 +150,7 @@ row_is columns row = ap (λ rest. 32 ∷ rest) (sym (append_assoc (join_by (cell
 abbrev pub printed_row : List (List (List ℕ)) → ℕ → List ℕ
 printed_row columns row = ended (row_line columns row)
 
+-- the rows as they are printed are the lines of the table
 pub table_is : (w : Writing) (places : List (List ℕ)) (threads : List Code) (rows : ℕ) → rows ≡ fold (λ count code. max count (length code.instrs.items + 1)) 0 threads
     → flat_map (printed_row (columns_of w places (map thread_of threads))) (range_with_len 0 rows)
     ≡ flat_map ended (table_lines (columns_of w places (map thread_of threads)))

@@ -17,20 +17,23 @@ use Rattle.litmus_text.specs.Lines.{Lines, ends, line, ◌>>=◌, bad}
 use Rattle.litmus_text.specs.Table.{Cells, cells_of, is_head, heads_read, Column, Among, among, cell_read, instr_in, instr_or_nothing, before_columns, row_read, rows_read}
 use Rattle.litmus_text.proofs.CutBack.{by_test}
 
--- the cells of the header
+-- where no cell of the header is left, the threads are counted
 pub heads_end : (n k : ℕ) (whole : Bool) (ps : List (List ℕ)) → ps ≡ [] → heads_read n whole k ps ≡ cond whole (Ok k) (bad BadTable n)
 unfolding heads_read
 heads_end n k whole ps e = rw e refl
 
+-- a cell that isn't that of the next thread is a fault
 pub heads_bad : (n k : ℕ) (whole : Bool) (ps : List (List ℕ)) (cell : List ℕ) (rest : List (List ℕ)) → ps ≡ cell ∷ rest → is_head k cell ≡ false → heads_read n whole k ps ≡ bad BadTable n
 unfolding heads_read
 heads_bad n k whole ps cell rest e h = rw (e, h) refl
 
+-- a cell of one thread too many is too large
 pub heads_full : (n k : ℕ) (whole : Bool) (ps : List (List ℕ)) (cell : List ℕ) (rest : List (List ℕ)) → ps ≡ cell ∷ rest → is_head k cell ≡ true → nat_lt k MAX_THREADS ≡ false
     → heads_read n whole k ps ≡ bad TooLarge n
 unfolding heads_read
 heads_full n k whole ps cell rest e h f = rw (e, h, f) refl
 
+-- after the cell of the next thread the others are read
 pub heads_more : (n k : ℕ) (whole : Bool) (ps : List (List ℕ)) (cell : List ℕ) (rest : List (List ℕ)) → ps ≡ cell ∷ rest → is_head k cell ≡ true → nat_lt k MAX_THREADS ≡ true
     → heads_read n whole (k + 1) rest ≡ heads_read n whole k ps
 unfolding heads_read
@@ -41,6 +44,7 @@ abbrev pub carried : List Column → Result (Among (List Column)) TextError → 
 carried front (Ok s) = Ok (among s.names (front ++ s.value))
 carried front (Err e) = Err e
 
+-- where no column was read before, what is read is as it was
 pub carried_nothing : (r : Result (Among (List Column)) TextError) → carried [] r ≡ r
 carried_nothing (Ok s) = refl
 carried_nothing (Err e) = refl
@@ -49,7 +53,7 @@ carried_more : (front : List Column) (column : Column) (r : Result (Among (List 
 carried_more front column (Ok s) = ap (λ cs. Ok (among s.names cs)) (append_assoc front (column ∷ []) s.value)
 carried_more front column (Err e) = refl
 
--- a row whose first columns are read
+-- after a cell of a row the next cells are read
 pub row_more : (w : Writing) (n : ℕ) (whole : Bool) (ps rest : List (List ℕ)) (cell : List ℕ) (names names' : List (List ℕ)) (cs : List Column) (i : ℕ) (d c' : Column) → i < length cs → ps ≡ cell ∷ rest
     → cell_read w n cell (among names (get_or cs i d)) ≡ Ok (among names' c')
     → carried (take (i + 1) (set cs i c')) (row_read w n whole rest names' (drop (i + 1) (set cs i c'))) ≡ carried (take i cs) (row_read w n whole ps names (drop i cs))
@@ -61,6 +65,7 @@ row_more w n whole ps rest cell names names' cs i d c' inside e h =
     let m = carried_more (take i cs) c' (row_read w n whole rest names' (drop (i + 1) cs)) in
     rw (t, r, s, e, h) m
 
+-- where a cell of a row is faulty, the row is
 pub row_fails : (w : Writing) (n : ℕ) (whole : Bool) (ps rest : List (List ℕ)) (cell : List ℕ) (names : List (List ℕ)) (cs front : List Column) (i : ℕ) (d : Column) (f : TextError) → i < length cs → ps ≡ cell ∷ rest
     → cell_read w n cell (among names (get_or cs i d)) ≡ Err f → carried front (row_read w n whole ps names (drop i cs)) ≡ Err f
 unfolding row_read
@@ -68,6 +73,7 @@ row_fails w n whole ps rest cell names cs front i d f inside e h =
     let s : drop i cs ≡ get_or cs i d ∷ drop (i + 1) cs = rw add-one (drop-cons cs i d inside) in
     rw (s, e, h) refl
 
+-- where a cell of a row is missing, the row is faulty
 pub row_short : (w : Writing) (n : ℕ) (whole : Bool) (ps : List (List ℕ)) (names : List (List ℕ)) (cs front : List Column) (i : ℕ) (d : Column) → i < length cs → ps ≡ []
     → carried front (row_read w n whole ps names (drop i cs)) ≡ bad BadTable n
 unfolding row_read
@@ -75,6 +81,7 @@ row_short w n whole ps names cs front i d inside e =
     let s : drop i cs ≡ get_or cs i d ∷ drop (i + 1) cs = rw add-one (drop-cons cs i d inside) in
     rw (s, e) refl
 
+-- where no column is left and the row ends, the columns are read
 pub row_ends : (w : Writing) (n : ℕ) (whole : Bool) (ps : List (List ℕ)) (names : List (List ℕ)) (cs : List Column) (i : ℕ) → i ≡ length cs → row_read w n whole ps names [] ≡ Ok (among names [])
     → carried (take i cs) (row_read w n whole ps names (drop i cs)) ≡ Ok (among names cs)
 row_ends w n whole ps names cs i end e =
@@ -82,11 +89,12 @@ row_ends w n whole ps names cs i end e =
     let t : take i cs ++ [] ≡ cs = append-nil (take i cs) ∙ (ap (λ k. take k cs) end ∙ take-length cs) in
     rw (s, e) (ap (λ k. Ok (among names k)) t)
 
+-- where no column is left and the row doesn't end, the row is faulty
 pub row_ends_bad : (w : Writing) (n : ℕ) (whole : Bool) (ps : List (List ℕ)) (names : List (List ℕ)) (cs front : List Column) (i : ℕ) (f : TextError) → i ≡ length cs → row_read w n whole ps names [] ≡ Err f
     → carried front (row_read w n whole ps names (drop i cs)) ≡ Err f
 row_ends_bad w n whole ps names cs front i f end e = let s : drop i cs ≡ [] = ap (λ k. drop k cs) end ∙ drop-length cs in rw (s, e) refl
 
--- the same of columns of the code
+-- after a cell of a row the next cells are read, by columns of the code
 pub row_step : (w : Writing) (n : ℕ) (whole : Bool) (ps rest : List (List ℕ)) (cell : List ℕ) (names names' : List (List ℕ)) (xs : List ThreadColumn) (i : ℕ) (d y : ThreadColumn) → i < length xs → ps ≡ cell ∷ rest
     → cell_read w n cell (among names (column_seen (get_or xs i d))) ≡ Ok (among names' (column_seen y))
     → carried (take (i + 1) (map column_seen (set xs i y))) (row_read w n whole rest names' (drop (i + 1) (map column_seen (set xs i y)))) ≡ carried (take i (map column_seen xs)) (row_read w n whole ps names (drop i (map column_seen xs)))
@@ -97,6 +105,7 @@ row_step w n whole ps rest cell names names' xs i d y inside e h =
     let m : map column_seen (set xs i y) ≡ set (map column_seen xs) i (column_seen y) = map-set column_seen xs i y in
     rw m (row_more w n whole ps rest cell names names' (map column_seen xs) i (column_seen d) (column_seen y) k e h')
 
+-- where a cell of a row is faulty, the row is, by columns of the code
 pub row_stops : (w : Writing) (n : ℕ) (whole : Bool) (ps rest : List (List ℕ)) (cell : List ℕ) (names : List (List ℕ)) (xs : List ThreadColumn) (front : List Column) (i : ℕ) (d : ThreadColumn) (f : TextError) → i < length xs → ps ≡ cell ∷ rest
     → cell_read w n cell (among names (column_seen (get_or xs i d))) ≡ Err f → carried front (row_read w n whole ps names (drop i (map column_seen xs))) ≡ Err f
 row_stops w n whole ps rest cell names xs front i d f inside e h =
@@ -105,39 +114,46 @@ row_stops w n whole ps rest cell names xs front i d f inside e h =
     let h' : cell_read w n cell (among names (get_or (map column_seen xs) i (column_seen d))) ≡ Err f = rw g h in
     row_fails w n whole ps rest cell names (map column_seen xs) front i (column_seen d) f k e h'
 
--- the rows
+-- where no line is left, the end of the rows is missing
 pub rows_missing : (w : Writing) (k n : ℕ) (s : Among (List Column)) (ls : Lines) → ends n ≡ ls → rows_read w k s ls ≡ bad EndMissing n
 unfolding rows_read
 rows_missing w k n s ls e = rw (sym e) refl
 
+-- a line that ends the rows ends them
 pub rows_stop : (w : Writing) (k n : ℕ) (s : Among (List Column)) (ls rest : Lines) (text : List ℕ) → line n text rest ≡ ls → ends_rows text ≡ true → rows_read w k s ls ≡ Ok (s, ls)
 unfolding rows_read
 rows_stop w k n s ls rest text e h = rw (sym e, h) refl
 
+-- one row too many is too large
 pub rows_full : (w : Writing) (k n : ℕ) (s : Among (List Column)) (ls rest : Lines) (text : List ℕ) → line n text rest ≡ ls → ends_rows text ≡ false → nat_lt k MAX_ROWS ≡ false → rows_read w k s ls ≡ bad TooLarge n
 unfolding rows_read
 rows_full w k n s ls rest text e h f = rw (sym e, h, f) refl
 
+-- where a row is faulty, the rows are
 pub rows_fail : (w : Writing) (k n : ℕ) (s : Among (List Column)) (ls rest : Lines) (text : List ℕ) (cells : Cells) (f : TextError) → line n text rest ≡ ls → ends_rows text ≡ false → nat_lt k MAX_ROWS ≡ true → cells ≡ cells_of text
     → row_read w n cells.whole cells.texts s.names s.value ≡ Err f → rows_read w k s ls ≡ Err f
 unfolding rows_read
 rows_fail w k n s ls rest text cells f e h g same r = rw (sym e, h, g, sym same, r) refl
 
+-- after a row the next rows are read
 pub rows_more : (w : Writing) (k n : ℕ) (s s' : Among (List Column)) (ls rest : Lines) (text : List ℕ) (cells : Cells) → line n text rest ≡ ls → ends_rows text ≡ false → nat_lt k MAX_ROWS ≡ true → cells ≡ cells_of text
     → row_read w n cells.whole cells.texts s.names s.value ≡ Ok s' → rows_read w (k + 1) s' rest ≡ rows_read w k s ls
 unfolding rows_read
 rows_more w k n s s' ls rest text cells e h g same r = rw (sym e, h, g, sym same, r) refl
 
+-- a number below another passes the test
 pub below_is : (a b : ℕ) → a < b → nat_lt a b ≡ true
 below_is a b h = by_test (nat_lt a b) (λ e. e) (λ e. let k = ltb-false a b e in absurd (omega arith))
 
+-- a number that isn't below another fails the test
 pub not_below_is : (a b : ℕ) → b ≤ a → nat_lt a b ≡ false
 not_below_is a b h = by_test (nat_lt a b) (λ e. let k = ltb-true a b e in absurd (omega arith)) (λ e. e)
 
--- a cell that begins with a label
+-- the text up to the colon of a label
 pub label_front : (text front behind : List ℕ) → CutParts 58 text front behind → take (length front + 1) text ≡ front ++ codes ":"
 label_front text front behind p = ap (take (length front + 1)) p.parts ∙ take-append-add front (58 ∷ behind) 1
 
+-- a cell that begins with a label is read as the label, and then as what comes after it
 pub cell_labelled : (w : Writing) (n : ℕ) (text front behind : List ℕ) (s s' : Among Column) → Some (front, behind) ≡ cut_at 58 text → CutParts 58 text front behind
     → instr_in w n (take (length front + 1) text) s ≡ Ok s' → cell_read w n text s ≡ instr_or_nothing w n behind s'
 unfolding cell_read

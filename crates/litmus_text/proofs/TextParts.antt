@@ -1,4 +1,4 @@
--- What a part of a text is that is put to a page.
+-- What a part of a text is that is appended to a page.
 use Rattle.std.proofs.Common.{◌≡◌, ◌≤◌, ◌<◌, ◌+◌, ◌-◌, ℕ, List, [], ◌∷◌, ◌++◌, length, take, drop, get_or, map, refl, sym, ap, ◌∙◌, arith, append_assoc, append-nil, zero-add, max, fold}
 use Rattle.std.specs.Prelude.{codes, Option, Some, None}
 use Rattle.std.specs.List.{flat_map, enumerate_from, range_with_len}
@@ -28,6 +28,7 @@ edges_text w test =
     ap (λ rest. ended (edges_line test.edges) ++ (codes "{\n" ++ rest)) rest
     ∙ sym (append_assoc (ended (edges_line test.edges)) (codes "{\n") (flat_map ended (items ++ codes "}" ∷ rows)))
 
+-- the part of the edges is their line and the opening brace
 pub edges_put : (w : Writing) (test : TestSeen) (old new piece : List ℕ) → ended (edges_line test.edges) ++ codes "{\n" ≡ piece → new ≡ page_after old piece → length piece ≤ LINE_ROOM
     → PutsPart w test Edges old new (Some (Items 0))
 unfolding parts_left
@@ -52,6 +53,7 @@ items_text w test i t h is =
     ∙ ap (flat_map ended) (append_assoc (lines t) (flat_map lines (drop (i + 1) all)) rest)
     ∙ flat_map-append ended (lines t) (flat_map lines (drop (i + 1) all) ++ rest)
 
+-- the part of a thread is its items
 pub items_put : (w : Writing) (test : TestSeen) (threads : List Code) (i : ℕ) (code : Code) (old new : List ℕ) → test.threads ≡ map thread_of threads → i < length threads → code ≡ get_or threads i code
     → new ≡ page_after old (printed_items w test.places (i, thread_of code)) → length (printed_items w test.places (i, thread_of code)) ≤ LINE_ROOM
     → PutsPart w test (Items i) old new (Some (Items (i + 1)))
@@ -68,7 +70,7 @@ items_put w test threads i code old new same h is put short =
       fewer = omega arith;
     }
 
--- the closing brace
+-- the part after the last thread is the closing brace
 pub closing_put : (w : Writing) (test : TestSeen) (threads : List Code) (i : ℕ) (old new : List ℕ) → test.threads ≡ map thread_of threads → length threads ≤ i
     → new ≡ page_after old (codes "}\n") → PutsPart w test (Items i) old new (Some (Row 0))
 unfolding parts_left lines_from
@@ -100,6 +102,7 @@ row_text w test row h =
     ∙ ap (λ line. line ∷ drop (row + 1) (map (row_line columns) numbers)) here in
     ap (λ left. flat_map ended (left ++ rest)) more
 
+-- the part of a row is its line
 pub row_put : (w : Writing) (test : TestSeen) (rows row : ℕ) (old new : List ℕ) → rows ≡ row_count (columns_of w test.places test.threads) → row < rows
     → new ≡ page_after old (ended (row_line (columns_of w test.places test.threads) row)) → length (ended (row_line (columns_of w test.places test.threads) row)) ≤ LINE_ROOM
     → PutsPart w test (Row row) old new (Some (Row (row + 1)))
@@ -112,7 +115,7 @@ row_put w test rows row old new same h put short = record {
   fewer = omega (arith, same);
 }
 
--- the condition
+-- the part after the last row is the line of the condition
 pub condition_put : (w : Writing) (test : TestSeen) (rows row : ℕ) (old new : List ℕ) → rows ≡ row_count (columns_of w test.places test.threads) → rows ≤ row
     → new ≡ page_after old (ended (cond_text test.cond)) → length (ended (cond_text test.cond)) ≤ LINE_ROOM
     → PutsPart w test (Row row) old new None

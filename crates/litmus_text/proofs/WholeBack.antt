@@ -46,7 +46,7 @@ before_append : (n : ℕ) (xs ys : List (List ℕ)) (rest : ℕ → Lines) → b
 before_append n [] ys rest = refl
 before_append n (x ∷ xs) ys rest = ap (line n x) (before_append (n + 1) xs ys rest)
 
--- the longest thread
+-- the number of operations of the longest thread
 pub longest : ℕ → List ThreadCode → ℕ
 longest count threads = fold (λ count t. max count (length t.instrs)) count threads
 
@@ -82,11 +82,13 @@ unfolding longest
 longest_grows count [] = omega arith
 longest_grows count (t ∷ threads) = let more = longest_grows (max count (length t.instrs)) threads in omega arith
 
+-- each thread is no longer than the longest
 pub covers : (count k : ℕ) (threads : List ThreadCode) → longest count threads ≤ k → AllByRecursion (λ t. length t.instrs ≤ k) threads
 unfolding longest
 covers count k [] h = tt
 covers count k (t ∷ threads) h = (let more = longest_grows (max count (length t.instrs)) threads in omega arith, covers (max count (length t.instrs)) k threads h)
 
+-- code of which nothing is left out is as it was
 pub drop_none : (code : List Micro) → drop 0 code ≡ code
 drop_none [] = refl
 drop_none (op ∷ code) = refl
@@ -95,7 +97,7 @@ take_none : (code : List Micro) → take 0 code ≡ []
 take_none [] = refl
 take_none (op ∷ code) = refl
 
--- before the first row nothing was read
+-- before the first row nothing was read, and the threads are ready for it
 pub start_ready : (a : Puts) (table : List (List ℕ)) (names : ℕ → List ℕ) (n : ℕ) (threads : List ThreadCode) → AllByRecursion (λ t. CodeFits a table names 0 0 t.instrs) threads
     → AllByRecursion (IsReady a table names n n) (map (at_row 0) threads)
 start_ready a table names n [] h = tt
@@ -113,7 +115,7 @@ start_columns table names n (t ∷ threads) =
     ap (λ column. column ∷ no_columns (length threads)) (ap (λ d. column_so_far table names n d) (sym (take_none t.instrs)))
     ∙ ap (λ rest. column_so_far table names n (take 0 t.instrs) ∷ rest) (start_columns table names n threads)
 
--- behind the last row all was read
+-- after the last row all was read
 end_columns : (table : List (List ℕ)) (names : ℕ → List ℕ) (n k : ℕ) (threads : List ThreadCode) → AllByRecursion (λ t. length t.instrs ≤ k) threads
     → map (column_at table names n) (map (at_row k) threads) ≡ map (column_so_far table names n) (map (λ t. t.instrs) threads)
 end_columns table names n k [] h = refl
@@ -191,6 +193,7 @@ chain : (arch : ArchName) (w : Writing) (l0 l1 l2 l3 l4 l5 : Lines) (name : List
 unfolding lines_read
 chain arch w l0 l1 l2 l3 l4 l5 name quoted begun count names table columns condition e1 e2 e3 e4 e5 e6 e7 = rw (e1, e2, e3, e4, e5, e6, e7) refl
 
+-- a test by its parts
 abbrev pub seen : List Edge → List (List ℕ) → List ThreadCode → CondSeen → TestSeen
 seen edges places threads condition = record { edges = edges; places = places; threads = threads; cond = condition }
 

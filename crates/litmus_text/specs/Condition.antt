@@ -20,7 +20,7 @@ pub record Setting : Type 0 where
   pub begins : ℕ
   pub text : Joined
 
--- the names of places, and the line of the first place that was one too many, behind the line where the condition begins
+-- the names of places, and the line of the first place that was one too many, after the line where the condition begins
 pub record Mentioned : Type 0 where
   pub names : List (List ℕ)
   pub over : Option ℕ
@@ -30,7 +30,7 @@ abbrev pub at_begin : {A : Type 0} → ℕ → Result A Fault → Result A TextE
 at_begin n (Ok x) = Ok x
 at_begin n (Err fault) = bad BadCondition n
 
--- the first of two lines, if there is one
+-- the first of two lines, where there may be none before the second
 abbrev pub or_line : Option ℕ → ℕ → Option ℕ
 or_line (Some n) m = Some n
 or_line None m = Some m
@@ -39,7 +39,7 @@ or_line None m = Some m
 abbrev pub over_at : ℕ → ℕ → Mentioned → Result Mentioned TextError
 over_at begins n s = cond (n == begins) (bad TooLarge n) (Ok (record s { over = or_line s.over n }))
 
--- a place that is named
+-- a place that is named, at a line: it gets its number, or is one too many
 abbrev pub place_put : ℕ → ℕ → Mentioned → List ℕ → Option ℕ → Result Mentioned TextError
 place_put begins n s name (Some place) = Ok (record s { names = names_added s.names name })
 place_put begins n s name None = over_at begins n s
@@ -58,13 +58,13 @@ left_put w here n s (AtPlace name) = name_put here.begins n s name
 abbrev pub line_of_rest : Setting → List ℕ → ℕ
 line_of_rest here rest = line_at here.text (length here.text.bytes - length rest)
 
--- a term, and what it says of places
+-- a term, what it says of places, and what is left of the text
 pub record TermRead : Type 0 where
   pub term : TermSeen
   pub state : Mentioned
   pub rest : List ℕ
 
--- a term at the front of what is left
+-- a term at the beginning of what is left
 unfoldable pub term_here : Writing → Setting → Mentioned → List ℕ → Result TermRead TextError
 term_here w here s text = do
   left ← at_begin here.begins (left_read has_form (unblanked text))
@@ -72,7 +72,7 @@ term_here w here s text = do
   right ← at_begin here.begins (right_read left.1)
   Ok (record { term = record { left = left.0; value = right.0 }; state = next; rest = right.1 })
 
--- the terms, and what they say of places
+-- the terms, what they say of places, and what is left of the text
 pub record TermsRead : Type 0 where
   pub terms : List TermSeen
   pub state : Mentioned
@@ -89,7 +89,7 @@ and_more read further follows.Term rest = do
   others ← further read.state rest
   Ok (before_read read.term others)
 
--- at most so many terms, up to the `)` behind the last; a term too many is too large
+-- at most so many terms, up to the `)` after the last; a term too many is too large
 unfoldable pub terms_here : Writing → Setting → ℕ → Mentioned → List ℕ → Result TermsRead TextError
 terms_here w here zero s text = do
   read ← term_here w here s text
@@ -99,7 +99,7 @@ terms_here w here (suc room) s text = do
   follow ← at_begin here.begins (follow_read read.rest)
   and_more read (terms_here w here room) follow.0 follow.1
 
--- no place is one too many
+-- the names of places, where no place is one too many
 abbrev pub none_over : Mentioned → Result (List (List ℕ)) TextError
 none_over s = none_over_if s.over s.names
   where
@@ -112,7 +112,7 @@ pub record CondRead : Type 0 where
   pub cond : CondSeen
   pub names : List (List ℕ)
 
--- the whole text of a condition
+-- the condition that a whole text is
 unfoldable pub cond_here : Writing → Setting → List (List ℕ) → Result CondRead TextError
 cond_here w here names = do
   opening ← at_begin here.begins (opening_read here.text.bytes)
@@ -121,7 +121,7 @@ cond_here w here names = do
   kept ← none_over read.state
   Ok (record { cond = record { quantifier = opening.0; terms = read.terms }; names = kept })
 
--- the condition: the rest of the text
+-- the condition that the lines which are left are
 unfoldable pub condition_read : Writing → ℕ → List (List ℕ) → Lines → Result CondRead TextError
 condition_read w threads names (ends n) = bad EndMissing n
 condition_read w threads names (line n text rest) =

@@ -5,12 +5,12 @@ use Rattle.litmus_text.specs.declared.errors.TextError.{TextError}
 use Rattle.litmus_text.specs.declared.errors.ReadError.{ReadError}
 use Rattle.litmus_text.specs.declared.errors.ReadError.TheVariants.{Text, NoMemory}
 
--- an answer is what the definition gives, where view says what it means
+-- an answer of the code is what the definition gives, where `view` says what a value of the code means
 abbrev pub Gives : {X Y : Type 0} → (X → Y) → Result X TextError → Result Y TextError → Type 0
 Gives view (Ok x) read = read ≡ Ok (view x)
 Gives view (Err fault) read = read ≡ Err fault
 
--- the same where there may be no memory, of which nothing is said
+-- an answer is what the definition gives, or there is no memory, and then nothing is said
 abbrev pub GivesInMemory : {X Y : Type 0} → (X → Y) → Result X ReadError → Result Y TextError → Type 0
 GivesInMemory view (Ok x) read = read ≡ Ok (view x)
 GivesInMemory view (Err (Text fault)) read = read ≡ Err fault

@@ -1,4 +1,4 @@
--- What stands above the initial state: the header, the quoted text, and lines that are passed over.
+-- What comes above the initial state: the header, the quoted text, and lines that are passed over.
 -- Source: the litmus format of the herdtools manual.
 use Rattle.std.specs.Prelude.{ℕ, ◌==◌, Bool, false, cond, not, ◌&&◌, nat_le, List, [], ◌∷◌, Option, Some, None, Ok, length}
 use Rattle.std.specs.Char.{is_ascii_alphabetic}
@@ -21,11 +21,12 @@ two_words _ = None
 abbrev pub is_short_name : List ℕ → Bool
 is_short_name name = nat_le (length name) MAX_NAME
 
--- the architecture of a header, where its name isn't too long
+-- the architecture of this name, if there is one and the name of the test isn't too long
 abbrev pub arch_if : ℕ → Lines → List ℕ → Option ArchName → Read ArchName
 arch_if n rest name None = bad BadHeader n
 arch_if n rest name (Some arch) = cond (is_short_name name) (Ok (arch, rest)) (bad BadHeader n)
 
+-- the architecture that the two words of a header name
 abbrev pub arch_in : ℕ → Lines → Option (List ℕ × List ℕ) → Read ArchName
 arch_in n rest None = bad BadHeader n
 arch_in n rest (Some header) = arch_if n rest header.1 (arch_of header.0)
@@ -46,15 +47,17 @@ unfoldable pub header_read : ArchName → Lines → Read (List ℕ)
 header_read arch (ends n) = bad EndMissing n
 header_read arch (line n text rest) = name_in_header arch n rest (two_words (words text))
 
--- a text in double quotes, which end the line
+-- the quoted text, where the second double quote ends the line
 abbrev pub quote_closed : ℕ → Lines → List ℕ → List ℕ → Read (Option (List ℕ))
 quote_closed n rest quoted [] = Ok (Some quoted, rest)
 quote_closed n rest quoted (byte ∷ behind) = bad BadQuote n
 
+-- the quoted text, where there is a second double quote
 abbrev pub quote_cut : ℕ → Lines → Option (List ℕ × List ℕ) → Read (Option (List ℕ))
 quote_cut n rest None = bad BadQuote n
 quote_cut n rest (Some parts) = quote_closed n rest parts.0 parts.1
 
+-- the quoted text of a line that begins with a double quote; another line is left as it is
 abbrev pub quote_line : ℕ → List ℕ → Lines → Read (Option (List ℕ))
 quote_line n [] rest = Ok (None, line n [] rest)
 quote_line n (byte ∷ text) rest = cond (byte == 34) (quote_cut n rest (cut_at 34 text)) (Ok (None, line n (byte ∷ text) rest))
@@ -73,7 +76,7 @@ begins_equal (byte ∷ text) = byte == 61
 unfoldable pub is_setting : List ℕ → Bool
 is_setting text = not (is_nil (run_of is_ascii_alphabetic text)) && begins_equal (after_run is_ascii_alphabetic text)
 
--- the lines behind those of the form `name=anything`
+-- the lines after those of the form `name=anything`
 unfoldable pub after_settings : Lines → Lines
 after_settings (ends n) = ends n
 after_settings (line n text rest) = cond (is_setting text) (after_settings rest) (line n text rest)

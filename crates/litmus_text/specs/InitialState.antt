@@ -32,14 +32,16 @@ pub data Item : Type 0 where
   gives : (thread register : ℕ) (worth : Worth) → Item
   zero_at : (place : List ℕ) → Item
 
--- the value on the right of a register
+-- the name of a place as the value of a register
 abbrev pub place_worth : List ℕ → Option Worth
 place_worth text = cond (is_place_name text) (Some (a_place text)) None
 
+-- the number as the value of a register, else the name of a place
 abbrev pub worth_if : List ℕ → Option ℕ → Option Worth
 worth_if text (Some n) = Some (a_number n)
 worth_if text None = place_worth text
 
+-- the value on the right of a register
 abbrev pub worth_of : List ℕ → Option Worth
 worth_of text = worth_if text (number_of text)
 
@@ -55,20 +57,22 @@ item_with w (InRegister thread name) right =
 item_with w (AtPlace name) right =
     cond (is_place_name name && bytes_eq right (codes "0")) (Some (zero_at name)) None
 
--- a left side is the whole of a text
+-- the left side that the whole of a text is
 abbrev pub whole_left : Option (LeftSeen × List ℕ) → Option LeftSeen
 whole_left None = None
 whole_left (Some left) = cond (is_nil left.1) (Some left.0) None
 
+-- the item of a left side, if there is one
 abbrev pub item_if : Writing → Option LeftSeen → List ℕ → Option Item
 item_if w None right = None
 item_if w (Some left) right = item_with w left right
 
--- the two sides of `=`, around which blanks may stand
+-- the item of the two sides of `=`, around which blanks may be
 abbrev pub item_parts : Writing → Option (List ℕ × List ℕ) → Option Item
 item_parts w None = None
 item_parts w (Some sides) = item_if w (whole_left (left_at_front (trimmed sides.0))) (trimmed sides.1)
 
+-- the item of a text without blanks at its ends
 abbrev pub some_item : Writing → List ℕ → Option Item
 some_item w [] = Some empty
 some_item w (byte ∷ text) = item_parts w (cut_at 61 (byte ∷ text))
@@ -82,7 +86,7 @@ pub record Begun : Type 0 where
   pub names : List (List ℕ)
   pub values : List (ℕ × (ℕ × Value))
 
--- nothing is given yet
+-- nothing is given so far
 abbrev pub nothing_begun : Begun
 nothing_begun = record { names = []; values = [] }
 
@@ -90,7 +94,7 @@ nothing_begun = record { names = []; values = [] }
 abbrev pub is_given : ℕ → ℕ → List (ℕ × (ℕ × Value)) → Bool
 is_given thread register values = list_any (λ v. (v.0 == thread) && (v.1.0 == register)) values
 
--- a register with a value more
+-- one more register has a value
 abbrev pub with_value : Begun → List (List ℕ) → ℕ → ℕ → Value → Begun
 with_value begun names thread register value = record {
   names = names;
@@ -103,6 +107,7 @@ with_address n begun thread register name None = bad TooLarge n
 with_address n begun thread register name (Some place) =
     Ok (with_value begun (names_added begun.names name) thread register (values.Place place))
 
+-- a register with the value that an item gives it, at a line
 abbrev pub with_worth : ℕ → Begun → ℕ → ℕ → Worth → Result Begun TextError
 with_worth n begun thread register (a_number number) = Ok (with_value begun begun.names thread register (values.Num number))
 with_worth n begun thread register (a_place name) = with_address n begun thread register name (number_added begun.names name)
@@ -143,7 +148,7 @@ but_last [] = []
 but_last (piece ∷ []) = []
 but_last (piece ∷ next ∷ rest) = piece ∷ but_last (next ∷ rest)
 
--- the text up to the first `}`, what stands behind it in its line, and the lines behind that; or the text up to the end
+-- the text up to the first `}`, what comes after it in its line, and the lines after that; or the text up to the end
 pub data Braced : Type 0 where
   closed : (text : Joined) (n : ℕ) (behind : List ℕ) (rest : Lines) → Braced
   open_to : (text : Joined) (n : ℕ) → Braced
@@ -153,18 +158,18 @@ abbrev pub braced_if : Joined → ℕ → Lines → Option (List ℕ × List ℕ
 braced_if text n rest (Some parts) further = closed (with_text text n parts.0) n parts.1 rest
 braced_if text n rest None further = further
 
--- the text behind a `{`, from the rest of a line on
+-- the text after a `{`, from the rest of a line on
 unfoldable pub braced : Joined → ℕ → List ℕ → Lines → Braced
 braced joined n text (ends m) = braced_if joined n (ends m) (cut_at 125 text) (open_to (with_text joined n text) m)
 braced joined n text (line m next rest) =
     braced_if joined n (line m next rest) (cut_at 125 text) (braced (with_text (with_text joined n text) m (32 ∷ [])) m next rest)
 
--- nothing stands behind the `}`
+-- nothing comes after the `}`
 abbrev pub brace_ends : ℕ → List ℕ → Lines → Begun → Read Begun
 brace_ends n [] rest begun = Ok (begun, rest)
 brace_ends n (byte ∷ behind) rest begun = bad BadInit n
 
--- the items between braces
+-- the initial state that the items between braces give
 abbrev pub braced_read : Writing → Braced → Read Begun
 braced_read w (closed text n behind rest) = do
   begun ← items_read w text 0 (pieces 59 text.bytes) nothing_begun
@@ -173,12 +178,12 @@ braced_read w (open_to text n) = do
   begun ← items_read w text 0 (but_last (pieces 59 text.bytes)) nothing_begun
   bad EndMissing n
 
--- the line that begins with `{`
+-- the initial state, where its line begins with `{`
 abbrev pub initial_line : Writing → ℕ → List ℕ → Lines → Read Begun
 initial_line w n [] rest = bad BadInit n
 initial_line w n (byte ∷ text) rest = cond (byte == 123) (braced_read w (braced no_text n text rest)) (bad BadInit n)
 
--- the initial state
+-- the initial state that lines begin with
 unfoldable pub initial_read : Writing → Lines → Read Begun
 initial_read w (ends n) = bad EndMissing n
 initial_read w (line n text rest) = initial_line w n text rest

@@ -23,11 +23,11 @@ abbrev pub links_mention : (ℕ → List ℕ) → List (List ℕ) → List Link 
 links_mention names s [] = s
 links_mention names s (link ∷ links) = links_mention names (names_added s (names link.1.1)) links
 
--- the initial values that they are read as
+-- the initial values that the address registers are read as
 abbrev pub link_values : List (List ℕ) → (ℕ → List ℕ) → List Link → List (ℕ × (ℕ × Value))
 link_values table names links = map (λ link. (link.0, (link.1.0, values.Place (place_in table (names link.1.1))))) links
 
--- no address register stands twice: none of them is among those before it
+-- no address register comes twice: none of them is among those before it
 abbrev pub links_once : List Link → List Link → Bool
 links_once done [] = true
 links_once done (link ∷ links) =

@@ -4,12 +4,12 @@ use Rattle.std.specs.Prelude.{ℕ, List, [], ◌∷◌, ◌++◌, length, get_or
 use Rattle.std.proofs.Math.ListN.{replicate}
 use Rattle.litmus_text.specs.Lines.{Lines, ends, line}
 
--- a text, and for each of its bytes the number of the line where it stands
+-- a text, and for each of its bytes the number of its line
 pub record Joined : Type 0 where
   pub bytes : List ℕ
   pub lines : List ℕ
 
--- nothing yet
+-- no text so far
 abbrev pub no_text : Joined
 no_text = record { bytes = []; lines = [] }
 
@@ -20,7 +20,7 @@ with_text joined n text = record {
   lines = joined.lines ++ replicate (length text) n;
 }
 
--- all lines, joined by blanks, behind a text
+-- all lines, each after a blank, after a text
 unfoldable pub all_joined : Joined → Lines → Joined
 all_joined joined (ends n) = joined
 all_joined joined (line n text rest) = all_joined (with_text joined n (32 ∷ text)) rest

@@ -21,7 +21,7 @@ pub record TableSeen : Type 0 where
   pub widths : List ℕ
   pub rows : ℕ
 
--- they are those of the table of a test, whose columns are no wider than a text can be
+-- what is kept is that of the table of a test, whose columns are no wider than a text can be
 pub record HoldsTable (w : Writing) (test : TestSeen) (table : TableSeen) : Type 0 where
   pub texts : table.texts ≡ take 128 (all_texts (columns_of w test.places test.threads))
   pub widths : table.widths ≡ map width_of (columns_of w test.places test.threads)

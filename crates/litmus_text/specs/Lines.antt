@@ -8,7 +8,7 @@ use Rattle.text_laws.specs.Lines.{is_line_feed, without_return}
 use Rattle.litmus_text.specs.declared.errors.TestKind.{TestKind}
 use Rattle.litmus_text.specs.declared.errors.TextError.{TextError}
 
--- the lines that aren't passed over, each with its number among all lines, and the number behind the last line
+-- the lines that aren't passed over, each with its number among all lines, and the number after that of the last line
 pub data Lines : Type 0 where
   ends : (n : ℕ) → Lines
   line : (n : ℕ) (text : List ℕ) (rest : Lines) → Lines
@@ -25,7 +25,7 @@ is_passed text = list_all is_blank text || is_comment (trimmed text)
 abbrev pub kept : ℕ → List ℕ → Lines → Lines
 kept n text rest = cond (is_passed text) rest (line n text rest)
 
--- what stands behind the last line feed: a line, if there is a byte
+-- what comes after the last line feed: a line, if there is a byte
 abbrev pub last_line : ℕ → List ℕ → Lines
 last_line n [] = ends n
 last_line n (byte ∷ text) = kept n (byte ∷ text) (ends (n + 1))
@@ -40,11 +40,12 @@ lines_in n (piece ∷ next ∷ pieces) = kept n (without_return piece) (lines_in
 unfoldable pub lines_from : ℕ → List ℕ → Lines
 lines_from n text = lines_in n (slice_split is_line_feed text)
 
--- A part is read from the lines that are left: the answer is what it means and the lines behind it, or the fault.
+-- A part is read from the lines that are left: the answer is what it means and the lines after it, or the fault.
 abbrev pub Read : Type 0 → Type 0
 Read A = Result (A × Lines) TextError
 
 infixl 10 ◌>>=◌
+-- what is read first, and then the rest by it, unless there is a fault
 abbrev pub ◌>>=◌ : {A B : Type 0} → Result A TextError → (A → Result B TextError) → Result B TextError
 (Ok x) >>= f = f x
 (Err e) >>= f = Err e

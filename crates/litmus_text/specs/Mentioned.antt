@@ -14,23 +14,23 @@ use Rattle.litmus_text.specs.TestReading.{test_read}
 use Rattle.litmus_text.specs.Items.{links_of}
 use Rattle.litmus_text.specs.Reread.{reread}
 
--- a name stands in a table
+-- a name is in a table
 abbrev pub is_in : List (List ℕ) → List ℕ → Bool
 is_in table name = is_some (number_in table name)
 
--- the place of an operation stands in a table, if it has one
+-- the place of an operation is in a table, if it has one
 abbrev pub op_is_in : List (List ℕ) → (ℕ → List ℕ) → Micro → Bool
 op_is_in table names (ops.LoadAt dst place) = is_in table (names place)
 op_is_in table names (ops.StoreAt place n) = is_in table (names place)
 op_is_in table names op = true
 
--- the place of a left side stands in a table, if it is one
+-- the place of a left side is in a table, if it is one
 abbrev pub left_is_in : List (List ℕ) → LeftSeen → Bool
 left_is_in table (InRegister thread name) = true
 left_is_in table (AtPlace name) = is_in table name
 
 -- The text of a test under a name is read as the test, its places numbered by a table. The table holds each name
--- once, no name but those of the test's places, and each place that stands in an operation, at an address register
+-- once, no name but those of the test's places, and each place that is in an operation, in an address register
 -- or in the condition.
 pub record ReadsBack (arch : ArchName) (w : Writing) (name : List ℕ) (test : TestSeen) : Type 0 where
   pub table : List (List ℕ)

@@ -5,12 +5,12 @@ use Rattle.micro_ops.specs.declared.operation.Micro.{Micro}
 use Rattle.micro_ops.specs.declared.operation.Micro.TheVariants as ops
 use Rattle.arch_trait.specs.Names.{number_in, names_added}
 
--- the number of a name, if it has one
+-- the number of a name, or 0 where it has none
 abbrev pub or_zero : Option ℕ → ℕ
 or_zero (Some i) = i
 or_zero None = 0
 
--- the number of a name in a table
+-- the number of a name in a table, 0 where it isn't there
 abbrev pub place_in : List (List ℕ) → List ℕ → ℕ
 place_in table name = or_zero (number_in table name)
 

@@ -12,18 +12,21 @@ use Rattle.litmus_text.specs.Table.{Column, is_label_of}
 use Rattle.litmus_text.specs.Placing.{mentioned}
 use Rattle.litmus_text.specs.TablePlan.{column_so_far}
 
+-- the operations of a thread that were read, and those that are left
 pub record Progress : Type 0 where
   pub done : List Micro
   pub left : List Micro
 
+-- how far a thread was read, by its operations
 abbrev pub progress : List Micro → List Micro → Progress
 progress done left = record { done = done; left = left }
 
--- one row more was read
+-- the operations of a thread after one row more was read
 abbrev pub moved : List Micro → List Micro → Progress
 moved done [] = progress done []
 moved done (op ∷ left) = progress (done ++ op ∷ []) left
 
+-- how far a thread was read after one row more
 abbrev pub advanced : Progress → Progress
 advanced p = moved p.done p.left
 
@@ -36,7 +39,7 @@ abbrev pub mentioned_first : (ℕ → List ℕ) → List (List ℕ) → List Mic
 mentioned_first names s [] = s
 mentioned_first names s (op ∷ left) = mentioned names s op
 
--- after a row
+-- the table after the first operations that are left of all threads were mentioned
 abbrev pub row_mentions : (ℕ → List ℕ) → List (List ℕ) → List Progress → List (List ℕ)
 row_mentions names s [] = s
 row_mentions names s (p ∷ ps) = row_mentions names (mentioned_first names s p.left) ps
@@ -47,7 +50,7 @@ is_placed table names (ops.LoadAt dst place) = is_place_name (names place) && is
 is_placed table names (ops.StoreAt place n) = is_place_name (names place) && is_some (number_in table (names place))
 is_placed table names op = true
 
--- an operation behind others, with so many labels: it is the architecture's, its place and label get numbers, and
+-- an operation after others, with so many labels: it is the architecture's, its place and label get numbers, and
 -- it is no access too many
 pub record OpFits (a : Puts) (table : List (List ℕ)) (names : ℕ → List ℕ) (labels accesses : ℕ) (op : Micro) : Type 0 where
   pub has : a.has op ≡ true
@@ -55,23 +58,23 @@ pub record OpFits (a : Puts) (table : List (List ℕ)) (names : ℕ → List ℕ
   pub next : is_next labels op ≡ true
   pub room : (not (is_access op) || nat_lt accesses 64) ≡ true
 
--- the same of operations one after another
+-- operations one after another fit so
 abbrev pub CodeFits : Puts → List (List ℕ) → (ℕ → List ℕ) → ℕ → ℕ → List Micro → Type 0
 CodeFits a table names labels accesses [] = Unit {0}
 CodeFits a table names labels accesses (op ∷ code) =
     OpFits a table names labels accesses op × CodeFits a table names (labels_after labels op) (accesses + cond (is_access op) 1 0) code
 
--- a label stands once in a thread, behind the branch
+-- a label is in a thread once, after the branch
 abbrev pub stands_once : ℕ → List Micro → List Micro → Bool
 stands_once label all behind = (count_by (is_label_of label) all == 1) && (count_by (is_label_of label) behind == 1)
 
--- where an operation is a branch, its label stands as it must
+-- where an operation is a branch, its label comes once in the thread, after the branch
 abbrev pub op_lands : Micro → List Micro → List Micro → Bool
 op_lands (ops.BranchEq label) all behind = stands_once label all behind
 op_lands (ops.BranchNz a label) all behind = stands_once label all behind
 op_lands op all behind = true
 
--- the label of each branch of a thread, from an operation on, stands once in the thread and behind the branch
+-- the label of each branch of a thread, from an operation on, comes once in the thread, after the branch
 abbrev pub code_lands : List Micro → List Micro → Bool
 code_lands all [] = true
 code_lands all (op ∷ behind) = op_lands op all behind && code_lands all behind

@@ -36,7 +36,7 @@ reread table name test = record {
 
 -- A test whose text reads back: the name has its form, the text is no longer than a text may be, there are 1 to 64
 -- threads of at most 1,024 operations, each operation is the architecture's and its place and label get numbers, no
--- thread has too many accesses, branches land, address registers stand once in a thread and hold places that have
+-- thread has too many accesses, branches land, address registers come once in a thread and hold places that have
 -- names, and the condition has 1 to 128 terms of registers of the test's threads and of its places.
 pub record IsReadable (a : Puts) (arch : ArchName) (w : Writing) (name : List ℕ) (test : TestSeen) : Type 0 where
   pub named : IsTestName name

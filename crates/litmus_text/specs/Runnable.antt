@@ -9,7 +9,7 @@ use Rattle.micro_ops.specs.Running.{is_load, lands}
 use Rattle.litmus_text.specs.declared.reading.table.Placed.{Placed}
 use Rattle.litmus_text.specs.Table.{Column}
 
--- code that can be run: its registers are the machine's, the label of each branch stands later, and there are at most 64
+-- code that can be run: its registers are the machine's, the label of each branch comes later, and there are at most 64
 -- loads and fewer than 2^32 operations
 pub record IsRunnable (code : List Micro) : Type 0 where
   pub in_range : All InRange code

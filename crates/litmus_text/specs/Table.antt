@@ -28,6 +28,7 @@ pub record Cells : Type 0 where
   pub texts : List (List ℕ)
   pub whole : Bool
 
+-- the cells of a line that may have a `;`
 abbrev pub cells_if : List ℕ → Option (List ℕ × List ℕ) → Cells
 cells_if text None = record { texts = pieces 124 text; whole = false }
 cells_if text (Some parts) = record { texts = pieces 124 parts.0; whole = is_nil parts.1 }
@@ -52,7 +53,7 @@ heads_read n whole thread (cell ∷ cells) =
 abbrev pub threads_there : ℕ → Begun → ℕ → Result ℕ TextError
 threads_there n begun threads = cond (list_all (λ v. nat_lt v.0 threads) begun.values) (Ok threads) (bad BadTable n)
 
--- the number of threads before the lines behind it
+-- the number of threads, with the lines that are left
 abbrev pub before_lines : Lines → ℕ → Read ℕ
 before_lines rest threads = Ok (threads, rest)
 
@@ -69,6 +70,7 @@ pub record Column : Type 0 where
   pub ops : List Placed
   pub labels : List (List ℕ)
 
+-- a column of which nothing was read
 abbrev pub no_column : Column
 no_column = record { ops = []; labels = [] }
 
@@ -77,6 +79,7 @@ pub record Among (A : Type 0) : Type 0 where
   pub names : List (List ℕ)
   pub value : A
 
+-- columns, or one of them, with the names of places
 abbrev pub among : {A : Type 0} → List (List ℕ) → A → Among A
 among names value = record { names = names; value = value }
 
@@ -145,25 +148,26 @@ abbrev pub is_label_of : ℕ → Micro → Bool
 is_label_of label (ops.Label l) = l == label
 is_label_of label op = false
 
+-- an operation of a column is this label
 abbrev pub is_label : ℕ → Placed → Bool
 is_label label placed = is_label_of label placed.op
 
--- a label stands once in a thread, behind the branch
+-- a label is in a thread once, after the branch
 abbrev pub lands_once : ℕ → List Placed → List Placed → Bool
 lands_once label all behind = (count_by (is_label label) all == 1) && (count_by (is_label label) behind == 1)
 
--- an operation with the operations of its thread and those behind it: its label, if it is a branch, stands as it must
+-- an operation with the operations of its thread and those after it: where it is a branch, its label comes once, after it
 abbrev pub is_landing : Micro → List Placed → List Placed → Bool
 is_landing (ops.BranchEq label) all behind = lands_once label all behind
 is_landing (ops.BranchNz a label) all behind = lands_once label all behind
 is_landing _ all behind = true
 
--- the labels of the branches from an operation of a thread on
+-- the labels of the branches from an operation of a thread on are judged
 unfoldable pub labels_judged : List Placed → List Placed → Result (Unit {0}) TextError
 labels_judged all [] = Ok tt
 labels_judged all (placed ∷ behind) = cond (is_landing placed.op all behind) (labels_judged all behind) (bad BadLabel placed.at_line)
 
--- the labels of all threads
+-- the labels of all threads are judged
 unfoldable pub all_labels_judged : List Column → Result (Unit {0}) TextError
 all_labels_judged [] = Ok tt
 all_labels_judged (column ∷ columns) = do
@@ -174,7 +178,7 @@ all_labels_judged (column ∷ columns) = do
 abbrev pub no_columns : ℕ → List Column
 no_columns threads = replicate threads no_column
 
--- the lines behind a line of locations, if the next one is
+-- the lines after a line of locations, if the next one is
 unfoldable pub after_locations : Lines → Lines
 after_locations (ends n) = ends n
 after_locations (line n text rest) = cond (bytes_eq (first_word text) (codes "locations")) rest (line n text rest)

@@ -11,6 +11,7 @@ abbrev pub left_mention : List (List ℕ) → LeftSeen → List (List ℕ)
 left_mention s (InRegister thread name) = s
 left_mention s (AtPlace name) = names_added s name
 
+-- the table after the places of all terms were mentioned
 abbrev pub terms_mention : List (List ℕ) → List TermSeen → List (List ℕ)
 terms_mention s [] = s
 terms_mention s (term ∷ terms) = terms_mention (left_mention s term.left) terms

@@ -55,12 +55,12 @@ columns_of w places threads = map (column_of w places) (enumerate_from 0 threads
 unfoldable pub width_of : List (List ℕ) → ℕ
 width_of column = fold (λ width text. max width (length text)) 0 column
 
--- a text of a column, or nothing behind the last, filled with blanks on the right to the column's width
+-- a text of a column, or nothing after the last, filled with blanks on the right to the column's width
 unfoldable pub cell_text : ℕ → List (List ℕ) → List ℕ
 cell_text row column =
     slice_index_or column row [] ++ replicate (width_of column - length (slice_index_or column row [])) 32
 
--- a row: its cells with ` | ` between, a blank before and ` ;` behind
+-- a row: its cells with ` | ` between, a blank before and ` ;` after
 unfoldable pub row_line : List (List (List ℕ)) → ℕ → List ℕ
 row_line columns row = codes " " ++ (join_by (cell_text row) (codes " | ") columns ++ codes " ;")
 
@@ -68,7 +68,7 @@ row_line columns row = codes " " ++ (join_by (cell_text row) (codes " | ") colum
 unfoldable pub row_count : List (List (List ℕ)) → ℕ
 row_count columns = fold (λ count column. max count (length column)) 0 columns
 
--- the table
+-- the lines of the table
 unfoldable pub table_lines : List (List (List ℕ)) → List (List ℕ)
 table_lines columns = map (row_line columns) (range_with_len 0 (row_count columns))
 

@@ -10,7 +10,7 @@ use Rattle.final_cond.specs.Conditions.{cond_view}
 use Rattle.litmus_text.specs.declared.test.Test.{Test}
 use Rattle.litmus_text.specs.TestText.{TestSeen}
 
--- what the text of a test shows of it
+-- what the text of a test of the program shows of it
 abbrev pub test_seen : Test → TestSeen
 test_seen test = record {
   edges = test.edges.items;

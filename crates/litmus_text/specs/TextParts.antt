@@ -32,7 +32,7 @@ parts_left w test (Some Edges) = 3 + row_count (columns_of w test.places test.th
 parts_left w test (Some (Items thread)) = 2 + row_count (columns_of w test.places test.threads) + (length test.threads - thread)
 parts_left w test (Some (Row row)) = 1 + (row_count (columns_of w test.places test.threads) - row)
 
--- a part was put to a page, and the text goes on from another one, if there is one
+-- a part was appended to a page, and the text goes on from another one, if there is one
 pub record PutsPart (w : Writing) (test : TestSeen) (part : TextPart) (old new : List ℕ) (next : Option TextPart) : Type 0 where
   pub piece : List ℕ
   pub text : text_from w test (Some part) ≡ piece ++ text_from w test next

@@ -35,19 +35,20 @@ use Rattle.litmus_text.specs.Table.{Cells, Column, Among, among, no_columns, row
 use Rattle.litmus_text.specs.Condition.{Setting, Mentioned, TermRead, TermsRead, CondRead, terms_here, condition_read}
 use Rattle.litmus_text.specs.TestReading.{TestRead, threads_of}
 
--- two texts of a cut
+-- what the code sees of the two texts of a cut
 abbrev pub cut_seen : Option (Bor (List ℕ) × Bor (List ℕ)) → Option (List ℕ × List ℕ)
 cut_seen cut = option_map (λ parts. (parts.0.now, parts.1.now)) cut
 
--- the pieces that are left
+-- the pieces of a text, if it is left
 abbrev pub pieces_if : ℕ → Option (Bor (List ℕ)) → List (List ℕ)
 pieces_if sign None = []
 pieces_if sign (Some text) = pieces sign text.now
 
+-- the pieces that are left
 abbrev pub pieces_left : Pieces → List (List ℕ)
 pieces_left p = pieces_if p.sign p.rest
 
--- the first of some pieces, and the others
+-- the first of some pieces, and the pieces that are left, or there is none
 abbrev pub FirstPiece : Option (Bor (List ℕ) × Pieces) → List (List ℕ) → Type 0
 FirstPiece None all = all ≡ []
 FirstPiece (Some first) all = all ≡ first.0.now ∷ pieces_left first.1
@@ -56,39 +57,43 @@ FirstPiece (Some first) all = all ≡ first.0.now ∷ pieces_left first.1
 abbrev pub text_left : Text → Lines
 text_left text = lines_from text.number text.bytes.now
 
+-- the first line that is left, and those after it
 abbrev pub lines_seen : Left → Lines
 lines_seen (lefts.Ends n) = ends n
 lines_seen (lefts.Line l) = line l.number l.text.now (text_left l.rest)
 
--- what is left behind the first line is shorter
+-- what is left after the first line is shorter
 abbrev pub IsShorter : Left → ℕ → Type 0
 IsShorter (lefts.Ends n) size = Unit {0}
 IsShorter (lefts.Line l) size = length l.rest.bytes.now < size
 
--- lines as one text
+-- what the code sees of lines as one text
 abbrev pub joined_seen : JoinedText → Joined
 joined_seen j = record { bytes = j.bytes.items; lines = j.lines.items }
 
--- items of the initial state
+-- what the code sees of the value that an item gives a register
 abbrev pub worth_seen : TextWorth → Worth
 worth_seen (worths.Number n) = a_number n
 worth_seen (worths.Place name) = a_place name.now
 
+-- what the code sees of an item of the initial state
 abbrev pub item_seen : TextItem → Item
 item_seen items.Empty = empty
 item_seen (items.Register thread register worth) = gives thread register (worth_seen worth)
 item_seen (items.Zero name) = zero_at name.bytes
 
--- a place that an item names has its form
+-- a place that is the value of a register has a name of its form
 abbrev pub worth_formed : TextWorth → Bool
 worth_formed (worths.Number n) = true
 worth_formed (worths.Place name) = is_place_name name.now
 
+-- a place that an item names has a name of its form
 abbrev pub item_formed : TextItem → Bool
 item_formed items.Empty = true
 item_formed (items.Register thread register worth) = worth_formed worth
 item_formed (items.Zero name) = is_place_name name.bytes
 
+-- what the code sees of the initial state so far
 abbrev pub begun_seen : State → Begun
 begun_seen b = record { names = b.names; values = b.values.items }
 
@@ -101,10 +106,11 @@ abbrev pub braced_seen : Joined → BracedText → Braced
 braced_seen joined (ends_of.Closed n behind rest) = closed joined n behind.now (text_left rest)
 braced_seen joined (ends_of.Open n) = open_to joined n
 
--- cells and columns of the table
+-- what the code sees of the cells of a row
 abbrev pub cells_seen : RowCells → Cells
 cells_seen c = record { texts = pieces_left c.pieces; whole = c.whole }
 
+-- what the code sees of the column of a thread
 abbrev pub column_seen : ThreadColumn → Column
 column_seen c = record { ops = c.ops.items; labels = c.labels }
 
@@ -127,16 +133,19 @@ cells_read w n cells names columns = row_read w n (cells_seen cells).whole (cell
 abbrev pub EndsRow : ℕ → Bool → List (List ℕ) → Result (Unit {0}) TextError → Type 0
 EndsRow n whole cells answer = (w : Writing) → (names : List (List ℕ)) → Gives (λ _. among names []) answer (row_read w n whole cells names [])
 
--- terms of the condition
+-- what the code sees of the text of a condition and its threads
 abbrev pub setting_seen : Here → Setting
 setting_seen h = record { threads = h.threads; begins = h.begins; text = joined_seen h.text }
 
+-- what the code sees of the names of places
 abbrev pub mentioned_seen : Names → Mentioned
 mentioned_seen m = record { names = m.names; over = m.over }
 
+-- what the code sees of a term that was read
 abbrev pub term_read_seen : Names → Term × Bor (List ℕ) → TermRead
 term_read_seen m t = record { term = term_view t.0; state = mentioned_seen m; rest = t.1.now }
 
+-- what the code sees of the terms that were read
 abbrev pub terms_read_seen : List TermSeen → Names → List ℕ → TermsRead
 terms_read_seen terms m rest = record { terms = terms; state = mentioned_seen m; rest = rest }
 
@@ -152,6 +161,7 @@ all_terms_seen terms m rest = terms_read_seen (map term_view terms) m rest.now
 abbrev pub terms_from : Writing → Here → Names → List ℕ → Result TermsRead TextError
 terms_from w here m text = terms_here w (setting_seen here) MAX_TERMS (mentioned_seen m) text
 
+-- what the code sees of a condition that was read
 abbrev pub cond_read_seen : Cond × List (List ℕ) → CondRead
 cond_read_seen c = record { cond = cond_view c.0; names = c.1 }
 
@@ -176,7 +186,7 @@ test_of_parts name quoted values columns cond places = record {
   cond = cond_view cond;
 }
 
--- a test, from what stands behind its table on
+-- a test, from what comes after its table on
 unfoldable pub rest_read : Writing → List ℕ → Option (List ℕ) → Begun → List Column → ℕ → List (List ℕ) → Lines → Result TestRead TextError
 rest_read w name quoted begun columns threads names ls = do
   condition ← condition_read w threads names (after_locations ls)

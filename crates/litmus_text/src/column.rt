@@ -37,7 +37,7 @@ pub(crate) fn set_cell<A: Arch>(
 /// How many cells of a table are kept.
 const KEPT_CELLS: usize = 128;
 
-/// The first cells of a table, column by column. A cell is printed to find how wide its column is, and put into its row from
+/// The first cells of a table, column by column. A cell is printed to find how wide its column is, and is copied into its row from
 /// here.
 ///
 /// Contracts see the texts that are kept.
@@ -55,7 +55,7 @@ impl Model for KeptCells {
 }
 
 impl KeptCells {
-    /// Room in which nothing is kept yet.
+    /// Room in which nothing is kept so far.
     pub(crate) fn new() -> KeptCells
         ensures { result ≡ [] }
     {
@@ -152,7 +152,7 @@ pub(crate) fn set_widths<A: Arch>(
 }
 
 /// Makes `cell` the text of a thread's column in a row, from the cells that are kept, where the first of the column is at
-/// place `first`, or printed anew.
+/// place `first`, or printed again.
 pub(crate) fn take_cell<A: Arch>(
     row: usize,
     thread: usize,

@@ -33,7 +33,7 @@ fn send_names<O: Sink>(arch: &[u8], name: &[u8], page: &mut Page, out: &mut O) -
     page.send_pieces(&[arch, b" ", name, b"\n"], out)
 }
 
-/// Puts the header to the page.
+/// Appends the header to the page.
 #[tactic(auto, using(diy_io::specs::PageLaws::page_more, std::proofs::Common::append_assoc), unfolding(crate::specs::TestText::header_line))]
 pub fn put_header<A: Arch>(name: &str, page: &mut Page)
     requires { length name.now ≤ MAX_NAME }
@@ -47,7 +47,7 @@ pub fn put_header<A: Arch>(name: &str, page: &mut Page)
     page.put(b"\n");
 }
 
-/// Puts the line of the edges and the opening brace to the page.
+/// Appends the line of the edges and the opening brace to the page.
 #[tactic(auto, using(diy_io::specs::PageLaws::page_more, std::proofs::Common::append_assoc), unfolding(crate::specs::TestText::edges_line))]
 pub(crate) fn print_opening(edges: &[Edge], page: &mut Page)
     requires { length edges.now ≤ MAX_EDGES }

@@ -11,7 +11,7 @@ use relax_edges::MAX_EDGES;
 use std::marker::Model;
 
 /// What is kept of the table of a test that is printed: its first cells, how wide its columns are, and how many rows it has.
-/// It can be lent again and again, and what it held doesn't count.
+/// It can be used again and again, and what it held doesn't count.
 #[derive(Drop)]
 pub struct KeptTable {
     pub(crate) cells: KeptCells,
@@ -34,7 +34,7 @@ impl Default for KeptTable {
 }
 
 impl KeptTable {
-    /// Nothing is kept yet.
+    /// Nothing is kept so far.
     pub fn new() -> KeptTable {
         KeptTable {
             cells: KeptCells::new(),

@@ -26,7 +26,7 @@ pub enum TextPart {
     Row(usize),
 }
 
-/// Puts a part of the text of a test to the page, at most `LINE_ROOM` bytes, and says from which part on the text goes on,
+/// Appends a part of the text of a test to the page, at most `LINE_ROOM` bytes, and says from which part on the text goes on,
 /// where it does. `TextPart::Edges` comes first, after the header.
 pub fn put_part<A: Arch>(
     part: TextPart,
@@ -48,7 +48,7 @@ pub fn put_part<A: Arch>(
     }
 }
 
-/// Puts the items of a thread, or the brace after them.
+/// Appends the items of a thread, or the brace after them.
 fn put_items<A: Arch>(thread: usize, test: &Test, page: &mut Page) -> TextPart
     requires { All (λ code. IsPrintable A.puts.has A.REGISTERS (length test.now.places) code) test.now.threads.items }
     ensures { PutsPart A.writing (test_seen test.now) (parts.Items thread) page.old page.new (Some result) }
@@ -63,7 +63,7 @@ fn put_items<A: Arch>(thread: usize, test: &Test, page: &mut Page) -> TextPart
     }
 }
 
-/// Puts a row of the table, or the condition after it.
+/// Appends a row of the table, or the condition after it.
 fn put_row<A: Arch>(row: usize, test: &Test, table: &KeptTable, page: &mut Page) -> Option<TextPart>
     requires printable { All (λ code. IsPrintable A.puts.has A.REGISTERS (length test.now.places) code) test.now.threads.items }
     requires kept { HoldsTable A.writing (test_seen test.now) table.now }

@@ -30,7 +30,7 @@ pub fn print_test<A: Arch, O: Sink>(test: &Test, name: &str, out: &mut O) -> Res
     print_test_by::<A, O>(test, name, &mut KeptTable::new(), &mut page, out)
 }
 
-/// The same by way of a page that is empty before and, where the sink didn't fail, after, and of room for what is kept of the table.
+/// As `print_test`, by way of a page that is empty before and, where the sink didn't fail, after, and of room for what is kept.
 pub fn print_test_by<A: Arch, O: Sink>(
     test: &Test,
     name: &str,
@@ -62,7 +62,7 @@ fn send_test<A: Arch, O: Sink>(
     send_parts::<A, O>(test, table, page, out)
 }
 
-/// Sends what stands after the header.
+/// Sends what comes after the header.
 fn send_parts<A: Arch, O: Sink>(
     test: &Test,
     table: &KeptTable,
@@ -81,7 +81,7 @@ fn send_parts<A: Arch, O: Sink>(
     Ok(())
 }
 
-/// Puts the condition to the page.
+/// Appends the condition to the page.
 #[tactic(auto, using(diy_io::specs::PageLaws::page_more))]
 pub(crate) fn print_condition(cond: &Cond, page: &mut Page)
     ensures text { page.new ≡ page_after page.old (ended (cond_text (cond_view cond.now))) }

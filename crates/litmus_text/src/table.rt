@@ -20,7 +20,7 @@ const BLANKS: [u8; MAX_TEXT] = [b' '; MAX_TEXT];
 /// The most bytes of a cell with ` | ` before it.
 const CELL_ROOM: usize = MAX_TEXT + 3;
 
-/// Puts a row to the page.
+/// Appends a row to the page.
 pub(crate) fn print_row<A: Arch>(
     row: usize,
     threads: &[Code],

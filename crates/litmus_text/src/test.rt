@@ -20,7 +20,7 @@ pub struct Test {
 
 impl Test {
     /// A test without edges, places, threads and terms, whose condition begins with `exists`. It is a
-    /// function of its own in the program too (`inline(never)`), since it needs thrice the stack of a test.
+    /// function of its own in the program too (`inline(never)`), since it needs three times the stack of a test.
     #[inline(never)]
     pub fn new() -> Test
         ensures edges { result.edges.items ≡ [] }

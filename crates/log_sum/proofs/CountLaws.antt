@@ -48,11 +48,12 @@ all_ascii (byte ∷ bytes) h =
     let p : (is_ascii byte ≡ true) × (list_all is_ascii bytes ≡ true) = and_parts (is_ascii byte) (list_all is_ascii bytes) h in
     IsAscii-cons byte bytes (ltb-true byte 128 p.0) (all_ascii bytes p.1)
 
+-- digits are UTF-8
 pub digits_ascii : (digits : List ℕ) → list_all is_ascii_digit digits ≡ true → IsUtf8 digits
 digits_ascii digits h =
     IsUtf8-from_ascii digits (all_ascii digits (all_weaker is_ascii_digit is_ascii (λ byte p. grind (arith, nat_tests)) digits h))
 
--- the digits at the front of a text are digits
+-- the digits at the start of a text are digits
 pub front_digits : (text digits : List ℕ) → digits ≡ run_of is_ascii_digit text → list_all is_ascii_digit digits ≡ true
 front_digits text digits e = ap (list_all is_ascii_digit) e ∙ run_passes is_ascii_digit text
 
@@ -64,6 +65,7 @@ counted_digits : (digits rest : List ℕ) → is_nil digits ≡ false
 counted_digits [] rest h = cc
 counted_digits (digit ∷ digits) rest h = rw (small_or_not (digits_value 10 (digit ∷ digits))) refl
 
+-- a text that doesn't begin with a digit is wrong
 pub no_digit : (text digits : List ℕ) → digits ≡ run_of is_ascii_digit text → is_nil digits ≡ true → count_read text ≡ Err BadState
 unfolding count_read
 no_digit text [] e h = rw (sym e) refl
@@ -84,6 +86,7 @@ counted text digits rest n e f h g =
     (λ t. let k = rw t at g in rw t (let same : n ≡ digits_value 10 digits = cc in rw same refl))
     (λ t. let k = rw t at g in absurd (cc))
 
+-- where the digits write too large a number, the count is wrong
 pub not_counted : (text digits rest : List ℕ) → digits ≡ run_of is_ascii_digit text → rest ≡ after_run is_ascii_digit text → is_nil digits ≡ false
     → None ≡ cond (nat_lt (digits_value 10 digits) (2 ^ 64)) (Some (digits_value 10 digits)) None → count_read text ≡ Err BadCount
 unfolding count_read

@@ -36,6 +36,7 @@ entries_known test text same [] = refl
 entries_known test text same (e ∷ es) =
     rw (same e.0, is_eq-slice_cmp text e.0.items) (by_test (bytes_eq text e.0.items) (λ h. rw h refl) (λ h. rw h (entries_known test text same es)))
 
+-- what is known of a text is what is looked up by it
 pub view_known : (test : Vec ℕ Global → Bool) (text : List ℕ) → ((k : Vec ℕ Global) → test k ≡ bytes_eq text k.items) → (es : List (Vec ℕ Global × StateSum))
     → known_state (states_view es) text ≡ option_map sum_view (lookup test es)
 view_known test text same es = ordered_known (map state_view es) text ∙ sym (entries_known test text same es)
@@ -76,6 +77,7 @@ state_found test text same es i h =
     let passes : test k.key ≡ true = key_passes test es k.key (found.key ∙ k.stands) in
     k.state ∙ ap Some (sym ((bytes_eq-Decides text k.key.items).0 (sym (same k.key) ∙ passes)))
 
+-- the state of an entry is its key
 pub at_entry : (es : List (Vec ℕ Global × StateSum)) (i : ℕ) (key : Vec ℕ Global) (sum : StateSum) → Some (key, sum) ≡ slice_get es i → state_at es i ≡ Some key.items
 at_entry es i key sum h = ap (option_map (λ (e : Vec ℕ Global × StateSum). e.0.items)) (sym h)
 
@@ -97,9 +99,11 @@ sorted_written (e ∷ es) (suc i) w =
     ap (λ b. b && is_sorted (slice_cmp nat_cmp) (map state_view (set_value_at es i w))) (below_written e.0.items es i w)
     ∙ ap (λ b. below_all (slice_cmp nat_cmp) e.0.items (map state_view es) && b) (sorted_written es i w)
 
+-- states that are in order stay so where a sum is changed
 pub order_written : (es : List (Vec ℕ Global × StateSum)) (i : ℕ) (w : StateSum) → AreInOrder es → AreInOrder (set_value_at es i w)
 order_written es i w h = subst T (sym (sorted_written es i w)) h
 
+-- the texts by which logs wrote states are read as before where a sum is changed
 pub written_again : (es : List (Vec ℕ Global × StateSum)) (i : ℕ) (v w : StateSum) → slice_get (values_of es) i ≡ Some v → w.other_text ≡ v.other_text → AreWritten es → AreWritten (set_value_at es i w)
 written_again [] i v w at_i same h j key sum e = h j key sum e
 written_again (x ∷ es) zero v w at_i same h zero key sum e =
@@ -143,11 +147,12 @@ known_written (e ∷ es) (suc i) w text q d h =
     let y : q ≡ text = (bytes_eq-Decides q text).0 (sym (is_eq-slice_cmp q text) ∙ b) in
     let z : true ≡ false = sym ((bytes_eq-Decides e.0.items text).1 (sym x ∙ y)) ∙ other in cc)
 
+-- a change of the sum at an index is an insertion at its state
 pub view_written : (es : List (Vec ℕ Global × StateSum)) (i : ℕ) (w : StateSum) (text : List ℕ) → IsDistinct (λ (x y : Vec ℕ Global). bytes_eq x.items y.items) (keys_of es) → state_at es i ≡ Some text
     → states_view (set_value_at es i w) ≡ insert_entry (slice_cmp nat_cmp) (states_view es) text (sum_view w)
 view_written es i w text d h = ordered_put (map state_view es) (map state_view (set_value_at es i w)) text (sum_view w) (λ q. known_written es i w text q d h)
 
--- a state that is new goes last
+-- a new state goes last
 map_more : (es : List (Vec ℕ Global × StateSum)) (key : Vec ℕ Global) (w : StateSum) → map state_view (es ++ (key, w) ∷ []) ≡ map state_view es ++ (key.items, sum_view w) ∷ []
 map_more [] key w = refl
 map_more (e ∷ es) key w = ap (λ t. state_view e ∷ t) (map_more es key w)
@@ -164,12 +169,14 @@ known_more (e ∷ es) k v q none =
     let y : q ≡ k = (bytes_eq-Decides q k).0 (sym (is_eq-slice_cmp q k) ∙ b) in
     let z : true ≡ false = sym (is_eq-slice_cmp k e.0 ∙ (bytes_eq-Decides k e.0).1 (sym y ∙ x)) ∙ f in cc))
 
+-- an entry at the end with a new state is that state inserted
 pub view_more : (es : List (Vec ℕ Global × StateSum)) (key : Vec ℕ Global) (w : StateSum) → known_state (states_view es) key.items ≡ None
     → states_view (es ++ (key, w) ∷ []) ≡ insert_entry (slice_cmp nat_cmp) (states_view es) key.items (sum_view w)
 view_more es key w none =
     ordered_put (map state_view es) (map state_view (es ++ (key, w) ∷ [])) key.items (sum_view w)
     (λ q. ap (λ t. known_state t q) (map_more es key w) ∙ known_more (map state_view es) key.items (sum_view w) q (sym (ordered_known (map state_view es) key.items) ∙ none))
 
+-- a new entry whose text is read as its state keeps that so for all entries
 pub written_more : (es : List (Vec ℕ Global × StateSum)) (key : Vec ℕ Global) (w : StateSum) → form_read (written_as key.items w.other_text) ≡ Ok key.items → AreWritten es → AreWritten (es ++ (key, w) ∷ [])
 written_more [] key w told h zero other sum e =
     let pair : ◌≡◌ {A = Vec ℕ Global × StateSum} (key, w) (other, sum) = cc in
@@ -199,12 +206,13 @@ pub known_at : (es : List (Vec ℕ Global × StateSum)) (i : ℕ) (text : List �
     → slice_get (values_of es) i ≡ Some v → known_state (states_view es) text ≡ Some (sum_view v)
 known_at es i text v d h g = ordered_known (map state_view es) text ∙ known_here es i text v d h g
 
+-- an index that has a state has a sum
 pub nothing_at : (es : List (Vec ℕ Global × StateSum)) (i : ℕ) (text : List ℕ) → state_at es i ≡ Some text → slice_get (values_of es) i ≡ None → ⊥
 nothing_at [] i text h g = cc
 nothing_at (e ∷ es) zero text h g = cc
 nothing_at (e ∷ es) (suc i) text h g = nothing_at es i text h g
 
--- the state at an index, seen so often more
+-- a count added to that of the state at an index
 pub view_added : (es : List (Vec ℕ Global × StateSum)) (i count total : ℕ) (v : StateSum) (text : List ℕ) (known : Mark × ℕ) → IsDistinct (λ (x y : Vec ℕ Global). bytes_eq x.items y.items) (keys_of es)
     → Some v ≡ slice_get (values_of es) i → total ≡ min (v.count + count) last_count → state_at es i ≡ Some text → known_state (states_view es) text ≡ Some known
     → states_view (set_value_at es i (record v { count = total })) ≡ insert_entry (slice_cmp nat_cmp) (states_view es) text (known.0, min (known.1 + count) last_count)
@@ -240,16 +248,18 @@ put_last es key w h =
     let none = none_known (lookup (λ (k : Vec ℕ Global). bytes_eq key.items k.items) es) (sym (view_known (λ (k : Vec ℕ Global). bytes_eq key.items k.items) key.items (λ k. refl) es) ∙ h) in
     insert_entry-absent (λ (x y : Vec ℕ Global). bytes_eq x.items y.items) key w es (absent_from_lookup (λ (k : Vec ℕ Global). bytes_eq key.items k.items) es none)
 
+-- a new state that is put to the table is inserted
 pub view_put : (es more : List (Vec ℕ Global × StateSum)) (key : Vec ℕ Global) (w : StateSum) → more ≡ indexed.insert_entry (λ (x y : Vec ℕ Global). bytes_eq x.items y.items) es key w → known_state (states_view es) key.items ≡ None
     → states_view more ≡ insert_entry (slice_cmp nat_cmp) (states_view es) key.items (sum_view w)
 view_put es more key w e h = ap states_view (e ∙ put_last es key w h) ∙ view_more es key w h
 
+-- the table's texts are read as its states after a new state was put, or wasn't for want of memory
 pub written_put : {X Y : Type 0} (es more : List (Vec ℕ Global × StateSum)) (key : Vec ℕ Global) (w : StateSum) → known_state (states_view es) key.items ≡ None → form_read (written_as key.items w.other_text) ≡ Ok key.items → AreWritten es
     → (r : Result X Y) → OnOk r (more ≡ indexed.insert_entry (λ (x y : Vec ℕ Global). bytes_eq x.items y.items) es key w) → OnErr r (more ≡ es) → AreWritten more
 written_put es more key w none told h (Ok x) e g = subst AreWritten (sym (e ∙ put_last es key w none)) (written_more es key w told h)
 written_put es more key w none told h (Err x) e g = subst AreWritten (sym g) h
 
--- a text by which a log wrote a state
+-- a text that is the one by which a log wrote a state first is read as that state
 pub written_at : (es : List (Vec ℕ Global × StateSum)) (i : ℕ) (text first : List ℕ) (key : Vec ℕ Global) (sum : StateSum) (b : Bool) → AreWritten es → Some (key, sum) ≡ slice_get es i
     → first ≡ written_as key.items sum.other_text → b ≡ bytes_eq first text → OnTrue b (HasState es text i)
 written_at es i text first key sum true h e f same = record {
@@ -259,6 +269,6 @@ written_at es i text first key sum true h e f same = record {
 }
 written_at es i text first key sum false h e f same = tt
 
--- entries that stand in byte order are as the definitions see them
+-- entries in byte order are as the definitions see them
 pub in_order_view : (es : List (Vec ℕ Global × StateSum)) → AreInOrder es → states_view es ≡ map state_view es
 in_order_view es h = ordered_is (map state_view es) h

@@ -22,7 +22,7 @@ use Rattle.log_sum.proofs.SumLaws.{none_marked}
 use Rattle.log_sum.proofs.FollowLaws.{entry_marked}
 use Rattle.log_sum.proofs.StayLaws.{input_fault, nothing_more}
 
--- what comes of one step and then another
+-- what one step and then another give
 record Middle {A B : Type 0} (r : Result A LogError) (next : A → Result B LogError) (y : B) : Type 0 where
   middle : A
   is : r ≡ Ok middle
@@ -108,7 +108,7 @@ input_marked next files bytes h =
     subst (λ (s : Seen). AreMarked s.entries) (rest_same b.middle next (rest_of bytes) b.then)
     (lines_marked a.middle b.middle (lines_of bytes) (files_marked nothing_seen a.middle files (λ name. none_marked) a.is) b.is)
 
--- what stands for an input follows its reading
+-- what represents an input follows its reading
 pub stands_follows : (kept : Kept) (files : List (List ℕ)) (bytes : List ℕ) (s : StandsFor kept files bytes) → Follows kept.progress s.seen
 stands_follows kept files bytes s = record { reading = s.reading; marked = input_marked s.seen files bytes s.judged }
 
@@ -121,8 +121,8 @@ rest_nothing : (seen : Seen) → rest_judged seen [] ≡ Ok seen
 unfolding rest_judged
 rest_nothing seen = refl
 
--- a line that ends, behind what is stood for
--- a text that ends with a byte has one, and a text that is empty has an empty front
+-- a line that ends, after the input that is represented
+-- a text that ends with a byte isn't empty, and nothing begins an empty text
 some_end : (text : List ℕ) (byte : ℕ) → text ++ byte ∷ [] ≡ [] → ⊥
 some_end [] byte h = cc
 some_end (b ∷ text) byte h = cc
@@ -138,6 +138,7 @@ line_after old files bytes front s one =
     ∙ ap (λ (r : Result Seen LogError). r >>= (λ next. line_judged next (rest_of (bytes ++ front)))) (so_far_more files bytes front one ∙ lines_ok s.seen files bytes s.judged)
     ∙ ap (line_judged s.seen) (rest_more bytes front one ∙ ap (λ t. t ++ front) (sym s.held))
 
+-- a line that was read without a fault is represented with the input before it
 pub line_fed : (old new : Kept) (files : List (List ℕ)) (bytes front : List ℕ) (s : StandsFor old files bytes) → is_one_line front ≡ true → ReadOn new.progress (line_judged s.seen (old.held ++ front))
     → new.held ≡ [] → new.refusal ≡ old.refusal → StandsFor new files (bytes ++ (front ++ 10 ∷ []))
 line_fed old new files bytes front s one h held refusal =
@@ -153,6 +154,7 @@ line_fed old new files bytes front s one h held refusal =
       in_order = λ h. absurd (some_end (bytes ++ front) 10 h);
     })
 
+-- the fault of a line is that of the input up to it
 pub line_faulty : (old : Kept) (files : List (List ℕ)) (bytes front : List ℕ) (error : LogError) (s : StandsFor old files bytes) → is_one_line front ≡ true → line_judged s.seen (old.held ++ front) ≡ Err error
     → input_judged files (bytes ++ (front ++ 10 ∷ [])) ≡ Err error
 line_faulty old files bytes front error s one h =
@@ -160,7 +162,7 @@ line_faulty old files bytes front error s one h =
     ap (input_judged files) (sym whole) ∙ input_by_lines files ((bytes ++ front) ++ 10 ∷ [])
     ∙ ap (λ (r : Result Seen LogError). r >>= (λ next. rest_judged next (rest_of ((bytes ++ front) ++ 10 ∷ [])))) (line_after old files bytes front s one ∙ h)
 
--- a part of a line, behind what is stood for
+-- a part of a line, after the input that is represented
 part_after : (old : Kept) (files : List (List ℕ)) (bytes part : List ℕ) (s : StandsFor old files bytes) → is_one_line part ≡ true
     → input_judged files (bytes ++ part) ≡ rest_judged s.seen (old.held ++ part)
 part_after old files bytes part s one =
@@ -168,6 +170,7 @@ part_after old files bytes part s one =
     ∙ ap (λ (r : Result Seen LogError). r >>= (λ next. rest_judged next (rest_of (bytes ++ part)))) (so_far_more files bytes part one ∙ lines_ok s.seen files bytes s.judged)
     ∙ ap (rest_judged s.seen) (rest_more bytes part one ∙ ap (λ t. t ++ part) (sym s.held))
 
+-- the answer to a part of a line that goes on is that of the reading
 pub part_answered : (old new : Kept) (files : List (List ℕ)) (bytes part : List ℕ) (s : StandsFor old files bytes) → is_one_line part ≡ true → (r : Result (Unit {0}) Fault)
     → ReadTo new.progress (rest_judged s.seen (old.held ++ part)) r → OnOk r (new ≡ record old { held = old.held ++ part }) → PieceTo new files (bytes ++ part) r
 part_answered old new files bytes part s one (Ok x) h e = record {
@@ -181,7 +184,7 @@ part_answered old new files bytes part s one (Ok x) h e = record {
 part_answered old new files bytes part s one (Err (Wrong kind)) h e = part_after old files bytes part s one ∙ h
 part_answered old new files bytes part s one (Err NoMemory) h e = tt
 
--- the end of a file, behind what is stood for
+-- the end of a file, after the input that is represented
 file_by_lines : (files : List (List ℕ)) (bytes : List ℕ) → files_judged nothing_seen (files ++ bytes ∷ []) ≡ (so_far files bytes >>= (λ next. last_judged next (rest_of bytes)) >>= end_judged)
 unfolding file_judged
 file_by_lines files bytes = read_on nothing_seen files bytes ∙ by_files (files_judged nothing_seen files)
@@ -190,12 +193,14 @@ file_by_lines files bytes = read_on nothing_seen files bytes ∙ by_files (files
     by_files (Ok x) = refl
     by_files (Err error) = refl
 
+-- the end of a file is judged after its last line, which was held
 pub end_after : (old : Kept) (files : List (List ℕ)) (bytes : List ℕ) (s : StandsFor old files bytes) → files_judged nothing_seen (files ++ bytes ∷ []) ≡ (last_judged s.seen old.held >>= end_judged)
 end_after old files bytes s =
     file_by_lines files bytes
     ∙ ap (λ (r : Result Seen LogError). r >>= (λ next. last_judged next (rest_of bytes)) >>= end_judged) (lines_ok s.seen files bytes s.judged)
     ∙ ap (λ t. last_judged s.seen t >>= end_judged) (sym s.held)
 
+-- an empty last line changes nothing
 pub last_nothing : (seen : Seen) (line : List ℕ) → length line ≡ 0 → last_judged seen line ≡ Ok seen
 unfolding last_judged
 last_nothing seen [] h = refl
@@ -207,11 +212,13 @@ fits n h = grind (arith, nat_tests)
 is_over : (n : ℕ) → 65536 < n → nat_lt 65536 n ≡ true
 is_over n h = grind (arith, nat_tests)
 
+-- a last line that fits is judged by its text
 pub last_text : (seen : Seen) (line : List ℕ) → 0 < length line → length line ≤ 65536 → last_judged seen line ≡ text_judged seen line
 unfolding last_judged
 last_text seen [] h f = absurd (omega arith)
 last_text seen (byte ∷ line) h f = let e : is_too_long (byte ∷ line) ≡ false = fits (length (byte ∷ line)) f in rw e refl
 
+-- the answer to the end of a file is that of the reading
 pub end_answered : (new : Kept) (files : List (List ℕ)) (bytes : List ℕ) (seen : Seen) → files_judged nothing_seen (files ++ bytes ∷ []) ≡ end_judged seen → new.held ≡ [] → new.refusal ≡ None
     → (r : Result (Unit {0}) Fault) → ReadTo new.progress (end_judged seen) r → OnOk r (new.in_order ≡ true) → EndTo new files bytes r
 unfolding rest_of
@@ -238,6 +245,7 @@ pub fed_refused : (middle new : Kept) (files : List (List ℕ)) (bytes : List �
 fed_refused middle new files bytes (Wrong kind) answer e k h = rw e (h, k ∙ ap Some e)
 fed_refused middle new files bytes NoMemory answer e k h = rw e (k ∙ ap Some e)
 
+-- a refusal at the end of a log is the fault at its line
 pub end_refused : (middle new : Kept) (files : List (List ℕ)) (bytes : List ℕ) (fault : Fault) (answer : SumError) → answer ≡ refusal_of middle.progress.line fault → new.refusal ≡ Some answer
     → EndTo middle files bytes (Err fault) → EndedTo new files bytes (Err answer)
 end_refused middle new files bytes (Wrong kind) answer e k h = rw e (h, k ∙ ap Some e)
@@ -250,18 +258,21 @@ part_fits new seen held part h f =
     let e : is_too_long (held ++ part) ≡ false = fits (length (held ++ part)) (omega (arith, length-append held part)) in
     record { seen = seen; is = rw e refl; follows = f }
 
+-- a line whose parts have too many bytes is too long
 pub part_long : (held part : List ℕ) → 65536 < length held + length part → is_too_long (held ++ part) ≡ true
 part_long held part h = is_over (length (held ++ part)) (omega (arith, length-append held part))
 
+-- a line that fits is judged by its text without the carriage return
 pub line_fits : (seen : Seen) (line : List ℕ) → length line ≤ 65536 → line_judged seen line ≡ text_judged seen (without_return line)
 unfolding line_judged
 line_fits seen line h = let e : is_too_long line ≡ false = fits (length line) h in rw e refl
 
+-- a line that is too long has that fault
 pub line_long : (seen : Seen) (line : List ℕ) → 65536 < length line → line_judged seen line ≡ fault_at seen.line LineTooLong
 unfolding line_judged
 line_long seen line h = let e : is_too_long line ≡ true = is_over (length line) h in rw e refl
 
--- a held line that is too long, as a line that ends
+-- the fault of a held line that is too long is that of the line once it has ended
 pub long_ended : (new : Progress) (seen : Seen) (line : List ℕ) (fault : Fault) → ReadTo new (rest_judged seen line) (Err fault) → ReadTo new (line_judged seen line) (Err fault)
 unfolding rest_judged line_judged
 long_ended new seen line (Wrong kind) h = by_test (is_too_long line) (λ e. rw e (rw e at h)) (λ e. let k = rw e at h in absurd (cc))
@@ -273,7 +284,7 @@ pub line_read : (new : Progress) (seen : Seen) (line text : List ℕ) (r : Resul
 line_read new seen line text r few e h =
     subst (λ (t : Result Seen LogError). ReadTo new t r) (ap (text_judged seen) e ∙ sym (line_fits seen line few)) h
 
--- a line that is wrong, with what stands behind it in its piece
+-- a line that is wrong, with the rest of its piece after it
 pub line_answered : (old new : Kept) (files : List (List ℕ)) (bytes front behind whole : List ℕ) (s : StandsFor old files bytes) → is_one_line front ≡ true → (bytes ++ (front ++ 10 ∷ [])) ++ behind ≡ whole
     → (fault : Fault) → ReadTo new.progress (line_judged s.seen (old.held ++ front)) (Err fault) → PieceTo new files whole (Err fault)
 line_answered old new files bytes front behind whole s one e (Wrong kind) h =
@@ -286,13 +297,15 @@ piece_whole bytes done front behind rest piece e f =
     append_assoc (bytes ++ done) (front ++ 10 ∷ []) behind ∙ append_assoc bytes done ((front ++ 10 ∷ []) ++ behind)
     ∙ ap (λ t. bytes ++ (done ++ t)) (append_assoc front (10 ∷ []) behind ∙ sym e) ∙ ap (λ t. bytes ++ t) f
 
--- lengths by tests
+-- a text of length 0 is empty
 pub nothing_there : (text : List ℕ) → length text ≡ 0 → text ≡ []
 nothing_there [] h = refl
 nothing_there (byte ∷ text) h = absurd (omega arith)
 
+-- a number that isn't 0 is above 0
 pub some_there : (n : ℕ) → (n == 0) ≡ false → 0 < n
 some_there n h = grind (arith, nat_tests)
 
+-- a number that is tested to be 0 is 0
 pub none_there : (n : ℕ) → (n == 0) ≡ true → n ≡ 0
 none_there n h = grind (arith, nat_tests)

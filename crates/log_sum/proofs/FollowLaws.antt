@@ -1,4 +1,4 @@
--- The reading that the code keeps goes along with the definitions.
+-- The reading that the code keeps follows the definitions.
 use Rattle.std.proofs.Common.{◌≡◌, ℕ, List, [], ◌∷◌, ◌++◌, Some, None, true, false, refl, sym, ap, ◌∙◌, append-nil, subst}
 use Rattle.std.specs.Prelude.{Bool, cond, Option, Result, Ok, Err, nat_lt, ◌+◌}
 use Rattle.std.specs.Str.{bytes_eq}
@@ -38,6 +38,7 @@ facts_marked facts (a_condition text verdict) m h = rw (rows_more facts (a_condi
 facts_marked facts (a_hash text) m h = rw (rows_more facts (a_hash text), append-nil (rows facts)) m
 facts_marked facts (a_row row) m h = rw (rows_more facts (a_row row)) (marked_put (rows facts) row (agrees (rows facts) row h) m)
 
+-- states have one mark each after a fact without a fault
 pub entry_marked : (entries : List Entry) (test : List ℕ) (fact : Fact) → AreMarked entries → fault_of (facts_of test entries) fact ≡ None → AreMarked (entries ++ entry_of test fact ∷ [])
 entry_marked entries test fact m h = λ x.
     by_test (bytes_eq test x)
@@ -90,6 +91,7 @@ outside_block : (test : Option (List ℕ × Kind)) (said : Said) → ◌≡◌ {
 outside_block None said e h = let f : passed_over ≡ said = cc in let g = ap in_block f in cc
 outside_block (Some test) said e h = let f : begins test.0 test.1 ≡ said = cc in let g = ap in_block f in cc
 
+-- what is said inside a block alone is said of the running test
 pub running_inside : (place : Place) (text : List ℕ) (said : Said) (tests : List (List ℕ × Summed)) (i : ℕ) (name : List ℕ)
     → line_said place text ≡ Ok said → in_block said ≡ true → IsRunning place tests i name → name_at tests i ≡ Some name
 unfolding line_said
@@ -164,11 +166,13 @@ unfolding text_judged
 text_wrong new seen text (Wrong kind) l e = ap (said_put seen) e ∙ ap (λ (n : ℕ). fault_at {A = Seen} n kind) (sym l)
 text_wrong new seen text NoMemory l e = tt
 
+-- a fault of what a line says is the fault of the line
 pub text_refused : (new : Progress) (seen : Seen) (text : List ℕ) (said : Result Said LogKind) (fault : Fault) → line_said seen.place text ≡ said → ReadTo new (said_judged seen said) (Err fault) → ReadTo new (text_judged seen text) (Err fault)
 unfolding text_judged
 text_refused new seen text said (Wrong kind) e h = ap (said_put seen) e ∙ ap (λ (r : Result Seen LogError). r >>= at_next_line) h
 text_refused new seen text said NoMemory e h = tt
 
+-- a line that says something without a fault is read, and the next line has the next number
 pub text_read : (old new : Progress) (seen : Seen) (text : List ℕ) (said : Result Said LogKind) → line_said seen.place text ≡ said → ReadOn old (said_judged seen said)
     → new.tests ≡ old.tests → new.test ≡ old.test → new.place ≡ old.place → new.line ≡ next_line old.line → ReadOn new (text_judged seen text)
 unfolding text_judged
@@ -186,11 +190,12 @@ text_read old new seen text said e h t i p l = record {
   };
 }
 
--- the line of a state stands in a block
+-- the line of a state is inside a block
 state_inside : (test : Option (List ℕ × Kind)) (row : Result Row LogKind) → ◌≡◌ {A = Result Said LogKind} (Ok (outside_said test)) (row_said row) → ⊥
 state_inside test (Ok row) e = outside_block test (a_state row) e refl
 state_inside test (Err kind) e = cc
 
+-- the line of a state is about the running test
 pub running_state : (place : Place) (text : List ℕ) (row : Result Row LogKind) (tests : List (List ℕ × Summed)) (i : ℕ) (name : List ℕ)
     → line_said place text ≡ row_said row → IsRunning place tests i name → name_at tests i ≡ Some name
 unfolding line_said

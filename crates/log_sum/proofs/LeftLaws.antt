@@ -98,6 +98,7 @@ read_no_sign piece sides h = by_cut (cut_at 61 piece) refl h
 pub read_left : (piece : List ℕ) (sides : List ℕ × List ℕ) → sides_read (cut_at 61 piece) ≡ Some sides → left_side (equality_of sides) ≡ left_kept sides.0
 read_left piece sides h = left_again (left_kept sides.0) sides.1 (kept_no_sign sides.0 (read_no_sign piece sides h))
 
+-- the equality of a piece has a sign
 pub read_sign : (piece : List ℕ) (sides : List ℕ × List ℕ) → sides_read (cut_at 61 piece) ≡ Some sides → HasSign (equality_of sides)
 read_sign piece sides h = ap is_some (cut_again (left_kept sides.0) sides.1 (kept_no_sign sides.0 (read_no_sign piece sides h)))
 
@@ -113,7 +114,7 @@ begins_left text other h g =
     (sym (ap left_side (starts.0 b) ∙ left_again (left_side text) (drop (length head) other) t.no_sign)))
     (λ s. starts.1 o.value (o.whole ∙ ap (λ l. (l ++ 61 ∷ []) ++ o.value) (sym ((bytes_eq-Decides (left_side text) (left_side other)).0 s))))
 
--- in byte order what is between two texts that begin alike begins so too
+-- in byte order a text between two texts that begin alike begins so too
 first_between : (h b : ℕ) (p q : Ordering) → ordering_then (nat_cmp h b) p ≡ Less → ordering_then (nat_cmp b h) q ≡ Less → (h ≡ b) × (p ≡ Less) × (q ≡ Less)
 first_between h b p q f g = by_ordering (nat_cmp h b) refl f
   where
@@ -145,7 +146,7 @@ further_apart x y z h g less later apart =
     let left : left_side y ≡ left_side x = ap left_side same ∙ left_again (left_side x) (drop (length head) y) s.no_sign in
     let k : true ≡ false = sym ((bytes_eq-Decides (left_side x) (left_side y)).1 (sym left)) ∙ apart in cc)
 
--- so in texts that ascend all left sides differ where those of neighbours do
+-- where the left sides of neighbours differ, all left sides of texts that ascend differ
 pub ascend_apart : (texts : List (List ℕ)) → All HasSign texts → IsStrictlySortedBy (slice_cmp nat_cmp) texts → has_left_twice texts ≡ false → IsDistinct same_left texts
 unfolding IsDistinct IsStrictlySortedBy
 ascend_apart [] a s h = tt
@@ -160,7 +161,7 @@ ascend_apart (x ∷ y ∷ rest) a s h =
     apart_from (z ∷ zs) b t e =
         (further_apart x y z (All-head HasSign x (y ∷ rest) a) (All-head HasSign z zs b) s.0.0 t.0 e, apart_from zs (All-tail HasSign z zs b) t.1 e)
 
--- and where two neighbours have one, not all differ
+-- where two neighbours have one left side, not all left sides differ
 pub twice_not_apart : (texts : List (List ℕ)) → has_left_twice texts ≡ true → IsDistinct same_left texts → ⊥
 unfolding IsDistinct
 twice_not_apart [] h d = absurd (cc)

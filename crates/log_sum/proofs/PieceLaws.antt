@@ -32,7 +32,7 @@ ended_tells kept files log (Ok x) ended = record { seen = ended.seen; is = sym (
 ended_tells kept files log (Err (Log error)) ended = ended.0
 ended_tells kept files log (Err NoMemory) ended = tt
 
--- two answers that tell of one reading
+-- two answers about one reading
 one_answer : (read : Result Seen LogError) (r s : Result (Unit {0}) SumError) → Tells read r → Tells read s → IsOneAnswer r s
 one_answer read (Err NoMemory) s h k = tt
 one_answer read (Ok x) (Ok y) h k = inl refl

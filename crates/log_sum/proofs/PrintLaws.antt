@@ -18,11 +18,12 @@ use Rattle.log_sum.specs.Facts.{facts_of, tests_of}
 use Rattle.log_sum.specs.SumText.{test_text, sum_text, line_end, filling, mark_sign, state_line, kind_word, verdict_word, how_often, head_text, verdict_text, observation_text}
 use Rattle.log_sum.proofs.ListLaws.{map_more}
 
+-- a list that is mapped keeps its length
 pub length_map : {A B : Type 0} (f : A → B) (xs : List A) → length (map f xs) ≡ length xs
 length_map f [] = refl
 length_map f (x ∷ xs) = ap (λ n. suc n) (length_map f xs)
 
--- what stands after so many of six blanks and a sign
+-- the rest of six blanks and a sign, from a place on
 pub blanks_and_sign : (k a b : ℕ) → k ≤ 6 → take (8 - k) (drop k (32 ∷ 32 ∷ 32 ∷ 32 ∷ 32 ∷ 32 ∷ a ∷ b ∷ [])) ≡ replicate (6 - k) 32 ++ a ∷ b ∷ []
 blanks_and_sign zero a b h = refl
 blanks_and_sign (suc zero) a b h = refl
@@ -56,6 +57,7 @@ joined_head x feed histogram count states =
     ap (λ t. t ++ count ++ (states ++ feed)) (sym (append_assoc x feed histogram))
     ∙ sym (append_assoc (x ++ feed ++ histogram ++ count) states feed)
 
+-- the pieces of the lines above the states are their text
 pub head_is : (name kind count : List ℕ) (test : Summed) → kind ≡ kind_word (or_else Allowed test.kind) → count ≡ decimal (length test.states)
     → codes "Test " ++ name ++ codes " " ++ kind ++ (line_end ++ codes "Histogram (") ++ count ++ (codes " states)" ++ line_end)
     ≡ head_text name test
@@ -64,6 +66,7 @@ head_is name kind count test e f =
     let line = codes "Test " ++ name ++ codes " " ++ kind_word (or_else Allowed test.kind) in
     rw (e, f) (joined_head line line_end (codes "Histogram (") (decimal (length test.states)) (codes " states)"))
 
+-- the pieces of the lines of the verdict and of the counts are their text
 pub verdict_is : (word starred plain : List ℕ) (test : Summed)
     → word ≡ verdict_word (is_validated test) → starred ≡ decimal test.starred → plain ≡ decimal test.plain
     → word ++ (line_end ++ line_end ++ codes "Witnesses" ++ line_end ++ codes "Positive: ") ++ starred ++ codes ", Negative: " ++ plain ++ line_end
@@ -71,6 +74,7 @@ pub verdict_is : (word starred plain : List ℕ) (test : Summed)
 unfolding verdict_text
 verdict_is word starred plain test e f h = rw (e, f, h) (simp append_assoc)
 
+-- the pieces of the line of the observation are its text
 pub observation_is : (name often starred plain : List ℕ) (test : Summed)
     → often ≡ how_often test.starred test.plain → starred ≡ decimal test.starred → plain ≡ decimal test.plain
     → codes "Observation " ++ name ++ codes " " ++ often ++ codes " " ++ starred ++ codes " " ++ plain ++ (line_end ++ line_end)
@@ -83,26 +87,29 @@ observation_is name often starred plain test e f h =
 abbrev Answer : Type 0
 Answer = Result (Unit {0}) Failed
 
--- a text and two more, one after another: all are sent, or the first is sent in part, or the second
+-- three texts that are sent one after another are sent as one
 pub three_sent : (a b c d : SinkSeen) (held one two kept x y z : List ℕ) (u v : Unit {0}) (result : Answer)
     → Sends a held b one x (Ok u) → Sends b one c two y (Ok v) → Sends c two d kept z result → Sends a held d kept (x ++ y ++ z) result
 three_sent a b c d held one two kept x y z u v result h k m =
     sends_then a c d held two kept (x ++ y) z v result (sends_then a b c held one two x y u (Ok v) h k) m
 
+-- where the first of three texts is sent in part, so are all three as one
 pub first_stopped : (Q : Failed → Type 0) (a b : SinkSeen) (held mid kept x y z : List ℕ) (e : Failed) (result : Answer)
     → Sends a held b mid x (Err e) → IsErrAnd result Q → Sends a held b kept (x ++ y ++ z) result
 first_stopped Q a b held mid kept x y z e result h is_err =
     sends_same a b held kept (x ++ (y ++ z)) (x ++ y ++ z) result (sends_stopped Q a b held mid kept x (y ++ z) e result h is_err) (sym (append_assoc x y z))
 
+-- where the second of three texts is sent in part, so are all three as one
 pub second_stopped : (Q : Failed → Type 0) (a b c : SinkSeen) (held one mid kept x y z : List ℕ) (u : Unit {0}) (e : Failed) (result : Answer)
     → Sends a held b one x (Ok u) → Sends b one c mid y (Err e) → IsErrAnd result Q → Sends a held c kept (x ++ y ++ z) result
 second_stopped Q a b c held one mid kept x y z u e result h k is_err =
     sends_stopped Q a c held mid kept (x ++ y) z e result (sends_then a b c held one mid x y u (Err e) h k) is_err
 
--- a loop over elements, each of which has a text: one more is sent, or it is sent in part
+-- a loop over elements, each of which has a text: one more is sent, or a part of it
 lines_more : {T : Type 0} (line : T → List ℕ) (xs : List T) (x : T) → flat_map line (xs ++ x ∷ []) ≡ flat_map line xs ++ line x
 lines_more line xs x = flat_map-append line xs (x ∷ []) ∙ ap (λ t. flat_map line xs ++ t) (append-nil (line x))
 
+-- the text of one more element is sent after those so far
 pub lines_go : {A T : Type 0} (f : A → T) (line : T → List ℕ) (a b c : SinkSeen) (held mid kept : List ℕ) (ys : List A) (x : A) (text : List ℕ)
     → SentAll a held b mid (flat_map line (map f ys)) → SentAll b mid c kept text → text ≡ line (f x)
     → SentAll a held c kept (flat_map line (map f (ys ++ x ∷ [])))
@@ -111,6 +118,7 @@ lines_go f line a b c held mid kept ys x text p q e =
     ap (λ t. flat_map line (map f ys) ++ t) e ∙ sym (ap (flat_map line) (map_more f ys x) ∙ lines_more line (map f ys) (f x)) in
     subst (SentAll a held c kept) parts (sent_both a b c held mid kept (flat_map line (map f ys)) text p q)
 
+-- where the text of an element is sent in part, so are the texts of all elements as one
 pub lines_stop : {A T : Type 0} (Q : Failed → Type 0) (f : A → T) (line : T → List ℕ) (a b c : SinkSeen) (held mid kept : List ℕ)
     (ys : List A) (x : A) (rest all : List T) (text : List ℕ) (result : Answer)
     → SentAll a held b mid (flat_map line (map f ys)) → WrotePart b c (mid ++ text) → text ≡ line (f x) → map f ys ++ f x ∷ rest ≡ all
@@ -127,11 +135,13 @@ lines_stop Q f line a b c held mid kept ys x rest all text (Err _) p q e covers 
           (sent_part_more a c held (flat_map line (map f ys) ++ text) (flat_map line rest) (sent_part a b c held mid (flat_map line (map f ys)) text p q));
     }
 
+-- the elements so far with this one, and those after it, are all elements
 pub covers_next : {A B T : Type 0} (f : A → T) (g : B → T) (ys : List A) (it rest : List B) (x : A) (y : B) (all : List T) → f x ≡ g y → it ≡ y ∷ rest → map f ys ++ map g it ≡ all
     → map f (ys ++ x ∷ []) ++ map g rest ≡ all
 covers_next f g ys it rest x y all e h k =
     ap (λ t. t ++ map g rest) (map_more f ys x) ∙ append_assoc (map f ys) (f x ∷ []) (map g rest) ∙ ap (λ t. map f ys ++ t ∷ map g rest) e ∙ ap (λ t. map f ys ++ map g t) (sym h) ∙ k
 
+-- the elements so far, this one, and those after it are all elements
 pub covers_this : {A B T : Type 0} (f : A → T) (g : B → T) (ys : List A) (it rest : List B) (x : A) (y : B) (all : List T) → f x ≡ g y → it ≡ y ∷ rest → map f ys ++ map g it ≡ all
     → map f ys ++ f x ∷ map g rest ≡ all
 covers_this f g ys it rest x y all e h k =
@@ -141,13 +151,13 @@ texts_of : (test : List ℕ → Summed) (names : List (List ℕ)) → flat_map (
 texts_of test [] = refl
 texts_of test (name ∷ names) = ap (λ t. test_text name (test name) ++ t) (texts_of test names)
 
--- the sum of what is kept is that of the facts of the input that it stands for
+-- the sum of what is kept is that of the facts of the input that it represents
 pub sum_is : (kept : Kept) (files : List (List ℕ)) (bytes : List ℕ) (s : StandsFor kept files bytes) → kept_text kept ≡ sum_text s.seen.entries
 unfolding sum_text
 sum_is kept files bytes s =
     ap (flat_map (λ (row : List ℕ × Summed). test_text row.0 row.1)) s.reading.tests ∙ texts_of (λ name. summed (facts_of name s.seen.entries)) (tests_of s.seen.entries)
 
--- two summers that stand for the same input have the same sum, however its bytes were cut
+-- two summers that represent the same input have the same sum, however its bytes were cut
 pub same_sum : (one other : Kept) (files : List (List ℕ)) (bytes : List ℕ) → StandsFor one files bytes → StandsFor other files bytes → kept_text one ≡ kept_text other
 same_sum one other files bytes s t =
     let same : Ok s.seen ≡ Ok t.seen = sym s.judged ∙ t.judged in

@@ -19,6 +19,7 @@ use Rattle.log_sum.proofs.ListLaws.{map_more}
 abbrev is_feed : ℕ → Bool
 is_feed byte = byte == 10
 
+-- a text has no line feed
 abbrev pub is_one_line : List ℕ → Bool
 is_one_line text = list_all (λ byte. not (is_feed byte)) text
 
@@ -39,7 +40,7 @@ first_line (byte ∷ bytes) =
 last_onto : (byte : ℕ) (pieces : List (List ℕ)) (line : List ℕ) → pieces ≡ line ∷ [] → last_of (onto_first byte pieces) ≡ byte ∷ last_of pieces
 last_onto byte pieces line e = rw e refl
 
--- bytes without a line feed go onto the last line
+-- bytes without a line feed are appended to the last line
 split_more : (bytes part : List ℕ) → is_one_line part ≡ true → slice_split is_feed (bytes ++ part) ≡ but_last (slice_split is_feed bytes) ++ (last_of (slice_split is_feed bytes) ++ part) ∷ []
 split_more [] part h = one_line part h
   where
@@ -74,30 +75,34 @@ front_split [] line = refl
 front_split (l ∷ []) line = refl
 front_split (l ∷ m ∷ lines) line = ap (λ t. l ∷ t) (front_split (m ∷ lines) line)
 
+-- bytes without a line feed end no line
 pub lines_more : (bytes part : List ℕ) → is_one_line part ≡ true → lines_of (bytes ++ part) ≡ lines_of bytes
 unfolding lines_of
 lines_more bytes part h = ap but_last (split_more bytes part h) ∙ front_split (but_last (slice_split is_feed bytes)) (last_of (slice_split is_feed bytes) ++ part)
 
+-- bytes without a line feed are appended to the line that goes on
 pub rest_more : (bytes part : List ℕ) → is_one_line part ≡ true → rest_of (bytes ++ part) ≡ rest_of bytes ++ part
 unfolding rest_of
 rest_more bytes part h = ap last_of (split_more bytes part h) ∙ last_split (but_last (slice_split is_feed bytes)) (last_of (slice_split is_feed bytes) ++ part)
 
--- the split without its last line and then that
+-- a split is its pieces but the last, and then the last
 whole_split : (lines : List (List ℕ)) (line : List ℕ) (rest : List (List ℕ)) → lines ≡ line ∷ rest → lines ≡ but_last lines ++ last_of lines ∷ []
 whole_split lines line [] e = rw e refl
 whole_split lines line (next ∷ rest) e = rw e (ap (λ t. line ∷ t) (whole_split (next ∷ rest) next rest refl))
 
+-- a line feed ends the line that goes on
 pub lines_ended : (bytes : List ℕ) → lines_of (bytes ++ 10 ∷ []) ≡ lines_of bytes ++ rest_of bytes ∷ []
 unfolding lines_of rest_of
 lines_ended bytes =
     let first = first_line bytes in
     ap but_last (split_ended bytes) ∙ front_split (slice_split is_feed bytes) [] ∙ whole_split (slice_split is_feed bytes) first.line first.rest first.is
 
+-- after a line feed nothing goes on
 pub rest_ended : (bytes : List ℕ) → rest_of (bytes ++ 10 ∷ []) ≡ []
 unfolding rest_of
 rest_ended bytes = ap last_of (split_ended bytes) ∙ last_split (slice_split is_feed bytes) []
 
--- where a line feed stands, a line ends and the others follow
+-- where a line feed is, a line ends and the others follow
 split_cut : (bytes rest : List ℕ) → slice_split is_feed (bytes ++ 10 ∷ rest) ≡ slice_split is_feed bytes ++ slice_split is_feed rest
 split_cut [] rest = refl
 split_cut (byte ∷ bytes) rest =
@@ -114,6 +119,7 @@ last_both [] line more = refl
 last_both (l ∷ []) line more = refl
 last_both (l ∷ m ∷ lines) line more = last_both (m ∷ lines) line more
 
+-- the lines up to a line feed, and those after it, are the lines of the whole
 pub lines_cut : (bytes rest : List ℕ) → lines_of (bytes ++ 10 ∷ rest) ≡ (lines_of bytes ++ rest_of bytes ∷ []) ++ lines_of rest
 unfolding lines_of rest_of
 lines_cut bytes rest =
@@ -143,19 +149,20 @@ lines_then : (seen : Seen) (lines : List (List ℕ)) (line : List ℕ) → lines
 lines_then seen [] line = then_none (line_judged seen line)
 lines_then seen (l ∷ lines) line = then_on (line_judged seen l) _ _ _ (λ next. lines_then next lines line)
 
--- what the lines of bytes that have come give, before the line that goes on is judged
+-- what the lines of the bytes so far give, before the line that goes on is judged
 abbrev pub so_far : List (List ℕ) → List ℕ → Result Seen LogError
 so_far files bytes = files_judged nothing_seen files >>= λ seen. lines_judged seen (lines_of bytes)
 
+-- an input is judged by its lines, and then by the line that goes on
 pub input_by_lines : (files : List (List ℕ)) (bytes : List ℕ) → input_judged files bytes ≡ (so_far files bytes >>= (λ next. rest_judged next (rest_of bytes)))
 unfolding input_judged bytes_judged
 input_by_lines files bytes = then_on (files_judged nothing_seen files) _ _ _ (λ x. refl)
 
--- bytes without a line feed change what goes on alone
+-- bytes without a line feed change only the line that goes on
 pub so_far_more : (files : List (List ℕ)) (bytes part : List ℕ) → is_one_line part ≡ true → so_far files (bytes ++ part) ≡ so_far files bytes
 so_far_more files bytes part h = ap (λ lines. files_judged nothing_seen files >>= λ seen. lines_judged seen lines) (lines_more bytes part h)
 
--- a line feed has the line judged
+-- at a line feed the line is judged
 pub so_far_ended : (files : List (List ℕ)) (bytes : List ℕ) → so_far files (bytes ++ 10 ∷ []) ≡ (so_far files bytes >>= (λ next. line_judged next (rest_of bytes)))
 so_far_ended files bytes =
     ap (λ lines. files_judged nothing_seen files >>= λ seen. lines_judged seen lines) (lines_ended bytes)
@@ -170,14 +177,17 @@ read_on seen (file ∷ files) bytes = then_on (file_judged seen file) _ _ _ (λ 
 bytes_same : (t : List ℕ) → bytes_eq t t ≡ true
 bytes_same t = (bytes_eq-Decides t t).1 refl
 
+-- a fact of this test comes after the others
 pub facts_here : (test : List ℕ) (entries : List Entry) (fact : Fact) → facts_of test (entries ++ entry_of test fact ∷ []) ≡ facts_of test entries ++ fact ∷ []
 facts_here test entries fact =
     ap (map (λ e. e.fact)) (filter-append (λ e. bytes_eq e.test test) entries (entry_of test fact ∷ [])) ∙ rw (bytes_same test) (map_more (λ e. e.fact) (filter (λ e. bytes_eq e.test test) entries) (entry_of test fact))
 
+-- a fact of one test isn't among those of another
 pub facts_elsewhere : (name test : List ℕ) (entries : List Entry) (fact : Fact) → bytes_eq test name ≡ false → facts_of name (entries ++ entry_of test fact ∷ []) ≡ facts_of name entries
 facts_elsewhere name test entries fact h =
     ap (map (λ e. e.fact)) (filter-append (λ e. bytes_eq e.test name) entries (entry_of test fact ∷ [])) ∙ rw h (ap (map (λ e. e.fact)) (append-nil (filter (λ e. bytes_eq e.test name) entries)))
 
+-- the test of a new entry comes last, unless it is among the tests
 pub tests_then : (entries : List Entry) (test : List ℕ) (fact : Fact) → tests_of (entries ++ entry_of test fact ∷ []) ≡ with_name (tests_of entries) test
 tests_then entries test fact =
     ap (fold with_name []) (map_more (λ e. e.test) entries (entry_of test fact)) ∙ fold-append with_name [] (map (λ e. e.test) entries) (test ∷ [])
@@ -186,6 +196,7 @@ tests_then entries test fact =
 abbrev pub Without : List ℕ → List (List ℕ) → Type 0
 Without name names = list_any (bytes_eq name) names ≡ false
 
+-- no two names are the same
 pub data Differ : List (List ℕ) → Type 0 where
   none : Differ []
   more : (name : List ℕ) (names : List (List ℕ)) → Without name names → Differ names → Differ (name ∷ names)
@@ -247,5 +258,6 @@ fold_differ : (more names : List (List ℕ)) → Differ names → Differ (fold w
 fold_differ [] names d = d
 fold_differ (name ∷ rest) names d = fold_differ rest (with_name names name) (differ_with names name d)
 
+-- the tests of entries have different names
 pub tests_differ : (entries : List Entry) → Differ (tests_of entries)
 tests_differ entries = fold_differ (map (λ e. e.test) entries) [] none

@@ -1,4 +1,4 @@
--- Equalities that are put in byte order at once are the set of those that are put one by one.
+-- Equalities that are sorted at once are the set of those that are inserted one by one.
 use Rattle.std.proofs.Common.{◌≡◌, ℕ, List, [], ◌∷◌, ◌++◌, Some, None, true, false, refl, sym, ap, ◌∙◌, subst}
 use Rattle.std.specs.Prelude.{Bool, ◌||◌, cond, Option, Ok, Err, T, map}
 use Rattle.std.specs.List.{list_any, All, AllByRecursion, IsDistinct}
@@ -127,7 +127,7 @@ fresh_before state text (other ∷ texts) h a f =
     or_parts (same_left text other) (has_left state (left_side other ++ 61 ∷ [])) (sym (left_of_more state text other h sign) ∙ f.0) in
     ((here.1, rest.0), (here.0, rest.1))
 
--- what was put one by one
+-- what was inserted one by one
 record Put (state texts more : List (List ℕ)) : Type 0 where
   fresh : Fresh state texts
   apart : IsDistinct same_left texts
@@ -170,8 +170,8 @@ none_there : (texts : List (List ℕ)) → Fresh [] texts
 none_there [] = tt
 none_there (text ∷ texts) = (refl, none_there texts)
 
--- put in order at once
--- two neighbours have one left side: so it comes twice where they are put one by one
+-- sorted at once
+-- two neighbours have one left side: so it comes twice where they are inserted one by one
 pub set_twice : {K : Type 0} (show : K → List ℕ) (old new : List K) → All HasSign (map show old) → IsPermutation old new → has_left_twice (map show new) ≡ true → with_all [] (map show old) ≡ None
 set_twice show old new a p h = by_put (with_all [] (map show old)) refl
   where
@@ -181,7 +181,7 @@ set_twice show old new a p h = by_put (with_all [] (map show old)) refl
         let all : Put [] (map show old) more = all_put [] (map show old) a more e in
         absurd (twice_not_apart (map show new) h (IsDistinct-IsPermutation same_left swapped (map show old) (map show new) (IsPermutation-map show old new p) all.apart))
 
--- no two neighbours have one: what is put one by one is what is in order
+-- no two neighbours have one: what is inserted one by one is what is in order
 pub set_in_order : {K : Type 0} (show : K → List ℕ) (old new : List K) → All HasSign (map show old) → IsPermutation old new → IsSortedBy (λ x y. is_lt (slice_cmp nat_cmp (show x) (show y))) new → has_left_twice (map show new) ≡ false
     → with_all [] (map show old) ≡ Some (map show new)
 set_in_order show old new a p s h = by_put (with_all [] (map show old)) refl
@@ -210,7 +210,7 @@ set_in_order show old new a p s h = by_put (with_all [] (map show old)) refl
 abbrev pub collected_read : List (List ℕ) → List ℕ → Option (List (List ℕ))
 collected_read texts rest = and_then (with_all [] texts) (λ state. rest_read state rest)
 
--- nothing is collected yet
+-- nothing has been collected
 pub read_begins : {K : Type 0} (show : K → List ℕ) (keys : List K) (text : List ℕ) → keys ≡ [] → All HasSign (map show keys) × (collected_read (map show keys) text ≡ state_read text)
 unfolding with_all
 read_begins show keys text h = rw h (All-nil HasSign, set_begins text)

@@ -69,10 +69,12 @@ reordered_known old new same q =
         ∙ entries_known (λ (y : Vec ℕ Global). bytes_eq key.items y.items) key.items (λ y. refl) old
         ∙ ap (known_state (map state_view old)) (sym e)
 
+-- the definitions see the same states where each key has the same sum
 pub view_reordered : (old new : List (Vec ℕ Global × StateSum)) → ((k : Vec ℕ Global) → lookup (λ (y : Vec ℕ Global). bytes_eq k.items y.items) new ≡ lookup (λ (y : Vec ℕ Global). bytes_eq k.items y.items) old)
     → states_view new ≡ states_view old
 view_reordered old new same = ordered_same (map state_view new) (map state_view old) (reordered_known old new same)
 
+-- the texts by which logs wrote states are read as before where each key has the same sum
 pub written_reordered : (old new : List (Vec ℕ Global × StateSum)) → IsDistinct (λ (x y : Vec ℕ Global). bytes_eq x.items y.items) (keys_of new)
     → ((k : Vec ℕ Global) → lookup (λ (y : Vec ℕ Global). bytes_eq k.items y.items) new ≡ lookup (λ (y : Vec ℕ Global). bytes_eq k.items y.items) old) → AreWritten old → AreWritten new
 written_reordered old new distinct same h i key sum e =
@@ -106,6 +108,7 @@ below_less x y (e ∷ es) h b =
     both (is_lt (slice_cmp nat_cmp x e.0.items)) (below_all (slice_cmp nat_cmp) x (map state_view es)) (ap is_lt (order.trans x y e.0.items h further))
     (below_less x y es h (second (is_lt (slice_cmp nat_cmp y e.0.items)) (below_all (slice_cmp nat_cmp) y (map state_view es)) b))
 
+-- entries that were sorted by their keys are in order
 pub sorted_entries : (es : List (Vec ℕ Global × StateSum)) → IsSortedBy (λ (x y : Vec ℕ Global). is_lt (slice_cmp nat_cmp x.items y.items)) (keys_of es) → IsDistinct (λ (x y : Vec ℕ Global). bytes_eq x.items y.items) (keys_of es) → AreInOrder es
 unfolding IsDistinct
 sorted_entries [] s d = tt

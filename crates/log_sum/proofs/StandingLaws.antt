@@ -8,13 +8,13 @@ use Rattle.log_sum.specs.SumText.{sum_text}
 use Rattle.log_sum.proofs.PrintLaws.{sum_is}
 use Rattle.log_sum.proofs.StayLaws.{files_fault, file_more, nothing_more}
 
--- the printed sum of what stands for whole logs is theirs
+-- the printed sum of what represents whole logs is theirs
 pub standing_text : (kept : Kept) (files : List (List ℕ)) → StandsFor kept files [] → logs_text files ≡ Ok (kept_text kept)
 unfolding logs_text
 standing_text kept files stands =
     ap (λ (r : Result Seen LogError). r >>= λ seen. Ok (sum_text seen.entries)) (sym (nothing_more files) ∙ stands.judged) ∙ ap Ok (sym (sum_is kept files [] stands))
 
--- a fault of the bytes that have come stays the first fault, whatever follows
+-- a fault of the bytes so far stays the first fault, whatever follows
 pub fault_stays : (files : List (List ℕ)) (bytes rest : List ℕ) (more : List (List ℕ)) (error : LogError)
     → input_judged files bytes ≡ Err error → logs_text (files ++ (bytes ++ rest) ∷ more) ≡ Err error
 unfolding logs_text

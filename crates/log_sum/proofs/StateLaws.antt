@@ -32,6 +32,7 @@ pieces_cut sign (byte ∷ text) parts h =
         let l : parts ≡ (byte ∷ further.0, further.1) = cc in
         rw l (ap (onto_first byte) (law further f))
 
+-- a text without a sign is one piece
 pub pieces_whole : (sign : ℕ) (text : List ℕ) → cut_at sign text ≡ None → slice_split (λ byte. byte == sign) text ≡ text ∷ []
 unfolding cut_at
 pieces_whole sign [] h = refl
@@ -83,15 +84,18 @@ unfolding with_pieces
 pieces_go state piece behind =
     let first = first_piece behind in rw (first.is, first.unblanked_is) refl
 
+-- the equality of the first piece is read, and then the rest after its semicolon
 pub rest_goes : (state : List (List ℕ)) (rest : List ℕ) (parts : List ℕ × List ℕ) → cut_at 59 rest ≡ Some parts
     → rest_read state rest ≡ and_then (with_equality state (sides_read (cut_at 61 parts.0))) (λ more. rest_read more (unblanked parts.1))
 rest_goes state rest parts h =
     ap (λ pieces. with_pieces state (later_unblanked pieces)) (pieces_cut 59 rest parts h) ∙ pieces_go state parts.0 parts.1
 
+-- a rest without a semicolon must be empty
 pub rest_whole : (state : List (List ℕ)) (rest : List ℕ) → cut_at 59 rest ≡ None → rest_read state rest ≡ cond (is_nil rest) (Some state) None
 unfolding with_pieces
 rest_whole state rest h = rw (pieces_whole 59 rest h) refl
 
+-- at the start nothing is in the set, and the rest is the text
 pub set_begins : (text : List ℕ) → rest_read [] text ≡ state_read text
 unfolding state_read
 set_begins text = refl
@@ -115,18 +119,22 @@ form_more (y ∷ xs) x = sym (
     ap (λ t. (y ++ 59 ∷ []) ++ t) (later_more xs x) ∙ sym (append_assoc (y ++ 59 ∷ []) (later_forms xs) (32 ∷ x ++ 59 ∷ []))
     ∙ regroup ((y ++ 59 ∷ []) ++ later_forms xs) x ∙ ap (λ t. (t ++ x) ++ 59 ∷ []) (sym (separated_cons y (later_forms xs))))
 
+-- the form of no equalities is empty
 pub form_none : [] ≡ state_form []
 unfolding state_form
 form_none = refl
 
+-- a form that isn't empty is followed by a blank
 pub separated_some : (form : List ℕ) → 0 < length form → separated form ≡ form ++ 32 ∷ []
 separated_some [] h = absurd (omega arith)
 separated_some (b ∷ form) h = refl
 
+-- an empty form stays empty
 pub separated_none : (form : List ℕ) → length form ≡ 0 → separated form ≡ form
 separated_none [] h = refl
 separated_none (b ∷ form) h = absurd (omega arith)
 
+-- a form with an equality more is the form of the equalities with this one more
 pub form_goes : {A : Type 0} (show : A → List ℕ) (xs : List A) (x : A) (form next : List ℕ) → form ≡ state_form (map show xs) → next ≡ form_with form (show x) → next ≡ state_form (map show (xs ++ x ∷ []))
 form_goes show xs x form next e f =
     f ∙ ap (λ t. form_with t (show x)) e ∙ form_more (map show xs) (show x) ∙ ap state_form (sym (map_more show xs x))
@@ -140,11 +148,13 @@ fault_on NoMemory read other f h = tt
 abbrev pub text_at : List (List ℕ) → ℕ → List ℕ
 text_at texts i = get_or texts i []
 
+-- the text at a place is that of the key at the place
 pub shown_at : {K : Type 0} (show : K → List ℕ) (keys : List K) (i : ℕ) (d : K) → i < length keys → text_at (map show keys) i ≡ show (slice_index_or keys i d)
 shown_at show [] i d h = absurd (omega (arith, h))
 shown_at show (key ∷ keys) zero d h = refl
 shown_at show (key ∷ keys) (suc i) d h = shown_at show keys i d (omega (arith, h))
 
+-- at least as many elements as a list has are the list
 pub take_whole : {K : Type 0} (keys : List K) (i : ℕ) → length keys ≤ i → take i keys ≡ keys
 take_whole [] zero h = refl
 take_whole [] (suc i) h = refl

@@ -15,6 +15,7 @@ pub record Cut (text : List ℕ) (parts : List ℕ × List ℕ) : Type 0 where
   pub whole : text ≡ parts.0 ++ 10 ∷ parts.1
   pub one : is_one_line parts.0 ≡ true
 
+-- a text that is cut at its first line feed is a line and what follows it
 pub cut_parts : (text : List ℕ) (parts : List ℕ × List ℕ) → cut_at 10 text ≡ Some parts → Cut text parts
 unfolding cut_at
 cut_parts [] parts h = cc
@@ -33,6 +34,7 @@ cut_parts (byte ∷ text) parts h =
         let f : ◌≡◌ {A = List ℕ × List ℕ} (byte ∷ inner.0, inner.1) parts = cc in
         rw (sym f) (record { whole = ap (λ t. byte ∷ t) further.whole; one = rw e further.one })
 
+-- a text that isn't cut has no line feed
 pub cut_none : (text : List ℕ) → cut_at 10 text ≡ None → is_one_line text ≡ true
 unfolding cut_at
 cut_none [] h = refl
@@ -43,11 +45,12 @@ cut_none (byte ∷ text) h =
     inner None h = refl
     inner (Some parts) h = cc
 
--- bytes with more behind them: the line that goes on is longer, or it has ended and others follow
+-- bytes with more after them: the line that goes on is longer, or it has ended and others follow
 pub data Goes (bytes rest : List ℕ) : Type 0 where
   goes_on : lines_of (bytes ++ rest) ≡ lines_of bytes → rest_of (bytes ++ rest) ≡ rest_of bytes ++ rest → Goes bytes rest
   has_ended : (part : List ℕ) (more : List (List ℕ)) → lines_of (bytes ++ rest) ≡ lines_of bytes ++ (rest_of bytes ++ part) ∷ more → Goes bytes rest
 
+-- one of the two is so
 pub goes : (bytes rest : List ℕ) → Goes bytes rest
 goes bytes rest = by_cut (cut_at 10 rest) refl
   where
@@ -77,6 +80,7 @@ unfolding last_judged
 long_last seen [] h = cc
 long_last seen (byte ∷ line) h = rw h refl
 
+-- a line that goes on and is too long has that fault
 pub long_rest : (seen : Seen) (line : List ℕ) → is_too_long line ≡ true → rest_judged seen line ≡ fault_at seen.line LineTooLong
 unfolding rest_judged
 long_rest seen line h = rw h refl
@@ -91,10 +95,11 @@ unfolding rest_judged
 rest_fault seen line error h =
     by_test (is_too_long line) (λ e. record { long = e; fault = rw e at h }) (λ e. let k = rw e at h in absurd (cc))
 
+-- a step after what was read
 abbrev pub on_from : Result Seen LogError → (Seen → Result Seen LogError) → Result Seen LogError
 on_from r next = r >>= next
 
--- a fault of the bytes that have come is one of any file that begins with them
+-- a fault of the bytes so far is one of any file that begins with them
 lines_fault : (seen : Seen) (bytes rest : List ℕ) (error : LogError) → lines_judged seen (lines_of bytes) ≡ Err error → lines_judged seen (lines_of (bytes ++ rest)) ≡ Err error
 lines_fault seen bytes rest error h = by_goes (goes bytes rest)
   where
@@ -103,7 +108,7 @@ lines_fault seen bytes rest error h = by_goes (goes bytes rest)
     by_goes (has_ended part more e) =
         ap (lines_judged seen) e ∙ lines_both seen (lines_of bytes) ((rest_of bytes ++ part) ∷ more) ∙ ap (λ (r : Result Seen LogError). r >>= (λ next. lines_judged next ((rest_of bytes ++ part) ∷ more))) h
 
--- the next step's answer to a line that goes on and is too long
+-- a step answers that a line that goes on is too long
 abbrev pub Refuses : (Seen → List ℕ → Result Seen LogError) → Type 0
 Refuses next = (seen : Seen) (line : List ℕ) → is_too_long line ≡ true → next seen line ≡ fault_at seen.line LineTooLong
 
@@ -131,14 +136,17 @@ any_fault next refuses seen bytes rest error h = by_lines (lines_judged seen (li
     by_lines (Ok middle) e h = long_fault next refuses seen middle bytes rest error e (rest_fault middle (rest_of bytes) error h)
     by_lines (Err other) e h = ap (λ (r : Result Seen LogError). r >>= (λ x. next x (rest_of (bytes ++ rest)))) (lines_fault seen bytes rest other e) ∙ h
 
+-- a fault of bytes stays where more bytes follow
 pub bytes_fault : (seen : Seen) (bytes rest : List ℕ) (error : LogError) → bytes_judged seen bytes ≡ Err error → bytes_judged seen (bytes ++ rest) ≡ Err error
 unfolding bytes_judged
 bytes_fault seen bytes rest error h = any_fault rest_judged long_rest seen bytes rest error h
 
+-- a fault of bytes is that of a file that begins with them
 pub file_fault : (seen : Seen) (bytes rest : List ℕ) (error : LogError) → bytes_judged seen bytes ≡ Err error → file_judged seen (bytes ++ rest) ≡ Err error
 unfolding file_judged
 file_fault seen bytes rest error h = ap (λ (r : Result Seen LogError). r >>= end_judged) (any_fault last_judged long_last seen bytes rest error h)
 
+-- a fault of an input stays where more bytes follow
 pub input_fault : (files : List (List ℕ)) (bytes rest : List ℕ) (error : LogError) → input_judged files bytes ≡ Err error → input_judged files (bytes ++ rest) ≡ Err error
 unfolding input_judged
 input_fault files bytes rest error h = by_files (files_judged nothing_seen files) h
@@ -157,6 +165,7 @@ files_both seen (file ∷ files) more = by_result (λ next. files_both next file
     by_result law (Ok x) = law x
     by_result law (Err e) = refl
 
+-- a fault of an input is that of all logs that begin with it
 pub files_fault : (files more : List (List ℕ)) (bytes rest : List ℕ) (error : LogError) → input_judged files bytes ≡ Err error → files_judged nothing_seen (files ++ (bytes ++ rest) ∷ more) ≡ Err error
 unfolding input_judged
 files_fault files more bytes rest error h = files_both nothing_seen files ((bytes ++ rest) ∷ more) ∙ by_files (files_judged nothing_seen files) h
@@ -165,6 +174,7 @@ files_fault files more bytes rest error h = files_both nothing_seen files ((byte
     by_files (Ok seen) h = ap (λ (r : Result Seen LogError). r >>= (λ next. files_judged next more)) (file_fault seen bytes rest error h)
     by_files (Err other) h = h
 
+-- a fault of whole logs stays where more logs follow
 pub file_more : (files more : List (List ℕ)) (bytes : List ℕ) (error : LogError) → files_judged nothing_seen (files ++ bytes ∷ []) ≡ Err error → files_judged nothing_seen (files ++ bytes ∷ more) ≡ Err error
 file_more files more bytes error h =
     ap (files_judged nothing_seen) (sym (append_assoc files (bytes ∷ []) more)) ∙ files_both nothing_seen (files ++ bytes ∷ []) more ∙ ap (λ (r : Result Seen LogError). r >>= (λ next. files_judged next more)) h

@@ -1,4 +1,4 @@
--- What is kept of a test goes along with its facts.
+-- What is kept of a test follows its facts.
 use Rattle.std.proofs.Common.{◌≡◌, ℕ, zero-add, add-zero, ◌+◌, ◌≤◌, List, [], ◌∷◌, ◌++◌, Some, None, true, false, refl, sym, ap, ◌∙◌, arith, append-nil, min, subst}
 use Rattle.std.specs.Prelude.{Bool, not, ◌&&◌, ◌||◌, cond, Option, map, Result, Ok, Err, filter, fold, sum_by, nat_lt, option_map, is_some}
 use Rattle.std.specs.List.{list_any, list_all, AllByRecursion}
@@ -42,6 +42,7 @@ kinds_more (a_row row ∷ facts) fact = kinds_more facts fact
 kinds_more (a_condition text verdict ∷ facts) fact = kinds_more facts fact
 kinds_more (a_hash text ∷ facts) fact = kinds_more facts fact
 
+-- the rows of facts with one more
 pub rows_more : (facts : List Fact) (fact : Fact) → rows (facts ++ fact ∷ []) ≡ rows facts ++ rows (fact ∷ [])
 rows_more [] fact = refl
 rows_more (a_kind kind ∷ facts) fact = rows_more facts fact
@@ -106,10 +107,11 @@ mark_more state rs row =
     (λ e. rw e (ap first_of (map_more (λ r. r.mark) (filter (λ r. bytes_eq r.state state) rs) row) ∙ first_more (map (λ r. r.mark) (filter (λ r. bytes_eq r.state state) rs)) row.mark))
     (λ e. rw e (ap (λ t. first_of (map (λ r. r.mark) t)) (append-nil (filter (λ r. bytes_eq r.state state) rs))))
 
--- a key put in order
+-- a key inserted in order
 abbrev pub compare : List ℕ → List ℕ → Ordering
 compare = slice_cmp nat_cmp
 
+-- a text is below all of these
 abbrev pub Above : List ℕ → List (List ℕ) → Type 0
 Above k xs = AllByRecursion (λ x. compare k x ≡ Less) xs
 
@@ -150,10 +152,11 @@ states_ascend : (rs : List Row) → Ascends (states_of rs)
 unfolding states_of
 states_ascend rs = fold_ascends (map (λ r. r.state) rs) [] tt
 
--- keys with values, put in order
+-- keys with values, inserted in order
 abbrev pub paired : (List ℕ → Mark × ℕ) → List (List ℕ) → List StateSummed
 paired v xs = map (λ x. (x, v x)) xs
 
+-- two values are the same for all texts but one
 abbrev pub SameBut : List ℕ → (List ℕ → Mark × ℕ) → (List ℕ → Mark × ℕ) → Type 0
 SameBut k v w = (x : List ℕ) → bytes_eq k x ≡ false → v x ≡ w x
 
@@ -164,6 +167,7 @@ above_same : (k : List ℕ) (v w : List ℕ → Mark × ℕ) (xs : List (List �
 above_same k v w [] h a = refl
 above_same k v w (x ∷ xs) h a = rw (h x (not_equal k x Less a.0 refl), above_same k v w xs h a.1) refl
 
+-- a value inserted at a key is the key inserted among the keys
 pub paired_insert : (k : List ℕ) (v w : List ℕ → Mark × ℕ) (xs : List (List ℕ)) → SameBut k v w → Ascends xs
     → insert_entry (slice_cmp nat_cmp) (paired v xs) k (w k) ≡ paired w (insert_key (slice_cmp nat_cmp) xs k)
 paired_insert k v w [] h s = refl
@@ -219,9 +223,11 @@ known_is k rs =
     by_mark None = refl
     by_mark (Some m) = refl
 
+-- no rows have one mark for each state
 pub none_marked : Marked []
 none_marked = record { same = λ k m h. refl }
 
+-- marks that are tested to be the same are the same
 pub same_mark_is : (a b : Mark) → same_mark a b ≡ true → a ≡ b
 same_mark_is Starred Starred h = refl
 same_mark_is Starred Plain h = cc
@@ -242,6 +248,7 @@ no_state k m [] e = refl
 no_state k m (r ∷ rs) e =
     by_test (bytes_eq r.state k) (λ f. let g = rw f at e in absurd (cc)) (λ f. rw f (no_state k m rs (rw f at e)))
 
+-- rows have one mark for each state with a row more whose mark is that of its state
 pub marked_put : (rs : List Row) (row : Row) → is_other same_mark (mark_in row.state rs) row.mark ≡ false → Marked rs → Marked (rs ++ row ∷ [])
 marked_put rs row agrees h = record {
   same = λ k m e.
@@ -431,7 +438,7 @@ known_mark facts state = ap (option_map (λ (known : Mark × ℕ). known.0)) (kn
     by_mark None = refl
     by_mark (Some m) = refl
 
--- a fact put to what is kept of a test gives what is kept of its facts with this one more, or its fault
+-- what is kept of a test with a fact more is what its facts with this one more give, or its fault
 pub fact_put_is : (facts : List Fact) (fact : Fact) → Marked (rows facts) → fact_to (summed facts) fact ≡ by_fault (fault_of facts fact) (summed (facts ++ fact ∷ []))
 unfolding fact_to fault_of summed
 fact_put_is facts (a_kind kind) h = sym (fault_cond _ _ _ ∙ ap (λ t. cond (is_other same_kind (first_of (kinds facts)) kind) (Err KindDiffers) (Ok t)) (kind_to facts kind))

@@ -39,6 +39,7 @@ Shown = List (List ℕ × Summed)
 abbrev names : List (List ℕ × Summed) → List (List ℕ)
 names shown = map (λ (r : List ℕ × Summed). r.0) shown
 
+-- the test of the entry at an index is the test at the index
 pub value_at : (es : List (Vec ℕ Global × TestSum)) (i : ℕ) (key : Vec ℕ Global) (t : TestSum) → slice_get es i ≡ Some (key, t) → slice_get (values_of es) i ≡ Some t
 value_at [] i key t h = cc
 value_at (e ∷ es) zero key t h = let f : e ≡ (key, t) = cc in ap (λ x. Some x.1) f
@@ -87,7 +88,7 @@ write_names (r ∷ shown) zero (suc k) t = refl
 write_names (r ∷ shown) (suc i) zero t = refl
 write_names (r ∷ shown) (suc i) (suc k) t = write_names shown i k t
 
--- what stands at an index
+-- what is at an index
 at_shown : (es : List (Vec ℕ Global × TestSum)) (i : ℕ) (name : List ℕ) (t : TestSum) → name_at (map named_view es) i ≡ Some name → slice_get (values_of es) i ≡ Some t
     → slice_get (map named_view es) i ≡ Some (name, test_view t)
 at_shown [] i name t h g = cc
@@ -97,11 +98,13 @@ at_shown (e ∷ es) zero name t h g =
     rw (sym a, sym b) refl
 at_shown (e ∷ es) (suc i) name t h g = at_shown es i name t h g
 
+-- an index that has a name has a test
 pub none_there : (es : List (Vec ℕ Global × TestSum)) (i : ℕ) (name : List ℕ) → name_at (map named_view es) i ≡ Some name → slice_get (values_of es) i ≡ None → ⊥
 none_there [] i name h g = cc
 none_there (e ∷ es) zero name h g = cc
 none_there (e ∷ es) (suc i) name h g = none_there es i name h g
 
+-- an index that has a name has an entry
 pub none_at : (es : List (Vec ℕ Global × TestSum)) (i : ℕ) (name : List ℕ) → name_at (map named_view es) i ≡ Some name → slice_get es i ≡ None → ⊥
 none_at [] i name h g = cc
 none_at (e ∷ es) zero name h g = cc
@@ -150,7 +153,7 @@ pub fact_refused : (entries : List Entry) (es : List (Vec ℕ Global × TestSum)
     → fact_to (test_view t) fact ≡ Err kind → fault_of (facts_of name entries) fact ≡ Some kind
 fact_refused entries es i name t fact kind s e = fault_some _ _ kind (sym (stands_fact entries es i name t fact s) ∙ e)
 
--- a fact that has none, written to the table
+-- a fact without a fault, written to the table
 pub fact_written : (entries : List Entry) (es : List (Vec ℕ Global × TestSum)) (i : ℕ) (name : List ℕ) (t u : TestSum) (fact : Fact) (new : Table) → Stands entries es i name t
     → fact_to (test_view t) fact ≡ Ok (test_view u) → new.tests.entries ≡ set_value_at es i u → new.running ≡ i → WithFact entries name fact new
 fact_written entries es i name t u fact new s e w r =
@@ -172,12 +175,13 @@ fact_answered entries es i name t u fact new s w r (Ok x) g = fact_written entri
 fact_answered entries es i name t u fact new s w r (Err (Wrong kind)) g = fact_refused entries es i name t fact kind s g
 fact_answered entries es i name t u fact new s w r (Err NoMemory) g = tt
 
--- a write of what is there already
+-- a write of what is there already: the fact changes nothing
 same_written : (es : List (Vec ℕ Global × TestSum)) (i : ℕ) (t : TestSum) → slice_get (values_of es) i ≡ Some t → set_value_at es i t ≡ es
 same_written [] i t h = refl
 same_written (e ∷ es) zero t h = let f : e.1 ≡ t = cc in rw (sym f) refl
 same_written (e ∷ es) (suc i) t h = ap (λ rest. e ∷ rest) (same_written es i t h)
 
+-- a fact without a fault that leaves its test as it is
 pub fact_told : (entries : List Entry) (es : List (Vec ℕ Global × TestSum)) (i : ℕ) (name : List ℕ) (t : TestSum) (fact : Fact) (new : Table) → Stands entries es i name t
     → fact_to (test_view t) fact ≡ Ok (test_view t) → new.tests.entries ≡ es → new.running ≡ i → WithFact entries name fact new
 fact_told entries es i name t fact new s e w r =
@@ -202,6 +206,7 @@ name_there [] i h = absurd (omega arith)
 name_there (r ∷ shown) zero h = refl
 name_there (r ∷ shown) (suc i) h = name_there shown i (omega arith)
 
+-- the index at which a name is found has this name
 pub name_found : (p : Vec ℕ Global → Bool) (name : List ℕ) → ((k : Vec ℕ Global) → p k ≡ bytes_eq name k.items) → (es : List (Vec ℕ Global × TestSum)) (i : ℕ)
     → position p (keys_of es) ≡ Some i → name_at (map named_view es) i ≡ Some name
 name_found p name same es i h =
@@ -272,6 +277,7 @@ pub record IsNew (entries : List Entry) (es : List (Vec ℕ Global × TestSum)) 
   pub key_is : key.items ≡ name
   pub test_is : test_view t ≡ of_kind kind
 
+-- the table has the fact that a block of a new test begins
 pub test_begun : (p : Vec ℕ Global → Bool) (eq : Vec ℕ Global → Vec ℕ Global → Bool) (entries : List Entry) (es : List (Vec ℕ Global × TestSum)) (key : Vec ℕ Global) (name : List ℕ) (t : TestSum) (kind : Kind) (new : Table)
     → ((k : Vec ℕ Global) → p k ≡ bytes_eq name k.items) → ((x y : Vec ℕ Global) → eq x y ≡ bytes_eq x.items y.items)
     → IsNew entries es key name t kind → position p (keys_of es) ≡ None
@@ -293,16 +299,17 @@ test_begun p eq entries es key name t kind new same_p same_eq s missing w r =
       running = ap (name_at (tests_view new)) place ∙ ap (λ rows. name_at rows (position_or_len (bytes_eq name) (names (map named_view es)))) shown ∙ put_there name (test_view t) (map named_view es);
     }
 
--- a test that is written as it is seen
+-- a test written in the place of one that the definitions see as the same
 pub unseen_write : (es : List (Vec ℕ Global × TestSum)) (i : ℕ) (t u : TestSum) → slice_get (values_of es) i ≡ Some t → test_view u ≡ test_view t → map named_view (set_value_at es i u) ≡ map named_view es
 unseen_write [] i t u h e = refl
 unseen_write (x ∷ es) zero t u h e = let f : x.1 ≡ t = cc in ap (λ (s : Summed). (x.0.items, s) ∷ map named_view es) (e ∙ ap test_view (sym f))
 unseen_write (x ∷ es) (suc i) t u h e = ap (λ rest. named_view x ∷ rest) (unseen_write es i t u h e)
 
--- the states of the tests below an index stand in byte order
+-- the states of the tests below an index are in byte order
 abbrev pub OrderedBelow : List (Vec ℕ Global × TestSum) → ℕ → Type 0
 OrderedBelow es i = (j : ℕ) (test : Vec ℕ Global × TestSum) → j < i → slice_get es j ≡ Some test → test.1.states.in_order ≡ true
 
+-- a test that is in order, written at an index, takes the order one index further
 pub ordered_written : (es : List (Vec ℕ Global × TestSum)) (i : ℕ) (u : TestSum) → u.states.in_order ≡ true → OrderedBelow es i → OrderedBelow (set_value_at es i u) (i + 1)
 ordered_written [] i u h below j test l e = absurd (cc)
 ordered_written (x ∷ es) zero u h below zero test l e = let f : ◌≡◌ {A = Vec ℕ Global × TestSum} (x.0, u) test = cc in ap (λ (t : Vec ℕ Global × TestSum). t.1.states.in_order) (sym f) ∙ h
@@ -310,21 +317,24 @@ ordered_written (x ∷ es) zero u h below (suc j) test l e = absurd (omega (arit
 ordered_written (x ∷ es) (suc i) u h below zero test l e = below zero test (omega arith) e
 ordered_written (x ∷ es) (suc i) u h below (suc j) test l e = ordered_written es i u h (λ k t m f. below (suc k) t (omega (arith, m)) f) j test (omega (arith, l)) e
 
+-- tests that are in order up to their number are all in order
 pub all_ordered : (es : List (Vec ℕ Global × TestSum)) → OrderedBelow es (length es) → list_all (λ (test : Vec ℕ Global × TestSum). test.1.states.in_order) es ≡ true
 all_ordered [] below = refl
 all_ordered (x ∷ es) below = rw (below zero x (omega arith) refl) (all_ordered es (λ j test l e. below (suc j) test (omega (arith, l)) e))
 
+-- a write at an index keeps the number of tests
 pub same_many : (es : List (Vec ℕ Global × TestSum)) (i : ℕ) (u : TestSum) → length (set_value_at es i u) ≡ length es
 same_many [] i u = refl
 same_many (x ∷ es) zero u = refl
 same_many (x ∷ es) (suc i) u = ap suc (same_many es i u)
 
+-- an index below the number of tests has a test
 pub there_below : (es : List (Vec ℕ Global × TestSum)) (i : ℕ) → i < length es → slice_get (values_of es) i ≡ None → ⊥
 there_below [] i l h = omega (arith, l)
 there_below (x ∷ es) zero l h = cc
 there_below (x ∷ es) (suc i) l h = there_below es i (omega (arith, l)) h
 
--- a test whose states came in byte order is seen as before
+-- a test whose states were sorted is seen as before
 pub same_view : (test : TestSum) (states : StateTable) → states_view states.sums.entries ≡ states_view test.states.sums.entries → test_view (record test { states = states }) ≡ test_view test
 same_view test states e = ap (λ (s : List StateSummed). record (test_view test) { states = s }) e
 
@@ -336,7 +346,7 @@ row_answered entries es i name t u new s w k (Err kind) (Ok x) g = absurd (cc)
 row_answered entries es i name t u new s w k (Err kind) (Err (Wrong other)) g = let e : kind ≡ other = cc in sym e
 row_answered entries es i name t u new s w k (Err kind) (Err NoMemory) g = tt
 
--- the first of tests whose states stand in byte order, and the others
+-- the first of tests whose states are in byte order, and the others
 pub ordered_first : (tests rest : List (Vec ℕ Global × TestSum)) (test : Vec ℕ Global × TestSum) → tests ≡ test ∷ rest → list_all (λ (t : Vec ℕ Global × TestSum). t.1.states.in_order) tests ≡ true
     → (test.1.states.in_order ≡ true) × (list_all (λ (t : Vec ℕ Global × TestSum). t.1.states.in_order) rest ≡ true)
 ordered_first tests rest test e h =

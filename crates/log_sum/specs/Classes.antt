@@ -1,4 +1,4 @@
--- What the code's view of texts stands for.
+-- What the values of the code mean to the definitions.
 -- Source: own.
 use Rattle.std.specs.Prelude.{◌≡◌, ℕ, Bool, List, Some, Result, Ok, Err, map, option_map}
 use Rattle.std.specs.List.{list_all}
@@ -23,7 +23,7 @@ use Rattle.log_sum.specs.States.{form_read}
 use Rattle.log_sum.specs.Steps.{fact_to}
 use Rattle.log_sum.specs.Lines.{Said, row_of, row_said, passed_over, begins, counts, judged, conditioned, hashed, ends}
 
--- an answer is what the definition gives, where view says what it means
+-- an answer is what the definition gives; `view` says what the answer means
 abbrev pub Gives : {X Y : Type 0} → (X → Y) → Result X LogKind → Result Y LogKind → Type 0
 Gives view (Ok x) read = read ≡ Ok (view x)
 Gives view (Err kind) read = read ≡ Err kind
@@ -33,17 +33,19 @@ abbrev pub GivesOr : {X Y : Type 0} → (X → Y) → Result X Fault → Result 
 GivesOr view (Ok x) read = read ≡ Ok (view x)
 GivesOr view (Err fault) read = IsFault fault read
 
--- a count and the text behind it
+-- a count and the text after it
 abbrev pub count_and_rest : ℕ × Bor (List ℕ) → ℕ × List ℕ
 count_and_rest counted = (counted.0, counted.1.now)
 
--- what the code says of a row, whose state isn't read yet, of a condition and of a line, as the definitions see it
+-- a row with its state, as the definitions see it
 abbrev pub row_read : RowCode → Result Row LogKind
 row_read row = row_of row.count row.mark (form_read row.text.now)
 
+-- a condition as the definitions see it
 abbrev pub condition_view : Vec ℕ Global × Verdict → List ℕ × Verdict
 condition_view condition = (condition.0.items, condition.1)
 
+-- what a line says, as the definitions see it
 abbrev pub said_read : SaidCode → Result Said LogKind
 said_read code.PassedOver = Ok passed_over
 said_read (code.Begins name kind) = Ok (begins name.now kind)
@@ -54,20 +56,21 @@ said_read (code.Conditioned text verdict) = Ok (conditioned text.items verdict)
 said_read (code.Hashed text) = Ok (hashed text.now)
 said_read code.Ends = Ok ends
 
--- an answer of which the rest is read later is what the definition gives
+-- an answer is what the definition gives; `view` reads the part that the code leaves unread
 abbrev pub Reads : {X Y : Type 0} → (X → Result Y LogKind) → Result X LogKind → Result Y LogKind → Type 0
 Reads view (Ok x) read = read ≡ view x
 Reads view (Err kind) read = read ≡ Err kind
 
+-- the same of an answer where there may be no memory
 abbrev pub ReadsOr : {X Y : Type 0} → (X → Result Y LogKind) → Result X Fault → Result Y LogKind → Type 0
 ReadsOr view (Ok x) read = read ≡ view x
 ReadsOr view (Err fault) read = IsFault fault read
 
--- what texts are
+-- the bytes of texts
 abbrev pub texts_of : List (Vec ℕ Global) → List (List ℕ)
 texts_of texts = map (λ text. text.items) texts
 
--- what is kept of a test
+-- a test as the definitions see it
 abbrev pub test_view : TestSum → Summed
 test_view test = record {
   kind = Some test.kind;
@@ -84,17 +87,19 @@ test_view test = record {
 abbrev pub TestTold : TestSum → TestSum → Fact → Result (Unit {0}) Fault → Type 0
 TestTold old new fact answer = GivesOr (λ _. test_view new) answer (fact_to (test_view old) fact)
 
+-- a name and its test as the definitions see them
 abbrev pub named_view : Vec ℕ Global × TestSum → List ℕ × Summed
 named_view test = (test.0.items, test_view test.1)
 
+-- the tests of a table as the definitions see them
 abbrev pub tests_view : Table → List (List ℕ × Summed)
 tests_view table = map named_view table.tests.entries
 
--- the states of each test stand in byte order
+-- the states of each test are in byte order
 abbrev pub are_in_order : Table → Bool
 are_in_order table = list_all (λ test. test.1.states.in_order) table.tests.entries
 
--- how far a reading is
+-- how far a reading is, as the definitions see it
 abbrev pub progress_view : Reading → Progress
 progress_view reading = record {
   tests = tests_view reading.table;

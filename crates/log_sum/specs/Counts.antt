@@ -1,4 +1,4 @@
--- Counts at the front of a text.
+-- Counts at the start of a text.
 -- Source: the logs of litmus7; the limit is own.
 use Rattle.std.specs.Prelude.{ℕ, ◌-◌, ◌^◌, nat_le, cond, List, [], ◌∷◌, Result, Ok, Err}
 use Rattle.std.specs.Char.{is_ascii_digit}
@@ -11,12 +11,12 @@ use Rattle.text_laws.specs.Runs.{run_of, after_run}
 abbrev pub last_count : ℕ
 last_count = 2 ^ 64 - 1
 
--- the count that digits write, before what stands behind them: there is a digit, and the count isn't too large
+-- the count that digits write, with the text after them: there is a digit, and the count isn't too large
 abbrev pub count_of_digits : List ℕ → List ℕ → Result (ℕ × List ℕ) LogKind
 count_of_digits [] rest = Err BadState
 count_of_digits (digit ∷ digits) rest =
     cond (nat_le (digits_value 10 (digit ∷ digits)) last_count) (Ok (digits_value 10 (digit ∷ digits), rest)) (Err BadCount)
 
--- a count at the front of a text, and what stands behind it
+-- a count at the start of a text, and the text after it
 unfoldable pub count_read : List ℕ → Result (ℕ × List ℕ) LogKind
 count_read text = count_of_digits (run_of is_ascii_digit text) (after_run is_ascii_digit text)

@@ -14,19 +14,21 @@ use Rattle.log_sum.specs.States.{left_kept, sides_read, has_left, and_then}
 abbrev pub equality_of : List ℕ × List ℕ → List ℕ
 equality_of sides = (left_kept sides.0 ++ 61 ∷ []) ++ sides.1
 
--- equalities, and that of a piece after them
+-- equalities, and after them the one with these sides, or a fault where there are no sides
 abbrev pub and_equality : List (List ℕ) → Option (List ℕ × List ℕ) → Result (List (List ℕ)) LogKind
 and_equality equalities None = Err BadState
 and_equality equalities (Some sides) = Ok (equalities ++ equality_of sides ∷ [])
 
+-- equalities, and after them that of a piece, or a fault where the piece has none
 abbrev pub with_piece : List (List ℕ) → List ℕ → Result (List (List ℕ)) LogKind
 with_piece equalities piece = and_equality equalities (sides_read (cut_at 61 piece))
 
--- the left side of an equality, which ends before its first sign
+-- the first part of a text that was cut
 abbrev pub before_sign : Option (List ℕ × List ℕ) → List ℕ
 before_sign None = []
 before_sign (Some sides) = sides.0
 
+-- the left side of an equality, which ends before its first sign
 abbrev pub left_side : List ℕ → List ℕ
 left_side equality = before_sign (cut_at 61 equality)
 
@@ -43,10 +45,11 @@ abbrev pub has_left_twice : List (List ℕ) → Bool
 has_left_twice (one ∷ next ∷ rest) = same_left one next || has_left_twice (next ∷ rest)
 has_left_twice _ = false
 
--- a set with an equality more, whose left side it doesn't have, and with several, one by one
+-- a set with an equality more, whose left side it doesn't have
 abbrev pub with_one : List (List ℕ) → List ℕ → Option (List (List ℕ))
 with_one state equality = cond (has_left state (left_side equality ++ 61 ∷ [])) None (Some (insert_key (slice_cmp nat_cmp) state equality))
 
+-- a set with several equalities more, one by one
 unfoldable pub with_all : List (List ℕ) → List (List ℕ) → Option (List (List ℕ))
 with_all state [] = Some state
 with_all state (equality ∷ rest) = and_then (with_one state equality) (λ more. with_all more rest)

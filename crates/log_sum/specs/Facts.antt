@@ -23,6 +23,7 @@ pub record Row : Type 0 where
   pub mark : Mark
   pub count : ℕ
 
+-- a row by its state, its mark and its count
 abbrev pub row_with : List ℕ → Mark → ℕ → Row
 row_with state mark count = record { state = state; mark = mark; count = count }
 
@@ -50,22 +51,25 @@ with_name names name = cond (list_any (bytes_eq name) names) names (names ++ nam
 abbrev pub tests_of : List Entry → List (List ℕ)
 tests_of entries = fold with_name [] (map (λ e. e.test) entries)
 
--- the facts of each sort
+-- the kinds among facts
 abbrev pub kinds : List Fact → List Kind
 kinds [] = []
 kinds (a_kind kind ∷ facts) = kind ∷ kinds facts
 kinds (_ ∷ facts) = kinds facts
 
+-- the rows among facts
 abbrev pub rows : List Fact → List Row
 rows [] = []
 rows (a_row row ∷ facts) = row ∷ rows facts
 rows (_ ∷ facts) = rows facts
 
+-- the conditions among facts, each with its verdict
 abbrev pub conditions : List Fact → List (List ℕ × Verdict)
 conditions [] = []
 conditions (a_condition text verdict ∷ facts) = (text, verdict) ∷ conditions facts
 conditions (_ ∷ facts) = conditions facts
 
+-- the hashes among facts
 abbrev pub hashes : List Fact → List (List ℕ)
 hashes [] = []
 hashes (a_hash text ∷ facts) = text ∷ hashes facts
@@ -76,13 +80,14 @@ abbrev pub first_of : {A : Type 0} → List A → Option A
 first_of [] = None
 first_of (x ∷ xs) = Some x
 
--- the same kind, the same mark
+-- two kinds are the same
 abbrev pub same_kind : Kind → Kind → Bool
 same_kind Allowed Allowed = true
 same_kind Forbidden Forbidden = true
 same_kind Required Required = true
 same_kind _ _ = false
 
+-- two marks are the same
 abbrev pub same_mark : Mark → Mark → Bool
 same_mark Starred Starred = true
 same_mark Plain Plain = true
@@ -104,24 +109,25 @@ states_of rows = fold (insert_key (slice_cmp nat_cmp)) [] (map (λ row. row.stat
 unfoldable pub mark_in : List ℕ → List Row → Option Mark
 mark_in state rows = first_of (map (λ row. row.mark) (filter (λ row. bytes_eq row.state state) rows))
 
--- what each block says of the condition
+-- a verdict says that the condition is validated
 abbrev pub says_validated : Verdict → Bool
 says_validated Validated = true
 says_validated NotValidated = false
 
+-- what each block says of the condition
 abbrev pub verdicts : List Fact → List Bool
 verdicts facts = map (λ c. says_validated c.1) (conditions facts)
 
--- a fault where something is so
+-- a fault where this is true
 abbrev pub fault_if : Bool → LogKind → Option LogKind
 fault_if b kind = cond b (Some kind) None
 
--- something is there already, and it is another
+-- something is known already, and it is another
 abbrev pub is_other : {A : Type 0} → (A → A → Bool) → Option A → A → Bool
 is_other same None x = false
 is_other same (Some known) x = not (same known x)
 
--- the fault of a fact behind others of its test, if it has one: the test has another kind, condition or hash already, the
+-- the fault of a fact after others of its test, if it has one: the test has another kind, condition or hash already, the
 -- state has the other mark already, or the sum of the counts of the mark is too large
 unfoldable pub fault_of : List Fact → Fact → Option LogKind
 fault_of facts (a_kind kind) = fault_if (is_other same_kind (first_of (kinds facts)) kind) KindDiffers

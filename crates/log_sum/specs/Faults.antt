@@ -1,4 +1,4 @@
--- Faults of a line, whose number isn't known yet.
+-- Faults of a line, before its number is known.
 -- Source: own.
 use Rattle.std.specs.Prelude.{◌≡◌, Result, Err}
 use Rattle.log_sum.specs.declared.errors.LogKind.{LogKind}

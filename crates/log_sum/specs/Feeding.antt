@@ -1,4 +1,4 @@
--- What the steps of a summer answer, beside the reading of the same bytes.
+-- What the steps of a summer answer, compared with the reading of the same bytes.
 -- Source: own.
 use Rattle.std.specs.Prelude.{◌≡◌, ℕ, true, not, ◌||◌, List, [], ◌∷◌, ◌++◌, Some, None, Result, Ok, Err}
 use Rattle.std.specs.List.{list_all}
@@ -17,11 +17,11 @@ use Rattle.log_sum.specs.Lines.{Said, line_said}
 use Rattle.log_sum.specs.Reading.{Seen, nothing_seen, fault_at, said_judged, input_judged, files_judged}
 use Rattle.log_sum.specs.Standing.{Progress, IsAt, Kept, StandsFor, table_of, name_at}
 
--- each row of a state has its mark
+-- all rows of a state have the mark that the first one has
 pub record Marked (rs : List Row) : Type 0 where
   pub same : (k : List ℕ) (m : Mark) → mark_in k rs ≡ Some m → list_all (λ r. not (bytes_eq r.state k) || same_mark r.mark m) rs ≡ true
 
--- that is so of each test
+-- in each test all rows of a state have one mark
 abbrev pub AreMarked : List Entry → Type 0
 AreMarked entries = (test : List ℕ) → Marked (rows (facts_of test entries))
 
@@ -35,17 +35,18 @@ ForRunningTest table Holds =
     (entries : List Entry) (name : List ℕ) → tests_view table ≡ table_of entries → name_at (tests_view table) table.running ≡ Some name → AreMarked entries
     → Holds entries name
 
+-- a fact as an entry of its test
 abbrev pub entry_of : List ℕ → Fact → Entry
 entry_of test fact = record { test = test; fact = fact }
 
--- what a table is after a fact of a test, behind other entries
+-- a table after a fact of a test that follows other entries
 pub record WithFact (entries : List Entry) (test : List ℕ) (fact : Fact) (new : Table) : Type 0 where
   pub none : fault_of (facts_of test entries) fact ≡ None
   pub tests : tests_view new ≡ table_of (entries ++ entry_of test fact ∷ [])
   pub running : name_at (tests_view new) new.running ≡ Some test
 
--- an answer to a fact of a test, behind other entries: the table has the fact too, and the test is running; or it has this
--- fault
+-- an answer to a fact of a test that follows other entries: the table has the fact too, and the test is running; or the
+-- fact has this fault
 abbrev pub FactPut : List Entry → List ℕ → Fact → Table → Result (Unit {0}) Fault → Type 0
 FactPut entries test fact new (Ok x) = WithFact entries test fact new
 FactPut entries test fact new (Err (Wrong kind)) = fault_of (facts_of test entries) fact ≡ Some kind
@@ -62,29 +63,30 @@ abbrev pub RowPut : List Entry → List ℕ → Result Row LogKind → Table →
 RowPut entries test (Ok row) new answer = FactPut entries test (a_row row) new answer
 RowPut entries test (Err kind) new answer = IsRefused kind answer
 
--- the reading is as far as what was seen, and the marks of its states are one each
+-- the reading is as far as what was seen, and each state has one mark
 pub record Follows (progress : Progress) (seen : Seen) : Type 0 where
   pub reading : IsAt progress seen
   pub marked : AreMarked seen.entries
 
--- a reading has no fault, and what is kept goes along with it
+-- a reading has no fault, and what is kept has followed it
 pub record ReadOn (new : Progress) (read : Result Seen LogError) : Type 0 where
   pub seen : Seen
   pub is : read ≡ Ok seen
   pub follows : Follows new seen
 
--- an answer beside a reading: it goes along, or the fault is the reading's
+-- an answer compared with a reading: what is kept has followed it, or the fault is the reading's
 abbrev pub ReadTo : Progress → Result Seen LogError → Result (Unit {0}) Fault → Type 0
 ReadTo new read (Ok x) = ReadOn new read
 ReadTo new read (Err (Wrong kind)) = read ≡ fault_at new.line kind
 ReadTo new read (Err NoMemory) = Unit {0}
 
--- the same of a piece of a log, and of its end
+-- an answer to a piece of a log, compared with the reading
 abbrev pub PieceTo : Kept → List (List ℕ) → List ℕ → Result (Unit {0}) Fault → Type 0
 PieceTo new files bytes (Ok x) = StandsFor new files bytes
 PieceTo new files bytes (Err (Wrong kind)) = input_judged files bytes ≡ fault_at new.progress.line kind
 PieceTo new files bytes (Err NoMemory) = Unit {0}
 
+-- an answer to the end of a log, compared with the reading
 abbrev pub EndTo : Kept → List (List ℕ) → List ℕ → Result (Unit {0}) Fault → Type 0
 EndTo new files bytes (Ok x) = StandsFor new (files ++ bytes ∷ []) []
 EndTo new files bytes (Err (Wrong kind)) = files_judged nothing_seen (files ++ bytes ∷ []) ≡ fault_at new.progress.line kind
@@ -100,7 +102,7 @@ abbrev pub refusal_of : ℕ → Fault → SumError
 refusal_of line (Wrong kind) = sums.Log (record { line = line; kind = kind })
 refusal_of line NoMemory = sums.NoMemory
 
--- the bytes of a piece before its rest were fed
+-- the bytes of a piece that come before its rest were fed
 pub record FedBefore (old new : Kept) (piece rest : List ℕ) : Type 0 where
   pub done : List ℕ
   pub whole : done ++ rest ≡ piece

@@ -6,7 +6,7 @@ use Rattle.log_sum.specs.declared.errors.SumError.{SumError}
 use Rattle.log_sum.specs.declared.errors.SumError.TheVariants.{Log, NoMemory}
 use Rattle.log_sum.specs.Standing.{Kept, StandsFor, FedTo, EndedTo, kept_text}
 
--- two answers are one, where there is memory
+-- two answers are the same, where there is memory
 abbrev pub IsOneAnswer : Result (Unit {0}) SumError → Result (Unit {0}) SumError → Type 0
 IsOneAnswer (Err NoMemory) answer = Unit {0}
 IsOneAnswer known answer = (answer ≡ known) ⊎ (answer ≡ Err NoMemory)

@@ -19,7 +19,7 @@ pub record Seen : Type 0 where
   pub place : Place
   pub line : ℕ
 
--- nothing was read yet
+-- nothing has been read
 abbrev pub nothing_seen : Seen
 nothing_seen = record { entries = []; test = []; place = Outside; line = 1 }
 
@@ -37,19 +37,21 @@ fault_at line kind = Err (record { line = line; kind = kind })
 abbrev pub max_line : ℕ
 max_line = 65536
 
+-- a line has more bytes than that
 abbrev pub is_too_long : List ℕ → Bool
 is_too_long line = nat_lt max_line (length line)
 
--- the number behind a line's number
+-- the number of the next line; it stops at the greatest count
 abbrev pub next_line : ℕ → ℕ
 next_line line = min (line + 1) last_count
 
--- a fact more, if it has no fault
+-- what was seen with a fact more, or the fault of that fact
 abbrev pub fact_judged : Seen → Fact → Option LogKind → Result Seen LogError
 fact_judged seen fact (Some kind) = fault_at seen.line kind
 fact_judged seen fact None =
     Ok (record seen { entries = seen.entries ++ (record { test = seen.test; fact = fact }) ∷ [] })
 
+-- what was seen with the fact of a line, if it has one, or the fault of that fact
 abbrev pub fact_put : Seen → Option Fact → Result Seen LogError
 fact_put seen None = Ok seen
 fact_put seen (Some fact) = fact_judged seen fact (fault_of (facts_of seen.test seen.entries) fact)
@@ -58,42 +60,46 @@ fact_put seen (Some fact) = fact_judged seen fact (fault_of (facts_of seen.test 
 abbrev pub at_next_line : Seen → Result Seen LogError
 at_next_line seen = Ok (record seen { line = next_line seen.line })
 
--- what a line said, put to what was seen
+-- what was seen, with what a line says
 abbrev pub said_to : Seen → Said → Result Seen LogError
 said_to seen said =
     fact_put (record seen { test = test_after seen.test said; place = place_after seen.place said }) (fact_said said)
 
+-- what was seen, with what a line says, or the fault of the line
 abbrev pub said_judged : Seen → Result Said LogKind → Result Seen LogError
 said_judged seen (Err kind) = fault_at seen.line kind
 said_judged seen (Ok said) = said_to seen said
 
+-- what was seen after a line, at the number of the next line
 abbrev pub said_put : Seen → Result Said LogKind → Result Seen LogError
 said_put seen said = said_judged seen said >>= at_next_line
 
--- a line without its end
+-- a line that is given without its end
 unfoldable pub text_judged : Seen → List ℕ → Result Seen LogError
 text_judged seen text = said_put seen (line_said seen.place text)
 
--- a line that ended with a line feed
+-- a line that a line feed ends
 unfoldable pub line_judged : Seen → List ℕ → Result Seen LogError
 line_judged seen line = cond (is_too_long line) (fault_at seen.line LineTooLong) (text_judged seen (without_return line))
 
+-- such lines, one after another, up to the first fault
 abbrev pub lines_judged : Seen → List (List ℕ) → Result Seen LogError
 lines_judged seen [] = Ok seen
 lines_judged seen (line ∷ rest) = line_judged seen line >>= λ next. lines_judged next rest
 
--- the lines of bytes that ended with a line feed, and the line behind them
+-- all pieces but the last
 unfoldable pub lines_of : List ℕ → List (List ℕ)
 lines_of bytes = but_last (slice_split (λ byte. byte == 10) bytes)
 
+-- the text after the last line feed
 unfoldable pub rest_of : List ℕ → List ℕ
 rest_of bytes = last_of (slice_split (λ byte. byte == 10) bytes)
 
--- a line that goes on: it is judged once it is too long
+-- a line that goes on: its one fault is that it is too long
 unfoldable pub rest_judged : Seen → List ℕ → Result Seen LogError
 rest_judged seen line = cond (is_too_long line) (fault_at seen.line LineTooLong) (Ok seen)
 
--- the bytes that have come of a file
+-- the bytes of a file so far
 unfoldable pub bytes_judged : Seen → List ℕ → Result Seen LogError
 bytes_judged seen bytes = lines_judged seen (lines_of bytes) >>= λ next. rest_judged next (rest_of bytes)
 
@@ -103,11 +109,12 @@ last_judged seen [] = Ok seen
 last_judged seen (byte ∷ line) =
     cond (is_too_long (byte ∷ line)) (fault_at seen.line LineTooLong) (text_judged seen (byte ∷ line))
 
--- a file ends outside the blocks
+-- the end of a file at a place: it must be outside the blocks
 abbrev pub end_at : Seen → Place → Result Seen LogError
 end_at seen Outside = Ok (record { entries = seen.entries; test = []; place = Outside; line = 1 })
 end_at seen _ = fault_at seen.line Truncated
 
+-- the end of a file
 abbrev pub end_judged : Seen → Result Seen LogError
 end_judged seen = end_at seen seen.place
 
@@ -116,10 +123,11 @@ unfoldable pub file_judged : Seen → List ℕ → Result Seen LogError
 file_judged seen bytes =
     lines_judged seen (lines_of bytes) >>= (λ next. last_judged next (rest_of bytes)) >>= end_judged
 
+-- whole files, one after another, up to the first fault
 abbrev pub files_judged : Seen → List (List ℕ) → Result Seen LogError
 files_judged seen [] = Ok seen
 files_judged seen (file ∷ rest) = file_judged seen file >>= λ next. files_judged next rest
 
--- whole files, and the bytes that have come of one more
+-- whole files, and the bytes so far of one more
 unfoldable pub input_judged : List (List ℕ) → List ℕ → Result Seen LogError
 input_judged files bytes = files_judged nothing_seen files >>= λ seen. bytes_judged seen bytes

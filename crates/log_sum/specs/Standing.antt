@@ -1,4 +1,4 @@
--- What a summer keeps, and the input that it stands for.
+-- What a summer keeps, and the input that this represents.
 -- Source: own.
 use Rattle.std.specs.Prelude.{◌≡◌, ℕ, Bool, true, List, [], ◌∷◌, ◌++◌, map, slice_get, Option, Some, None, option_map, Result, Ok, Err, IfErr}
 use Rattle.log_sum.specs.declared.errors.LogError.{LogError}
@@ -20,7 +20,7 @@ pub record Progress : Type 0 where
   pub test : ℕ
   pub line : ℕ
 
--- how far the reading is, whether the states of each test stand in byte order, what has come of the running line, and the
+-- how far the reading is, whether the states of each test are in byte order, the bytes of the running line so far, and the
 -- refusal of a summer that is spent
 pub record Kept : Type 0 where
   pub progress : Progress
@@ -48,8 +48,8 @@ pub record IsAt (progress : Progress) (seen : Seen) : Type 0 where
   pub test : IsRunning seen.place progress.tests progress.test seen.test
   pub line : progress.line ≡ seen.line
 
--- what is kept stands for whole files and the bytes that have come of one more: the lines that were judged so far have no
--- fault, it is what they give, and between two files the states of each test stand in byte order
+-- what is kept represents whole files and the bytes so far of one more: the lines that were judged have no fault, what is
+-- kept is what they give, and between two files the states of each test are in byte order
 pub record StandsFor (kept : Kept) (files : List (List ℕ)) (bytes : List ℕ) : Type 0 where
   pub seen : Seen
   pub judged : input_judged files bytes ≡ Ok seen
@@ -58,15 +58,15 @@ pub record StandsFor (kept : Kept) (files : List (List ℕ)) (bytes : List ℕ) 
   pub going : kept.refusal ≡ None
   pub in_order : bytes ≡ [] → kept.in_order ≡ true
 
--- what an answer to a piece of a log says, where this is the input after it: it has no fault and is stood for, or it has
--- exactly this first fault
+-- what an answer to a piece of a log says, where this is the input up to the end of the piece: it has no fault and is
+-- represented by what is kept, or it has exactly this first fault
 abbrev pub FedTo : Kept → List (List ℕ) → List ℕ → Result (Unit {0}) SumError → Type 0
 FedTo new files bytes (Ok x) = StandsFor new files bytes
 FedTo new files bytes (Err (Log error)) = (input_judged files bytes ≡ Err error) × (new.refusal ≡ Some (Log error))
 FedTo new files bytes (Err NoMemory) = new.refusal ≡ Some NoMemory
 
 -- what an answer to the end of a log says, where these are the bytes of the log: the logs with it have no fault and are
--- stood for, or they have exactly this first fault
+-- represented by what is kept, or they have exactly this first fault
 abbrev pub EndedTo : Kept → List (List ℕ) → List ℕ → Result (Unit {0}) SumError → Type 0
 EndedTo new files bytes (Ok x) = StandsFor new (files ++ bytes ∷ []) []
 EndedTo new files bytes (Err (Log error)) =

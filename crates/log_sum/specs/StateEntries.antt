@@ -22,12 +22,12 @@ sum_view sum = (sum.mark, sum.count)
 abbrev pub state_view : Vec ℕ Global × StateSum → StateSummed
 state_view state = (state.0.items, sum_view state.1)
 
--- states in byte order, as each is put in its place
+-- states in byte order: each is inserted at its place
 unfoldable pub ordered : List StateSummed → List StateSummed
 ordered [] = []
 ordered (state ∷ states) = insert_entry (slice_cmp nat_cmp) (ordered states) state.0 state.1
 
--- the states of entries, in byte order, in whatever order the entries stand
+-- the states of entries in byte order, whatever the order of the entries
 abbrev pub states_view : List (Vec ℕ Global × StateSum) → List StateSummed
 states_view entries = ordered (map state_view entries)
 
@@ -57,7 +57,7 @@ SeenMore old new i count =
     (state : List ℕ) (known : Mark × ℕ) → state_at old i ≡ Some state → known_in old state ≡ Some known
     → states_view new ≡ with_state old state (known.0, min (known.1 + count) last_count)
 
--- the states stand in byte order, each once
+-- the states are in byte order, each once
 abbrev pub AreInOrder : List (Vec ℕ Global × StateSum) → Type 0
 AreInOrder entries = T (is_sorted (slice_cmp nat_cmp) (map state_view entries))
 
@@ -66,12 +66,12 @@ abbrev pub written_as : List ℕ → Option (Vec ℕ Global) → List ℕ
 written_as form None = form
 written_as form (Some text) = text.items
 
--- that text is read as the state
+-- the text by which a log wrote a state first is read as that state
 abbrev pub AreWritten : List (Vec ℕ Global × StateSum) → Type 0
 AreWritten entries =
     (i : ℕ) (key : Vec ℕ Global) (sum : StateSum) → slice_get entries i ≡ Some (key, sum) → form_read (written_as key.items sum.other_text) ≡ Ok key.items
 
--- the state that a text writes stands at an index
+-- the state that a text writes is at an index
 pub record HasState (entries : List (Vec ℕ Global × StateSum)) (text : List ℕ) (i : ℕ) : Type 0 where
   pub state : List ℕ
   pub stands : state_at entries i ≡ Some state

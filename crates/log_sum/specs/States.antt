@@ -12,11 +12,12 @@ use Rattle.text_laws.specs.Words.{is_nil}
 use Rattle.text_laws.specs.Cuts.{cut_at}
 use Rattle.log_sum.specs.Texts.{begins_with}
 
--- a left side as it is kept: in brackets, unless it has a colon or begins with a bracket
+-- a text begins with a bracket
 abbrev pub is_bracketed : List ℕ → Bool
 is_bracketed [] = false
 is_bracketed (byte ∷ text) = byte == 91
 
+-- a left side as it is kept: in brackets, unless it has a colon or begins with a bracket
 abbrev pub left_kept : List ℕ → List ℕ
 left_kept left = cond (list_any (λ byte. byte == 58) left || is_bracketed left) left ((91 ∷ left) ++ 93 ∷ [])
 
@@ -39,6 +40,7 @@ with_sides state left value =
     cond (has_left state (left_kept left ++ 61 ∷ [])) None
     (Some (insert_key (slice_cmp nat_cmp) state ((left_kept left ++ 61 ∷ []) ++ value)))
 
+-- a set with the equality of two sides more, where a piece has these
 abbrev pub with_equality : List (List ℕ) → Option (List ℕ × List ℕ) → Option (List (List ℕ))
 with_equality state None = None
 with_equality state (Some sides) = with_sides state sides.0 sides.1
@@ -48,14 +50,14 @@ abbrev pub and_then : Option (List (List ℕ)) → (List (List ℕ) → Option (
 and_then None next = None
 and_then (Some state) next = next state
 
--- a set with the equalities of pieces more, each of which but the last ended with a semicolon
+-- a set with the equalities of the pieces more: a semicolon ends each piece but the last one, which is empty
 unfoldable pub with_pieces : List (List ℕ) → List (List ℕ) → Option (List (List ℕ))
 with_pieces state [] = None
 with_pieces state (last ∷ []) = cond (is_nil last) (Some state) None
 with_pieces state (piece ∷ next ∷ rest) =
     and_then (with_equality state (sides_read (cut_at 61 piece))) (λ more. with_pieces more (next ∷ rest))
 
--- the pieces of a text without the blanks at the front of each but the first
+-- the pieces of a text, without the blanks at the start of each but the first
 abbrev pub later_unblanked : List (List ℕ) → List (List ℕ)
 later_unblanked [] = []
 later_unblanked (first ∷ rest) = first ∷ map unblanked rest
@@ -64,28 +66,31 @@ later_unblanked (first ∷ rest) = first ∷ map unblanked rest
 unfoldable pub state_read : List ℕ → Option (List (List ℕ))
 state_read text = with_pieces [] (later_unblanked (slice_split (λ byte. byte == 59) text))
 
--- the printed form of a set: each equality and a semicolon, with one blank between them; it has each equality, so it
--- stands for the set
+-- each equality after a blank and before a semicolon
 abbrev pub later_forms : List (List ℕ) → List ℕ
 later_forms [] = []
 later_forms (equality ∷ rest) = (32 ∷ equality ++ 59 ∷ []) ++ later_forms rest
 
+-- the printed form of a set: each equality and a semicolon, with one blank between them; it lists each equality, so it
+-- represents the set
 unfoldable pub state_form : List (List ℕ) → List ℕ
 state_form [] = []
 state_form (equality ∷ rest) = (equality ++ 59 ∷ []) ++ later_forms rest
 
--- the printed form of the set that a text writes
+-- what was read, or else the fault of a line that is wrong
 abbrev pub or_bad : {A : Type 0} → Option A → Result A LogKind
 or_bad None = Err BadState
 or_bad (Some x) = Ok x
 
+-- the printed form of the set that a text writes
 unfoldable pub form_read : List ℕ → Result (List ℕ) LogKind
 form_read text = or_bad (option_map state_form (state_read text))
 
--- a form with a text more
+-- a form with a blank after it, unless the form is empty
 abbrev pub separated : List ℕ → List ℕ
 separated [] = []
 separated (byte ∷ form) = (byte ∷ form) ++ 32 ∷ []
 
+-- a form with an equality more
 abbrev pub form_with : List ℕ → List ℕ → List ℕ
 form_with form text = (separated form ++ text) ++ 59 ∷ []

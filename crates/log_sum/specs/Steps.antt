@@ -16,7 +16,7 @@ use Rattle.log_sum.specs.Counts.{last_count}
 use Rattle.log_sum.specs.Facts.{Row, Fact, a_kind, a_row, a_condition, a_hash, same_kind, same_mark, says_validated, is_other}
 use Rattle.log_sum.specs.Summed.{Summed, StateSummed}
 
--- what was told first, or else this
+-- what was said first, or else this
 abbrev pub or_this : {A : Type 0} → Option A → A → Option A
 or_this None x = Some x
 or_this (Some known) x = Some known
@@ -26,14 +26,16 @@ abbrev pub marked : Summed → Mark → ℕ
 marked test Starred = test.starred
 marked test Plain = test.plain
 
+-- a test with another sum of the counts of a mark
 abbrev pub with_marked : Summed → Mark → ℕ → Summed
 with_marked test Starred sum = record test { starred = sum }
 with_marked test Plain sum = record test { plain = sum }
 
--- what is kept of a state
+-- the mark and the count that are kept of a state, if it is known
 abbrev pub known_state : List StateSummed → List ℕ → Option (Mark × ℕ)
 known_state states state = lookup (is_at (slice_cmp nat_cmp state)) states
 
+-- the count that is kept of a state, 0 where it isn't known
 abbrev pub count_known : Option (Mark × ℕ) → ℕ
 count_known None = 0
 count_known (Some known) = known.1
@@ -64,6 +66,7 @@ of_kind kind = record {
   states = [];
 }
 
+-- a test with a fact more, or the fault of that fact
 unfoldable pub fact_to : Summed → Fact → Result Summed LogKind
 fact_to test (a_kind kind) = cond (is_other same_kind test.kind kind) (Err KindDiffers) (Ok (record test { kind = or_this test.kind kind }))
 fact_to test (a_condition text verdict) =

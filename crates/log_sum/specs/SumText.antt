@@ -13,11 +13,13 @@ use Rattle.log_sum.specs.Summed.{StateSummed, Summed, summed, is_validated, or_e
 abbrev pub line_end : List ℕ
 line_end = 10 ∷ []
 
+-- the word of a kind
 abbrev pub kind_word : Kind → List ℕ
 kind_word Allowed = codes "Allowed"
 kind_word Forbidden = codes "Forbidden"
 kind_word Required = codes "Required"
 
+-- the sign of a mark in the line of a state
 abbrev pub mark_sign : Mark → List ℕ
 mark_sign Starred = codes "*>"
 mark_sign Plain = codes ":>"
@@ -30,11 +32,12 @@ filling text = replicate (6 - length text) 32
 unfoldable pub state_line : StateSummed → List ℕ
 state_line state = decimal state.1.1 ++ filling (decimal state.1.1) ++ mark_sign state.1.0 ++ state.0 ++ line_end
 
--- the verdict of a test, and how it is said behind the condition
+-- the word of the verdict
 abbrev pub verdict_word : Bool → List ℕ
 verdict_word true = codes "Ok"
 verdict_word false = codes "No"
 
+-- the verdict as it follows the condition
 abbrev pub verdict_end : Bool → List ℕ
 verdict_end true = codes " is validated"
 verdict_end false = codes " is NOT validated"
@@ -44,27 +47,32 @@ abbrev pub how_often : ℕ → ℕ → List ℕ
 how_often starred plain =
     cond (starred == 0) (codes "Never") (cond (plain == 0) (codes "Always") (codes "Sometimes"))
 
+-- the line of the hash, where there is one
 unfoldable pub hash_text : Option (List ℕ) → List ℕ
 hash_text None = []
 hash_text (Some hash) = codes "Hash=" ++ hash ++ line_end
 
--- the lines above the states of a test, and those below
+-- the lines above the states of a test
 unfoldable pub head_text : List ℕ → Summed → List ℕ
 head_text name test =
     codes "Test " ++ name ++ codes " " ++ kind_word (or_else Allowed test.kind) ++ line_end
     ++ codes "Histogram (" ++ decimal (length test.states) ++ codes " states)" ++ line_end
 
+-- the lines from the verdict to the sums of the counts of both marks
 unfoldable pub verdict_text : Summed → List ℕ
 verdict_text test =
     verdict_word (is_validated test) ++ line_end ++ line_end ++ codes "Witnesses" ++ line_end
     ++ codes "Positive: " ++ decimal test.starred ++ codes ", Negative: " ++ decimal test.plain ++ line_end
 
+-- the line of the condition and whether it is validated
 unfoldable pub claim_text : Summed → List ℕ
 claim_text test = codes "Condition " ++ or_else [] test.condition ++ verdict_end (is_validated test) ++ line_end
 
+-- the lines of the condition and of the hash
 unfoldable pub condition_text : Summed → List ℕ
 condition_text test = claim_text test ++ hash_text test.hash
 
+-- the line of the observation, and an empty line
 unfoldable pub observation_text : List ℕ → Summed → List ℕ
 observation_text name test =
     codes "Observation " ++ name ++ codes " " ++ how_often test.starred test.plain

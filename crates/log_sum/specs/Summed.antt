@@ -13,7 +13,7 @@ use Rattle.log_sum.specs.Facts.{Row, Fact, kinds, rows, conditions, hashes, firs
 abbrev pub StateSummed : Type 0
 StateSummed = List ℕ × (Mark × ℕ)
 
--- a test: its kind, condition and hash, where they were told; whether a block validated the condition, and whether all did;
+-- a test: its kind, condition and hash, where logs say them; whether a block validated the condition, and whether all did;
 -- the sums of the counts of each mark; and its states in byte order
 pub record Summed : Type 0 where
   pub kind : Option Kind
@@ -25,6 +25,7 @@ pub record Summed : Type 0 where
   pub plain : ℕ
   pub states : List StateSummed
 
+-- a value that may be missing, or else this one
 abbrev pub or_else : {A : Type 0} → A → Option A → A
 or_else other None = other
 or_else other (Some x) = x
@@ -46,11 +47,12 @@ summed facts = record {
   states = map (state_by (rows facts)) (states_of (rows facts));
 }
 
--- the condition is validated: where the kind is Allowed by one block, else by all
+-- the condition of a test of a kind is validated: by one block where the kind is Allowed, else by all
 abbrev pub validated_by : Option Kind → Summed → Bool
 validated_by (Some Forbidden) test = test.always_validated
 validated_by (Some Required) test = test.always_validated
 validated_by _ test = test.once_validated
 
+-- the condition of a test is validated
 abbrev pub is_validated : Summed → Bool
 is_validated test = validated_by test.kind test

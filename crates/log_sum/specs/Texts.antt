@@ -4,11 +4,12 @@ use Rattle.std.specs.Prelude.{ℕ, nat_eq, Bool, ◌-◌, List, [], ◌∷◌, �
 use Rattle.std.specs.List.{starts_with}
 use Rattle.std.specs.Str.{bytes_eq}
 
--- words joined by one blank each
+-- each word with one blank before it
 abbrev pub later_words : List (List ℕ) → List ℕ
 later_words [] = []
 later_words (word ∷ rest) = (32 ∷ word) ++ later_words rest
 
+-- the words with one blank between them
 abbrev pub joined_words : List (List ℕ) → List ℕ
 joined_words [] = []
 joined_words (word ∷ rest) = word ++ later_words rest
@@ -17,7 +18,7 @@ joined_words (word ∷ rest) = word ++ later_words rest
 abbrev pub ends_with : List ℕ → List ℕ → Bool
 ends_with text tail = bytes_eq (drop (length text - length tail) text) tail
 
--- what stands before that end
+-- the text before that end
 abbrev pub before_end : List ℕ → List ℕ → List ℕ
 before_end text tail = take (length text - length tail) text
 

@@ -48,7 +48,7 @@ pub enum SumError {
     NoMemory,
 }
 
-/// What is wrong with a line, whose number isn't known yet.
+/// What is wrong with a line, before its number is known.
 #[derive(Clone, Copy)]
 pub(crate) enum Fault {
     Wrong(LogKind),

@@ -31,8 +31,8 @@ pub(crate) enum Place {
     States(Kind, u64),
     /// The line `Ok` or `No`.
     Judgement(Kind),
-    /// The rest of the block, where no condition stood yet.
+    /// The rest of the block, before a condition.
     Rest(Kind),
-    /// The rest of the block, behind a condition.
+    /// The rest of the block, after a condition.
     Conditioned(Kind),
 }

@@ -4,7 +4,7 @@ ghost use Rattle.log_sum.specs.Pieces.{SameAnswers};
 ///
 /// Two summers that were fed the same logs and the same bytes of one more give one answer, also where
 /// the log ends, and have one sum. A fault of the bytes that one was fed is the answer of the other
-/// where it was fed more of them. Only an answer that there is no memory may stand in another's place.
+/// where it was fed more of them. Only the answer that there is no memory may take the place of another.
 #[tactic(auto, using(crate::proofs::PieceLaws::one_answer_in_pieces))]
 pub fn same_answers()
     ensures { SameAnswers }

@@ -127,7 +127,7 @@ fn mark_of(byte: u8) -> Option<Mark>
     }
 }
 
-/// The mark at the front of a text, and the text behind its `>`.
+/// The mark at the start of a text, and the text after its `>`.
 fn read_mark(text: &[u8]) -> Option<(Mark, &[u8])>
     ensures { option_map (λ mark. (mark.0, mark.1.now)) result ≡ mark_read text.now }
 {

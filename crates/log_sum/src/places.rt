@@ -39,7 +39,7 @@ fn after_state(place: Place) -> Place
     }
 }
 
-/// The place behind a line that says this at a place.
+/// The place after a line that says this at a place.
 #[tactic(auto, unfolding(crate::specs::Lines::place_after))]
 pub(crate) fn place_after(place: Place, said: &Said<'_>) -> Place
     ensures { (is : Meant) → said_read said.now ≡ Ok is → result ≡ place_after place is }

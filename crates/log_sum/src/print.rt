@@ -12,7 +12,7 @@ use crate::test_sum::TestSum;
 use diy_io::{Failed, Page, Sink};
 use itoa::Buffer;
 
-/// Blanks, as many as the count of a state is filled up to, and then the sign of a mark.
+/// Six blanks, to which a count is filled up, and then the sign of a mark.
 const STARRED_SIGN: [u8; 8] = *b"      *>";
 
 const PLAIN_SIGN: [u8; 8] = *b"      :>";

@@ -24,7 +24,7 @@ pub(crate) struct Reading {
 }
 
 impl Reading {
-    /// Nothing was read yet.
+    /// Nothing has been read.
     pub(crate) fn new(alloc: Global) -> Reading
         ensures { Follows (progress_view result) nothing_seen }
     {
@@ -47,7 +47,7 @@ impl Reading {
         Ok(())
     }
 
-    /// The end of a log, at which the states of each test come in byte order.
+    /// Ends a log, and puts the states of each test in byte order.
     pub(crate) fn end(&mut self) -> Result<(), Fault>
         ensures in_order { OnOk result (are_in_order self.new.table ≡ true) }
         ensures ended { (seen : Seen) → Follows (progress_view self.old) seen → ReadTo (progress_view self.new) (end_judged seen) result }

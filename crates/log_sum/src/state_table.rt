@@ -21,9 +21,9 @@ pub(crate) struct StateSum {
 #[derive(Drop)]
 pub(crate) struct StateTable {
     pub(crate) sums: IndexMap<Vec<u8>, StateSum>,
-    /// The index behind that of the last state that was seen, or 0 behind the last index.
+    /// The index after that of the last state that was seen, or 0 after the last index.
     next: usize,
-    /// The states stand in byte order.
+    /// Whether the states are known to be in byte order.
     pub(crate) in_order: bool,
     ghost are_written: { AreWritten sums.entries },
     ghost are_in_order: { in_order ≡ true → AreInOrder sums.entries },
@@ -56,7 +56,7 @@ impl StateTable {
 
     /// The index of the state that a text writes, where a log wrote it so first.
     ///
-    /// Logs of one test list its states in one order, so the two behind the last one are tried before all others.
+    /// Logs of one test list its states in one order, so the two after the last one are tried before all others.
     pub(crate) fn written_index(&self, text: &[u8]) -> Option<usize>
         ensures { IfSome result (HasState self.now.sums.entries text.now) }
     {
@@ -102,7 +102,7 @@ impl StateTable {
         }
     }
 
-    /// The state at an index, seen so often more.
+    /// Adds a count to the state at an index.
     pub(crate) fn add(&mut self, i: usize, count: u64)
         ensures { SeenMore self.old.sums.entries self.new.sums.entries i count }
     {
@@ -112,13 +112,13 @@ impl StateTable {
         self.next = self.index_behind(i);
     }
 
-    /// The index behind one, or 0 where it is the last.
+    /// The index after one, or 0 where it is the last.
     fn index_behind(&self, i: usize) -> usize {
         let next = i.saturating_add(1);
         if next < self.sums.len() { next } else { 0 }
     }
 
-    /// A state more.
+    /// Adds a state.
     pub(crate) fn put(&mut self, state: Vec<u8>, sum: StateSum) -> Result<(), NoMemory>
         requires new { known_in self.old.sums.entries state.items ≡ None }
         requires written { form_read (written_as state.items sum.other_text) ≡ Ok state.items }

@@ -22,8 +22,8 @@ pub(crate) struct StateReader {
     form: Vec<u8>,
 }
 
-/// Puts a left side to a text as it is kept: in brackets, unless it has a colon or begins with a bracket. Behind it
-/// stands the sign.
+/// Appends a left side as it is kept to a text: in brackets, unless it has a colon or begins with a bracket. The sign
+/// follows it.
 fn put_left(text: &mut Vec<u8>, left: &[u8]) -> Result<(), NoMemory>
     ensures { OnOk result (text.new.items ≡ text.old.items ++ (left_kept left.now ++ 61 ∷ [])) }
 {
@@ -87,7 +87,7 @@ fn has_left_twice(equalities: &[Vec<u8>]) -> bool
     false
 }
 
-/// Puts a blank behind a form that isn't empty.
+/// Appends a blank to a form that isn't empty.
 #[tactic(auto, using(crate::proofs::StateLaws::separated_some, crate::proofs::StateLaws::separated_none))]
 fn separate(form: &mut Vec<u8>) -> Result<(), NoMemory>
     ensures { OnOk result (form.new.items ≡ separated form.old.items) }
@@ -99,7 +99,7 @@ fn separate(form: &mut Vec<u8>) -> Result<(), NoMemory>
     Ok(())
 }
 
-/// Puts an equality to a form.
+/// Appends an equality to a form.
 fn put_form(form: &mut Vec<u8>, equality: &[u8]) -> Result<(), NoMemory>
     ensures { OnOk result (form.new.items ≡ form_with form.old.items equality.now) }
 {
@@ -172,7 +172,7 @@ impl StateReader {
         }
     }
 
-    /// Puts the equality of a piece after the others.
+    /// Appends the equality of a piece to the others.
     fn put_equality(&mut self, piece: &[u8]) -> Result<(), Fault>
         ensures { GivesOr (λ _. texts_of self.new.equalities.items) result (with_piece (texts_of self.old.equalities.items) piece.now) }
     {

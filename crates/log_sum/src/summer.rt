@@ -20,9 +20,9 @@ pub const MAX_LINE: usize = 65_536;
 #[derive(Drop)]
 pub struct Summer {
     reading: Reading,
-    /// What has come of the running line.
+    /// The bytes of the running line so far.
     held: Vec<u8>,
-    /// What was refused.
+    /// The answer of a summer that is spent.
     refusal: Option<SumError>,
 }
 
@@ -44,7 +44,7 @@ impl Model for Summer {
 }
 
 impl Summer {
-    /// A summer that was fed nothing yet.
+    /// A summer that has been fed nothing.
     pub fn new(alloc: Global) -> Result<Summer, NoMemory>
         ensures stands { IfOk result (λ summer. StandsFor summer [] []) }
         ensures in_order { IfOk result (λ summer. summer.in_order ≡ true) }
@@ -58,7 +58,7 @@ impl Summer {
 
     /// Feeds a piece of the running log, which may end anywhere.
     ///
-    /// The answer is the first fault of the logs as far as they have come, or that there is no memory; the summer is
+    /// The answer is the first fault of the bytes that were fed so far, or that there is no memory; the summer is
     /// spent then, and answers the same again.
     pub fn feed(&mut self, piece: &[u8]) -> Result<(), SumError>
         ensures fed { (files : List (List ℕ)) (bytes : List ℕ) → StandsFor self.old files bytes → FedTo self.new files (bytes ++ piece.now) result }

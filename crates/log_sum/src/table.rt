@@ -31,7 +31,7 @@ impl Table {
         }
     }
 
-    /// A block of a test and its kind begin.
+    /// Begins a block of a test of this kind.
     pub(crate) fn begin(&mut self, alloc: Global, name: &[u8], kind: Kind) -> Result<(), Fault>
         ensures { ForEntries self.old (λ entries. FactPut entries name.now (a_kind kind) self.new result) }
     {

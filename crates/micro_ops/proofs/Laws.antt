@@ -16,7 +16,7 @@ use Rattle.micro_ops.specs.Running.{Run, Point, At, Past, Wants, Stuck, go, exec
 use Rattle.micro_ops.specs.Threads.{goes_on, StopsAt}
 use Rattle.micro_ops.proofs.Steps.{OnTold, JumpsTo, step_jumps, Keeps, step_keeps, Named, step_named, step_counts, Counts, reads_in, ItemNames}
 
--- a run of one list and then another
+-- the run of one list and then another is the run of the second from where the first led
 pub exec_append : (code after : List Micro) (p : Point) →
     exec (code ++ after) p ≡ exec after (exec code p)
 exec_append [] after p = refl
@@ -27,11 +27,12 @@ pub run_then : (code after : List Micro) (p : Point) (r : Run) → exec code p �
     exec (code ++ after) p ≡ exec after (At r)
 run_then code after p r e = exec_append code after p ∙ ap (exec after) e
 
--- a run that is stuck stays so, and one that wants a read does
+-- a run that is stuck stays stuck
 pub stuck_stays : (code : List Micro) → exec code Stuck ≡ Stuck
 stuck_stays [] = refl
 stuck_stays (op ∷ code) = stuck_stays code
 
+-- a run that wants a read still wants it after more operations
 pub wants_stays : (code : List Micro) (r : Run) → exec code (Wants r) ≡ Wants r
 wants_stays [] r = refl
 wants_stays (op ∷ code) r = wants_stays code r
@@ -53,7 +54,7 @@ jump_lands (op ∷ before) after l r h =
     or_false_right true b h = cc
     or_false_right false b h = h
 
--- a run has its way ahead of it: a label that it looks for stands there
+-- a label that a run looks for, if there is one, is in the code ahead of it
 abbrev pub HasWay : List Micro → Point → Type 0
 HasWay code (At _) = Unit {0}
 HasWay code (Past l _) = stands l code ≡ true
@@ -109,7 +110,7 @@ exec_ways (op ∷ code) p h w =
     let parts = and_parts (stands_if (target op) code) (lands code) h in
     exec_ways code (go op p) parts.1 (go_ways op code p parts.0 w)
 
--- no run of a list in which each branch's label stands later ends on the way to a label
+-- no run of a list in which each branch's label comes later ends on the way to a label
 pub never_past : (code : List Micro) (r : Run) → lands code ≡ true →
     is_past (exec code (At r)) ≡ false
 never_past code r h = exec_ways code (At r) h tt
@@ -157,6 +158,7 @@ go_leads P Q op w k Stuck h = tt
 abbrev pub StepKeeps : (Run → Type 0) → Micro → Type 0
 StepKeeps P op = StepLeads P P op
 
+-- what each step of an operation keeps, the operation keeps
 pub go_keeps : (P : Run → Type 0) (op : Micro) → StepKeeps P op → (p : Point) → OnRun P p →
     OnRun P (go op p)
 go_keeps P op k p h = go_leads P P op (λ r g. g) k p h
@@ -213,7 +215,7 @@ one_item op r = at_taken (is_load op) r.reads
     at_taken true (n ∷ reads) = at_told (step op r.state (Some n)) reads
     at_taken true [] = at_wanting (step op r.state (Some 0))
 
--- a label that stands in one part stands in the whole
+-- a label that is in the first part is in the whole
 pub stands_before : (l : ℕ) (a b : List Micro) → stands l a ≡ true → stands l (a ++ b) ≡ true
 stands_before l [] b h = absurd (true≢false (sym h))
 stands_before l (op ∷ a) b h = either (is_label l op) h (λ g. stands_before l a b g)
@@ -223,7 +225,7 @@ stands_before l (op ∷ a) b h = either (is_label l op) h (λ g. stands_before l
     either true g k = refl
     either false g k = k g
 
--- where each branch's label stands later in both parts, it does in the whole
+-- where each branch's label comes later in both parts, it does in the whole
 pub lands_append : (a b : List Micro) → lands a ≡ true → lands b ≡ true → lands (a ++ b) ≡ true
 lands_append [] b h k = k
 lands_append (op ∷ a) b h k =
@@ -297,6 +299,7 @@ starting_empty (named ∷ init) r = here (r == named.0) (starting_empty init r)
     here true h = pow_pos 0
     here false h = h
 
+-- before the first operation the masks name no loads
 pub beginning_names : (init : List (ℕ × Value)) (reads : List ℕ) →
     RunNamesLoads (beginning init reads)
 beginning_names init reads = record {
@@ -321,7 +324,7 @@ more_loads m n e (Past l r) h = omega arith
 more_loads m n e (Wants r) h = omega arith
 more_loads m n e Stuck h = tt
 
--- a run from a point that stepped some loads steps at most as many more as stand in the code
+-- a run from a point that stepped some loads steps at most as many more as are in the code
 pub loads_grow : (code : List Micro) (n : ℕ) (p : Point) → OnRun (λ r. r.state.loads ≤ n) p →
     OnRun (λ r. r.state.loads ≤ n + count_by is_load code) (exec code p)
 loads_grow [] n p h = more_loads n (n + 0) (omega arith) p h
@@ -334,6 +337,7 @@ loads_grow (op ∷ code) n p h =
     (go_leads (λ r. r.state.loads ≤ n) (λ r. r.state.loads ≤ n + cond (is_load op) 1 0) op
     (λ r g. omega arith) (counts_lead op n) p h))
 
+-- the run of a thread steps at most as many loads as are in its code
 pub loads_within : (code : List Micro) (init : List (ℕ × Value)) (reads : List ℕ) →
     OnRun (λ r. r.state.loads ≤ count_by is_load code) (exec code (At (beginning init reads)))
 loads_within code init reads =
@@ -341,13 +345,14 @@ loads_within code init reads =
     (exec code (At (beginning init reads)))
     (loads_grow code 0 (At (beginning init reads)) (omega arith))
 
--- a run that stops at an operation doesn't go on behind it
+-- a run that doesn't go on still doesn't after more operations
 halted_stays : (code : List Micro) (p : Point) → goes_on p ≡ false → goes_on (exec code p) ≡ false
 halted_stays code (At r) h = absurd (true≢false h)
 halted_stays code (Past l r) h = absurd (true≢false h)
 halted_stays code (Wants r) h = ap goes_on (wants_stays code r)
 halted_stays code Stuck h = ap goes_on (stuck_stays code)
 
+-- a run that stops at an operation doesn't go on after it
 pub stops_for_good : (code : List Micro) (start : Point) (i : ℕ) → StopsAt code start i →
     goes_on (exec code start) ≡ false
 stops_for_good code start i h =

@@ -18,12 +18,13 @@ blank_at zero r = refl
 blank_at (suc n) zero = refl
 blank_at (suc n) (suc r) = blank_at n r
 
+-- registers that hold 0 are those of a thread of whose initial values none is set
 pub blank_is_start : (registers : List Held) (init : List (ℕ × Value)) →
     registers ≡ replicate 32 (num 0 0) → held_in registers ≡ starting (drop (length init) init)
 blank_is_start registers init e =
     rw (e, drop_of_length-le init (le_refl (length init))) (same_function _ _ (blank_at 32))
 
--- an array in which one register was written
+-- an array in which one register was written holds what was written there
 pub held_in_set : (registers : List Held) (d : ℕ) (held : Held) → d < length registers →
     held_in (set registers d held) ≡ written (held_in registers) d held
 held_in_set registers d held h = same_function _ _ (λ q. at_each q (q == d) refl)
@@ -35,6 +36,7 @@ held_in_set registers d held h = same_function _ _ (λ q. at_each q (q == d) ref
     at_each q false e =
         get_or-set_other registers d q held (num 0 0) (λ s. eqb-false q d e s)
 
+-- with one initial value more set, from the end, the registers hold those from this one on
 pub name_more : (registers : List Held) (init : List (ℕ × Value)) (j k d : ℕ) (none : ℕ × Value) →
     k ≡ suc j → j < length init → d ≡ (get_or init j none).0 → d < length registers →
     held_in registers ≡ starting (drop k init) →

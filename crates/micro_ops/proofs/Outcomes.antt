@@ -5,16 +5,19 @@ use Rattle.micro_ops.specs.declared.operation.Micro.{Micro}
 use Rattle.micro_ops.specs.declared.operation.Item.{Item}
 use Rattle.micro_ops.specs.Running.{Run, Point, At, Past, Wants, Stuck, exec, beginning, Ended, ReadsLeft, ReadsShort, ended, outcome, runs}
 
+-- a run whose code is over and that has used all its reads has ended
 pub runs_ended : (code : List Micro) (init : List (ℕ × Value)) (reads : List ℕ) (after : Run) →
     exec code (At (beginning init reads)) ≡ At after → after.reads ≡ [] →
     runs code init reads ≡ Ended after.made (λ q. (after.state.regs q).value)
 runs_ended code init reads after e f = ap outcome e ∙ ap (ended after) f
 
+-- a run whose code is over and that has reads left ends with reads left
 pub runs_left : (code : List Micro) (init : List (ℕ × Value)) (reads : List ℕ) (after : Run) (n : ℕ)
     (rest : List ℕ) → exec code (At (beginning init reads)) ≡ At after → after.reads ≡ n ∷ rest →
     runs code init reads ≡ ReadsLeft
 runs_left code init reads after n rest e f = ap outcome e ∙ ap (ended after) f
 
+-- a run that wants a read ends for want of a read
 pub runs_short : (code : List Micro) (init : List (ℕ × Value)) (reads : List ℕ) (after : Run) →
     exec code (At (beginning init reads)) ≡ Wants after → runs code init reads ≡ ReadsShort
 runs_short code init reads after e = ap outcome e
@@ -28,6 +31,7 @@ pub record EndedRun (code : List Micro) (init : List (ℕ × Value)) (reads : Li
   pub made_is : after.made ≡ made
   pub values_are : (q : ℕ) → (after.state.regs q).value ≡ values q
 
+-- a run that ended came to such a point
 pub ended_run : (code : List Micro) (init : List (ℕ × Value)) (reads : List ℕ) (made : List Item)
     (values : ℕ → Value) → runs code init reads ≡ Ended made values →
     EndedRun code init reads made values

@@ -1,4 +1,4 @@
--- The run of code whose places have other numbers is its run with these numbers: no operation looks at a place's number.
+-- The run of code whose places have other numbers is its run with these numbers: no operation depends on a place's number.
 use Rattle.std.proofs.Common.{◌≡◌, ℕ, zero, suc, ◌+◌, ◌==◌, Bool, true, false, cond, nat_lt, ◌^◌, List, [], ◌∷◌, map, Option, Some, None, refl, sym, ◌∙◌, ap}
 use Rattle.std.specs.Option.{option_map}
 use Rattle.std.proofs.lemmas.List.{map-append}

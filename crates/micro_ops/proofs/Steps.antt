@@ -72,6 +72,7 @@ taken_or_not : (b : Bool) (l : ℕ) →
 taken_or_not true l = inr refl
 taken_or_not false l = inl refl
 
+-- each step jumps nowhere, or to the label of its operation
 pub step_jumps : (op : Micro) (s : State) (read : Option ℕ) →
     OnTold (JumpsTo (target op)) (step op s read)
 step_jumps (ops.Imm d n) s read = inl refl
@@ -114,13 +115,15 @@ step_jumps (ops.Barrier kind) s read = inl refl
 abbrev pub Keeps : State → ℕ → Told → Type 0
 Keeps s r told = told.state.regs r ≡ s.regs r
 
--- a register that was written, and one that was not
+-- the register that was written holds what was written
 pub put_same : (s : State) (d : ℕ) (h : Held) → (put s d h).regs d ≡ h
 put_same s d h = rw (eq-eqb d d refl) refl
 
+-- a register that wasn't written holds what it held
 pub put_other : (s : State) (r d : ℕ) (h : Held) → (r == d) ≡ false → (put s d h).regs r ≡ s.regs r
 put_other s r d h e = rw e refl
 
+-- each step keeps what a register holds that its operation doesn't write
 pub step_keeps : (op : Micro) (s : State) (read : Option ℕ) (r : ℕ) →
     is_named r (writes op) ≡ false → OnTold (Keeps s r) (step op s read)
 step_keeps (ops.Imm d n) s read r e = put_other s r d (num n 0) e
@@ -263,6 +266,7 @@ named_branch s mask b l h k = record {
   loads = omega arith;
 }
 
+-- after each step the masks name loads that were stepped, and the step counts its own load
 pub step_named : (op : Micro) (s : State) (read : Option ℕ) → MasksNameLoads s →
     OnTold (Named s) (step op s read)
 step_named (ops.Imm d n) s read h = named_write s d (Num n) 0 h (empty_mask s.loads)
@@ -317,6 +321,7 @@ step_named (ops.Barrier kind) s read h =
 abbrev pub Counts : State → ℕ → Told → Type 0
 Counts s more told = told.state.loads ≡ s.loads + more
 
+-- each step counts a load, and no other operation
 pub step_counts : (op : Micro) (s : State) (read : Option ℕ) →
     OnTold (Counts s (cond (is_load op) 1 0)) (step op s read)
 step_counts (ops.Imm d n) s read = sym (add-zero s.loads)

@@ -14,7 +14,7 @@ use Rattle.micro_ops.specs.Threads.{EndedRun, goes_on, StopsAt, CausedBy}
 use Rattle.micro_ops.specs.Runners.{Progress, point_of, error_of}
 use Rattle.micro_ops.proofs.Laws.{exec_append, never_past, loads_within}
 
--- one operation more
+-- the run of one operation more is that operation from where the others led
 pub exec_more : (code : List Micro) (i : ℕ) (d : Micro) (p q : Point) → i < length code →
     q ≡ exec (take i code) p → go (get_or code i d) q ≡ exec (take (i + 1) code) p
 exec_more code i d p q h e =
@@ -76,13 +76,14 @@ runner_ends code init reads n p h e l =
     ap is_past e ∙ ap (λ ops. is_past (exec ops (At (beginning init reads)))) (take_all n code h) ∙
     never_past code (beginning init reads) l
 
+-- a runner that went through all the code ends as the run does
 pub runner_runs : (code : List Micro) (init : List (ℕ × Value)) (reads : List ℕ) (n : ℕ) (p : Point) →
     length code ≤ n → p ≡ exec (take n code) (At (beginning init reads)) →
     outcome p ≡ runs code init reads
 runner_runs code init reads n p h e =
     ap outcome e ∙ ap (λ ops. outcome (exec ops (At (beginning init reads)))) (take_all n code h)
 
--- why a run that its runner could not finish has no trace
+-- a runner that can't go on gives the error that has its cause
 pub halt_cause : (code : List Micro) (init : List (ℕ × Value)) (reads : List ℕ) (i : ℕ) (halt : Halt)
     (error : RunError) → error ≡ error_of halt i →
     (halt ≡ halts.Stuck → StopsAt code (At (beginning init reads)) i) →
@@ -92,6 +93,7 @@ halt_cause code init reads i halts.Stuck error e h =
 halt_cause code init reads i halts.NoMemory error e h =
     subst (λ x. CausedBy x code init reads) (sym e) tt
 
+-- a runner with reads left at the end of the code gives the error that has its cause
 pub left_cause : (code : List Micro) (init : List (ℕ × Value)) (reads : List ℕ) (p : Point)
     (result : Result EndedRun RunError) → outcome p ≡ runs code init reads →
     IfErr result (λ error. (error ≡ errors.ReadsLeft) × (outcome p ≡ ReadsLeft)) →

@@ -32,7 +32,7 @@ state_of contents = record {
   loads = contents.loads;
 }
 
--- the answer of a step and the state after it, as a rule tells them
+-- the answer of a step and the state after it, in the form in which a rule gives them
 abbrev pub told : Result Stepped Stuck → State → Option Told
 told (Ok stepped) s = Some (record { state = s; item = stepped.item; jump = stepped.jump })
 told (Err _) _ = None

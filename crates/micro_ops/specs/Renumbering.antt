@@ -14,12 +14,12 @@ op_at number (ops.LoadAt dst place) = ops.LoadAt dst (number place)
 op_at number (ops.StoreAt place n) = ops.StoreAt (number place) n
 op_at number op = op
 
--- a value so
+-- a value, its place under the number that `number` gives it
 abbrev pub value_at : (ℕ → ℕ) → Value → Value
 value_at number (Num n) = Num n
 value_at number (Place place) = Place (number place)
 
--- an item so
+-- an item, its place under the number that `number` gives it
 abbrev pub item_at : (ℕ → ℕ) → Item → Item
 item_at number (items.Access dir mark place value address_mask data_mask control_mask) =
     items.Access dir mark (number place) value address_mask data_mask control_mask

@@ -16,8 +16,8 @@ pub record Run : Type 0 where
   pub reads : List ℕ
   pub made : List Item
 
--- where a run is between two operations: before the next; passing over operations until a label
--- stands; at a load that only lacks a number to read; or at an operation that no rule fits
+-- where a run is between two operations: before the next; passing over operations up to a
+-- label; at a load that only lacks a number to read; or at an operation that no rule fits
 pub data Point : Type 0 where
   At : Run → Point
   Past : ℕ → Run → Point
@@ -53,12 +53,12 @@ led (Some told) reads made =
     (record { state = told.state; reads = reads; made = add_item made told.item })
 led None _ _ = Stuck
 
--- a load with nothing left to read wants a number if any would do
+-- where a load with nothing left to read leads: it wants a number, if it isn't stuck with any
 abbrev pub wanting : Option Told → Run → Point
 wanting (Some _) r = Wants r
 wanting None _ = Stuck
 
--- an operation, which takes the next number if it reads
+-- where an operation leads, which takes the next number if it reads
 abbrev pub taken : Micro → Run → Bool → List ℕ → Point
 taken op r false reads = led (step op r.state None) reads r.made
 taken op r true (n ∷ reads) = led (step op r.state (Some n)) reads r.made
@@ -76,7 +76,7 @@ abbrev pub exec : List Micro → Point → Point
 exec [] p = p
 exec (op ∷ code) p = exec code (go op p)
 
--- a label stands in a list of operations
+-- a label is in a list of operations
 abbrev pub stands : ℕ → List Micro → Bool
 stands _ [] = false
 stands label (op ∷ code) = is_label label op || stands label code
@@ -87,17 +87,17 @@ target (ops.BranchEq label) = Some label
 target (ops.BranchNz _ label) = Some label
 target _ = None
 
--- a label, if there is one, stands in a list of operations
+-- a label, if there is one, is in a list of operations
 abbrev pub stands_if : Option ℕ → List Micro → Bool
 stands_if None _ = true
 stands_if (Some label) code = stands label code
 
--- each branch's label stands later
+-- each branch's label comes later
 abbrev pub lands : List Micro → Bool
 lands [] = true
 lands (op ∷ code) = stands_if (target op) code && lands code
 
--- the labels that stand in a list of operations, in order
+-- the labels in a list of operations, in order
 abbrev pub labels_of : List Micro → List ℕ
 labels_of [] = []
 labels_of (ops.Label label ∷ code) = label ∷ labels_of code

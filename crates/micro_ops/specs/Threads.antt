@@ -26,7 +26,7 @@ goes_on (Past _ _) = true
 goes_on (Wants _) = false
 goes_on Stuck = false
 
--- a run stops at an operation: it goes on up to there, and no longer behind it
+-- a run stops at an operation: it goes on up to there, and no longer after it
 pub record StopsAt (code : List Micro) (start : Point) (at_op : ℕ) : Type 0 where
   pub within : at_op < length code
   pub before : goes_on (exec (take at_op code) start) ≡ true

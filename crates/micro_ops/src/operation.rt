@@ -110,7 +110,7 @@ impl Default for Micro {
     }
 }
 
-/// What a thread does that other threads can tell: an access or a barrier, with the loads that it
+/// What a thread does that other threads can notice: an access or a barrier, with the loads that it
 /// depends on. Bit `k` of a mask names load number `k` of the thread, from 0.
 #[derive(Clone, Copy, Debug, PartialEq, Eq)]
 pub enum Item {

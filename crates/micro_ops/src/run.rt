@@ -72,8 +72,8 @@ enum Halt {
 ///
 /// It is stuck at an operation exactly where no rule fits its operands, or it is a load and no
 /// read is left; reads are left exactly where the code ends before all are used. Registers are
-/// below 32; where `init` names one twice, the first entry counts. Each branch's label stands later
-/// in the code, and at most 64 loads stand in it.
+/// below 32; where `init` names one twice, the first entry counts. Each branch's label comes later
+/// in the code, which has at most 64 loads.
 pub fn run_thread(
     alloc: Global,
     code: &[Micro],

@@ -19,7 +19,7 @@ pub fn jumps_land()
     ensures { (before after : List Micro) → (label : ℕ) → (r : Run) → JumpLands before label after r }
 {}
 
-/// Where each branch's label stands later, no run ends on the way to a label.
+/// Where each branch's label comes later, no run ends on the way to a label.
 #[tactic(auto, using(crate::proofs::Laws::never_past))]
 pub fn no_jump_is_open()
     ensures { (code : List Micro) → (r : Run) → lands code ≡ true → is_past (exec code (At r)) ≡ false }
@@ -43,7 +43,7 @@ pub fn masks_name_stepped_loads()
     ensures { (code : List Micro) → (init : List (ℕ × Value)) → (reads : List ℕ) → OnRun RunNamesLoads (exec code (At (beginning init reads))) }
 {}
 
-/// A run that stops at an operation doesn't go on behind it.
+/// A run that stops at an operation doesn't go on after it.
 #[tactic(auto, using(crate::proofs::Laws::stops_for_good))]
 pub fn stopped_runs_stay_stopped()
     ensures { (code : List Micro) → (start : Point) → (op : ℕ) → StopsAt code start op → goes_on (exec code start) ≡ false }

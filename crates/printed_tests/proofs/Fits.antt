@@ -46,7 +46,7 @@ use Rattle.test_laws.proofs.PlaceNames.{letter_at, locations_few}
 use Rattle.test_laws.proofs.StepsFit.{IsThread, all_at, steps_fit, steps_placed}
 use Rattle.printed_tests.proofs.Rereading.{got_is}
 
--- what stands in a table has a number
+-- what is in a table has a number
 stands_in : (k : ℕ) (names : List (List ℕ)) (i : ℕ) (name : List ℕ) → slice_get names i ≡ Some name → is_some (position_from (λ x. bytes_eq x name) k names) ≡ true
 stands_in k [] i name g = cc
 stands_in k (x ∷ names) i name g =
@@ -93,16 +93,19 @@ pub record IsThreadCode (a : Puts) (ss : List Step) : Type 0 where
   pub thread : IsThread a.name ss
   pub formed : IsFormed a ss (compiled a ss)
 
+-- the code of a thread of the test is that of a thread of the architecture
 pub thread_is : (a : Puts) (es : List Edge) (mode : ObsMode) (k : ℕ) (ss : List Step) → IsArch a → HasCode a es mode → slice_get (cycle_steps es mode plain) k ≡ Some ss → IsThreadCode a ss
 thread_is a es mode k ss laws t g =
     let thread = steps_fit es mode plain a.name k ss t.resolved t.of_arch g in
     record { thread = thread; formed = is_formed a laws ss thread.fit (t.room k ss g) }
 
+-- the code of a thread has no more instructions than a thread may have
 pub code_short : (a : Puts) (es : List Edge) (mode : ObsMode) (k : ℕ) (ss : List Step) → IsArch a → HasCode a es mode → slice_get (cycle_steps es mode plain) k ≡ Some ss → length (compiled a ss).instrs ≤ MAX_INSTRS
 code_short a es mode k ss laws t g =
     let thread = (thread_is a es mode k ss laws t g).thread in
     omega (arith, thread_short a laws false (setting_out a.registers) ss thread.fit, thread.few)
 
+-- the code of a thread fits the names of the locations
 pub thread_code_fits : (a : Puts) (es : List Edge) (mode : ObsMode) (k : ℕ) (ss : List Step) → IsArch a → MakesOneAccess a → HasCode a es mode → slice_get (cycle_steps es mode plain) k ≡ Some ss
     → CodeFits a (letters (move_count es)) (name_in (letters (move_count es))) 0 0 (compiled a ss).instrs
 thread_code_fits a es mode k ss laws one t g =
@@ -111,6 +114,7 @@ thread_code_fits a es mode k ss laws one t g =
     code_fits a (letters (move_count es)) (name_in (letters (move_count es))) ss 0 0 (compiled a ss).instrs (has_places es mode k ss t.resolved g) c.formed.has c.formed.places
     (compiled_ordered a laws ss c.thread.fit (omega (arith, most, c.thread.few))) (omega (arith, compiled_accesses a one ss, c.thread.few))
 
+-- the branches in the code of a thread land
 pub thread_lands : (a : Puts) (es : List Edge) (mode : ObsMode) (k : ℕ) (ss : List Step) → IsArch a → HasCode a es mode → slice_get (cycle_steps es mode plain) k ≡ Some ss → code_lands (compiled a ss).instrs (compiled a ss).instrs ≡ true
 thread_lands a es mode k ss laws t g =
     let c = thread_is a es mode k ss laws t g in
@@ -124,6 +128,7 @@ all_links P n (t ∷ threads) h =
     (subst (λ m. AllByRecursion P (map (λ link. (m, link)) t.links)) (omega arith) (h 0 t refl))
     (all_links P (n + 1) threads (λ k u g. subst (λ m. AllByRecursion P (map (λ link. (m, link)) u.links)) (omega arith) (h (suc k) u g)))
 
+-- the address registers of all threads fit
 pub all_links_fit : (a : Puts) (w : Writing) (es : List Edge) (mode : ObsMode) → IsArch a → WritesBack a w → HasCode a es mode → length (cycle_steps es mode plain) ≤ MAX_EDGES
     → AllByRecursion (LinkFits w (letters (move_count es)) (name_in (letters (move_count es)))) (links_of 0 (map (compiled a) (cycle_steps es mode plain)))
 all_links_fit a w es mode laws back t few =

@@ -27,6 +27,7 @@ use Rattle.printed_tests.specs.Headline.{BytesForce, shown_test}
 use Rattle.printed_tests.specs.Readings.{program_read, place_of, ReadingAsks}
 use Rattle.printed_tests.proofs.Rereading.{by_table, reread_test, reread_renumbered, threads_numbered, number_of_location, intended_same}
 
+-- the bytes of a test that reads back force the cycle
 pub bytes_force : (a : Puts) (arch : ArchName) (w : Writing) (name : List ℕ) (es : List Edge) (mode : ObsMode) → IsArch a → WritesBack a w → HasTest a es mode
     → ReadsBack arch w name (shown_test a w es mode) → BytesForce arch w (test_text arch w name (shown_test a w es mode)) es mode
 bytes_force a arch w name es mode laws back t r = record {

@@ -1,4 +1,4 @@
--- Each location of a cycle stands in the table of its printed test's reading.
+-- Each location of a cycle is in the table of its printed test's reading.
 use Rattle.std.proofs.Common.{◌≡◌, ℕ, zero, suc, ◌-◌, ◌==◌, true, false, cond, List, [], ◌∷◌, ◌++◌, length, map, Some, slice_get, refl, sym, ap, ◌∙◌, subst, arith}
 use Rattle.std.specs.List.{AllByRecursion}
 use Rattle.std.proofs.lemmas.Bool.{eqb-true, eq-eqb}
@@ -34,7 +34,7 @@ moved_other table names place p out inside =
     let clash : true ≡ false = sym inside ∙ ap (λ q. is_in table (names q)) same ∙ out in cc)
     (λ e. ap (λ b. cond b (suc place) p) e)
 
--- code whose operations and address registers stand in a table, and a place that doesn't: it is the same with another number
+-- code whose operations and address registers are in a table, and a place that isn't: it is the same with another number
 op_same : (table : List (List ℕ)) (names : ℕ → List ℕ) (place : ℕ) (op : Micro) → is_in table (names place) ≡ false → op_is_in table names op ≡ true → op_at (moved place) op ≡ op
 op_same table names place (ops.LoadAt dst p) out inside = ap (ops.LoadAt dst) (moved_other table names place p out inside)
 op_same table names place (ops.StoreAt p n) out inside = ap (λ q. ops.StoreAt q n) (moved_other table names place p out inside)
@@ -105,7 +105,7 @@ none_there (t ∷ ss) place (suc k) s h g e = none_there ss place k s (ap (λ (l
     tail_of [] = []
     tail_of (x ∷ xs) = xs
 
--- the place of each access stands in the table
+-- the place of each access is in the table
 pub place_stands : (table : List (List ℕ)) (names : ℕ → List ℕ) (ss : List Step) (code : ThreadCode) (k : ℕ) (s : Step) → MakesSteps ss code → AllByRecursion (λ op. op_is_in table names op ≡ true) code.instrs
     → AllByRecursion (λ (link : ℕ × ℕ). is_in table (names link.1) ≡ true) code.links → slice_get ss k ≡ Some s → is_in table (names s.place) ≡ true
 place_stands table names ss code k s makes inside linked g =

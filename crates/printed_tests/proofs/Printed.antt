@@ -15,6 +15,7 @@ use Rattle.printed_tests.specs.Headline.{BytesForce, shown_test}
 use Rattle.printed_tests.proofs.Forcing.{bytes_force}
 use Rattle.printed_tests.proofs.Readable.{readable}
 
+-- the printed text of the test of a cycle, under a name of a test's form, forces the cycle
 pub printed_force : (a : Puts) (arch : ArchName) (w : Writing) (name : List ℕ) (es : List Edge) (mode : ObsMode) → IsArch a → WritesBack a w → WritesCells a w → MakesOneAccess a → IsTestName name → HasTest a es mode
     → BytesForce arch w (test_text arch w name (shown_test a w es mode)) es mode
 printed_force a arch w name es mode laws back cells one named t =

@@ -69,6 +69,7 @@ formed_terms : (w : Writing) (threads : ℕ) (table : List (List ℕ)) (terms : 
 formed_terms w threads table [] fit = tt
 formed_terms w threads table (term ∷ terms) fit = (fit.0.formed, formed_terms w threads table terms fit.1)
 
+-- the test of a cycle, under a name of a test's form, is within the limits of the format
 pub readable : (a : Puts) (arch : ArchName) (w : Writing) (name : List ℕ) (es : List Edge) (mode : ObsMode) → IsArch a → WritesBack a w → WritesCells a w → MakesOneAccess a → IsTestName name → HasCode a es mode
     → IsReadable a arch w name (shown_test a w es mode)
 readable a arch w name es mode laws back cells one named t = record {

@@ -92,7 +92,7 @@ visited es mode location r h =
       place_is = location_first es w.event (omega (arith, w.moves, h)) ∙ w.moves;
     }
 
--- the name of each location stands in the table
+-- the name of each location is in the table
 location_stands : (a : Puts) (es : List Edge) (mode : ObsMode) (table : List (List ℕ)) (location : ℕ) → IsArch a → HasCode a es mode
     → AllByRecursion (λ (t : ThreadCode). AllByRecursion (λ op. op_is_in table (name_in (letters (move_count es))) op ≡ true) t.instrs) (map (compiled a) (cycle_steps es mode plain))
     → AllByRecursion (λ link. is_in table (name_in (letters (move_count es)) link.1.1) ≡ true) (links_of 0 (map (compiled a) (cycle_steps es mode plain)))
@@ -126,6 +126,7 @@ reread_test table test = record {
   cond = test.cond;
 }
 
+-- what is read of the printed test by way of a table is the test but for the numbers of places
 pub reread_renumbered : (a : Puts) (register_name : ℕ → List ℕ) (es : List Edge) (mode : ObsMode) (table : List (List ℕ)) → IsArch a → HasCode a es mode → IsAmong table (letters (move_count es))
     → AllByRecursion (λ (t : ThreadCode). AllByRecursion (λ op. op_is_in table (name_in (letters (move_count es))) op ≡ true) t.instrs) (map (compiled a) (cycle_steps es mode plain))
     → AllByRecursion (λ link. is_in table (name_in (letters (move_count es)) link.1.1) ≡ true) (links_of 0 (map (compiled a) (cycle_steps es mode plain)))

@@ -75,6 +75,7 @@ writes : (d : Dir) → is_load_dir d ≡ false → same_dir d dirs.W ≡ true
 writes dirs.R e = cc
 writes dirs.W e = refl
 
+-- the condition of a cycle's test has a term
 pub some_term : (a : Puts) (name : ℕ → List ℕ) (es : List Edge) (mode : ObsMode) → IsResolved es → 0 < length (last_terms es mode ++ load_terms a name 0 (cycle_steps es mode plain))
 some_term a name es mode r =
     let n = length es - 1 in

@@ -11,7 +11,7 @@ use Rattle.program_meaning.specs.Executions.{Execution}
 use Rattle.program_meaning.specs.Programs.{IsCandidate, IsCoherentIn}
 use Rattle.test_laws.specs.FinalStates.{final_state}
 
--- the number of a location's place in a reading: where its name stands in the table
+-- the number of a location's place in a reading: the place of its name in the table
 abbrev pub place_of : TestRead → ℕ → ℕ
 place_of test location = place_in test.places (location_name location)
 

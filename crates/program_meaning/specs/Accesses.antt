@@ -1,4 +1,4 @@
--- The accesses of a thread, as its run makes them, with the barriers that stand before each.
+-- The accesses of a thread, as its run makes them, with the barriers before each.
 -- Source: own.
 use Rattle.std.specs.Prelude.{ℕ, Bool, true, false, List, [], ◌∷◌, ◌++◌, take, map, count_by, Option, Some, None, slice_get}
 use Rattle.relax_edges.specs.declared.kinds.Dir.{Dir}
@@ -14,10 +14,11 @@ use Rattle.program_meaning.specs.declared.WriteAt.{WriteAt}
 abbrev pub Access : Type 0
 Access = TheAccess
 
--- a read and a write
+-- a read of a value at a place
 abbrev pub read : ℕ → ℕ → Access
 read place value = record { dir = dirs.R; place = place; value = value }
 
+-- a write of a value to a place
 abbrev pub write : ℕ → ℕ → Access
 write place value = record { dir = dirs.W; place = place; value = value }
 
@@ -54,7 +55,7 @@ visits_from passed (items.Access dir mark place value address_mask data_mask con
 abbrev pub visits_of : List Item → List Visit
 visits_of made = visits_from [] made
 
--- the barriers behind the last access of a run, where some barriers were passed already
+-- the barriers after the last access of a run, where some barriers were passed already
 abbrev pub barriers_behind : List Barred → List Item → List Barred
 barriers_behind passed [] = passed
 barriers_behind passed (items.Barrier kind control ∷ rest) =
@@ -79,7 +80,7 @@ abbrev pub got_from : {X : Type 0} → Option (List X) → ℕ → Option X
 got_from None i = None
 got_from (Some thread) i = slice_get thread i
 
--- what stands at a name in the threads of a program: in its thread, at its place there
+-- what a name names in the threads of a program: in its thread, at its number there
 abbrev pub at_name : {X : Type 0} → List (List X) → WriteAt → Option X
 at_name threads name = got_from (slice_get threads name.thread) name.access
 

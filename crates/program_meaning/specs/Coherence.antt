@@ -37,7 +37,7 @@ named_by (Some r) = r.1
 abbrev pub source_at : List (List Access) → Execution → WriteAt → Option WriteAt
 source_at threads x name = named_by (read_at threads x name)
 
--- the write whose coherence place an access has: a write itself, a read that which it reads
+-- the write whose coherence place an access has: of a write it is the write itself, of a read the write that it reads
 abbrev pub placed_by : Dir → List (List Access) → Execution → WriteAt → Option WriteAt
 placed_by dirs.R threads x name = source_at threads x name
 placed_by dirs.W threads x name = Some name
@@ -46,12 +46,12 @@ placed_by dirs.W threads x name = Some name
 abbrev pub coherence_place : List (List Access) → Execution → WriteAt → Access → ℕ
 coherence_place threads x name access = order_place (order_at x access.place) (placed_by access.dir threads x name)
 
--- an access may follow another at one place: a read not before it in the coherence order, a write behind it
+-- an access may follow another at one place: a read not before it in the coherence order, a write after it
 abbrev pub MayFollow : Dir → ℕ → ℕ → Type 0
 MayFollow dirs.R before after = before ≤ after
 MayFollow dirs.W before after = before < after
 
--- an execution is coherent per location
+-- an execution is coherent per location: where two accesses of a thread are at one place, the later may follow the earlier
 abbrev pub IsCoherent : List (List Access) → Execution → Type 0
 IsCoherent threads x =
     (thread e f : ℕ) (a b : Access) → e < f →

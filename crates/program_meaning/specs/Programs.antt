@@ -49,7 +49,7 @@ HasEnded NoRule = ⊥
 abbrev pub items_in : Program → Execution → List (List Item)
 items_in p x = map made_in (runs_of p.threads x.reads)
 
--- the accesses of each thread with what stands between them
+-- the accesses of each thread with what comes between them
 abbrev pub visits_in : Program → Execution → List (List Visit)
 visits_in p x = map visits_of (items_in p x)
 

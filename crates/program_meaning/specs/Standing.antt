@@ -32,7 +32,7 @@ pub record AccessAt : Type 0 where
   pub name : WriteAt
   pub access : Access
 
--- an access of an execution, by its name, with what stands before it
+-- an access of an execution, by its name, with what comes before it
 pub record Named : Type 0 where
   pub name : WriteAt
   pub visit : Visit
@@ -69,7 +69,7 @@ abbrev pub Reaches : Reach → WriteAt → WriteAt → Type 0
 Reaches Internal e f = (f.thread ≡ e.thread) × (f.access ≡ e.access + 1)
 Reaches External e f = e.thread ≢ f.thread
 
--- an edge joins access e to access f: what it asks of the two and of the execution, whatever stands between them
+-- an edge joins access e to access f: what it asks of the two and of the execution, whatever comes between them
 pub record Joins (threads : List (List Access)) (x : Execution) (edge : Edge) (e f : AccessAt) : Type 0 where
   pub leaves : e.access.dir ≡ source_of edge
   pub enters : f.access.dir ≡ target_of edge
@@ -81,18 +81,18 @@ pub record Joins (threads : List (List Access)) (x : Execution) (edge : Edge) (e
 abbrev pub mask_of : List (List Access) → Named → ℕ
 mask_of threads e = 2 ^ reads_before threads e.name
 
--- e is a read and stands in the mask
+-- e is a read and the mask names it
 abbrev pub is_in_mask : List (List Access) → Named → ℕ → Bool
 is_in_mask threads e mask = is_read e.visit.access && (bit_at mask (reads_before threads e.name) == 1)
 
--- what stands between two accesses of one thread: the barriers, and the dependencies of the second on the first
+-- what comes between two accesses of one thread: the barriers, and the dependencies of the second on the first
 pub record IsTied (threads : List (List Access)) (e f : Named) (barriers : List Barrier) (address data_mask : ℕ) (controlled : Bool) : Type 0 where
   pub barriers_are : map (λ b. b.kind) f.visit.barriers ≡ barriers
   pub address_is : f.visit.address_mask ≡ address
   pub data_is : f.visit.data_mask ≡ data_mask
   pub control_is : is_in_mask threads e f.visit.control_mask ≡ controlled
 
--- e stands in the control mask of each barrier before f
+-- the control mask of each barrier before f names e
 abbrev pub BarriersWait : List (List Access) → Named → List Barred → Type 0
 BarriersWait threads e [] = Unit {0}
 BarriersWait threads e (b ∷ bs) = (is_in_mask threads e b.control ≡ true) × BarriersWait threads e bs
@@ -115,7 +115,7 @@ TiesBy (edges.Fenced kind _ _ _) threads e f = IsTied threads e f (kinds.Fence k
 TiesBy (edges.Dep kind _ _) threads e f = DependsBy kind threads e f
 TiesBy (edges.Data _) threads e f = IsTied threads e f [] 0 (mask_of threads e) false
 
--- an edge stands from access e to access f: it joins them, their marks are its own, and what stands between them is
+-- an edge stands from access e to access f: it joins them, their marks are its own, and what comes between them is
 -- what it says
 pub record Stands (threads : List (List Access)) (x : Execution) (edge : Edge) (e f : Named) : Type 0 where
   pub joins : Joins threads x edge (access_at e) (access_at f)
@@ -139,7 +139,7 @@ pub record IsFree (visit : Visit) : Type 0 where
   pub stored : visit.data_mask ≡ 0
   pub control : visit.control_mask ≡ 0
 
--- no barrier stands before the first access of a thread, which has three empty masks
+-- there is no barrier before the first access of a thread, which has three empty masks
 abbrev pub StartsFree : List Visit → Type 0
 StartsFree [] = Unit {0}
 StartsFree (visit ∷ visits) = (visit.barriers ≡ []) × IsFree visit
@@ -151,7 +151,7 @@ Observes (visit ∷ visits) =
     (visit.access.dir ≡ dirs.R) × (visit.mark ≡ Plain) × (visit.barriers ≡ []) × IsFree visit × Observes visits
 
 -- a program has the events of a cycle in an execution: its first threads have them as their accesses, each at its slot
--- and in its direction; all other threads observe; no barrier stands at either end of a thread
+-- and in its direction; all other threads observe; there is no barrier at either end of a thread
 pub record HasEvents (es : List Edge) (p : Program) (x : Execution) : Type 0 where
   pub threads : external_count es ≤ length p.threads
   pub counts : (k : ℕ) (visits : List Visit) → k < external_count es → slice_get (visits_in p x) k ≡ Some visits → length visits ≡ length (events_in es k)

@@ -8,8 +8,8 @@ use std::test::Fail;
 const STORE_BUFFERING: &str =
     "X86 SB\n\"PodWR Fre PodWR Fre\"\n{\n}\n P0          | P1          ;\n MOV [x],$1  | MOV [y],$1  ;\n MOV EAX,[y] | MOV EAX,[x] ;\nexists (0:EAX=0 /\\ 1:EAX=0)\n";
 
-/// Cut at each length, the text has the fault that the slow reading finds. Which one that is stands in
-/// the table of `rows`.
+/// Cut at each length, the text has the fault that the slow reading finds. The table of `rows` says
+/// which fault that is.
 #[test]
 fn each_prefix_has_the_fault_of_the_slow_reading(rt: HostRuntime) -> Result<(), Fail> {
     let text = STORE_BUFFERING.as_bytes();

@@ -11,15 +11,15 @@ enum Awaits {
     Table,
     /// A row of so many cells, or the condition.
     Row(u32),
-    /// Nothing, behind a condition that stands in this line.
+    /// Nothing, after a condition in this line.
     Nothing(u64),
 }
 
 /// The first fault of a text of X86, by a slow reading that takes one line after another. It was written
 /// from the description of the format, and shares nothing with the reader but the kinds of faults.
 ///
-/// It knows what store buffering and its fronts need: the initial state is empty, the instructions are
-/// `MOV`, and the condition stands in one line. Lines of settings, of locations and of comments aren't
+/// It knows what store buffering and its prefixes need: the initial state is empty, the instructions are
+/// `MOV`, and the condition takes one line. Lines of settings, of locations and of comments aren't
 /// known. A text of fewer than 200 bytes exceeds no limit.
 pub fn slow_fault(text: &str) -> Option<Fault> {
     let mut awaits = Awaits::Header;
@@ -37,7 +37,7 @@ pub fn slow_fault(text: &str) -> Option<Fault> {
     }
 }
 
-/// What a reading waits for behind a line, or the fault. A line of blanks is passed over.
+/// What a reading waits for after a line, or the fault. A line of blanks is passed over.
 fn behind(awaits: Awaits, number: u64, line: &str) -> Result<Awaits, Fault> {
     match awaits {
         _ if line.trim().is_empty() => Ok(awaits),
@@ -67,7 +67,7 @@ fn behind(awaits: Awaits, number: u64, line: &str) -> Result<Awaits, Fault> {
     }
 }
 
-/// What a reading waits for behind a line that is right, or the fault.
+/// What a reading waits for after a line that is right, or the fault.
 fn go_on(is_right: bool, next: Awaits, number: u64, kind: TestKind) -> Result<Awaits, Fault> {
     if is_right {
         Ok(next)
@@ -92,7 +92,7 @@ fn is_quote(line: &str) -> bool {
     }
 }
 
-/// The initial state from a `{`, or from a line behind it, on: up to `}`, which ends its line.
+/// The initial state, from a `{` or a later line of it up to `}`, which ends its line.
 fn braced(items: Option<&str>, number: u64) -> Result<Awaits, Fault> {
     match items {
         Some(items) if items.trim().is_empty() => Ok(Awaits::Brace),
@@ -170,7 +170,7 @@ fn operands(cell: &str) -> Option<(&str, &str)> {
     }
 }
 
-/// A number behind a dollar sign.
+/// A number after a dollar sign.
 fn is_immediate(text: &str) -> bool {
     match text.strip_prefix('$') {
         Some(digits) => number_in(digits).is_some(),

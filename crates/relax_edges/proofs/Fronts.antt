@@ -48,6 +48,7 @@ bracket_empty behind n at_n closed none =
     closed_words : (behind : List ℕ) → is_closed behind ≡ true → bracket_words behind ≡ some_words (words_of (inside behind))
     closed_words behind closed = rw closed refl
 
+-- a closed bracket with a word is good
 pub bracket_good : (behind : List ℕ) (n : ℕ) → n ≡ position_or_len is_bracket behind → n < length behind → get_or behind n 0 ≡ 93 → (word : List ℕ) (words : List (List ℕ))
     → words_of (take n behind) ≡ word ∷ words → IsInside behind (take n behind)
 bracket_good behind n at_n within closed word words some =
@@ -99,45 +100,53 @@ front_word (byte ∷ behind) n here at_n =
       some = rw (ap words_of run ∙ words_of_run byte behind sep) (omega arith);
     }
 
--- what is kept behind a good bracket, behind a bad one, and behind a word
+-- what a list of relaxations becomes after a good bracket, after a bad one, and after a word
 pub kept_bracket : (kept : List (List Edge)) (behind words : List ℕ) → IsInside behind words → kept_front kept (91 ∷ behind) ≡ kept_words kept (words_of words)
 unfolding kept_front kept_item
 kept_bracket kept behind words inside = rw (inside.good, kept_item) refl
 
+-- a bad bracket is refused
 pub bad_bracket : (kept : List (List Edge)) (behind : List ℕ) → bracket_words behind ≡ None → kept_front kept (91 ∷ behind) ≡ Err BadBracket
 unfolding kept_front kept_item
 bad_bracket kept behind bad = rw (bad, kept_item) refl
 
+-- the length of a good bracket is that of the text inside it and 2 for the brackets
 pub bracket_len : (behind words : List ℕ) → IsInside behind words → length words + 2 ≡ front_len (91 ∷ behind)
 unfolding front_len
 bracket_len behind words inside = rw (← inside.len) (omega arith)
 
+-- the relaxations of a text's first word are kept
 pub kept_run : (kept : List (List Edge)) (text word : List ℕ) → ends_here text ≡ false → IsFrontWord text word → kept_front kept text ≡ kept_words kept (words_of word)
 unfolding ends_here kept_front front_words kept_item
 kept_run kept [] word here front = absurd (no_true (sym here))
 kept_run kept (byte ∷ behind) word here front =
     rw (first_false (is_separator byte) (is_bracket byte) here) (rw (front.words, kept_item) refl)
 
--- the same, by the first byte of a text
+-- the cases of a text by its first byte
+-- a text whose first byte is `[` is that byte and the rest
 pub at_bracket : (text : List ℕ) → get_or text 0 0 ≡ 91 → text ≡ 91 ∷ drop 1 text
 at_bracket [] first = absurd (omega arith)
 at_bracket (byte ∷ behind) first = ap (λ b. b ∷ behind) first
 
+-- a text that begins with `]` is refused
 pub at_closing : (kept : List (List Edge)) (text : List ℕ) → get_or text 0 0 ≡ 93 → kept_front kept text ≡ Err BadBracket
 unfolding kept_front kept_item
 at_closing kept [] first = absurd (omega arith)
 at_closing kept (byte ∷ behind) first = subst (λ b. kept_front kept (b ∷ behind) ≡ Err BadBracket) (sym first) refl
 
+-- at a separator nothing more is kept
 pub at_separator : (kept : List (List Edge)) (text : List ℕ) → is_separator (get_or text 0 0) ≡ true → kept_front kept text ≡ Ok kept
 unfolding kept_front
 at_separator kept [] s = refl
 at_separator kept (byte ∷ behind) s = rw s refl
 
+-- a separator is one byte long
 pub at_separator_len : (text : List ℕ) → 0 < length text → is_separator (get_or text 0 0) ≡ true → 1 ≡ front_len text
 unfolding front_len
 at_separator_len [] some s = absurd (omega arith)
 at_separator_len (byte ∷ behind) some s = rw s refl
 
+-- a text that begins with no bracket and no separator begins with a word
 pub at_word : (text : List ℕ) → 0 < length text → (get_or text 0 0 ≡ 91 → ⊥) → (get_or text 0 0 ≡ 93 → ⊥) → is_separator (get_or text 0 0) ≡ false → ends_here text ≡ false
 unfolding ends_here
 at_word [] some opening closing s = absurd (omega arith)

@@ -19,19 +19,19 @@ use Rattle.relax_edges.proofs.Cases.{by_test}
 abbrev Answer : Type 0
 Answer = Result (List (List Edge)) RelaxKind
 
--- a word that stands for no edge
+-- words of which one names no edge are refused
 pub kept_words_unknown : (kept : List (List Edge)) (words : List (List ℕ)) → list_any (λ word. is_empty (word_edges word)) words ≡ true
     → kept_words kept words ≡ Err UnknownEdge
 unfolding kept_words
 kept_words_unknown kept words unknown = rw (unknown, kept_words) refl
 
--- more than eight words
+-- more than eight words are refused
 pub kept_words_long : (kept : List (List Edge)) (words : List (List ℕ)) → list_any (λ word. is_empty (word_edges word)) words ≡ false → 8 < length words
     → kept_words kept words ≡ Err RelaxTooLong
 unfolding kept_words
 kept_words_long kept words known long = rw (known, lt-ltb 8 (length words) long, kept_words) refl
 
--- eight words or fewer, each of which stands for an edge
+-- of at most eight words, each of which names an edge, the paths are kept
 kept_words_short : (kept : List (List Edge)) (words : List (List ℕ)) → list_any (λ word. is_empty (word_edges word)) words ≡ false → length words ≤ 8
     → kept_words kept words ≡ kept_paths kept (paths_of words)
 unfolding kept_words
@@ -49,6 +49,7 @@ paths_refused : (kept paths : List (List Edge)) (kind : RelaxKind) → length ke
 paths_refused kept [] kind few err = let ok = at_most_64-ok kept few in cc
 paths_refused kept (path ∷ paths) kind few err = err
 
+-- where some choice of the words' edges joins, what their search kept is what the words keep
 pub kept_words_some : (kept : List (List Edge)) (words : List (List ℕ)) (front : List Edge) (new : List (List Edge)) (some : Bool)
     → list_any (λ word. is_empty (word_edges word)) words ≡ false → length words ≤ 8 → front ≡ [] → some ≡ true
     → KeepsPaths kept (paths_behind front (map word_edges words)) new some → kept_words kept words ≡ Ok new
@@ -58,6 +59,7 @@ kept_words_some kept words front new some known short none found a =
     (subst (λ p. KeepsPaths kept p new true) (paths_behind-nil (map word_edges words))
     (subst (λ f. KeepsPaths kept (paths_behind f (map word_edges words)) new true) none (subst (λ b. KeepsPaths kept (paths_behind front (map word_edges words)) new b) found a)))
 
+-- where no choice of the words' edges joins, the words are refused
 pub kept_words_none : (kept : List (List Edge)) (words : List (List ℕ)) (front : List Edge) (new : List (List Edge)) (some : Bool)
     → list_any (λ word. is_empty (word_edges word)) words ≡ false → length words ≤ 8 → front ≡ [] → some ≡ false
     → KeepsPaths kept (paths_behind front (map word_edges words)) new some → kept_words kept words ≡ Err DoesNotJoin
@@ -67,6 +69,7 @@ kept_words_none kept words front new some known short none found a =
     (subst (λ p. KeepsPaths kept p new false) (paths_behind-nil (map word_edges words))
     (subst (λ f. KeepsPaths kept (paths_behind f (map word_edges words)) new false) none (subst (λ b. KeepsPaths kept (paths_behind front (map word_edges words)) new b) found a)))
 
+-- where their search is refused for want of room, the words are refused
 pub kept_words_refused : (kept : List (List Edge)) (words : List (List ℕ)) (front : List Edge) (kind : RelaxKind)
     → list_any (λ word. is_empty (word_edges word)) words ≡ false → length words ≤ 8 → front ≡ [] → length kept ≤ 64
     → at_most_64 (keep_all kept (paths_behind front (map word_edges words))) ≡ Err kind → kept_words kept words ≡ Err kind
@@ -112,7 +115,7 @@ item_front : (kept : List (List Edge)) (byte : ℕ) (behind : List ℕ) → is_s
 unfolding kept_front
 item_front kept byte behind n = rw n refl
 
--- the item that a text begins with is kept, and then those behind it
+-- the item that a text begins with is kept, and then those after it
 pub kept_items_front : (kept more : List (List Edge)) (place : ℕ) (text : List ℕ) → kept_front kept text ≡ Ok more
     → kept_items kept (items_from place 0 text) ≡ kept_items more (items_from (place + front_len text) 0 (drop (front_len text) text))
 unfolding kept_items kept_front front_len
@@ -136,6 +139,7 @@ kept_items_front kept more place (byte ∷ behind) ok =
     ∙ kept_one kept more item (items_from (place + 1) (bytes_behind byte behind) behind) (sym (item_front kept byte behind n) ∙ ok)
     ∙ ap (kept_items more) (items_behind place byte behind (bytes_behind byte behind)))
 
+-- a text whose first item is refused is refused at that item's place
 pub kept_items_refused : (kept : List (List Edge)) (kind : RelaxKind) (place : ℕ) (text : List ℕ) → kept_front kept text ≡ Err kind
     → kept_items kept (items_from place 0 text) ≡ Err (record { at = place; kind = kind })
 unfolding kept_items kept_front
@@ -149,10 +153,11 @@ kept_items_refused kept kind place (byte ∷ behind) err =
     ap (λ items. kept_items kept (items ++ items_from (place + 1) (bytes_behind byte behind) behind)) one
     ∙ refused_one kept kind item (items_from (place + 1) (bytes_behind byte behind) behind) (sym (item_front kept byte behind n) ∙ err))
 
--- the same, behind the bytes of a text that are passed
+-- the same of what is left of a text after some bytes
 rest_of : (text : List ℕ) (place : ℕ) → take (length text - place) (drop place text) ≡ drop place text
 rest_of text place = ap (λ n. take n (drop place text)) (sym (length-drop place text)) ∙ take-length (drop place text)
 
+-- once the item at a place is kept, what is left is to keep the items after it
 pub items_step : (kept more : List (List Edge)) (text : List ℕ) (place len : ℕ)
     → kept_front kept (take (length text - place) (drop place text)) ≡ Ok more → len ≡ front_len (take (length text - place) (drop place text))
     → kept_items more (items_from (place + len) 0 (drop (place + len) text)) ≡ kept_items kept (items_from place 0 (drop place text))
@@ -162,16 +167,19 @@ items_step kept more text place len ok is =
     let e : drop (place + len) text ≡ drop len (drop place text) = sym (drop-drop len place text) in
     rw (e, is_rest) (sym (kept_items_front kept more place (drop place text) ok_rest))
 
+-- where the item at a place is refused, the text is refused at that place
 pub items_refused : (kept : List (List Edge)) (kind : RelaxKind) (text : List ℕ) (place : ℕ)
     → kept_front kept (take (length text - place) (drop place text)) ≡ Err kind
     → kept_items kept (items_from place 0 (drop place text)) ≡ Err (record { at = place; kind = kind })
 items_refused kept kind text place err =
     kept_items_refused kept kind place (drop place text) (subst (λ t. kept_front kept t ≡ Err kind) (rest_of text place) err)
 
+-- at the end of a text nothing more is kept
 pub items_end : (kept : List (List Edge)) (text : List ℕ) (place : ℕ) → length text ≤ place → kept_items kept (items_from place 0 (drop place text)) ≡ Ok kept
 unfolding kept_items
 items_end kept text place past = rw (drop_of_length-le text {i = place} past) refl
 
+-- the relaxations of a text are what its items add to an empty list
 pub relaxes_of_text : (text : List ℕ) (kept : List (List Edge)) → kept ≡ [] → relaxes_of text ≡ kept_items kept (items_from 0 0 text)
 unfolding relaxes_of items_of
 relaxes_of_text text kept none = ap (λ k. kept_items k (items_from 0 0 text)) (sym none)

@@ -11,14 +11,17 @@ use Rattle.relax_edges.specs.Relaxations.{is_same, are_distinct, IsRelaxes, keep
 use Rattle.relax_edges.proofs.Paths.{at_most_64-ok}
 use Rattle.relax_edges.proofs.Cases.{by_test, no_true}
 
+-- a relaxation that is in the list already leaves it as it is
 pub keep_there : (kept : List (List Edge)) (path : List Edge) → IsRelaxes kept → list_any (is_same path) kept ≡ true → at_most_64 (keep kept path) ≡ Ok kept
 keep_there kept path relaxes there = rw there (at_most_64-ok kept relaxes.few)
 
+-- a new relaxation is refused where there are 64
 pub keep_full : (kept : List (List Edge)) (path : List Edge) → list_any (is_same path) kept ≡ false → 64 ≤ length kept → at_most_64 (keep kept path) ≡ Err TooManyRelaxes
 keep_full kept path new full =
     let many : nat_lt 64 (length (kept ++ path ∷ [])) ≡ true = lt-ltb 64 (length (kept ++ path ∷ [])) (omega (arith, length-append kept (path ∷ []))) in
     rw new (rw many refl)
 
+-- a new relaxation is added at the end where there are fewer than 64
 pub keep_room : (kept : List (List Edge)) (path : List Edge) → list_any (is_same path) kept ≡ false → length kept < 64 → at_most_64 (keep kept path) ≡ Ok (kept ++ path ∷ [])
 keep_room kept path new room =
     rw new (at_most_64-ok (kept ++ path ∷ []) (omega (arith, length-append kept (path ∷ []))))
@@ -31,7 +34,7 @@ both_true false false p q = refl
 rank_turned : (m n : ℕ) → (m == n) ≡ (n == m)
 rank_turned m n = both_true (m == n) (n == m) (λ t. eq-eqb n m (sym (eqb-true m n t))) (λ t. eq-eqb m n (sym (eqb-true n m t)))
 
--- two lists of edges are one either way round
+-- whether two lists of edges are the same doesn't depend on their order
 same_turned : (a b : List Edge) → is_same a b ≡ is_same b a
 same_turned [] [] = refl
 same_turned [] (y ∷ b) = refl
@@ -54,6 +57,7 @@ distinct_end (first ∷ kept) path distinct new =
     (λ f.
     rw (any_end (is_same first) kept path f (same_turned first path ∙ n)) (distinct_end kept path (rw f at distinct) (rw n at new))))
 
+-- a list of relaxations with a new one at its end is a list of relaxations
 pub relaxes_end : (kept : List (List Edge)) (path : List Edge) → IsRelaxes kept → list_any (is_same path) kept ≡ false → length kept < 64 → IsRelaxes (kept ++ path ∷ [])
 relaxes_end kept path relaxes new room =
     record { few = omega (arith, length-append kept (path ∷ [])); distinct = distinct_end kept path relaxes.distinct new }

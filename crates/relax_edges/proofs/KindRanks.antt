@@ -6,6 +6,7 @@ use Rattle.relax_edges.specs.declared.kinds.Kind.TheVariants as kinds
 use Rattle.relax_edges.specs.EdgeTable.{unmarked}
 use Rattle.relax_edges.specs.Order.{rank_of, kind_rank}
 
+-- the rank of an edge without marks is that of its kind
 pub unmarked_rank : (kind : Kind) → rank_of (unmarked kind) ≡ kind_rank kind
 unfolding rank_of
 unmarked_rank (kinds.Com kind reach) = refl

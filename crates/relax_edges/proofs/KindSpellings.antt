@@ -34,7 +34,7 @@ find_passes {A} test (y ∷ ys) x found =
     (λ t. let e : Some y ≡ Some x = rw t at found in let i : y ≡ x = cc in subst (λ z. test z ≡ true) i t)
     (λ f. find_passes test ys x (rw f at found))
 
--- what is named so has this word
+-- the kind that a text names has that text as its word
 pub named_is : {K : Type 0} (word : K → List ℕ) (kinds : List K) (text : List ℕ) (kind : K) → named word kinds text ≡ Some kind → text ≡ word kind
 named_is word kinds text kind found = (bytes_eq-Decides text (word kind)).0 (find_passes (λ k. bytes_eq text (word k)) kinds kind found)
 
@@ -48,6 +48,7 @@ named_in_one word one text kind found =
 abbrev pub is_kind_spelling : Kind → List ℕ → Bool
 is_kind_spelling kind text = list_any (bytes_eq text) (kind_spellings kind)
 
+-- the kind of the edge of a kind without marks is that kind
 pub kind_of_unmarked : (kind : Kind) → kind_of (unmarked kind) ≡ kind
 kind_of_unmarked (kinds.Com kind reach) = refl
 kind_of_unmarked (kinds.Po sd from to) = refl
@@ -55,7 +56,7 @@ kind_of_unmarked (kinds.Fenced kind sd from to) = refl
 kind_of_unmarked (kinds.Dep kind sd to) = refl
 kind_of_unmarked (kinds.Data sd) = refl
 
--- what a test says of the kinds of all edges, it says of each kind
+-- a test that the kind of each edge passes, each kind passes
 pub each_kind : (test : Kind → Bool) → list_all (λ edge. test (kind_of edge)) edges_in_order ≡ true → (kind : Kind) → test kind ≡ true
 each_kind test all kind =
     subst (λ k. test k ≡ true) (kind_of_unmarked kind) (each_edge (λ edge. test (kind_of edge)) all (unmarked kind))
@@ -65,6 +66,7 @@ pub communication_bare : (front : List ℕ) (before last : ℕ) → length front
 communication_bare [] before last bare = refl
 communication_bare (a ∷ front) before last bare = absurd (omega arith)
 
+-- and a text of more than three bytes is none
 pub communication_long : (front : List ℕ) (before last : ℕ) → 1 < length front → read_as_communication (front ++ before ∷ last ∷ []) ≡ None
 communication_long [] before last long = absurd (omega arith)
 communication_long (a ∷ []) before last long = absurd (omega arith)
@@ -80,6 +82,7 @@ two_sided_end front sd from to =
 one_sided_end : (front : List ℕ) (sd to : ℕ) → read_back_one_sided (reverse (front ++ sd ∷ to ∷ [])) ≡ one_sided_of front sd to
 one_sided_end front sd to = rw (reverse-append front (sd ∷ to ∷ [])) (ap (λ f. one_sided_of f sd to) (reverse-reverse front))
 
+-- a text of two bytes names no place and two directions
 pub two_sided_none : (front : List ℕ) (from to : ℕ) → length front < 1 → read_back_two_sided (reverse (front ++ from ∷ to ∷ [])) ≡ None
 two_sided_none [] from to none = refl
 two_sided_none (a ∷ front) from to none = absurd (omega arith)
@@ -128,7 +131,7 @@ three_joined front word s f t sd from to p a b c = rw (← p, ← a, ← b, ← 
 two_joined : (front word : List ℕ) (s t : ℕ) (sd to : List ℕ) → front ≡ word → s ∷ [] ≡ sd → t ∷ [] ≡ to → front ++ s ∷ t ∷ [] ≡ word ++ sd ++ to
 two_joined front word s t sd to p a c = rw (← p, ← a, ← c) (simp append_assoc)
 
--- what is read as three last bytes and a front has this word
+-- what is read by its last three bytes and the bytes before them has this word
 two_sided_word : (front : List ℕ) (s f t : ℕ) (sd : Option Sd) (from to : Option Dir) (po : Bool) (kind : Option FenceKind) (edge : Kind)
     → sd_named (s ∷ []) ≡ sd → dir_named (f ∷ []) ≡ from → dir_named (t ∷ []) ≡ to → bytes_eq front (codes "Po") ≡ po → fence_named front ≡ kind
     → two_sided sd from to po kind ≡ Some edge → front ++ s ∷ f ∷ t ∷ [] ≡ kind_word edge

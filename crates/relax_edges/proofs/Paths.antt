@@ -20,13 +20,13 @@ and_true : (b : Bool) → (b && true) ≡ b
 and_true true = refl
 and_true false = refl
 
--- a path that goes on with an edge goes on behind one edge more
+-- to go on with an edge and then others is to go on after one edge more
 moved : (front : List Edge) (edge : Edge) (paths : List (List Edge))
     → map (λ path. front ++ path) (map (λ path. edge ∷ path) paths) ≡ map (λ path. (front ++ edge ∷ []) ++ path) paths
 moved front edge [] = refl
 moved front edge (path ∷ paths) = cc (append_assoc front (edge ∷ []) path, moved front edge paths)
 
--- the paths behind some edges, by the next edge
+-- the paths that begin with some edges, by the next edge
 pub paths_behind-cons : (front : List Edge) (edges : List Edge) (lists : List (List Edge))
     → paths_behind front (edges ∷ lists) ≡ flat_map (λ edge. paths_behind (front ++ edge ∷ []) lists) edges
 unfolding paths_behind
@@ -39,7 +39,7 @@ paths_behind-cons front (edge ∷ edges) lists =
     )
     (ap (λ paths. filter is_path (map (λ path. (front ++ edge ∷ []) ++ path) (choices lists)) ++ paths) (paths_behind-cons front edges lists))
 
--- behind no edge the paths are all paths
+-- the paths that begin with no edge are all paths
 pub paths_behind-nil : (lists : List (List Edge)) → paths_behind [] lists ≡ filter is_path (choices lists)
 unfolding paths_behind
 paths_behind-nil lists = ap (filter is_path) (unmoved (choices lists))
@@ -48,17 +48,18 @@ paths_behind-nil lists = ap (filter is_path) (unmoved (choices lists))
     unmoved [] = refl
     unmoved (path ∷ paths) = ap (λ ps. path ∷ ps) (unmoved paths)
 
--- behind a path that goes on no further there is that path
+-- a path with no list to go on with is the only one
 pub paths_behind-end : (front : List Edge) → is_path front ≡ true → paths_behind front [] ≡ front ∷ []
 unfolding paths_behind
 paths_behind-end front path = rw (append-nil front, path) refl
 
--- what begins with no path is no path
+-- edges that begin with no path are no path
 joins_on-false : (edge : Edge) (behind more : List Edge) → joins_on edge behind ≡ false → joins_on edge (behind ++ more) ≡ false
 joins_on-false edge [] more f = cc
 joins_on-false edge (next ∷ behind) more f =
     by_test (joins_to edge next) (λ t. rw t (joins_on-false next behind more (rw t at f))) (λ n. rw n refl)
 
+-- no path begins with edges that are no path
 pub paths_behind-none : (front : List Edge) (lists : List (List Edge)) → is_path front ≡ false → paths_behind front lists ≡ []
 unfolding paths_behind
 paths_behind-none front lists none = all_fail (choices lists)
@@ -91,6 +92,7 @@ length-keep : (kept : List (List Edge)) (path : List Edge) → length kept ≤ l
 length-keep kept path =
     by_test (list_any (is_same path) kept) (λ t. rw t (omega arith)) (λ f. rw f (omega (arith, length-append kept (path ∷ []))))
 
+-- keeping makes no list shorter
 pub length-keep_all : (kept paths : List (List Edge)) → length kept ≤ length (keep_all kept paths)
 length-keep_all kept [] = omega arith
 length-keep_all kept (path ∷ paths) = omega (arith, length-keep kept path, length-keep_all (keep kept path) paths)
@@ -99,12 +101,14 @@ length-keep_all kept (path ∷ paths) = omega (arith, length-keep kept path, len
 pub at_most_64-ok : (kept : List (List Edge)) → length kept ≤ 64 → at_most_64 kept ≡ Ok kept
 at_most_64-ok kept few = by_test (nat_lt 64 (length kept)) (λ t. absurd (omega (arith, ltb-true 64 (length kept) t))) (λ f. rw f refl)
 
+-- a list that is kept within the limit is kept as it is
 pub at_most_64-is : (kept more : List (List Edge)) → at_most_64 kept ≡ Ok more → kept ≡ more
 at_most_64-is kept more ok =
     by_test (nat_lt 64 (length kept))
     (λ t. let e : ◌≡◌ {A = Answer} (Err TooManyRelaxes) (Ok more) = rw t at ok in cc)
     (λ f. let e : ◌≡◌ {A = Answer} (Ok kept) (Ok more) = rw f at ok in cc)
 
+-- a list that is kept within the limit has at most 64 relaxations
 pub at_most_64-few : (kept more : List (List Edge)) → at_most_64 kept ≡ Ok more → length more ≤ 64
 at_most_64-few kept more ok =
     by_test (nat_lt 64 (length kept))
@@ -114,7 +118,7 @@ at_most_64-few kept more ok =
     let same : kept ≡ more = cc in
     rw (← same) (ltb-false 64 (length kept) f))
 
--- once there are too many, there are too many behind more paths
+-- once there are too many, there are too many with more paths too
 pub at_most_64-err : (kept paths more : List (List Edge)) (kind : RelaxKind) → at_most_64 (keep_all kept paths) ≡ Err kind → at_most_64 (keep_all kept (paths ++ more)) ≡ Err kind
 at_most_64-err kept paths more kind err =
     by_test (nat_lt 64 (length (keep_all kept paths)))

@@ -52,7 +52,7 @@ eight P a b c d e f g h Same dirs.R dirs.W = f
 eight P a b c d e f g h Same dirs.W dirs.R = g
 eight P a b c d e f g h Same dirs.W dirs.W = h
 
--- an edge stands in the list of all edges at its rank
+-- the place of an edge in the list of all edges is its rank
 abbrev pub IsPlaced : Edge → Type 0
 IsPlaced edge = slice_get edges_in_order (rank_of edge) ≡ Some edge
 
@@ -161,6 +161,7 @@ placed_marked (markables.Fenced fence sd from to) ends = placed_barrier fence en
 placed_marked (markables.Dep dep sd to) ends = placed_marked_dependency dep ends sd to
 placed_marked (markables.Data sd) ends = placed_data sd ends
 
+-- the place of each edge in the list of all edges is its rank
 pub placed : (edge : Edge) → IsPlaced edge
 unfolding rank_of edges_in_order
 placed (edges.Com coms.Rf Internal) = refl
@@ -176,7 +177,7 @@ placed (edges.Data Diff) = refl
 placed (edges.Data Same) = refl
 placed (edges.Marked marked) = placed_marked marked.kind marked.ends
 
--- what a test says of all edges of the list, it says of each edge
+-- a test that all edges of the list pass, each edge passes
 pub each_edge : (test : Edge → Bool) → list_all test edges_in_order ≡ true → (edge : Edge) → test edge ≡ true
 each_edge test all edge =
     let within : rank_of edge < length edges_in_order = slice_get_within edges_in_order (rank_of edge) edge (placed edge) in
@@ -218,6 +219,6 @@ unfolding compare_alike
 rank_orders a b =
     same_index _ _ (eqb-true _ _ (each_edge (compare_alike a) (each_edge (λ a. list_all (compare_alike a) edges_in_order) all_alike a) b))
 
--- two edges are one exactly where their ranks are equal
+-- two edges are equal exactly where their ranks are
 pub rank_decides : (a b : Edge) → IsTrue (rank_of a == rank_of b) ↔ (a ≡ b)
 rank_decides a b = (λ t. rank_injective a b (eqb-true _ _ t), λ e. eq-eqb _ _ (ap rank_of e))

@@ -24,13 +24,15 @@ before_first-yes test byte behind s = rw s refl
 position_or_len-yes : (test : ℕ → Bool) (byte : ℕ) (behind : List ℕ) → test byte ≡ true → position_or_len test (byte ∷ behind) ≡ 0
 position_or_len-yes test byte behind s = rw s refl
 
+-- a byte that fails the test is before the first that passes
 pub before_first-no : (test : ℕ → Bool) (byte : ℕ) (behind : List ℕ) → test byte ≡ false → before_first test (byte ∷ behind) ≡ byte ∷ before_first test behind
 before_first-no test byte behind n = rw (n, one_more (position_or_len test behind)) refl
 
+-- a byte that fails the test moves the place of the first that passes one further
 pub position_or_len-no : (test : ℕ → Bool) (byte : ℕ) (behind : List ℕ) → test byte ≡ false → position_or_len test (byte ∷ behind) ≡ suc (position_or_len test behind)
 position_or_len-no test byte behind n = rw (n, one_more (position_or_len test behind)) refl
 
--- a text is split into what stands before its first separator, and parts that have the words behind it
+-- a text is split into what is before its first separator, and parts that have the words after it
 record FirstPart (test : ℕ → Bool) (text : List ℕ) : Type 0 where
   parts : List (List ℕ)
   split : slice_split test text ≡ before_first test text ∷ parts
@@ -78,7 +80,7 @@ words_of_word byte behind n = words_by-no is_separator byte behind n
 pub word_len_some : (byte : ℕ) (behind : List ℕ) → is_separator byte ≡ false → 0 < position_or_len is_separator (byte ∷ behind)
 word_len_some byte behind n = rw n (omega arith)
 
--- what stands before the end of a word holds no separator
+-- before the end of a word there is no separator
 none_before : (test : ℕ → Bool) (behind : List ℕ) → ((byte : ℕ) → ends_word byte ≡ false → test byte ≡ false)
     → list_all (λ byte. not (test byte)) (before_first ends_word behind) ≡ true
 none_before test [] fails = refl

@@ -13,7 +13,7 @@ use Rattle.relax_edges.specs.Relaxations.{word_edges, is_path, keep, keep_all, a
 use Rattle.relax_edges.specs.RelaxSearch.{paths_behind, paths_by, KeepsPaths}
 use Rattle.relax_edges.proofs.Paths.{is_path-end, paths_behind-cons, paths_behind-end, paths_behind-none, keep_all-append, at_most_64-ok, at_most_64-is, at_most_64-few, at_most_64-err}
 
--- the paths behind a front, by the edges of the first list
+-- the paths that begin with some edges, by the edges of the first list
 pub paths_behind_by : (front edges : List Edge) (lists : List (List Edge)) → paths_behind front (edges ∷ lists) ≡ paths_by front lists edges
 unfolding paths_by
 paths_behind_by front edges lists = paths_behind-cons front edges lists
@@ -60,6 +60,7 @@ paths_by_end front lists edges i d within =
     let next : i + 1 ≡ suc i = omega arith in
     rw (next, take-suc edges i d within) (flat_map-end (λ edge. paths_behind (front ++ edge ∷ []) lists) (take i edges) (get_or edges i d))
 
+-- the paths by some edges and one more are those by the first and those by that one
 pub paths_by_parts : (front : List Edge) (lists : List (List Edge)) (edges : List Edge) (i : ℕ) (d : Edge) → i < length edges
     → paths_by front lists edges ≡ paths_by front lists (take i edges) ++ (paths_behind (front ++ get_or edges i d ∷ []) lists ++ paths_by front lists (drop (suc i) edges))
 unfolding paths_by
@@ -71,7 +72,7 @@ pub keeps_first : (kept : List (List Edge)) (front : List Edge) (lists : List (L
 unfolding paths_by
 keeps_first kept front lists edges few = keeps_none kept few
 
--- the paths by the next edge are kept behind those by the edges before it
+-- the paths by the next edge are kept after those by the edges before it
 pub keeps_next : (old middle new : List (List Edge)) (some more : Bool) (front : List Edge) (lists : List (List Edge)) (edges : List Edge) (i : ℕ) (d : Edge)
     → i < length edges → KeepsPaths old (paths_by front lists (take i edges)) middle some → KeepsPaths middle (paths_behind (front ++ get_or edges i d ∷ []) lists) new more
     → KeepsPaths old (paths_by front lists (take (i + 1) edges)) new (some || more)
@@ -86,7 +87,7 @@ refused_next old middle some kind front lists edges i d within a err =
     rw (paths_by_parts front lists edges i d within)
     (refused_more old (paths_by front lists (take i edges)) middle (paths_behind (front ++ get_or edges i d ∷ []) lists) (paths_by front lists (drop (suc i) edges)) some kind a err)
 
--- behind the last edge all paths are kept
+-- after the last edge all paths are kept
 pub keeps_last : (old new : List (List Edge)) (some : Bool) (front : List Edge) (lists : List (List Edge)) (edges : List Edge) (n : ℕ)
     → n ≡ length edges → KeepsPaths old (paths_by front lists (take n edges)) new some → KeepsPaths old (paths_behind front (edges ∷ lists)) new some
 keeps_last old new some front lists edges n all kept =
@@ -98,11 +99,12 @@ pub keeps_end : (old new : List (List Edge)) (front : List Edge) → is_path fro
     → KeepsPaths old (paths_behind front []) new true
 keeps_end old new front path kept = rw (paths_behind-end front path) (record { kept = kept; found = refl })
 
+-- where there is no room for it, a path that goes on no further is refused
 pub refused_end : (old : List (List Edge)) (kind : RelaxKind) (front : List Edge) → is_path front ≡ true → at_most_64 (keep_all old (front ∷ [])) ≡ Err kind
     → at_most_64 (keep_all old (paths_behind front [])) ≡ Err kind
 refused_end old kind front path err = rw (paths_behind-end front path) err
 
--- behind edges that don't join no path is kept
+-- from edges that don't join no path is kept
 pub keeps_no_path : (kept : List (List Edge)) (front : List Edge) (lists : List (List Edge)) → length kept ≤ 64 → is_path front ≡ false
     → KeepsPaths kept (paths_behind front lists) kept false
 keeps_no_path kept front lists few none = rw (paths_behind-none front lists none) (keeps_none kept few)
@@ -123,14 +125,17 @@ path_extended front edge d some path =
     (is_path-end (take n front) (get_or front n d) edge (subst (λ f. is_path f ≡ true) parts path))
 
 -- the same laws, by the words of a text
+-- where no word is left, the path is kept
 pub keeps_no_word : (old new : List (List Edge)) (front shown : List Edge) (words : List (List ℕ)) → words ≡ [] → shown ≡ front → is_path front ≡ true
     → at_most_64 (keep old shown) ≡ Ok new → KeepsPaths old (paths_behind front (map word_edges words)) new true
 keeps_no_word old new front shown words none same path kept = rw none (keeps_end old new front path (rw (← same) kept))
 
+-- where no word is left and there is no room for the path, it is refused
 pub refused_no_word : (old : List (List Edge)) (kind : RelaxKind) (front shown : List Edge) (words : List (List ℕ)) → words ≡ [] → shown ≡ front → is_path front ≡ true
     → at_most_64 (keep old shown) ≡ Err kind → at_most_64 (keep_all old (paths_behind front (map word_edges words))) ≡ Err kind
 refused_no_word old kind front shown words none same path err = rw none (refused_end old kind front path (rw (← same) err))
 
+-- the paths by the next edge of a word are kept after those by the edges before it
 pub keeps_word_next : (old middle new : List (List Edge)) (some more : Bool) (front chosen : List Edge) (lists : List (List Edge)) (edges : List Edge) (i : ℕ) (d : Edge)
     → chosen ≡ front → i < length edges → KeepsPaths old (paths_by front lists (take i edges)) middle some
     → KeepsPaths middle (paths_behind (chosen ++ get_or edges i d ∷ []) lists) new more
@@ -138,12 +143,14 @@ pub keeps_word_next : (old middle new : List (List Edge)) (some more : Bool) (fr
 keeps_word_next old middle new some more front chosen lists edges i d same within a b =
     keeps_next old middle new some more front lists edges i d within a (subst (λ f. KeepsPaths middle (paths_behind (f ++ get_or edges i d ∷ []) lists) new more) same b)
 
+-- after the last edge of a word all its paths are kept
 pub keeps_word : (old new : List (List Edge)) (some : Bool) (front edges : List Edge) (word : List ℕ) (words behind : List (List ℕ)) (n : ℕ)
     → words ≡ word ∷ behind → edges ≡ word_edges word → n ≡ length edges → KeepsPaths old (paths_by front (map word_edges behind) (take n edges)) new some
     → KeepsPaths old (paths_behind front (map word_edges words)) new some
 keeps_word old new some front edges word words behind n cut of_word all a =
     rw (cut, ← of_word) (keeps_last old new some front (map word_edges behind) edges n all a)
 
+-- where there is no room for the paths by an edge of a word, there is none for all
 pub refused_word : (old middle : List (List Edge)) (some : Bool) (kind : RelaxKind) (front chosen edges : List Edge) (word : List ℕ) (words behind : List (List ℕ)) (i : ℕ) (d : Edge)
     → words ≡ word ∷ behind → edges ≡ word_edges word → chosen ≡ front → i < length edges
     → KeepsPaths old (paths_by front (map word_edges behind) (take i edges)) middle some

@@ -1,4 +1,4 @@
--- A word stands for the edges that its last two bytes choose.
+-- A word names the edges that its last two bytes choose.
 use Rattle.std.specs.Prelude.{ℕ, ◌≡◌, ◌<◌, ◌≤◌, ◌-◌, ◌==◌, ◌&&◌, Bool, true, false, cond, take, Option, Some, None, List, [], ◌∷◌, ◌++◌, length, map, codes}
 use Rattle.std.specs.List.{flat_map, filter_map, cons_option}
 use Rattle.std.specs.Option.{option_to_list}
@@ -15,7 +15,7 @@ use Rattle.relax_edges.specs.Stars.{star_choices, edges_by_last, edges_by_end}
 use Rattle.relax_edges.proofs.Spellings.{edge_of_short}
 use Rattle.relax_edges.proofs.Cases.{by_test}
 
--- the words with a front, by their last two bytes
+-- the words with a given beginning, by their last two bytes
 abbrev ends : List ℕ → ℕ → ℕ → List (List ℕ)
 ends front before last = flat_map (λ a. map (λ b. front ++ a ∷ b ∷ []) (star_choices last)) (star_choices before)
 
@@ -23,7 +23,7 @@ and_false : (b : Bool) → (b && false) ≡ false
 and_false true = refl
 and_false false = refl
 
--- a byte before the last two stands for itself
+-- a byte before the last two has itself as its one choice
 plain_choice : (byte behind : ℕ) → 2 ≤ behind → byte_choices byte behind ≡ byte ∷ []
 plain_choice byte behind far = rw (le-ltb behind 2 far, and_false (byte == 42)) refl
 
@@ -59,7 +59,7 @@ one_byte : (bytes : List ℕ) → flat_map (λ c. map (λ word. c ∷ word) ([] 
 one_byte [] = refl
 one_byte (byte ∷ bytes) = ap (λ words. (byte ∷ []) ∷ words) (one_byte bytes)
 
--- the words of a word are those of its last two bytes behind its front
+-- the words that a word expands to are the choices of its last two bytes, after the bytes before them
 expansions-end : (front : List ℕ) (before last : ℕ) → expansions (front ++ before ∷ last ∷ []) ≡ ends front before last
 expansions-end [] before last =
     rw (near_choice before, near_choice last, one_byte (star_choices last))
@@ -73,7 +73,7 @@ expansions-end (byte ∷ front) before last =
     (map-flat_map (λ word. byte ∷ word) (λ a. map (λ b. front ++ a ∷ b ∷ []) (star_choices last)) (star_choices before)
     ∙ flat_map-same _ _ (star_choices before) (λ a. map-map (λ word. byte ∷ word) (λ b. front ++ a ∷ b ∷ []) (star_choices last)))
 
--- a word stands for the edges that its last two bytes choose
+-- a word names the edges that its last two bytes choose
 pub word_edges_end : (front : List ℕ) (before last : ℕ) → word_edges (front ++ before ∷ last ∷ []) ≡ edges_by_end front before last
 unfolding word_edges edges_by_last edges_by_end
 word_edges_end front before last =
@@ -81,11 +81,12 @@ word_edges_end front before last =
     ∙ filter_map-flat_map edge_of (λ a. map (λ b. front ++ a ∷ b ∷ []) (star_choices last)) (star_choices before)
     ∙ flat_map-same _ _ (star_choices before) (λ a. filter_map-map edge_of (λ b. front ++ a ∷ b ∷ []) (star_choices last))
 
--- a text of fewer than two bytes stands for no edge
+-- a text of fewer than two bytes names no edge
 none_read : (bytes : List ℕ) → filter_map edge_of (map (λ c. c ∷ []) bytes) ≡ []
 none_read [] = refl
 none_read (byte ∷ bytes) = rw (edge_of_short (byte ∷ []) (omega arith)) (none_read bytes)
 
+-- a text of fewer than two bytes names no edge
 pub word_edges_short : (word : List ℕ) → length word < 2 → word_edges word ≡ []
 unfolding word_edges
 word_edges_short [] short = rw (edge_of_short [] (omega arith)) refl
@@ -110,7 +111,7 @@ edges_by_last_few front before last =
     two true last = omega arith
     two false last = omega arith
 
--- what is read of a word once or twice is the edges of its choices
+-- where the last byte is a star, the word is read twice, with `R` and with `W` in its place
 pub pushed_twice : (front : List ℕ) (before last : ℕ) → last ≡ 42
     → edges_by_last front before last ≡ option_to_list (edge_of (front ++ before ∷ 82 ∷ [])) ++ option_to_list (edge_of (front ++ before ∷ 87 ∷ []))
 unfolding edges_by_last
@@ -122,6 +123,7 @@ pushed_twice front before last star = rw star (both (edge_of (front ++ before �
     both (Some x) None = refl
     both (Some x) (Some y) = refl
 
+-- where the last byte is no star, the one choice of it is read once
 pub pushed_once : (front : List ℕ) (before last : ℕ) → (last ≡ 42 → ⊥) → edges_by_last front before last ≡ option_to_list (edge_of (front ++ before ∷ last ∷ []))
 unfolding edges_by_last
 pushed_once front before last plain = rw (no_star last plain) (one (edge_of (front ++ before ∷ last ∷ [])))
@@ -133,6 +135,7 @@ pushed_once front before last plain = rw (no_star last plain) (one (edge_of (fro
     no_star : (last : ℕ) → (last ≡ 42 → ⊥) → (last == 42) ≡ false
     no_star last plain = by_test (last == 42) (λ t. absurd (plain (eqb-true last 42 t))) (λ f. f)
 
+-- an option is a list of at most one element
 pub option_to_list_short : {A : Type 0} (o : Option A) → length (option_to_list o) ≤ 1
 option_to_list_short None = omega arith
 option_to_list_short (Some x) = omega arith

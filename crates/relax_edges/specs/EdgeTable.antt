@@ -114,7 +114,7 @@ kind_place (kinds.Data sd) = sd
 abbrev pub place_of : Edge → Sd
 place_of edge = kind_place (kind_of edge)
 
--- a fence is of one architecture
+-- a fence is of an architecture: each fence is of exactly one
 abbrev pub fence_is_of : FenceKind → ArchName → Bool
 fence_is_of fences.MFence X86 = true
 fence_is_of fences.Sync PPC = true
@@ -127,7 +127,7 @@ fence_is_of fences.DmbSt AArch64 = true
 fence_is_of (fences.Fence _ _) RISCV = true
 fence_is_of _ _ = false
 
--- address and control dependencies are of all architectures but X86, those with a barrier of one
+-- a dependency is of an architecture: one with a barrier is of just one, any other of all but X86
 abbrev pub dependency_is_of : DepKind → ArchName → Bool
 dependency_is_of deps.Addr PPC = true
 dependency_is_of deps.Addr AArch64 = true
@@ -139,7 +139,7 @@ dependency_is_of deps.CtrlIsync PPC = true
 dependency_is_of deps.CtrlIsb AArch64 = true
 dependency_is_of _ _ = false
 
--- data dependencies are of all architectures but X86
+-- an architecture has data dependencies: all but X86
 abbrev pub data_is_of : ArchName → Bool
 data_is_of X86 = false
 data_is_of _ = true
@@ -152,7 +152,7 @@ kind_is_of (kinds.Fenced kind _ _ _) arch = fence_is_of kind arch
 kind_is_of (kinds.Dep kind _ _) arch = dependency_is_of kind arch
 kind_is_of (kinds.Data _) arch = data_is_of arch
 
--- acquire and release are of AArch64 alone
+-- a mark is of an architecture: acquire and release are of AArch64 only
 abbrev pub mark_is_of : Mark → ArchName → Bool
 mark_is_of Plain _ = true
 mark_is_of _ AArch64 = true
@@ -162,20 +162,20 @@ mark_is_of _ _ = false
 abbrev pub is_of_arch : Edge → ArchName → Bool
 is_of_arch edge arch = mark_is_of (source_mark edge) arch && mark_is_of (target_mark edge) arch && kind_is_of (kind_of edge) arch
 
--- one does what the other does
+-- both read, or both write
 abbrev pub same_dir : Dir → Dir → Bool
 same_dir dirs.R dirs.R = true
 same_dir dirs.W dirs.W = true
 same_dir _ _ = false
 
--- a read is plain or acquire, a write plain or release
+-- a mark may be on an access that does this: a read is plain or acquire, a write plain or release
 abbrev pub mark_fits : Dir → Mark → Bool
 mark_fits _ Plain = true
 mark_fits dirs.R Acquire = true
 mark_fits dirs.W Release = true
 mark_fits _ _ = false
 
--- one mark is the other
+-- two marks are the same
 abbrev pub same_mark : Mark → Mark → Bool
 same_mark Plain Plain = true
 same_mark Acquire Acquire = true

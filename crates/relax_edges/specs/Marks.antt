@@ -55,11 +55,12 @@ as_markable_dependency deps.Ctrl = Some Ctrl
 as_markable_dependency deps.CtrlIsb = Some CtrlIsb
 as_markable_dependency _ = None
 
--- a fence between two accesses, and a dependency, where AArch64 has it
+-- program order with a barrier of AArch64 between, if there is one
 abbrev pub markable_fenced : Option Dmb → Sd → Dir → Dir → Option MarkableKind
 markable_fenced (Some fence) sd from to = Some (markables.Fenced fence sd from to)
 markable_fenced None sd from to = None
 
+-- a dependency of AArch64 on a load, if there is one
 abbrev pub markable_dep : Option MarkableDep → Sd → Dir → Option MarkableKind
 markable_dep (Some dep) sd to = Some (markables.Dep dep sd to)
 markable_dep None sd to = None
@@ -72,13 +73,13 @@ as_markable (kinds.Fenced fence sd from to) = markable_fenced (as_barrier fence)
 as_markable (kinds.Dep dep sd to) = markable_dep (as_markable_dependency dep) sd to
 as_markable (kinds.Data sd) = Some (markables.Data sd)
 
--- the access that an edge leaves is marked
+-- of these ends, the access that an edge leaves is marked
 abbrev pub marks_source : MarkedEnds → Bool
 marks_source Both = true
 marks_source Source = true
 marks_source Target = false
 
--- the access that an edge enters is marked
+-- of these ends, the access that an edge enters is marked
 abbrev pub marks_target : MarkedEnds → Bool
 marks_target Both = true
 marks_target Source = false

@@ -23,22 +23,22 @@ use Rattle.relax_edges.specs.Marks.{markable_kind}
 use Rattle.relax_edges.specs.declared.edge.Edge.{Edge}
 use Rattle.relax_edges.specs.declared.edge.Edge.TheVariants as edges
 
--- `R` before `W`
+-- the rank of a direction: `R` before `W`
 abbrev pub dir_rank : Dir → ℕ
 dir_rank dirs.R = 0
 dir_rank dirs.W = 1
 
--- `d` before `s`
+-- the rank of a place: `d` before `s`
 abbrev pub sd_rank : Sd → ℕ
 sd_rank Diff = 0
 sd_rank Same = 1
 
--- `e` before `i`
+-- the rank of a reach: `e` before `i`
 abbrev pub reach_rank : Reach → ℕ
 reach_rank External = 0
 reach_rank Internal = 1
 
--- `r` before `rw` before `w`
+-- the rank of one side of a RISC-V fence: `r` before `rw` before `w`
 abbrev pub pick_rank : Pick → ℕ
 pick_rank picks.R = 0
 pick_rank picks.RW = 1

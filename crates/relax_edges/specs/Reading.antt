@@ -30,7 +30,7 @@ use Rattle.relax_edges.specs.Words.{dir_word, sd_word, reach_word, com_word, fen
 abbrev pub named : {K : Type 0} → (K → List ℕ) → List K → List ℕ → Option K
 named word kinds text = find (λ kind. bytes_eq text (word kind)) kinds
 
--- the directions
+-- the directions that a letter may name
 abbrev pub dirs_read : List Dir
 dirs_read = dirs.R ∷ dirs.W ∷ []
 
@@ -38,7 +38,7 @@ dirs_read = dirs.R ∷ dirs.W ∷ []
 abbrev pub dir_named : List ℕ → Option Dir
 dir_named = named dir_word dirs_read
 
--- the places
+-- the places that a letter may name
 abbrev pub places_read : List Sd
 places_read = Same ∷ Diff ∷ []
 
@@ -46,7 +46,7 @@ places_read = Same ∷ Diff ∷ []
 abbrev pub sd_named : List ℕ → Option Sd
 sd_named = named sd_word places_read
 
--- the reaches
+-- the reaches that a letter may name
 abbrev pub reaches_read : List Reach
 reaches_read = Internal ∷ External ∷ []
 
@@ -54,7 +54,7 @@ reaches_read = Internal ∷ External ∷ []
 abbrev pub reach_named : List ℕ → Option Reach
 reach_named = named reach_word reaches_read
 
--- the communications
+-- the communications that a text may name
 abbrev pub communications_read : List Com
 communications_read = coms.Rf ∷ coms.Fr ∷ coms.Ws ∷ []
 
@@ -62,7 +62,7 @@ communications_read = coms.Rf ∷ coms.Fr ∷ coms.Ws ∷ []
 abbrev pub com_named : List ℕ → Option Com
 com_named text = option_or (named com_word communications_read text) (named (λ _. codes "Co") (coms.Ws ∷ []) text)
 
--- the dependencies
+-- the dependencies that a text may name, without those through data
 abbrev pub dependencies_read : List DepKind
 dependencies_read = deps.Addr ∷ deps.Ctrl ∷ deps.CtrlIsync ∷ deps.CtrlIsb ∷ []
 
@@ -143,7 +143,7 @@ read_back_one_sided _ = None
 unfoldable pub kind_read : List ℕ → Option Kind
 kind_read text = option_or (read_as_communication text) (option_or (read_back_two_sided (reverse text)) (read_back_one_sided (reverse text)))
 
--- the marks
+-- the marks that a letter may name
 abbrev pub marks_read : List Mark
 marks_read = Plain ∷ Acquire ∷ Release ∷ []
 
@@ -151,7 +151,7 @@ marks_read = Plain ∷ Acquire ∷ Release ∷ []
 abbrev pub mark_named : List ℕ → Option Mark
 mark_named = named mark_word marks_read
 
--- the edge of a kind with the marks of two letters, of which `PP` stands after the edges of AArch64 alone
+-- the edge of a kind with the marks of two letters, where `PP` may follow edges of AArch64 only
 unfoldable pub edge_spelled : Kind → Mark → Mark → Option Edge
 edge_spelled kind Plain Plain = cond (kind_is_of kind AArch64) (Some (unmarked kind)) None
 edge_spelled kind from to = marked_edge kind from to
@@ -161,7 +161,7 @@ abbrev pub spelled_by : Option Kind → Mark → Mark → Option Edge
 spelled_by (Some kind) from to = edge_spelled kind from to
 spelled_by None from to = None
 
--- the edge of a text: of what stands before two letters of marks, or else of the whole
+-- the edge of a text: that of the text before two letters of marks, or else that of the whole text
 abbrev pub read_by_marks : Option Mark → Option Mark → Option Kind → Option Kind → Option Edge
 read_by_marks (Some from) (Some to) before whole = spelled_by before from to
 read_by_marks _ _ before whole = option_map unmarked whole

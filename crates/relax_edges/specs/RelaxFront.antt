@@ -15,7 +15,7 @@ unfoldable pub front_len : List ℕ → ℕ
 front_len [] = 0
 front_len (byte ∷ behind) = bytes_behind byte behind + 1
 
--- what is kept behind the item or separator that a text begins with, or why that item is refused
+-- the list kept once the item or separator that a text begins with is read, or why that item is refused
 unfoldable pub kept_front : List (List Edge) → List ℕ → Result (List (List Edge)) RelaxKind
 kept_front kept [] = Ok kept
 kept_front kept (byte ∷ behind) = cond (is_separator byte) (Ok kept) (kept_item kept (words_from byte behind))
@@ -25,7 +25,7 @@ unfoldable pub ends_here : List ℕ → Bool
 ends_here [] = true
 ends_here (byte ∷ behind) = ends_word byte
 
--- a text has the words of a good bracket, whose `[` stands before what is behind
+-- the second text is the inside of a good bracket, whose `[` comes right before the first text
 pub record IsInside (behind words : List ℕ) : Type 0 where
   pub good : bracket_words behind ≡ Some (words_of words)
   pub len : length words ≡ length (inside behind)

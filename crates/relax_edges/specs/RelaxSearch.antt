@@ -5,11 +5,11 @@ use Rattle.relax_edges.specs.declared.edge.Edge.{Edge}
 use Rattle.relax_edges.specs.RelaxText.{is_empty}
 use Rattle.relax_edges.specs.Relaxations.{choices, is_path, keep_all, at_most_64}
 
--- the paths that begin with a front and go on with one of each list
+-- the paths that begin with some edges and go on with one edge of each list
 unfoldable pub paths_behind : List Edge → List (List Edge) → List (List Edge)
 paths_behind front lists = filter is_path (map (λ path. front ++ path) (choices lists))
 
--- the paths that begin with a front, one of some edges, and one of each list
+-- the paths that begin with some edges, then one of a few edges, and go on with one edge of each list
 unfoldable pub paths_by : List Edge → List (List Edge) → List Edge → List (List Edge)
 paths_by front lists edges = flat_map (λ edge. paths_behind (front ++ edge ∷ []) lists) edges
 

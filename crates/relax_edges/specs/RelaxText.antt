@@ -4,19 +4,19 @@ use Rattle.std.specs.Prelude.{ℕ, ◌+◌, ◌==◌, ◌||◌, Bool, true, fals
 use Rattle.std.specs.List.{before_first, slice_split}
 use Rattle.std.proofs.Common.{zero, suc, get_or}
 
--- a comma, a space or a tab
+-- a byte separates words: it is a comma, a space or a tab
 abbrev pub is_separator : ℕ → Bool
 is_separator byte = byte == 44 || byte == 32 || byte == 9
 
--- `[` or `]`
+-- a byte is a bracket: `[` or `]`
 abbrev pub is_bracket : ℕ → Bool
 is_bracket byte = byte == 91 || byte == 93
 
--- a word ends at a separator and at a bracket
+-- a byte ends a word: it is a separator or a bracket
 abbrev pub ends_word : ℕ → Bool
 ends_word byte = is_separator byte || is_bracket byte
 
--- whether a list has nothing
+-- whether a list is empty
 abbrev pub is_empty : {A : Type 0} → List A → Bool
 is_empty [] = true
 is_empty (_ ∷ _) = false
@@ -25,20 +25,20 @@ is_empty (_ ∷ _) = false
 abbrev pub words_of : List ℕ → List (List ℕ)
 words_of text = filter (λ word. not (is_empty word)) (slice_split is_separator text)
 
--- what stands behind a `[`, up to the next bracket
+-- the text after a `[`, up to the next bracket
 abbrev pub inside : List ℕ → List ℕ
 inside behind = before_first is_bracket behind
 
--- whether the next bracket behind a `[` is a `]`
+-- whether the next bracket after a `[` is a `]`
 abbrev pub is_closed : List ℕ → Bool
 is_closed behind = get_or behind (length (inside behind)) 0 == 93
 
--- a bracket without words is bad
+-- some words, or none where there is no word: a bracket without words is bad
 abbrev pub some_words : List (List ℕ) → Option (List (List ℕ))
 some_words [] = None
 some_words (word ∷ words) = Some (word ∷ words)
 
--- the words of a bracket, from what stands behind its `[`
+-- the words of a bracket, from the text after its `[`
 abbrev pub bracket_words : List ℕ → Option (List (List ℕ))
 bracket_words behind = cond (is_closed behind) (some_words (words_of (inside behind))) None
 
@@ -60,7 +60,7 @@ abbrev pub bytes_behind : ℕ → List ℕ → ℕ
 bytes_behind byte behind =
     cond (is_separator byte || byte == 93) 0 (cond (byte == 91) (length (inside behind) + 1) (length (before_first ends_word behind)))
 
--- the items of a text whose first byte has this place, once so many bytes are passed
+-- the items of a text whose first byte has this place, after that many bytes are passed over
 abbrev pub items_from : ℕ → ℕ → List ℕ → List Item
 items_from place passed [] = []
 items_from place (suc passed) (byte ∷ behind) = items_from (place + 1) passed behind

@@ -1,4 +1,4 @@
--- The relaxations of a text: what its words stand for, the choices that join, and the refusals.
+-- The relaxations of a text: the edges that its words name, the choices that join, and the refusals.
 -- Source: the diy part of the herdtools manual, option `-relax`.
 use Rattle.std.specs.Prelude.{ℕ, ◌≡◌, ◌<◌, ◌≤◌, ◌==◌, ◌&&◌, Bool, true, false, not, cond, nat_lt, Option, Some, None, Result, Ok, Err, List, [], ◌∷◌, ◌++◌, length, filter, map, codes}
 use Rattle.std.specs.List.{flat_map, filter_map, list_any}
@@ -12,16 +12,16 @@ use Rattle.relax_edges.specs.Order.{rank_of}
 use Rattle.relax_edges.specs.Spelling.{edge_of}
 use Rattle.relax_edges.specs.RelaxText.{Item, is_empty, items_of}
 
--- a `*` among the last two bytes of a word stands for `R` and for `W`
+-- the bytes that a byte of a word means: a `*` among the last two means `R` and `W`, any other byte itself
 abbrev pub byte_choices : ℕ → ℕ → List ℕ
 byte_choices byte behind = cond (byte == 42 && nat_lt behind 2) (codes "RW") (byte ∷ [])
 
--- the words that a word stands for, the first star turning slowest
+-- the words that a word expands to, the first star turning slowest
 abbrev pub expansions : List ℕ → List (List ℕ)
 expansions [] = [] ∷ []
 expansions (byte ∷ behind) = flat_map (λ choice. map (λ word. choice ∷ word) (expansions behind)) (byte_choices byte (length behind))
 
--- the edges that a word stands for
+-- the edges that a word names
 unfoldable pub word_edges : List ℕ → List Edge
 word_edges word = filter_map edge_of (expansions word)
 
@@ -44,7 +44,7 @@ choices (edges ∷ behind) = flat_map (λ edge. map (λ path. edge ∷ path) (ch
 abbrev pub paths_of : List (List ℕ) → List (List Edge)
 paths_of words = filter is_path (choices (map word_edges words))
 
--- whether two lists of edges are one
+-- whether two lists of edges are the same
 abbrev pub is_same : List Edge → List Edge → Bool
 is_same = pointwise (λ a b. rank_of a == rank_of b)
 
@@ -54,35 +54,35 @@ pub record IsRelax (edges : List Edge) : Type 0 where
   pub few : length edges ≤ 8
   pub joined : is_path edges ≡ true
 
--- no two lists of edges are one
+-- no two lists of edges are the same
 abbrev pub are_distinct : List (List Edge) → Bool
 are_distinct [] = true
 are_distinct (path ∷ paths) = not (list_any (is_same path) paths) && are_distinct paths
 
--- at most 64 relaxations, no two of which are one
+-- at most 64 relaxations, no two of which are the same
 pub record IsRelaxes (paths : List (List Edge)) : Type 0 where
   pub few : length paths ≤ 64
   pub distinct : are_distinct paths ≡ true
 
--- a relaxation is kept at its first place
+-- the list with one relaxation more at its end, unless the list has it already
 abbrev pub keep : List (List Edge) → List Edge → List (List Edge)
 keep kept path = cond (list_any (is_same path) kept) kept (kept ++ path ∷ [])
 
--- relaxations are kept one after another
+-- the list once some relaxations are kept, one after another
 abbrev pub keep_all : List (List Edge) → List (List Edge) → List (List Edge)
 keep_all kept [] = kept
 keep_all kept (path ∷ paths) = keep_all (keep kept path) paths
 
--- at most 64 relaxations are kept
+-- the list itself where it has at most 64 relaxations, and else the refusal
 abbrev pub at_most_64 : List (List Edge) → Result (List (List Edge)) RelaxKind
 at_most_64 kept = cond (nat_lt 64 (length kept)) (Err TooManyRelaxes) (Ok kept)
 
--- what is kept behind an item whose paths are these
+-- the list kept after an item whose paths are these
 abbrev pub kept_paths : List (List Edge) → List (List Edge) → Result (List (List Edge)) RelaxKind
 kept_paths kept [] = Err DoesNotJoin
 kept_paths kept (path ∷ paths) = at_most_64 (keep_all kept (path ∷ paths))
 
--- what is kept behind an item with these words, or why it is refused
+-- the list kept after an item with these words, or why the item is refused
 unfoldable pub kept_words : List (List Edge) → List (List ℕ) → Result (List (List Edge)) RelaxKind
 kept_words kept words =
     elim (list_any (λ word. is_empty (word_edges word)) words) as (λ _. Result (List (List Edge)) RelaxKind) [
@@ -94,12 +94,12 @@ kept_words kept words =
           ]
     ]
 
--- what is kept behind an item, whose words are none where its bracket is bad
+-- the list kept after an item (it has no words where its bracket is bad), or why the item is refused
 unfoldable pub kept_item : List (List Edge) → Option (List (List ℕ)) → Result (List (List Edge)) RelaxKind
 kept_item kept None = Err BadBracket
 kept_item kept (Some words) = kept_words kept words
 
--- what is kept behind some items, or the first refusal
+-- the list kept after some items, or the first refusal
 unfoldable pub kept_items : List (List Edge) → List Item → Result (List (List Edge)) RelaxError
 kept_items kept [] = Ok kept
 kept_items kept (item ∷ items) =

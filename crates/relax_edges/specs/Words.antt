@@ -25,28 +25,28 @@ use Rattle.relax_edges.specs.declared.edge.Edge.{Edge}
 use Rattle.relax_edges.specs.declared.edge.Edge.TheVariants as edges
 use Rattle.relax_edges.specs.EdgeTable.{source_mark, target_mark}
 
--- `R` or `W`
+-- the letter of a direction: `R` or `W`
 abbrev pub dir_word : Dir → List ℕ
 dir_word dirs.R = codes "R"
 dir_word dirs.W = codes "W"
 
--- `s` or `d`
+-- the letter of a place: `s` for the same location, `d` for a different one
 abbrev pub sd_word : Sd → List ℕ
 sd_word Same = codes "s"
 sd_word Diff = codes "d"
 
--- `i` or `e`
+-- the letter of a reach: `i` for internal, `e` for external
 abbrev pub reach_word : Reach → List ℕ
 reach_word Internal = codes "i"
 reach_word External = codes "e"
 
--- `r`, `w` or `rw`
+-- the letters of one side of a RISC-V fence: `r`, `w` or `rw`
 abbrev pub pick_word : Pick → List ℕ
 pick_word picks.R = codes "r"
 pick_word picks.W = codes "w"
 pick_word picks.RW = codes "rw"
 
--- `Rf`, `Fr` or `Ws`
+-- the letters of a communication: `Rf`, `Fr` or `Ws`
 abbrev pub com_word : Com → List ℕ
 com_word coms.Rf = codes "Rf"
 com_word coms.Fr = codes "Fr"
@@ -79,7 +79,7 @@ kind_word (kinds.Fenced kind sd from to) = fence_word kind ++ sd_word sd ++ dir_
 kind_word (kinds.Dep kind sd to) = dependency_word kind ++ sd_word sd ++ dir_word to
 kind_word (kinds.Data sd) = codes "DpData" ++ sd_word sd ++ codes "W"
 
--- `P`, `A` or `L`: plain, acquire or release
+-- the letter of a mark: `P`, `A` or `L` for plain, acquire or release
 abbrev pub mark_word : Mark → List ℕ
 mark_word Plain = codes "P"
 mark_word Acquire = codes "A"

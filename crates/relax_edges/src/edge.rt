@@ -314,7 +314,7 @@ impl Edge {
         }
     }
 
-    /// Whether the edge stays in its thread. Communications alone can leave it.
+    /// Whether the edge stays in its thread. Only communications can leave it.
     pub fn reach(self) -> Reach
         ensures { result ≡ reach_of self }
     {

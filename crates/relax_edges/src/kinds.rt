@@ -66,7 +66,7 @@ pub enum FenceKind {
     Fence { pred: Pick, succ: Pick },
 }
 
-/// The syntactic dependencies on a load, but for those through data, which lead to stores alone.
+/// The syntactic dependencies on a load, except those through data, which lead only to stores.
 #[derive(Clone, Copy, Debug, Default, PartialEq, Eq)]
 pub enum DepKind {
     #[default]
@@ -128,7 +128,7 @@ pub enum Value {
     Place(u8),
 }
 
-/// Which locations get an observer: `Accept`, those whose order of writes would else stay open;
+/// Which locations get an observer: `Accept`, those whose order of writes would otherwise stay open;
 /// `Avoid`, none, and a cycle that needs one is refused; `Force`, each with two writes or more.
 #[derive(Clone, Copy, Debug, Default, PartialEq, Eq)]
 pub enum ObsMode {

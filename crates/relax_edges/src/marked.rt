@@ -88,7 +88,7 @@ impl MarkableDep {
 }
 
 impl MarkableKind {
-    /// The same without the promise that it may have marks.
+    /// The same kind as a plain `Kind`, of which it isn't known that it may have marks.
     pub(crate) fn kind(self) -> Kind
         ensures { result ≡ markable_kind self }
     {

@@ -399,7 +399,7 @@ impl Edge {
     }
 }
 
-/// Two edges are equal exactly where they are one.
+/// Two edges are equal exactly where they are the same edge.
 impl PartialEq for Edge {
     ghost eq = { on rank_of ◌==◌ };
 

@@ -232,8 +232,8 @@ fn read_kind(text: &[u8]) -> Option<Kind>
     }
 }
 
-/// The edge of a kind with the marks of two letters, of which `PP` stands after the edges of
-/// AArch64 alone.
+/// The edge of a kind with the marks of two letters, where `PP` may follow the edges of
+/// AArch64 only.
 #[tactic(auto, unfolding(crate::specs::Reading::edge_spelled))]
 fn spelled(kind: Kind, from: Mark, to: Mark) -> Option<Edge>
     ensures { result ≡ edge_spelled kind from to }
@@ -280,7 +280,8 @@ pub fn read_edge_bytes(text: &[u8]) -> Result<Edge, UnknownEdge>
 
 /// The edge that a text spells: an edge is spelled as it is printed, and `Wsi` and `Wse` are
 /// spelled `Coi` and `Coe` too, with the same letters of marks after them. `PP`, which marks
-/// nothing, may stand after each spelling of an edge without marks that AArch64 has. `UnknownEdge` comes exactly where no edge has this spelling.
+/// nothing, may follow each spelling of an edge without marks that AArch64 has. `UnknownEdge` comes
+/// exactly where no edge has this spelling.
 ///
 /// The words are those of the diy part of the herdtools manual, "Candidate relaxations".
 pub fn read_edge(text: &str) -> Result<Edge, UnknownEdge>

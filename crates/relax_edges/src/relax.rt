@@ -56,7 +56,7 @@ impl Relax {
     }
 }
 
-/// Relaxations in order: at most 64, no two of which are one.
+/// Relaxations in order: at most 64, no two of which are the same.
 #[derive(Drop)]
 pub struct Relaxes {
     list: ArrayVec<Relax, 64>,

@@ -51,7 +51,7 @@ fn run_len(text: &[u8]) -> usize
     first_end(text).unwrap_or(text.len())
 }
 
-/// The text inside a good bracket, from what stands behind its `[`.
+/// The text inside a good bracket, from the text after its `[`.
 #[tactic(auto, using(crate::proofs::Fronts::bracket_open, crate::proofs::Fronts::bracket_nested, crate::proofs::Fronts::bracket_empty, crate::proofs::Fronts::bracket_good))]
 fn inside_bracket(behind: &[u8]) -> Option<&[u8]>
     ensures { MatchOption result (bracket_words behind.now ≡ None) (λ words. IsInside behind.now words.now) }
@@ -121,7 +121,7 @@ pub(crate) fn keep_item(text: &[u8], kept: &mut Relaxes) -> Result<usize, RelaxK
     }
 }
 
-/// Keeps the relaxations of a bracket, from what stands behind its `[`, and answers its length.
+/// Keeps the relaxations of a bracket, from the text after its `[`, and answers its length.
 fn keep_bracket(behind: &[u8], kept: &mut Relaxes) -> Result<usize, RelaxKind>
     requires { length kept.old ≤ 64 }
     ensures kept { Keeps (kept_front kept.old (91 ∷ behind.now)) kept.new result }

@@ -25,15 +25,15 @@ fn keep_items(text: &[u8], kept: &mut Relaxes) -> Result<(), RelaxError>
 /// Reads a text of relaxations into `out`.
 ///
 /// The text is a list of items, separated by one or more commas, spaces or tabs; separators may
-/// also stand at both ends, and an empty list is a list. An item is the spelling of an edge, or a
-/// bracket of such words, `[PodWR Fre]`. A star among the last two bytes of a word stands for `R`
-/// and for `W`: `Pod**` is four edges. An item stands for all choices of its words' edges in which
+/// also come at both ends, and an empty list is a list. An item is the spelling of an edge, or a
+/// bracket of such words, `[PodWR Fre]`. A star among the last two bytes of a word means `R`
+/// and `W`: `Pod**` is four edges. An item names all choices of its words' edges in which
 /// each edge joins the next, the last word turning fastest and the first star slowest. After `Ok`,
 /// `out` holds exactly the relaxations of all items in order, each at its first place.
 ///
 /// The first faulty item from the left is refused, by the first of these: `BadBracket` (a bracket
 /// that is not closed, is empty or holds a `[`, or a `]` outside a bracket), `UnknownEdge` (a word
-/// stands for no edge), `RelaxTooLong` (more than 8 words in a bracket), `DoesNotJoin` (no choice
+/// names no edge), `RelaxTooLong` (more than 8 words in a bracket), `DoesNotJoin` (no choice
 /// is left), `TooManyRelaxes` (a 65th relaxation would be kept). `at` is the byte where that item
 /// begins, and `out` is then empty.
 ///

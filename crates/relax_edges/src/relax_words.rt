@@ -11,7 +11,7 @@ use crate::edge::Edge;
 use crate::read::read_ending;
 use arrayvec::ArrayVec;
 
-/// Whether a byte stands between words: a comma, a space or a tab.
+/// Whether a byte separates words: a comma, a space or a tab.
 pub(crate) fn is_separator(byte: u8) -> bool
     ensures { result ≡ is_separator byte }
 {
@@ -32,7 +32,7 @@ fn word_len(text: &[u8]) -> usize
     first_separator(text).unwrap_or(text.len())
 }
 
-/// The first word of a text without brackets, and what stands behind it.
+/// The first word of a text without brackets, and the text after it.
 #[tactic(auto, using(crate::proofs::RelaxWords::words_of_separator, crate::proofs::RelaxWords::words_of_word, crate::proofs::RelaxWords::word_len_some))]
 pub(crate) fn next_word(text: &[u8]) -> Option<(&[u8], &[u8])>
     ensures words { MatchOption result (words_of text.now ≡ []) (λ p. words_of text.now ≡ p.0.now ∷ words_of p.1.now) }
@@ -84,7 +84,7 @@ fn edges_by_end(front: &[u8], before: u8, last: u8) -> ArrayVec<Edge, 4>
     edges
 }
 
-/// The edges that a word stands for: a star among its last two bytes stands for `R` and for `W`.
+/// The edges that a word names: a star among its last two bytes means `R` and `W`.
 #[tactic(auto, using(crate::proofs::Stars::word_edges_short))]
 pub(crate) fn word_edges(word: &[u8]) -> ArrayVec<Edge, 4>
     ensures { result.items ≡ word_edges word.now }
@@ -95,7 +95,7 @@ pub(crate) fn word_edges(word: &[u8]) -> ArrayVec<Edge, 4>
     }
 }
 
-/// Whether some word stands for no edge.
+/// Whether some word names no edge.
 pub(crate) fn has_unknown(words: &[u8]) -> bool
     ensures { result ≡ list_any (λ word. is_empty (word_edges word)) (words_of words.now) }
 {

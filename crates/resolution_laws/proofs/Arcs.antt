@@ -18,20 +18,21 @@ use Rattle.resolution_laws.specs.Resolution.{external_count, move_count, edge_at
 use Rattle.resolution_laws.proofs.Threads.{thread_up, thread_end, thread_out}
 use Rattle.resolution_laws.proofs.Locations.{ends_with, external_keeps, moves_on, moves_kept, moves_up, moves_end, moves_most, location_wrapped, location_first, same_moves_location, moves_in_before, moves_between, moves_in_fewer}
 
--- the last edge is external, and keeps the location
+-- the last edge is external
 pub last_outside : (es : List Edge) (n : ℕ) → IsResolved es → length es ≡ n + 1 → is_external (edge_at es n) ≡ true
 last_outside es n r h = sym (ends_with es n h) ∙ r.outside
 
+-- the last edge keeps the location
 pub last_keeps : (es : List Edge) (n : ℕ) → IsResolved es → length es ≡ n + 1 → is_diff (edge_at es n) ≡ false
 last_keeps es n r h = external_keeps (edge_at es n) (last_outside es n r h)
 
--- so the threads of events are below the number of threads
+-- the threads of events are below the number of threads
 pub thread_below : (es : List Edge) (i : ℕ) → IsResolved es → i < length es → thread_of es i < external_count es
 thread_below es i r h =
     let e : length es ≡ (length es - 1) + 1 = omega arith in
     omega (arith, thread_up es i (length es - 1) (omega arith) (omega arith), thread_out es (length es - 1) (omega arith) (last_outside es (length es - 1) r e), ap (thread_of es) e, thread_end es)
 
--- and at the last event all moves are made
+-- at the last event all moves are made
 pub moves_last : (es : List Edge) (n : ℕ) → IsResolved es → length es ≡ n + 1 → moves_before es n ≡ move_count es
 moves_last es n r h = omega (arith, moves_kept es n (omega (arith, h)) (last_keeps es n r h), ap (moves_before es) h, moves_end es)
 
@@ -59,6 +60,7 @@ pub record Leaving (es : List Edge) (l : ℕ) : Type 0 where
   pub leaves : is_diff (edge_at es event) ≡ true
   pub moves : moves_before es event ≡ l
 
+-- each location of a cycle is left so
 pub leaving : (es : List Edge) (l : ℕ) → l < move_count es → Leaving es l
 unfolding moves_before
 leaving es l h =
@@ -73,7 +75,7 @@ leaving es l h =
       moves = count_take is_diff es (edges.Com Rf Internal) (get_or (filter p (upto (length es))) l 0) (omega (arith, w.below)) ∙ w.rank;
     }
 
--- the location of an event is the number of moves before it, but for the events behind the last move, which are at
+-- the location of an event is the number of moves before it, except for the events after the last move, which are at
 -- location 0 with those before the first
 pub location_cases : {G : Type 0} (es : List Edge) (i : ℕ) → i < length es → (moves_before es i ≡ move_count es → location_of es i ≡ 0 → G) → (moves_before es i < move_count es → location_of es i ≡ moves_before es i → G) → G
 location_cases es i h wrapped first =
@@ -81,6 +83,7 @@ location_cases es i h wrapped first =
     (λ l. first l (location_first es i l))
     (λ g. let e : moves_before es i ≡ move_count es = omega (arith, g, moves_most es i (omega arith)) in wrapped e (location_wrapped es i e))
 
+-- the locations of events are below the number of locations
 pub location_below : (es : List Edge) (i : ℕ) → IsResolved es → i < length es → location_of es i < move_count es
 location_below es i r h =
     location_cases es i h
@@ -102,13 +105,14 @@ one_location es i j r h l t e =
     (λ v y. omega (arith, m, z, v, y, e, apart, fewer, part))
     (λ v y. omega (arith, z, y, e)))
 
--- no `d` edge stands between events with the same moves before them, and so they are at one location with all between
+-- there is no `d` edge between events with the same moves before them
 pub none_moves : (es : List Edge) (i j m : ℕ) → i ≤ m → m < j → j ≤ length es → moves_before es i ≡ moves_before es j → is_diff (edge_at es m) ≡ false
 none_moves es i j m a b c e =
     by_test (is_diff (edge_at es m))
     (λ t. absurd (omega (arith, e, moves_on es m (omega arith) t, moves_up es i m a (omega arith), moves_up es (m + 1) j (omega arith) c)))
     (λ f. f)
 
+-- events without a `d` edge between them have the same moves before them
 pub same_moves : (es : List Edge) (i j : ℕ) → i ≤ j → j ≤ length es → ((m : ℕ) → i ≤ m → m < j → is_diff (edge_at es m) ≡ false) → moves_before es i ≡ moves_before es j
 same_moves es i zero h l k = let e : i ≡ 0 = omega arith in rw e refl
 same_moves es i (suc j) h l k =
@@ -126,12 +130,13 @@ location_in_thread es i j r h l t = (
   λ k. same_moves_location es i j (same_moves es i j h (omega arith) k),
 )
 
--- the events of a thread at one location stand together: in one run, none of another thread or location between them
+-- the events of a thread at one location come together: in one run, none of another thread or location between them
 pub record SameRun (es : List Edge) (i m : ℕ) : Type 0 where
   pub thread : thread_of es m ≡ thread_of es i
   pub location : location_of es m ≡ location_of es i
   pub moves : moves_before es m ≡ moves_before es i
 
+-- each event between two of one thread and location is of that thread and location
 pub one_run : (es : List Edge) (i m j : ℕ) → IsResolved es → i ≤ m → m ≤ j → j < length es → thread_of es i ≡ thread_of es j → location_of es i ≡ location_of es j → SameRun es i m
 one_run es i m j r a b l t e =
     let same = one_location es i j r (omega arith) l t e in
@@ -153,8 +158,8 @@ moved_location es i r h t e =
     (λ v y. omega (arith, m, z, v, y, e, on, two))
     (λ v y. omega (arith, z, y, e, on)))
 
--- two events at one location stand on one stretch of the list without a `d` edge between them, or they are at location 0
--- before the first `d` edge and behind the last
+-- two events at one location are on one stretch of the list without a `d` edge between them, or they are at location 0
+-- before the first `d` edge and after the last
 pub arc_cases : {G : Type 0} (es : List Edge) (i j : ℕ) → i ≤ j → j < length es → location_of es i ≡ location_of es j → (moves_before es i ≡ moves_before es j → G) → (location_of es i ≡ 0 → moves_before es i ≡ 0 → moves_before es j ≡ move_count es → G) → G
 arc_cases es i j h l e one wrapped =
     let up = moves_up es i j h (omega arith) in

@@ -12,7 +12,7 @@ use Rattle.resolution_laws.proofs.Threads.{thread-zero, thread_out, thread_in, t
 use Rattle.resolution_laws.proofs.Locations.{location-zero, location_kept, location_wrapped}
 use Rattle.resolution_laws.proofs.Arcs.{last_outside, last_keeps, moves_last, moved_location, thread_below}
 
--- behind the last event comes event 0, behind any other the next one
+-- after the last event comes event 0, after any other the next one
 pub by_after : {G : Type 0} (es : List Edge) (i : ℕ) → i < length es → (i + 1 < length es → event_after es i ≡ i + 1 → G) → (length es ≡ i + 1 → event_after es i ≡ 0 → G) → G
 unfolding event_after
 by_after es i h next last =
@@ -20,17 +20,21 @@ by_after es i h next last =
     (λ e. last (sym e) (cond-true {A = ℕ} (i + 1 == length es) 0 (i + 1) (eq-eqb (i + 1) (length es) e)))
     (λ d. next (omega (arith, d, h)) (cond-false {A = ℕ} (i + 1 == length es) 0 (i + 1) (ne_eqb (i + 1) (length es) d)))
 
+-- the event that an edge enters is one of the cycle
 pub after_below : (es : List Edge) (i : ℕ) → i < length es → event_after es i < length es
 after_below es i h = by_after es i h (λ l e. omega (arith, l, e)) (λ l e. omega (arith, h, e))
 
+-- the event before an event is one of the cycle
 pub before_below : (es : List Edge) (i : ℕ) → i < length es → event_before es i < length es
 before_below es zero h = omega arith
 before_below es (suc i) h = omega arith
 
+-- the event after the one before an event is that event
 pub after_before : (es : List Edge) (i : ℕ) → i < length es → event_after es (event_before es i) ≡ i
 after_before es zero h = by_after es (length es - 1) (omega arith) (λ l e. absurd (omega (arith, l))) (λ l e. e)
 after_before es (suc i) h = by_after es i (omega arith) (λ l e. omega (arith, e)) (λ l e. absurd (omega (arith, l, h)))
 
+-- the event before the one after an event is that event
 pub before_after : (es : List Edge) (i : ℕ) → i < length es → event_before es (event_after es i) ≡ i
 before_after es i h =
     by_after es i h
@@ -46,7 +50,7 @@ joined_next d (e ∷ f ∷ u) (suc i) h l =
     let s : suc i + 1 ≡ suc (i + 1) = omega arith in
     rw s (joined_next d (f ∷ u) i (and_parts (joins_to e f) (is_joined (f ∷ u)) h).1 (omega arith))
 
--- each edge of a cycle joins the one behind it
+-- each edge of a cycle joins the one after it
 pub joins_after : (es : List Edge) (i : ℕ) → IsCycle es → i < length es → joins_to (edge_at es i) (edge_at es (event_after es i)) ≡ true
 joins_after [] i c h = absurd (omega arith)
 joins_after (e ∷ u) i c h =
@@ -59,11 +63,11 @@ joins_after (e ∷ u) i c h =
     (λ l a. let there : get_or ((e ∷ u) ++ e ∷ []) (i + 1) (edge_at [] 0) ≡ e = get_or_push (e ∷ u) e (edge_at [] 0) (i + 1) l in
     rw a (ap (λ x. joins_to x e) (sym here) ∙ ap (λ x. joins_to (get_or ((e ∷ u) ++ e ∷ []) i (edge_at [] 0)) x) (sym there) ∙ j))
 
--- so what an edge enters is what the next edge leaves
+-- what an edge enters is what the next edge leaves
 pub source_after : (es : List Edge) (i : ℕ) → IsCycle es → i < length es → source_of (edge_at es (event_after es i)) ≡ target_of (edge_at es i)
 source_after es i c h = joined_dirs (edge_at es i) (edge_at es (event_after es i)) (joins_after es i c h)
 
--- and the two agree on its mark
+-- an edge and the next one agree on the mark of the event between them
 pub mark_after : (es : List Edge) (i : ℕ) → IsCycle es → i < length es → source_mark (edge_at es (event_after es i)) ≡ target_mark (edge_at es i)
 mark_after es i c h = joined_marks (edge_at es i) (edge_at es (event_after es i)) (joins_after es i c h)
 
@@ -74,6 +78,7 @@ pub record Follows (es : List Edge) (i : ℕ) : Type 0 where
   pub thread : thread_of es (i + 1) ≡ thread_of es i
   pub slot : slot_of es (i + 1) ≡ slot_of es i + 1
 
+-- each internal edge of a resolved cycle does so
 pub internal_follows : (es : List Edge) (i : ℕ) → IsResolved es → i < length es → is_external (edge_at es i) ≡ false → Follows es i
 internal_follows es i r h f =
     by_after es i h
@@ -85,6 +90,7 @@ pub record Leads (es : List Edge) (i : ℕ) : Type 0 where
   pub thread : thread_of es (event_after es i) ≡ cond (thread_of es i + 1 == external_count es) 0 (thread_of es i + 1)
   pub slot : slot_of es (event_after es i) ≡ 0
 
+-- each external edge of a resolved cycle does so
 pub external_leads : (es : List Edge) (i : ℕ) → IsResolved es → i < length es → is_external (edge_at es i) ≡ true → Leads es i
 external_leads es i r h t =
     by_after es i h
@@ -106,11 +112,12 @@ keeps_location es i r h f =
     (λ l e. rw e (location_kept es i h f))
     (λ l e. rw e (location-zero es ∙ sym (location_wrapped es i (moves_last es i r l))))
 
--- a `d` edge is followed by the next event, at another location
+-- a `d` edge isn't the last one
 pub moves_within : (es : List Edge) (i : ℕ) → IsResolved es → i < length es → is_diff (edge_at es i) ≡ true → i + 1 < length es
 moves_within es i r h t =
     by_after es i h (λ l e. l) (λ l e. let a : false ≡ true = sym (last_keeps es i r l) ∙ t in cc)
 
+-- a `d` edge enters an event at another location
 pub changes_location : (es : List Edge) (i : ℕ) → IsResolved es → i < length es → is_diff (edge_at es i) ≡ true → (location_of es (event_after es i) ≡ location_of es i → ⊥)
 changes_location es i r h t q =
     by_after es i h

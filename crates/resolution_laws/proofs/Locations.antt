@@ -38,6 +38,7 @@ ends_with (e ∷ []) n h = let z : n ≡ 0 = omega (arith, h) in rw z refl
 ends_with (e ∷ f ∷ es) zero h = absurd (omega (arith, h))
 ends_with (e ∷ f ∷ es) (suc n) h = ends_with (f ∷ es) n (omega (arith, h))
 
+-- there are no moves before event 0
 pub moves-zero : (es : List Edge) → moves_before es 0 ≡ 0
 unfolding moves_before
 moves-zero es = refl
@@ -47,15 +48,17 @@ pub moves_on : (es : List Edge) (i : ℕ) → i < length es → is_diff (edge_at
 unfolding moves_before
 moves_on es i h t = omega (arith, count_take_more is_diff es i (edges.Com Rf Internal) h, cond-true {A = ℕ} (is_diff (edge_at es i)) 1 0 t)
 
--- no other edge is
+-- an edge that isn't a `d` edge isn't counted
 pub moves_kept : (es : List Edge) (i : ℕ) → i < length es → is_diff (edge_at es i) ≡ false → moves_before es (i + 1) ≡ moves_before es i
 unfolding moves_before
 moves_kept es i h t = omega (arith, count_take_more is_diff es i (edges.Com Rf Internal) h, cond-false {A = ℕ} (is_diff (edge_at es i)) 1 0 t)
 
+-- at the end of the list all moves are counted
 pub moves_end : (es : List Edge) → moves_before es (length es) ≡ move_count es
 unfolding moves_before
 moves_end es = ap move_count (take_all (length es) es (omega arith))
 
+-- the moves before an event are at most those before a later one
 pub moves_up : (es : List Edge) (i j : ℕ) → i ≤ j → j ≤ length es → moves_before es i ≤ moves_before es j
 unfolding moves_before
 moves_up es i j h l =
@@ -66,6 +69,7 @@ pub moves_few : (es : List Edge) (i : ℕ) → i ≤ length es → moves_before 
 unfolding moves_before
 moves_few es i h = omega (arith, count_take is_diff es (edges.Com Rf Internal) i h, count_upto-le (λ m. is_diff (edge_at es m)) i)
 
+-- the moves before an event are at most all moves
 pub moves_most : (es : List Edge) (i : ℕ) → i ≤ length es → moves_before es i ≤ move_count es
 moves_most es i h = omega (arith, moves_up es i (length es) h (omega arith), moves_end es)
 
@@ -79,10 +83,12 @@ pub location_first : (es : List Edge) (i : ℕ) → moves_before es i < move_cou
 unfolding location_of
 location_first es i h = mod-eq_of_lt h
 
+-- events with the same moves before them are at one location
 pub same_moves_location : (es : List Edge) (i j : ℕ) → moves_before es i ≡ moves_before es j → location_of es i ≡ location_of es j
 unfolding location_of
 same_moves_location es i j h = ap (λ m. m % move_count es) h
 
+-- event 0 is at location 0
 pub location-zero : (es : List Edge) → location_of es 0 ≡ 0
 unfolding location_of
 location-zero es = rw (moves-zero es) (zero-mod (move_count es))
@@ -92,7 +98,7 @@ pub location_most : (es : List Edge) (i : ℕ) → i ≤ length es → location_
 unfolding location_of
 location_most es i h = mod-le (moves_before es i) (move_count es)
 
--- the location behind a `d` edge is the next one, and behind the last one location 0
+-- the location after a `d` edge is the next one, and after the last one location 0
 pub location_on : (es : List Edge) (i : ℕ) → i < length es → is_diff (edge_at es i) ≡ true → location_of es (i + 1) ≡ cond (location_of es i + 1 == move_count es) 0 (location_of es i + 1)
 location_on es i h t =
     let m = moves_on es i h t in
@@ -127,10 +133,12 @@ moves_in_fewer es k r h =
 unfoldable pub moves_in_before : List Edge → ℕ → ℕ → ℕ
 moves_in_before es k x = count_by (λ m. is_diff (edge_at es m) && (thread_of es m == k)) (upto x)
 
+-- the moves of a thread before an event are at most as many as the events before it
 pub moves_counted : (es : List Edge) (k x : ℕ) → moves_in_before es k x ≤ x
 unfolding moves_in_before
 moves_counted es k x = count_upto-le (λ m. is_diff (edge_at es m) && (thread_of es m == k)) x
 
+-- a thread has no moves before event 0
 pub moves_counted-zero : (es : List Edge) (k : ℕ) → moves_in_before es k 0 ≡ 0
 unfolding moves_in_before
 moves_counted-zero es k = refl

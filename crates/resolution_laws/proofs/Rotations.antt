@@ -122,7 +122,7 @@ coherence_exchanged a b x y =
     ∙ sym (thread_with-append (move_count (a ++ b)) b a y)
     ∙ ap (λ n. thread_with n (b ++ a)) d
 
--- the last edge of a list with some edges behind
+-- the last edge of a list is that of its second part
 pub outside_behind : (a : List Edge) (e : Edge) (b : List Edge) → ends_outside (a ++ e ∷ b) ≡ ends_outside (e ∷ b)
 outside_behind [] e b = refl
 outside_behind (x ∷ []) e b = refl
@@ -143,7 +143,7 @@ coherence_alike u v r x y =
 same_externals : (es fs : List Edge) → IsRotation es fs → external_count es ≡ external_count fs
 same_externals es fs r = ap external_count r.from ∙ count_exchanged is_external r.front r.back ∙ sym (ap external_count r.to)
 
--- so has the turned list, which is a rotation
+-- the turned list is a rotation, and its last edge is external
 turned_rotation : (es : List Edge) → 0 < external_count es → (IsRotation es (turned es)) × (ends_outside (turned es) ≡ true)
 turned_rotation es h = let t = turn_of es h in (rw t.2.turn (rotation_of_place t.0 es), t.2.outside)
 
@@ -174,12 +174,13 @@ refused_alike es fs error r h =
     rw (many, only) a)
     (λ g. let a : Ok (turned es) ≡ Err error = sym (rw (f, g) refl) ∙ h in cc))
 
--- where one resolves, so does each other one, and what they resolve to are rotations of one another
+-- a rotation of a cycle resolves, and to a rotation of what the cycle resolves to
 pub record ResolvesTo (es fs u : List Edge) : Type 0 where
   pub edges : List Edge
   pub resolves : resolution_of fs ≡ Ok edges
   pub rotation : IsRotation u edges
 
+-- where a cycle resolves, so does each rotation of it, and to a rotation of what the cycle resolves to
 pub resolves_alike : (es fs u : List Edge) → IsRotation es fs → resolution_of es ≡ Ok u → ResolvesTo es fs u
 resolves_alike es fs u r h =
     let same = same_externals es fs r in
@@ -220,6 +221,7 @@ location_exchanged a b i h =
     let d : move_count (b ++ a) ≡ move_count (a ++ b) = omega (arith, move_count-append a b, move_count-append b a) in
     rw (moves_second a b i (omega arith), moves_first b a i (omega arith), d) (sym (add-mod-mod (move_count a) (moves_before b i) (move_count (a ++ b))))
 
+-- each event of the second part is renumbered so
 pub renumbered : (front back : List Edge) (i : ℕ) → ends_outside (back ++ front) ≡ true → i < length back → Renumbered front back i
 renumbered front back i y h =
     let ended = ended_back back front y in

@@ -26,6 +26,7 @@ pub record LastOf (es : List Edge) (k : ℕ) : Type 0 where
   pub leaves : is_external (edge_at es event) ≡ true
   pub thread : thread_of es event ≡ k
 
+-- each thread has such a last event
 pub last_of : (es : List Edge) (k : ℕ) → k < external_count es → LastOf es k
 unfolding thread_of
 last_of es k h =
@@ -43,12 +44,13 @@ last_of es k h =
 pub slot_below : (es : List Edge) (i : ℕ) → i < length es → slot_of es i < length (events_in es (thread_of es i))
 slot_below es i h = slice_get_within (events_in es (thread_of es i)) (slot_of es i) i (event_in_slot es i h)
 
--- in each slot of a thread stands an event
+-- a slot of a thread has an event
 pub record InSlot (es : List Edge) (k s : ℕ) : Type 0 where
   pub event : ℕ
   pub stands : slice_get (events_in es k) s ≡ Some event
   pub place : IsAt es k s event
 
+-- each slot below the size of a thread has an event
 pub in_slot : (es : List Edge) (k s : ℕ) → s < length (events_in es k) → InSlot es k s
 in_slot es k s h =
     let g = slice_get-get_or (events_in es k) s 0 h in
@@ -87,6 +89,7 @@ one_or_other e =
     (λ t. rw (t, external_keeps e t) (omega arith))
     (λ f. by_test (is_diff e) (λ t. rw (f, t) (omega arith)) (λ g. rw (f, g) (omega arith)))
 
+-- external edges and `d` edges together are at most as many as edges
 pub external_and_moves : (es : List Edge) → external_count es + move_count es ≤ length es
 external_and_moves [] = omega arith
 external_and_moves (e ∷ es) =

@@ -12,6 +12,7 @@ use Rattle.list_laws.proofs.Prefixes.{count_take, count_take_more}
 use Rattle.list_laws.proofs.Ranks.{rank_upto, unrank_upto}
 use Rattle.resolution_laws.specs.Resolution.{external_count, edge_at, thread_of, slot_of, events_in}
 
+-- event 0 is in thread 0
 pub thread-zero : (es : List Edge) → thread_of es 0 ≡ 0
 unfolding thread_of
 thread-zero es = refl
@@ -26,7 +27,7 @@ pub thread_in : (es : List Edge) (i : ℕ) → i < length es → is_external (ed
 unfolding thread_of
 thread_in es i h t = omega (arith, count_take_more is_external es i (edges.Com Rf Internal) h, cond-false {A = ℕ} (is_external (edge_at es i)) 1 0 t)
 
--- behind the last edge all external edges are counted
+-- after the last edge all external edges are counted
 pub thread_end : (es : List Edge) → thread_of es (length es) ≡ external_count es
 unfolding thread_of
 thread_end es = ap external_count (take_all (length es) es (omega arith))
@@ -47,6 +48,7 @@ pub slot_most : (es : List Edge) (i : ℕ) → slot_of es i ≤ i
 unfolding slot_of
 slot_most es i = count_upto-le (λ j. thread_of es j == thread_of es i) i
 
+-- event 0 is in slot 0
 pub slot-zero : (es : List Edge) → slot_of es 0 ≡ 0
 unfolding slot_of
 slot-zero es = refl
@@ -71,12 +73,12 @@ pub record IsAt (es : List Edge) (k s i : ℕ) : Type 0 where
   pub thread : thread_of es i ≡ k
   pub slot : slot_of es i ≡ s
 
--- each event stands in its thread at the place of its slot
+-- each event is in its thread at the place of its slot
 pub event_in_slot : (es : List Edge) (i : ℕ) → i < length es → slice_get (events_in es (thread_of es i)) (slot_of es i) ≡ Some i
 unfolding events_in slot_of
 event_in_slot es i h = rank_upto (λ j. thread_of es j == thread_of es i) (length es) i h (eq-eqb (thread_of es i) (thread_of es i) refl)
 
--- what stands at a place of a thread is an event of that thread, in that slot
+-- what is at a place of a thread is an event of that thread, in that slot
 pub slot_of_event : (es : List Edge) (k s i : ℕ) → slice_get (events_in es k) s ≡ Some i → IsAt es k s i
 unfolding events_in slot_of
 slot_of_event es k s i h =

@@ -23,13 +23,13 @@ use Rattle.resolution_laws.specs.Resolution.{external_count, move_count, edge_at
 use Rattle.resolution_laws.specs.declared.errors.ResolveError.TheVariants.{TooFewThreads, CoherenceOnly}
 use Rattle.resolution_laws.proofs.Locations.{ends_with}
 
--- whether the last edge is external is for that edge to say
+-- a list ends outside exactly where its last edge is external
 pub outside_at_end : (xs : List Edge) (e : Edge) → ends_outside (xs ++ e ∷ []) ≡ is_external e
 outside_at_end [] e = refl
 outside_at_end (x ∷ []) e = refl
 outside_at_end (x ∷ y ∷ xs) e = outside_at_end (y ∷ xs) e
 
--- the turn by k + 1 puts edge k last
+-- the turn by k + 1 makes edge k the last
 pub outside_after : (es : List Edge) (k : ℕ) → k < length es → ends_outside (rotated (k + 1) es) ≡ is_external (edge_at es k)
 outside_after es k h =
     rw (take_more es k (edges.Com Rf Internal) h, ← append_assoc (drop (k + 1) es) (take k es) (edge_at es k ∷ []))
@@ -44,7 +44,7 @@ turned_by_none es h t =
     find-map ends_outside (λ k. rotated k es) (upto (length es)) ∙ ap (option_map (λ k. rotated k es)) (find_upto_first (λ k. ends_outside (rotated k es)) (length es) 0 h now (λ j l. absurd (omega arith))) in
     rw f refl
 
--- no edge before edge i is external, and the last edge isn't: the turns by up to i put an internal edge last
+-- no edge before edge i is external, and the last edge isn't: the turns by up to i make an internal edge the last
 none_outside : (es : List Edge) (i : ℕ) → i ≤ length es → ends_outside es ≡ false → ((k : ℕ) → k < i → is_external (edge_at es k) ≡ false) → (j : ℕ) → j < i + 1 → ends_outside (rotated j es) ≡ false
 none_outside es i h t b zero l = rw (append-nil es) t
 none_outside es i h t b (suc j) l = rw (← add-one) (outside_after es j (omega arith) ∙ b j (omega arith))
@@ -68,13 +68,14 @@ turned_never es t b =
     find-map ends_outside (λ k. rotated k es) (upto (length es)) ∙ ap (option_map (λ k. rotated k es)) (find_upto_none (λ k. ends_outside (rotated k es)) (length es) (λ j l. none_outside es (length es) (omega arith) t b j (omega arith))) in
     rw f (sym (append-nil es))
 
--- the same by the first place of an external edge
+-- where the first external edge is at place i, and the last edge isn't external, the turn is by i + 1
 pub turned_at_position : (es : List Edge) (i : ℕ) → ends_outside es ≡ false → position is_external es ≡ Some i → (i + 1 < length es) × (rotated (i + 1) es ≡ turned es)
 turned_at_position es i t p =
     let f = position-Some is_external es i (edges.Com Rf Internal) p in
     let b = turned_by_first es i f.0 t f.1 f.2 in
     (b.0, sym b.1)
 
+-- where no edge is external, there is no turn
 pub turned_without : (es : List Edge) → ends_outside es ≡ false → position is_external es ≡ None → rotated 0 es ≡ turned es
 turned_without es t p =
     sym (turned_never es t (λ k l. fails_before_first is_external es k (edges.Com Rf Internal) (omega (arith, l, past))))
@@ -90,6 +91,7 @@ pub record Turn (es : List Edge) (k : ℕ) : Type 0 where
   pub turn : turned es ≡ rotated k es
   pub outside : ends_outside (turned es) ≡ true
 
+-- a list with an external edge has such a turn
 pub turn_of : (es : List Edge) → 0 < external_count es → (k : ℕ) × (k < length es) × Turn es k
 unfolding turned
 turn_of es h =
@@ -109,10 +111,11 @@ turn_of es h =
         let now : ends_outside (rotated 0 es) ≡ true = rw (append-nil es) (ends_with es w.number e ∙ w.passes) in
         let a : true ≡ false = sym now ∙ none_before (λ k. ends_outside (rotated k es)) (length es) 0 n (omega (arith, w.below)) in cc)
 
--- rotations have the same edges
+-- a rotation has as many external edges as the list
 pub external_count-rotated : (k : ℕ) (es : List Edge) → external_count (rotated k es) ≡ external_count es
 external_count-rotated k es = count_exchanged is_external (drop k es) (take k es) ∙ ap external_count (take-append-drop k es)
 
+-- a rotation has as many `d` edges as the list
 pub move_count-rotated : (k : ℕ) (es : List Edge) → move_count (rotated k es) ≡ move_count es
 move_count-rotated k es = count_exchanged is_diff (drop k es) (take k es) ∙ ap move_count (take-append-drop k es)
 
@@ -127,7 +130,7 @@ turned_resolved es c h s =
       spread = s;
     }
 
--- what a resolution answers is resolved
+-- what a resolution gives is resolved
 pub resolution_resolved : (es fs : List Edge) → IsCycle es → resolution_of es ≡ Ok fs → IsResolved fs
 resolution_resolved es fs c h =
     by_test (nat_lt (external_count es) 2)

@@ -9,11 +9,11 @@ use Rattle.resolution_laws.specs.Resolution.{external_count, move_count, edge_at
 use Rattle.resolution_laws.proofs.Threads.{thread-zero, thread_most, slot-zero, slot_most, thread_out, thread_in, thread_up, thread_end, slot_in, slot_out}
 use Rattle.resolution_laws.proofs.Locations.{location_on, location_kept, moves_in_before, moves_counted-zero, one_move_more, no_moves_yet, all_moves_made, location_most, location-zero, moves_few}
 
--- the moves of a thread, with one more
+-- a `d` edge adds one to the moves of its thread
 pub counts_move : (es : List Edge) (i m n : ℕ) → n ≡ moves_in_before es (thread_of es i) i → m ≡ n + 1 → is_diff (edge_at es i) ≡ true → m ≡ moves_in_before es (thread_of es i) (i + 1)
 counts_move es i m n h e t = omega (arith, h, e, one_move_more es i, cond-true {A = ℕ} (is_diff (edge_at es i)) 1 0 t)
 
--- and with none
+-- any other edge adds none to the moves of its thread
 pub counts_none : (es : List Edge) (i m n : ℕ) → n ≡ moves_in_before es (thread_of es i) i → m ≡ n → is_diff (edge_at es i) ≡ false → m ≡ moves_in_before es (thread_of es i) (i + 1)
 counts_none es i m n h e t = omega (arith, h, e, one_move_more es i, cond-false {A = ℕ} (is_diff (edge_at es i)) 1 0 t)
 
@@ -22,17 +22,20 @@ pub record SomeElsewhere (es : List Edge) (i n : ℕ) : Type 0 where
   pub counted : n ≡ moves_in_before es (thread_of es i) i
   pub fewer : (k : ℕ) → k < thread_of es i → (moves_in es k == move_count es) ≡ false
 
+-- before event 0 the walk has counted nothing
 pub elsewhere_start : (es : List Edge) → SomeElsewhere es 0 0
 elsewhere_start es = record {
   counted = sym (moves_counted-zero es (thread_of es 0));
   fewer = λ k l. absurd (omega (arith, l, thread-zero es));
 }
 
+-- along an internal edge the walk counts on in its thread
 pub elsewhere_in : (es : List Edge) (i m n : ℕ) → i < length es → SomeElsewhere es i n → is_external (edge_at es i) ≡ false → m ≡ moves_in_before es (thread_of es i) (i + 1) → SomeElsewhere es (i + 1) m
 elsewhere_in es i m n h s t e =
     let a : thread_of es (i + 1) ≡ thread_of es i = thread_in es i h t in
     record { counted = rw a e; fewer = rw a s.fewer }
 
+-- along an external edge of a thread that doesn't have all moves the walk begins the next thread
 pub elsewhere_out : (es : List Edge) (i m n : ℕ) → i < length es → SomeElsewhere es i n → is_external (edge_at es i) ≡ true → m ≡ moves_in_before es (thread_of es i) (i + 1) → (m ≡ move_count es → ⊥) → SomeElsewhere es (i + 1) 0
 elsewhere_out es i m n h s t e d = record {
   counted = sym (no_moves_yet es i h t);
@@ -41,7 +44,7 @@ elsewhere_out es i m n h s t e d = record {
       (λ q. s.fewer k (omega (arith, l, q, thread_out es i h t)));
 }
 
--- a thread that has all moves
+-- where a thread has all moves, the cycle is coherence only
 pub all_in_thread : (es : List Edge) (i m : ℕ) → i < length es → is_external (edge_at es i) ≡ true → m ≡ moves_in_before es (thread_of es i) (i + 1) → m ≡ move_count es → true ≡ is_coherence_only es
 unfolding is_coherence_only
 all_in_thread es i m h t e d =
@@ -49,7 +52,7 @@ all_in_thread es i m h t e d =
     (omega (arith, thread_out es i h t, thread_up es (i + 1) (length es) (omega arith) (omega arith), thread_end es))
     (eq-eqb (moves_in es (thread_of es i)) (move_count es) (all_moves_made es i h t ∙ sym e ∙ d)))
 
--- no thread has all moves
+-- where no thread has all moves, the cycle isn't coherence only
 pub none_in_thread : (es : List Edge) (n : ℕ) → SomeElsewhere es (length es) n → false ≡ is_coherence_only es
 unfolding is_coherence_only
 none_in_thread es n s =
@@ -61,6 +64,7 @@ pub record StandsAt (es : List Edge) (i thread slot location : ℕ) : Type 0 whe
   pub slot_is : slot ≡ slot_of es i
   pub location_is : location ≡ location_of es i
 
+-- the walk begins at thread 0, slot 0 and location 0
 pub stands_at_start : (es : List Edge) → StandsAt es 0 0 0 0
 stands_at_start es = record {
   thread_is = sym (thread-zero es);
@@ -74,6 +78,7 @@ pub record Small (i thread slot location : ℕ) : Type 0 where
   pub slot_small : slot ≤ i
   pub location_small : location ≤ i
 
+-- the numbers of a walk are at most that of the event
 pub stands_small : (es : List Edge) (i t s l : ℕ) → i ≤ length es → StandsAt es i t s l → Small i t s l
 stands_small es i t s l h w = record {
   thread_small = omega (arith, w.thread_is, thread_most es i h);
@@ -81,23 +86,26 @@ stands_small es i t s l h w = record {
   location_small = omega (arith, w.location_is, location_most es i h, moves_few es i h);
 }
 
--- the thread and the slot, one event later
+-- along an external edge the walk comes to the next thread and slot 0
 pub stands_out : (es : List Edge) (i t u : ℕ) → i < length es → t ≡ thread_of es i → is_external (edge_at es i) ≡ true → u ≡ t + 1 → (u ≡ thread_of es (i + 1)) × (0 ≡ slot_of es (i + 1))
 stands_out es i t u h e x v = (v ∙ ap (λ n. n + 1) e ∙ sym (thread_out es i h x), sym (slot_out es i h x))
 
+-- along an internal edge the walk comes to the next slot of its thread
 pub stands_in : (es : List Edge) (i t s u : ℕ) → i < length es → t ≡ thread_of es i → s ≡ slot_of es i → is_external (edge_at es i) ≡ false → u ≡ s + 1 → (t ≡ thread_of es (i + 1)) × (u ≡ slot_of es (i + 1))
 stands_in es i t s u h e f x v = (e ∙ sym (thread_in es i h x), v ∙ ap (λ n. n + 1) f ∙ sym (slot_in es i h x))
 
--- the location, one event later
+-- along the last `d` edge the walk comes to location 0
 pub location_goes_round : (es : List Edge) (i l d : ℕ) → i < length es → l ≡ location_of es i → is_diff (edge_at es i) ≡ true → d ≡ move_count es → l + 1 ≡ d → 0 ≡ location_of es (i + 1)
 location_goes_round es i l d h e x q w =
     let here : location_of es i + 1 ≡ move_count es = omega (arith, e, q, w) in
     sym (location_on es i h x ∙ cond-true {A = ℕ} (location_of es i + 1 == move_count es) 0 (location_of es i + 1) (eq-eqb (location_of es i + 1) (move_count es) here))
 
+-- along any other `d` edge the walk comes to the next location
 pub location_goes_on : (es : List Edge) (i l d : ℕ) → i < length es → l ≡ location_of es i → is_diff (edge_at es i) ≡ true → d ≡ move_count es → (l + 1 ≡ d → ⊥) → l + 1 ≡ location_of es (i + 1)
 location_goes_on es i l d h e x q w =
     ap (λ n. n + 1) e
     ∙ sym (location_on es i h x ∙ cond-false {A = ℕ} (location_of es i + 1 == move_count es) 0 (location_of es i + 1) (ne_eqb (location_of es i + 1) (move_count es) (λ z. w (omega (arith, z, e, q)))))
 
+-- along an edge that isn't a `d` edge the walk stays at its location
 pub location_stays : (es : List Edge) (i l : ℕ) → i < length es → l ≡ location_of es i → is_diff (edge_at es i) ≡ false → l ≡ location_of es (i + 1)
 location_stays es i l h e x = e ∙ sym (location_kept es i h x)

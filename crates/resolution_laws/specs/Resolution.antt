@@ -1,5 +1,5 @@
 -- The resolution of a cycle: in which thread, in which slot and at which location each event is. Event i is the access
--- that edge i leaves. All is counted over prefixes of the list of edges. Source: the diy part of the herdtools manual
+-- that edge i leaves. All counts are over prefixes of the list of edges. Source: the diy part of the herdtools manual
 -- (external edges change the thread, `d` edges the location); where counting begins is own.
 use Rattle.std.specs.Prelude.{◌≡◌, ℕ, zero, suc, ◌+◌, ◌-◌, ◌%◌, ◌≤◌, Bool, true, false, ◌==◌, ◌&&◌, nat_lt, if◌then◌else◌, List, [], ◌∷◌, length, map, take, count_by, unwrap_or, slice_index_or, Result, Ok, Err}
 use Rattle.std.specs.List.{filter, find, list_any}
@@ -53,7 +53,7 @@ location_of es i = moves_before es i % move_count es
 unfoldable pub slot_of : List Edge → ℕ → ℕ
 slot_of es i = count_by (λ j. thread_of es j == thread_of es i) (upto i)
 
--- event i
+-- event i, with its direction, thread, slot and location
 abbrev pub event_of : List Edge → ℕ → Event
 event_of es i = record { dir = source_of (edge_at es i); thread = thread_of es i; slot = slot_of es i; location = location_of es i }
 
@@ -70,7 +70,7 @@ abbrev pub event_before : List Edge → ℕ → ℕ
 event_before es zero = length es - 1
 event_before es (suc i) = i
 
--- the event that edge i enters: behind the last one comes event 0
+-- the event that edge i enters: after the last one comes event 0
 unfoldable pub event_after : List Edge → ℕ → ℕ
 event_after es i = if i + 1 == length es then 0 else i + 1
 

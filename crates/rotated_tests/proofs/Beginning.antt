@@ -71,6 +71,7 @@ turns_from_inside us k o h last inside =
     let n : m + 1 ≡ length (drop k us) = omega (arith, long, h) in
     first.1 ∙ ap (λ n. rotated n (rotated k us)) n ∙ turned_back k us
 
+-- the lists that begin like a turned list turn to it
 pub turns_to : (us es : List Edge) → ends_outside us ≡ true → BeginsAlike us es → turned es ≡ us
 turns_to us es o (inl e) = ap turned e ∙ stays us o
 turns_to us es o (inr b) = ap turned b.is ∙ turns_from_inside us b.place o b.within b.last b.inside
@@ -109,6 +110,7 @@ begins_inside es i f p =
       inside = omega (arith, ap (slot_of (front ++ back)) e, slot_in (front ++ back) (length front - 1) (omega (arith, all, long, turn.0)) internal);
     })
 
+-- the lists that turn to a turned list begin like it
 pub turned_from : (us es : List Edge) → ends_outside us ≡ true → turned es ≡ us → BeginsAlike us es
 turned_from us es o h =
     by_test (ends_outside es)
@@ -118,6 +120,7 @@ turned_from us es o h =
     let y : false ≡ true = sym f ∙ ap ends_outside (sym same) ∙ o in cc)
     (λ i p. inr (subst (λ x. BeginsInside x es) h (begins_inside es i f p))))
 
+-- a turned list is its own turned list, and that of exactly the lists that begin alike
 pub turned_alike : TurnedAlike
 turned_alike = record {
   again = λ es h. stays (turned es) (turn_of es h).2.outside;

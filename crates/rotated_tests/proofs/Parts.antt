@@ -11,6 +11,7 @@ use Rattle.resolution_laws.specs.Resolution.{external_count, thread_of, events_i
 use Rattle.resolution_laws.proofs.Rotations.{Ended, thread_first, thread_second, same_shifted}
 use Rattle.test_laws.proofs.Everywhere.{all_joined}
 
+-- an event of a list whose threads have ended is in one of its threads
 pub ended_below : (a : List Edge) (i : ℕ) → Ended a → i < length a → thread_of a i < external_count a
 unfolding Ended
 ended_below a i ended h = ended i h
@@ -57,7 +58,7 @@ filter_upto-add p m n =
     ∙ filter-append p (upto m) (map (λ i. m + i) (upto n))
     ∙ ap (λ l. filter p (upto m) ++ l) (filter_shifted p m (upto n))
 
--- the events of a thread of the first part, and of one of the second
+-- a thread of the first part has the same events
 pub events_first : (a b : List Edge) (k : ℕ) → k < external_count a → events_in (a ++ b) k ≡ events_in a k
 unfolding events_in
 events_first a b k h =
@@ -69,6 +70,7 @@ events_first a b k h =
     ∙ append-nil (filter p (upto (length a)))
     ∙ filter_upto_same p (λ i. thread_of a i == k) (length a) (λ i l. ap (λ t. t == k) (thread_first a b i (omega arith)))
 
+-- a thread of the second part has its events, counted on from those of the first
 pub events_second : (a b : List Edge) (k : ℕ) → Ended a → events_in (a ++ b) (external_count a + k) ≡ map (λ i. length a + i) (events_in b k)
 unfolding events_in
 events_second a b k ended =
@@ -88,6 +90,7 @@ filter_upto_below p (suc n) m h =
     (all_joined (λ i. i < m) (filter p (upto n)) (filter p (n ∷ [])) (filter_upto_below p n m (omega arith))
     (by_test (p n) (λ t. rw t (omega arith, tt)) (λ f. rw f tt)))
 
+-- the events of a thread are numbers below the length
 pub events_below : (es : List Edge) (k : ℕ) → AllByRecursion (λ i. i < length es) (events_in es k)
 unfolding events_in
 events_below es k = filter_upto_below (λ i. thread_of es i == k) (length es) (length es) (omega arith)

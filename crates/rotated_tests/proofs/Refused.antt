@@ -128,7 +128,7 @@ crowded_alike a mode u v t =
     (uncrowded_on a mode u v t)
     (uncrowded_on a mode v u (turned_back u v t))
 
--- the reasons that concern a resolved cycle
+-- the reasons to refuse a resolved cycle
 resolved_alike : (a : Puts) (mode : ObsMode) (es fs : List Edge) → IsCycle es → IsRotation es fs → OfOneKind (resolved_refusal a (resolution_of es) mode) (resolved_refusal a (resolution_of fs) mode)
 unfolding OfOneKind
 resolved_alike a mode es fs c r = of_resolution (resolution_of es) refl
@@ -149,6 +149,7 @@ resolved_alike a mode es fs c r = of_resolution (resolution_of es) refl
         ∙ or_alike (unobserved_need mode u) (unobserved_need mode w.edges) (crowded_thread a u mode) (crowded_thread a w.edges mode) (unobserved_alike mode u w.edges t) (crowded_alike a mode u w.edges t)
         ∙ ap kind (sym w.resolves)
 
+-- a cycle is refused for a reason of the same kind as each of its rotations
 pub refused_alike : (a : Puts) → RefusedAlike a
 unfolding OfOneKind
 refused_alike a es fs mode c r =
@@ -160,6 +161,7 @@ none_alike None None h e = refl
 none_alike None (Some y) h e = cc
 none_alike (Some x) y h e = cc
 
+-- a cycle is accepted exactly where each of its rotations is
 pub accepted_alike : (a : Puts) → AcceptedAlike a
 unfolding OfOneKind
 accepted_alike a es fs mode c r =

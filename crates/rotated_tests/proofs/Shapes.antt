@@ -1,4 +1,4 @@
--- Threads whose accesses go alike, at places that are equal alike, have the same shape.
+-- Threads with the same accesses, at places that are equal in the same cases, have the same shape.
 use Rattle.std.proofs.Common.{◌≡◌, ℕ, ◌+◌, Bool, ◌==◌, ◌||◌, cond, List, [], ◌∷◌, map, refl, ◌∙◌, ap, arith}
 use Rattle.std.specs.List.{AllByRecursion, count_by}
 use Rattle.std.proofs.lemmas.List.Sums.{sum_by-cons}
@@ -7,7 +7,7 @@ use Rattle.arch_trait.specs.declared.step.Step.{Step}
 use Rattle.arch_trait.specs.Links.{is_addr}
 use Rattle.arch_trait.specs.Threads.{is_load_dir, is_store_dir, loads_in, places_in, shape_of, visits}
 
--- two ways to make accesses of numbers: the accesses go alike, and their places are equal alike
+-- two ways to make accesses of numbers: the accesses do the same, and their places are equal in the same cases
 pub record StepAlike (P : ℕ → Type 0) (f g : ℕ → Step) : Type 0 where
   pub dirs : (i : ℕ) → P i → (f i).dir ≡ (g i).dir
   pub links : (i : ℕ) → P i → (f i).link ≡ (g i).link
@@ -39,6 +39,7 @@ places_alike P f g (x ∷ xs) a h =
 same_shape : (l m s t a b p q : ℕ) → l ≡ m → s ≡ t → a ≡ b → p ≡ q → (let x : Shape = record { loads = l; stores = s; addr = a; places = p } in x) ≡ (let y : Shape = record { loads = m; stores = t; addr = b; places = q } in y)
 same_shape l m s t a b p q w x y z = cc
 
+-- threads whose accesses are alike have the same shape
 pub shape_alike : (P : ℕ → Type 0) (f g : ℕ → Step) (xs : List ℕ) → StepAlike P f g → AllByRecursion P xs → shape_of (map f xs) ≡ shape_of (map g xs)
 shape_alike P f g xs a h =
     same_shape

@@ -14,6 +14,7 @@ use Rattle.rotated_tests.proofs.Beginning.{stays, turned_alike, turns_to}
 text_from : Puts → Writing → List ℕ → ObsMode → List Edge → List ℕ
 text_from a w name mode us = test_text a.name w name (shown (test_of a (name_in w.registers) us mode))
 
+-- the turned list and all lists that begin alike have tests of the same text
 pub same_text : (a : Puts) (w : Writing) → SameText a w
 unfolding text_from
 same_text a w = record {

@@ -28,7 +28,7 @@ climb P n m (suc k) on p h =
     let e : (m + k) + 1 ≡ m + suc k = omega arith in
     subst P e (on (m + k) (omega (arith, h)) (climb P n m k on p (omega (arith, h))))
 
--- what holds behind one edge of a cycle, and goes on from event to event, holds everywhere
+-- what holds after one edge of a cycle, and passes on from event to event, holds everywhere
 around : (P : ℕ → Type 0) (es : List Edge) (d : ℕ) → d + 1 < length es → P (d + 1) → ((i : ℕ) → i < length es → P i → P (event_after es i)) → (i : ℕ) → i < length es → P i
 around P es d h p on i l =
     let up : (j : ℕ) → j + 1 < length es → P j → P (j + 1) = λ j k q. by_after es j (omega (arith, k)) (λ s e. subst P e (on j (omega (arith, k)) q)) (λ s e. absurd (omega (arith, s, k))) in
@@ -39,10 +39,11 @@ around P es d h p on i l =
     let none : 0 + i ≡ i = omega arith in
     subst P none (climb P (length es) 0 i up (subst P z q) (omega (arith, l)))
 
+-- an event is a write where the other is
 pub write_alike : (es fs : List Edge) (to : ℕ → ℕ) (i : ℕ) → Alike es fs to → i < length es → is_write fs (to i) ≡ is_write es i
 write_alike es fs to i a h = ap (λ e. same_dir (source_of e) dirs.W) (a.edge i h)
 
--- where the values of two events are the same, or a `d` edge follows, they are the same behind
+-- where the values of two events are the same, or a `d` edge follows, the values of the next events are the same
 value_on : (es fs : List Edge) (to : ℕ → ℕ) (i : ℕ) → Alike es fs to → IsResolved es → IsResolved fs → i < length es → (is_diff (edge_at es i) ≡ false → value_of es i ≡ value_of fs (to i)) → value_of es (event_after es i) ≡ value_of fs (to (event_after es i))
 value_on es fs to i a r s h same =
     let w : is_write es (event_after es i) ≡ is_write fs (event_after fs (to i)) = sym (write_alike es fs to (event_after es i) a (after_below es i h)) ∙ ap (is_write fs) (a.next i h) in
@@ -78,6 +79,7 @@ pub record SpotFrom (es fs : List Edge) (to : ℕ → ℕ) (l : ℕ) : Type 0 wh
   pub there : location_of fs (to event) ≡ l
   pub written : write_count fs l ≡ write_count es spot
 
+-- each location of the second list is one of the first, with as many writes
 pub spot_from : (es fs : List Edge) (to : ℕ → ℕ) (l : ℕ) → Alike es fs to → IsResolved es → IsResolved fs → l < move_count fs → SpotFrom es fs to l
 spot_from es fs to l a r s h =
     let w = leaving fs l h in

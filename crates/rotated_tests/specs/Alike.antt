@@ -55,7 +55,7 @@ pub record TurnedAlike : Type 0 where
 abbrev pub text_of : Puts → Writing → List ℕ → List Edge → ObsMode → List ℕ
 text_of a w name cycle mode = test_text a.name w name (shown (test_of a (name_in w.registers) (turned cycle) mode))
 
--- the turned list has the text of the cycle, and so have all lists that begin alike
+-- the test of the turned list has the same text as the test of the cycle, and so have those of all lists that begin alike
 pub record SameText (a : Puts) (w : Writing) : Type 0 where
   pub turns : (name : List ℕ) (es : List Edge) (mode : ObsMode) → 0 < external_count es → text_of a w name (turned es) mode ≡ text_of a w name es mode
   pub begins : (name : List ℕ) (us es : List Edge) (mode : ObsMode) → ends_outside us ≡ true → BeginsAlike us es → text_of a w name es mode ≡ text_of a w name us mode

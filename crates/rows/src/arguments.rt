@@ -2,7 +2,7 @@ use crate::block::{Block, Keyword, first};
 use crate::errors::TableError;
 use std::alloc::Global;
 
-/// The number behind a keyword of a row, and another where the row doesn't have it.
+/// The number after a keyword of a row, and another where the row doesn't have the keyword.
 pub fn number_of(row: &[Block], keyword: Keyword, otherwise: usize) -> Result<usize, TableError> {
     match first(row, keyword) {
         Some(block) => block
@@ -15,7 +15,7 @@ pub fn number_of(row: &[Block], keyword: Keyword, otherwise: usize) -> Result<us
     }
 }
 
-/// The numbers behind a keyword of a row.
+/// The numbers after a keyword of a row.
 pub fn numbers_of(alloc: Global, row: &[Block], keyword: Keyword) -> Result<Vec<u64>, TableError> {
     let mut numbers = Vec::new(alloc);
     if let Some(block) = first(row, keyword) {

@@ -29,7 +29,7 @@ pub enum Keyword {
     Names,
     /// A file on the shelf before the call. It is wanted as it was, unless the row says otherwise.
     File,
-    /// The row stands for a call for each length from the first number to the last: the output has so
+    /// The row represents a call for each length from the first number to the last: the output has so
     /// much room and takes the prefix of so many bytes, or the prefix of the input is read.
     Prefixes,
     /// The wanted exit status, and the status with its fields.
@@ -91,7 +91,7 @@ impl Keyword {
         )
     }
 
-    /// Whether lines of bytes may stand below it.
+    /// Whether lines of bytes may follow it.
     pub fn takes_bytes(self) -> bool {
         matches!(
             self,
@@ -107,7 +107,7 @@ impl Keyword {
     }
 }
 
-/// A line of a table with a keyword, and the bytes that stand in the lines below it.
+/// A line of a table with a keyword, and the bytes of the lines below it.
 #[derive(Debug, Drop)]
 pub struct Block {
     pub keyword: Keyword,
@@ -115,7 +115,7 @@ pub struct Block {
     pub bytes: Vec<u8>,
 }
 
-/// Whether no keyword stands twice that a row may have once.
+/// Whether each keyword that a row may have once comes at most once.
 pub fn stand_once(blocks: &[Block]) -> bool {
     for at in 0..blocks.len() {
         let keyword = blocks[at].keyword;

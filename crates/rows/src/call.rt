@@ -46,7 +46,7 @@ fn words_of(alloc: Global, row: &[Block]) -> Result<Words, TableError> {
     Ok(words)
 }
 
-/// Adds words that blanks part.
+/// Adds words that blanks separate.
 fn add_words(block: &Block, words: &mut Words) -> Result<(), TableError> {
     for word in block.argument.as_str().split(' ') {
         words.push(word)?;
@@ -163,7 +163,7 @@ fn add_tally(
     )
 }
 
-/// Calls `run`, and adds the status and what stands on standard error to the parts.
+/// Calls `run`, and adds the status and the bytes on standard error to the parts.
 fn add_status<O: Sink>(
     alloc: Global,
     row: &[Block],

@@ -9,8 +9,8 @@ use std::alloc::Global;
 /// Empty lines and lines that begin with `#` are passed over. A line of bytes begins with its mark:
 /// `|` bytes and a line feed, `>` bytes, `%` bytes by two digits of base 16 each, `=NAME` the bytes of
 /// a text that was named before, `=NAME N` its first N bytes, and `*N ` before one of the first three
-/// its bytes N times. What stands behind `|` and `>` is taken as it is. Each other line begins with a
-/// keyword; a blank parts it from its argument.
+/// its bytes N times. The text after `|` and `>` is taken as it is. Each other line begins with a
+/// keyword; a blank separates it from its argument.
 pub fn read_table(alloc: Global, text: &str) -> Result<Vec<Block>, TableError> {
     let mut blocks = Vec::new(alloc);
     let mut number: u64 = 0;
@@ -117,7 +117,7 @@ fn repeated(alloc: Global, text: &str, number: u64) -> Result<Option<Vec<u8>>, T
     Ok(Some(bytes))
 }
 
-/// The bytes that stand in a line, and none where it begins with none of the three marks.
+/// The bytes that a line gives, and none where it begins with none of the three marks.
 fn written(alloc: Global, line: &str, number: u64) -> Result<Option<Vec<u8>>, TableError> {
     if let Some(text) = line.strip_prefix('|') {
         let mut bytes = Vec::from_slice(alloc, text.as_bytes())?;

@@ -12,12 +12,13 @@ use Rattle.test_laws.proofs.Making.{makes}
 use Rattle.test_laws.proofs.TestCodes.{cycle_codes, cycle_program, are_codes}
 use Rattle.sc_laws.specs.Laws.{ScDecides, TestsAreScPerLocation}
 
--- the program of a cycle's test, under any numbers of places
+-- the law for the program of a cycle's test, under any numbers of places
 cycle_sc : (a : Puts) (register_name : ℕ → List ℕ) (es : List Edge) (mode : ObsMode) (test : TestSeen) (number : ℕ → ℕ) → IsArch a → HasTest a es mode → IsRenumbered (test_of a register_name es mode) test number → ScDecides (cycle_program a es mode number)
 cycle_sc a register_name es mode test number laws t e x candidate =
     cycle_tests_are_sc_per_location es mode number (cycle_program a es mode number) x t.code.resolved (renumbered_numbers a register_name es mode test number t.code e)
     (makes (cycle_codes a es mode number) es mode number x (are_codes a es mode number laws t.code.resolved t.code.of_arch) candidate) candidate
 
+-- the candidate executions of a cycle's tests are coherent per location exactly where they are SC per location
 pub tests_are_sc_per_location : TestsAreScPerLocation
 tests_are_sc_per_location a register_name es mode test number laws t e =
     subst ScDecides (renumbered_program a register_name es mode test number e) (cycle_sc a register_name es mode test number laws t e)

@@ -1,4 +1,4 @@
--- The law of printed tests: what is read of their text is the test but for the numbers of places.
+-- The law of printed tests: what is read of their text is the test, except for the numbers of places.
 use Rattle.std.proofs.Common.{◌≡◌, ℕ, List, Ok, length, sym, ◌∙◌, subst}
 use Rattle.std.specs.Prelude.{Result}
 use Rattle.litmus_text.specs.declared.errors.TextError.{TextError}
@@ -25,7 +25,7 @@ use Rattle.printed_tests.proofs.Rereading.{reread_test, reread_renumbered, by_ta
 use Rattle.sc_laws.specs.Laws.{ScDecides, PrintedAreScPerLocation}
 use Rattle.sc_laws.proofs.Laws.{tests_are_sc_per_location}
 
--- what is read back of a printed test
+-- the law for what is read back of a printed test
 read_sc : (a : Puts) (arch : ArchName) (w : Writing) (name : List ℕ) (es : List Edge) (mode : ObsMode) → IsArch a → HasTest a es mode → (r : ReadsBack arch w name (shown_test a w es mode)) → ScDecides (program_read (reread r.table name (shown_test a w es mode)))
 read_sc a arch w name es mode laws t r =
     subst ScDecides program_is
@@ -38,6 +38,7 @@ read_sc a arch w name es mode laws t r =
 same_test : (one other : TestRead) → ◌≡◌ {A = Result TestRead TextError} (Ok one) (Ok other) → one ≡ other
 same_test one other e = cc e
 
+-- the same holds of the candidate executions of what is read of the printed text of a cycle's test
 pub printed_are_sc_per_location : (a : Puts) (arch : ArchName) (w : Writing) → IsArch a → WritesBack a w → WritesCells a w → MakesOneAccess a → PrintedAreScPerLocation a arch w
 printed_are_sc_per_location a arch w laws back cells one name es mode test named t read =
     let r = reads_back a arch w name (shown_test a w es mode) back cells (readable a arch w name es mode laws back cells one named t.code) in

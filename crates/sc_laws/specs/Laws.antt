@@ -24,14 +24,14 @@ use Rattle.printed_tests.specs.Readings.{program_read}
 abbrev pub ScDecides : Program → Type 0
 ScDecides p = (x : Execution) → IsCandidate p x → IsCoherentIn p x ↔ IsScPerLocation (accesses_in p x) x
 
--- so it is of the program of each test that is the test of a cycle but for the numbers of places
+-- it is so in the program of each test that is a cycle's test except for the numbers of places
 abbrev pub TestsAreScPerLocation : Type 0
 TestsAreScPerLocation =
     (a : Puts) (register_name : ℕ → List ℕ) (es : List Edge) (mode : ObsMode) (test : TestSeen) (number : ℕ → ℕ) →
     IsArch a → HasTest a es mode → IsRenumbered (test_of a register_name es mode) test number →
     ScDecides (test_program test)
 
--- and of the program that is read of the printed text of the test of a cycle
+-- it is so in the program that is read of the printed text of a cycle's test
 abbrev pub PrintedAreScPerLocation : Puts → ArchName → Writing → Type 0
 PrintedAreScPerLocation a arch w =
     (name : List ℕ) (es : List Edge) (mode : ObsMode) (test : TestRead) →

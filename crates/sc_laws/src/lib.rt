@@ -6,8 +6,8 @@ ghost use Rattle.sc_laws.specs.Laws.{PrintedAreScPerLocation, TestsAreScPerLocat
 use arch_trait::Arch;
 
 /// On every architecture that keeps the laws, each candidate execution of the test of a cycle is
-/// coherent per location exactly where it is SC per location. So it is of each test that is the same
-/// but for the numbers of places.
+/// coherent per location exactly where it is SC per location. The same holds of each test that is the
+/// same except for the numbers of places.
 pub fn tests_are_sc_per_location()
     ensures { TestsAreScPerLocation }
 {}

@@ -19,10 +19,12 @@ use Rattle.sum_laws.proofs.Texts.{bytes_same, not_false}
 use Rattle.sum_laws.proofs.Blocks.{Clean}
 use Rattle.sum_laws.proofs.Printed.{AllOf}
 
+-- what holds of all elements of two lists holds of all elements of both together
 pub all_of_both : {A : Type 0} (P : A → Type 0) (xs ys : List A) → AllOf P xs → AllOf P ys → AllOf P (xs ++ ys)
 all_of_both P [] ys a b = b
 all_of_both P (x ∷ xs) ys a b = (a.0, all_of_both P xs ys a.1 b)
 
+-- what holds of all elements of two lists together holds of all elements of each
 pub all_of_parts : {A : Type 0} (P : A → Type 0) (xs ys : List A) → AllOf P (xs ++ ys) → AllOf P xs × AllOf P ys
 all_of_parts P [] ys a = (tt, a)
 all_of_parts P (x ∷ xs) ys a = let k = all_of_parts P xs ys a.1 in ((a.0, k.0), k.1)
@@ -35,6 +37,7 @@ kinds_both (a_row row ∷ facts) more = kinds_both facts more
 kinds_both (a_condition text verdict ∷ facts) more = kinds_both facts more
 kinds_both (a_hash text ∷ facts) more = kinds_both facts more
 
+-- the rows of two lists of facts are those of both
 pub rows_both : (facts more : List Fact) → rows (facts ++ more) ≡ rows facts ++ rows more
 rows_both [] more = refl
 rows_both (a_kind kind ∷ facts) more = rows_both facts more
@@ -42,6 +45,7 @@ rows_both (a_row row ∷ facts) more = ap (λ t. row ∷ t) (rows_both facts mor
 rows_both (a_condition text verdict ∷ facts) more = rows_both facts more
 rows_both (a_hash text ∷ facts) more = rows_both facts more
 
+-- the conditions of two lists of facts are those of both
 pub conditions_both : (facts more : List Fact) → conditions (facts ++ more) ≡ conditions facts ++ conditions more
 conditions_both [] more = refl
 conditions_both (a_kind kind ∷ facts) more = conditions_both facts more
@@ -49,6 +53,7 @@ conditions_both (a_row row ∷ facts) more = conditions_both facts more
 conditions_both (a_condition text verdict ∷ facts) more = ap (λ t. (text, verdict) ∷ t) (conditions_both facts more)
 conditions_both (a_hash text ∷ facts) more = conditions_both facts more
 
+-- the hashes of two lists of facts are those of both
 pub hashes_both : (facts more : List Fact) → hashes (facts ++ more) ≡ hashes facts ++ hashes more
 hashes_both [] more = refl
 hashes_both (a_kind kind ∷ facts) more = hashes_both facts more
@@ -56,26 +61,31 @@ hashes_both (a_row row ∷ facts) more = hashes_both facts more
 hashes_both (a_condition text verdict ∷ facts) more = hashes_both facts more
 hashes_both (a_hash text ∷ facts) more = ap (λ t. text ∷ t) (hashes_both facts more)
 
+-- the first of two things that is there
 abbrev pub or_first : {A : Type 0} → Option A → Option A → Option A
 or_first None o = o
 or_first (Some x) o = Some x
 
+-- the first of two lists is that of the first list that has one
 pub first_both : {A : Type 0} (xs ys : List A) → first_of (xs ++ ys) ≡ or_first (first_of xs) (first_of ys)
 first_both [] ys = refl
 first_both (x ∷ xs) ys = refl
 
+-- the sum of a mark over two lists of rows is that of both sums
 pub marked_both : (m : Mark) (rs ss : List Row) → marked_sum m (rs ++ ss) ≡ marked_sum m rs + marked_sum m ss
 unfolding marked_sum
 marked_both m rs ss =
     ap (sum_by (λ (r : Row). r.count)) (filter-append (λ (r : Row). same_mark r.mark m) rs ss)
     ∙ sum_by-append (λ (r : Row). r.count) (filter (λ (r : Row). same_mark r.mark m) rs) (filter (λ (r : Row). same_mark r.mark m) ss)
 
+-- the sum of a state over two lists of rows is that of both sums
 pub state_both : (state : List ℕ) (rs ss : List Row) → state_sum state (rs ++ ss) ≡ state_sum state rs + state_sum state ss
 unfolding state_sum
 state_both state rs ss =
     ap (sum_by (λ (r : Row). r.count)) (filter-append (λ (r : Row). bytes_eq r.state state) rs ss)
     ∙ sum_by-append (λ (r : Row). r.count) (filter (λ (r : Row). bytes_eq r.state state) rs) (filter (λ (r : Row). bytes_eq r.state state) ss)
 
+-- the mark of a state in two lists of rows is that of the first list that has the state
 pub mark_both : (state : List ℕ) (rs ss : List Row) → mark_in state (rs ++ ss) ≡ or_first (mark_in state rs) (mark_in state ss)
 unfolding mark_in
 mark_both state rs ss =
@@ -83,18 +93,22 @@ mark_both state rs ss =
     ∙ ap first_of (map-append (λ (r : Row). r.mark) (filter (λ (r : Row). bytes_eq r.state state) rs) (filter (λ (r : Row). bytes_eq r.state state) ss))
     ∙ first_both (map (λ (r : Row). r.mark) (filter (λ (r : Row). bytes_eq r.state state) rs)) (map (λ (r : Row). r.mark) (filter (λ (r : Row). bytes_eq r.state state) ss))
 
+-- the sum of a mark over one row
 pub marked_one : (m : Mark) (row : Row) → marked_sum m (row ∷ []) ≡ cond (same_mark row.mark m) row.count 0
 unfolding marked_sum
 marked_one m row = by_test (same_mark row.mark m) (λ e. rw e (zero-add row.count)) (λ e. rw e refl)
 
+-- the sum of a state over one row
 pub state_one : (state : List ℕ) (row : Row) → state_sum state (row ∷ []) ≡ cond (bytes_eq row.state state) row.count 0
 unfolding state_sum
 state_one state row = by_test (bytes_eq row.state state) (λ e. rw e (zero-add row.count)) (λ e. rw e refl)
 
+-- the mark of a state in one row
 pub mark_one : (state : List ℕ) (row : Row) → mark_in state (row ∷ []) ≡ cond (bytes_eq row.state state) (Some row.mark) None
 unfolding mark_in
 mark_one state row = by_test (bytes_eq row.state state) (λ e. rw e refl) (λ e. rw e refl)
 
+-- no rows have the sum 0
 pub marked_none : (m : Mark) → marked_sum m [] ≡ 0
 unfolding marked_sum
 marked_none m = refl
@@ -105,16 +119,20 @@ facts_both name one two =
     ap (map (λ (e : Entry). e.fact)) (filter-append (λ (e : Entry). bytes_eq e.test name) one two)
     ∙ map-append (λ (e : Entry). e.fact) (filter (λ (e : Entry). bytes_eq e.test name) one) (filter (λ (e : Entry). bytes_eq e.test name) two)
 
+-- an entry of this test gives its fact
 pub fact_here : (name : List ℕ) (e : Entry) (entries : List Entry) → bytes_eq e.test name ≡ true → facts_of name (e ∷ entries) ≡ e.fact ∷ facts_of name entries
 fact_here name e entries h = rw h refl
 
+-- an entry of another test gives no fact
 pub fact_elsewhere : (name : List ℕ) (e : Entry) (entries : List Entry) → bytes_eq e.test name ≡ false → facts_of name (e ∷ entries) ≡ facts_of name entries
 fact_elsewhere name e entries h = rw h refl
 
+-- facts of one test have no fault, one after another
 abbrev pub CleanFacts : List Fact → List Fact → Type 0
 CleanFacts before [] = Unit {0}
 CleanFacts before (fact ∷ facts) = (fault_of before fact ≡ None) × CleanFacts (before ++ fact ∷ []) facts
 
+-- entries without a fault have facts without one for each test
 pub clean_facts : (before entries : List Entry) (name : List ℕ) → Clean before entries → CleanFacts (facts_of name before) (facts_of name entries)
 clean_facts before [] name c = tt
 clean_facts before (e ∷ entries) name c =
@@ -127,6 +145,7 @@ clean_facts before (e ∷ entries) name c =
     (λ h. let more : facts_of name (before ++ e ∷ []) ≡ facts_of name before = facts_both name before (e ∷ []) ∙ ap (λ t. facts_of name before ++ t) (fact_elsewhere name e [] h) ∙ append-nil (facts_of name before) in
     rw (fact_elsewhere name e entries h) (subst (λ t. CleanFacts t (facts_of name entries)) more further))
 
+-- entries whose facts have no fault for any test have none
 pub clean_all : (before entries : List Entry) → ((name : List ℕ) → CleanFacts (facts_of name before) (facts_of name entries)) → Clean before entries
 clean_all before [] c = tt
 clean_all before (e ∷ entries) c =
@@ -147,26 +166,32 @@ pub record Profile : Type 0 where
   pub hash : List ℕ
   pub mark : List ℕ → Mark
 
+-- a fact agrees with what facts of one test agree on
 abbrev pub FitsTo : Profile → Fact → Type 0
 FitsTo p (a_kind kind) = kind ≡ p.kind
 FitsTo p (a_row row) = row.mark ≡ p.mark row.state
 FitsTo p (a_condition text verdict) = text ≡ p.text
 FitsTo p (a_hash text) = text ≡ p.hash
 
+-- facts agree, and no mark has too large a sum
 pub record Agrees (facts : List Fact) : Type 0 where
   pub profile : Profile
   pub fits : AllOf (FitsTo profile) facts
   pub small : (m : Mark) → marked_sum m (rows facts) ≤ last_count
 
+-- a kind is the same as itself
 pub kind_same : (k : Kind) → same_kind k k ≡ true
 kind_same k = kind_cases (λ x. same_kind x x ≡ true) refl refl refl k
 
+-- a mark is the same as itself
 pub mark_same : (m : Mark) → same_mark m m ≡ true
 mark_same m = mark_cases (λ x. same_mark x x ≡ true) refl refl m
 
+-- kinds that are tested to be the same are the same
 pub kind_is : (a b : Kind) → same_kind a b ≡ true → a ≡ b
 kind_is a b h = grind arith
 
+-- marks that are tested to be the same are the same
 pub mark_is : (a b : Mark) → same_mark a b ≡ true → a ≡ b
 mark_is a b h = grind arith
 
@@ -182,6 +207,7 @@ pub no_other : {A : Type 0} (same : A → A → Bool) → ((x y : A) → same x 
 no_other same law None more d x h = refl
 no_other same law (Some y) more d x h = sym (law y x (not_false (same y x) h))
 
+-- where there is no fault, its condition is false
 pub none_if : (b : Bool) (kind : LogKind) → fault_if b kind ≡ None → b ≡ false
 none_if true kind h = absurd (cc)
 none_if false kind h = refl
@@ -189,10 +215,12 @@ none_if false kind h = refl
 if_none : (b : Bool) (kind : LogKind) → b ≡ false → fault_if b kind ≡ None
 if_none b kind h = rw h refl
 
+-- the first of two things, when both are mapped
 pub map_first : {A B : Type 0} (f : A → B) (o p : Option A) → option_map f (or_first o p) ≡ or_first (option_map f o) (option_map f p)
 map_first f None p = refl
 map_first f (Some x) p = refl
 
+-- texts that are tested to be equal are equal
 pub bytes_is : (x y : List ℕ) → bytes_eq x y ≡ true → x ≡ y
 bytes_is x y h = (bytes_eq-Decides x y).0 h
 
@@ -254,6 +282,7 @@ small_all : (facts more : List Fact) → CleanFacts facts more → Small facts �
 small_all facts [] c s = rw (append-nil facts) s
 small_all facts (fact ∷ more) c s = rw (sym (append_assoc facts (fact ∷ []) more)) (small_all (facts ++ fact ∷ []) more c.1 (small_one facts fact c.0 s))
 
+-- facts without a fault agree
 pub agrees_from_clean : (facts : List Fact) → CleanFacts [] facts → Agrees facts
 unfolding Small
 agrees_from_clean facts c = record { profile = profile_of facts; fits = fit_all [] facts c; small = small_all [] facts c (λ m. rw (marked_none m) (omega arith)) }
@@ -263,6 +292,7 @@ is_none_other : {A : Type 0} (same : A → A → Bool) (o : Option A) (x : A) �
 is_none_other same None x h = refl
 is_none_other same (Some y) x h = rw (h y refl) refl
 
+-- the kind of agreeing facts is the one that they agree on
 pub kind_fits : (p : Profile) (facts : List Fact) (k : Kind) → AllOf (FitsTo p) facts → first_of (kinds facts) ≡ Some k → k ≡ p.kind
 kind_fits p [] k a e = absurd (cc)
 kind_fits p (a_kind kind ∷ facts) k a e = let same : kind ≡ k = cc in sym same ∙ a.0
@@ -270,6 +300,7 @@ kind_fits p (a_row row ∷ facts) k a e = kind_fits p facts k a.1 e
 kind_fits p (a_condition text verdict ∷ facts) k a e = kind_fits p facts k a.1 e
 kind_fits p (a_hash text ∷ facts) k a e = kind_fits p facts k a.1 e
 
+-- the condition of agreeing facts is the one that they agree on
 pub condition_fits : (p : Profile) (facts : List Fact) (t : List ℕ) → AllOf (FitsTo p) facts → option_map (λ c. c.0) (first_of (conditions facts)) ≡ Some t → t ≡ p.text
 condition_fits p [] t a e = absurd (cc)
 condition_fits p (a_kind kind ∷ facts) t a e = condition_fits p facts t a.1 e
@@ -277,6 +308,7 @@ condition_fits p (a_row row ∷ facts) t a e = condition_fits p facts t a.1 e
 condition_fits p (a_condition text verdict ∷ facts) t a e = let same : text ≡ t = cc in sym same ∙ a.0
 condition_fits p (a_hash text ∷ facts) t a e = condition_fits p facts t a.1 e
 
+-- the hash of agreeing facts is the one that they agree on
 pub hash_fits : (p : Profile) (facts : List Fact) (t : List ℕ) → AllOf (FitsTo p) facts → first_of (hashes facts) ≡ Some t → t ≡ p.hash
 hash_fits p [] t a e = absurd (cc)
 hash_fits p (a_kind kind ∷ facts) t a e = hash_fits p facts t a.1 e
@@ -284,6 +316,7 @@ hash_fits p (a_row row ∷ facts) t a e = hash_fits p facts t a.1 e
 hash_fits p (a_condition text verdict ∷ facts) t a e = hash_fits p facts t a.1 e
 hash_fits p (a_hash text ∷ facts) t a e = let same : text ≡ t = cc in sym same ∙ a.0
 
+-- the mark of a state in agreeing facts is the one that they agree on
 pub mark_fits : (p : Profile) (facts : List Fact) (s : List ℕ) (m : Mark) → AllOf (FitsTo p) facts → mark_in s (rows facts) ≡ Some m → m ≡ p.mark s
 unfolding mark_in
 mark_fits p [] s m a e = absurd (cc)
@@ -323,6 +356,7 @@ clean_onto p facts [] a b s = tt
 clean_onto p facts (fact ∷ more) a b s =
     (no_fault p facts fact more a b.0 s, clean_onto p (facts ++ fact ∷ []) more (all_of_both (FitsTo p) facts (fact ∷ []) a (b.0, tt)) b.1 (rw (append_assoc facts (fact ∷ []) more) s))
 
+-- facts that agree with those before them have no fault
 pub clean_from_agrees : (facts more : List Fact) → Agrees (facts ++ more) → CleanFacts facts more
 unfolding Small
 clean_from_agrees facts more g =

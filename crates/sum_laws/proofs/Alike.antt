@@ -23,7 +23,7 @@ use Rattle.sum_laws.proofs.Sums.{state_facts, hash_facts, told_facts, told_rows,
 use Rattle.log_sum.proofs.SumLaws.{Ascends}
 use Rattle.sum_laws.proofs.Orders.{fold_sorted}
 
--- a test of which whole blocks told
+-- the facts of a test have a kind and a condition, as those of whole blocks do
 pub record Complete (facts : List Fact) : Type 0 where
   pub kind : Kind
   pub is_kind : first_of (kinds facts) ≡ Some kind
@@ -37,24 +37,30 @@ pub kind_is : (facts : List Fact) → (summed facts).kind ≡ first_of (kinds fa
 unfolding summed
 kind_is facts = refl
 
+-- the condition of a test is the first of its facts' conditions
 pub condition_is : (facts : List Fact) → (summed facts).condition ≡ option_map (λ c. c.0) (first_of (conditions facts))
 unfolding summed
 condition_is facts = refl
 
+-- the hash of a test is the first of its facts' hashes
 pub hash_is : (facts : List Fact) → (summed facts).hash ≡ first_of (hashes facts)
 unfolding summed
 hash_is facts = refl
 
+-- the states of a test are those of its rows
 pub states_are : (facts : List Fact) → (summed facts).states ≡ map (state_by (rows facts)) (states_of (rows facts))
 unfolding summed
 states_are facts = refl
 
+-- a whole test is printed with its kind
 pub kind_told : (facts : List Fact) (c : Complete facts) → kind_of_test (summed facts) ≡ c.kind
 kind_told facts c = ap (or_else allowed) (kind_is facts ∙ c.is_kind)
 
+-- a whole test is printed with its condition
 pub text_told : (facts : List Fact) (c : Complete facts) → or_else [] (summed facts).condition ≡ c.text
 text_told facts c = ap (or_else []) (condition_is facts ∙ ap (option_map (λ (x : List ℕ × Verdict). x.0)) c.is_text)
 
+-- the rows that a printed test gives are the printed rows
 pub rows_told : (facts : List Fact) → rows (told_facts (summed facts)) ≡ printed_rows (rows facts)
 rows_told facts = told_rows (summed facts) ∙ ap (map row_of_state) (states_are facts)
 
@@ -98,7 +104,7 @@ one_verdict o front mid back =
     (λ e. rw e (list_any-append (λ v. v) front (list_any (λ v. v) mid ∷ back)
     ∙ sym (list_any-append (λ v. v) front (mid ++ back) ∙ ap (λ b. list_any (λ v. v) front || b) (list_any-append (λ v. v) mid back))))
 
--- what is printed fits to what the facts agree on
+-- what is printed agrees with the facts
 pub marks_fit : (p : Profile) (facts : List Fact) → AllOf (FitsTo p) facts → Marks p.mark (rows facts)
 marks_fit p [] a = tt
 marks_fit p (a_kind kind ∷ facts) a = marks_fit p facts a.1
@@ -114,6 +120,7 @@ all_in all (x ∷ xs) h = (h x (rw (bytes_same x) refl), all_in all xs (λ y e. 
     or_right true b e = refl
     or_right false b e = e
 
+-- each of the states of rows is that of a row
 pub states_there : (rs : List Row) → AllOf (λ x. list_any (bytes_eq x) (map (λ (r : Row). r.state) rs) ≡ true) (states_of rs)
 states_there rs = all_in (map (λ (r : Row). r.state) rs) (states_of rs) (λ x e. sym (states_in x rs) ∙ e)
 
@@ -151,6 +158,7 @@ agrees_between front mid back g =
     let two = all_of_parts (FitsTo g.profile) mid back one.1 in
     record { profile = g.profile; fits = two.0; small = λ m. let e = marked_between m front mid back in omega (arith, g.small m, e) }
 
+-- where facts agree, what is printed of some of them agrees with the others
 pub told_agrees : (front mid back : List Fact) → Agrees (front ++ (mid ++ back)) → Complete mid → Agrees (front ++ (told_facts (summed mid) ++ back))
 told_agrees front mid back g c =
     let one = all_of_parts (FitsTo g.profile) front (mid ++ back) g.fits in
@@ -179,6 +187,7 @@ same_text : (name : List ℕ) (s t : Summed) → is_validated s ≡ is_validated
 unfolding test_text head_text verdict_text claim_text condition_text observation_text
 same_text name s t v k c h p q e = rw (v, k, c, h, p, q, e) refl
 
+-- such facts give the same text
 pub alike_text : (name : List ℕ) (one two : List Fact) → Alike one two → test_text name (summed one) ≡ test_text name (summed two)
 unfolding summed
 alike_text name one two a = same_text name (summed one) (summed two) a.validated a.kind a.text a.hash (a.marked starred) (a.marked plain) a.states
@@ -258,6 +267,7 @@ hashes_between front mid back =
 verdicts_between : (front mid back : List Fact) → verdicts (front ++ (mid ++ back)) ≡ verdicts front ++ (verdicts mid ++ verdicts back)
 verdicts_between front mid back = verdicts_both front (mid ++ back) ∙ ap (λ t. verdicts front ++ t) (verdicts_both mid back)
 
+-- facts and what is printed of some of them give the same printed test
 pub told_alike : (front mid back : List Fact) → Agrees (front ++ (mid ++ back)) → Complete mid → Alike (front ++ (told_facts (summed mid) ++ back)) (front ++ (mid ++ back))
 told_alike front mid back g c =
     let told : List Fact = told_facts (summed mid) in

@@ -16,28 +16,32 @@ use Rattle.sum_laws.proofs.Texts.{not_true, all_both, all_weaker, no_feed, split
 use Rattle.text_laws.proofs.PieceLaws.{first_piece}
 use Rattle.sum_laws.proofs.Lines.{digits_all}
 
--- what was seen
+-- what was seen, by its parts
 abbrev pub seen_at : List Entry → List ℕ → Place → ℕ → Seen
 seen_at entries test place line = record { entries = entries; test = test; place = place; line = line }
 
+-- a fact as an entry of its test
 abbrev pub entry : List ℕ → Fact → Entry
 entry test fact = record { test = test; fact = fact }
 
--- entries have no fault behind others
+-- entries have no fault after others
 abbrev pub Clean : List Entry → List Entry → Type 0
 Clean before [] = Unit {0}
 Clean before (e ∷ entries) = (fault_of (facts_of e.test before) e.fact ≡ None) × Clean (before ++ e ∷ []) entries
 
+-- entries without a fault together have none one list after another
 pub clean_parts : (before one two : List Entry) → Clean before (one ++ two) → Clean before one × Clean (before ++ one) two
 clean_parts before [] two c = (tt, rw (append-nil before) c)
 clean_parts before (e ∷ one) two c =
     let k = clean_parts (before ++ e ∷ []) one two c.1 in
     ((c.0, k.0), rw (append_assoc before (e ∷ []) one) at k.1)
 
+-- the entry of a fact, where there is one
 abbrev pub put_fact : List ℕ → Option Fact → List Entry
 put_fact test None = []
 put_fact test (Some fact) = entry test fact ∷ []
 
+-- the entry that what a line says gives, if it gives one
 abbrev pub said_entries : List ℕ → Said → List Entry
 said_entries test said = put_fact (test_after test said) (fact_said said)
 
@@ -52,6 +56,7 @@ pub record Goes (s t : Seen) (bytes rest : List ℕ) : Type 0 where
   pub last : rest_of bytes ≡ rest_of rest
   pub fits : list_all (λ line. not (is_too_long line)) (lines_of rest) ≡ true
 
+-- a reading that goes on in two steps goes on
 pub goes_on : {s t u : Seen} {a b c : List ℕ} → Goes s t a b → Goes t u b c → Goes s u a c
 goes_on g h = record { lines = g.lines ∙ h.lines; last = g.last ∙ h.last; fits = h.fits }
 
@@ -63,6 +68,7 @@ line_off text rest h =
     ap but_last (split_both (λ byte. byte == 10) text 10 rest refl ∙ ap (λ t. t ++ slice_split (λ byte. byte == 10) rest) (split_whole (λ byte. byte == 10) text h))
     ∙ rw first.is refl
 
+-- a line at the start changes nothing in the last line
 pub last_off : (text rest : List ℕ) → list_all no_feed text ≡ true → rest_of (text ++ 10 ∷ rest) ≡ rest_of rest
 unfolding rest_of
 last_off text rest h =
@@ -75,9 +81,11 @@ pub record IsLine (text : List ℕ) : Type 0 where
   pub one : list_all no_feed text ≡ true
   pub kept : without_return text ≡ text
 
+-- no line of a text is too long
 abbrev pub Fits : List ℕ → Type 0
 Fits bytes = list_all (λ line. not (is_too_long line)) (lines_of bytes) ≡ true
 
+-- a line that can be printed is read, and the reading goes on after it
 pub step : (before : List Entry) (test : List ℕ) (place : Place) (line : ℕ) (text rest : List ℕ) (said : Said) → IsLine text → line_said place text ≡ Ok said
     → Fits (text ++ 10 ∷ rest) → Clean before (said_entries test said)
     → Goes (seen_at before test place line) (seen_at (before ++ said_entries test said) (test_after test said) (place_after place said) (next_line line)) (text ++ 10 ∷ rest) rest
@@ -100,12 +108,14 @@ return_front [] b text h = h
 return_front (c ∷ []) b text h = ap (λ t. c ∷ t) h
 return_front (c ∷ d ∷ front) b text h = ap (λ t. c ∷ t) (return_front (d ∷ front) b text h)
 
+-- a text without carriage returns keeps its end
 pub no_return : (text : List ℕ) → list_all (λ b. not (b == 13)) text ≡ true → without_return text ≡ text
 unfolding without_return
 no_return [] h = refl
 no_return (b ∷ []) h = rw (not_true (b == 13) (and_parts (not (b == 13)) true h).0) refl
 no_return (b ∷ c ∷ text) h = ap (λ t. b ∷ t) (no_return (c ∷ text) (and_parts (not (b == 13)) (list_all (λ x. not (x == 13)) (c ∷ text)) h).1)
 
+-- a printed line may begin with any text without line feeds
 pub append_line : (front text : List ℕ) → list_all no_feed front ≡ true → is_nil text ≡ false → IsLine text → IsLine (front ++ text)
 append_line front [] h some l = absurd (cc)
 append_line front (b ∷ text) h some l = record { one = all_both no_feed front (b ∷ text) h l.one; kept = return_front front b text l.kept }
@@ -119,6 +129,7 @@ digit_feed b h = grind (arith, nat_tests)
 digit_return : (b : ℕ) → is_ascii_digit b ≡ true → not (b == 13) ≡ true
 digit_return b h = grind (arith, nat_tests)
 
+-- a count can be a printed line
 pub decimal_line : (n : ℕ) → n ≤ last_count → IsLine (decimal n)
 decimal_line n h =
     plain_feed (decimal n) (all_weaker is_ascii_digit no_feed digit_feed (decimal n) (digits_all n h)) (all_weaker is_ascii_digit (λ b. not (b == 13)) digit_return (decimal n) (digits_all n h))

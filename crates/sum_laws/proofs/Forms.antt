@@ -114,7 +114,7 @@ head_is : (e : List ℕ) (i : IsEquality e) → head_of e ≡ i.left ++ 61 ∷ [
 unfolding head_of
 head_is e i = ap front_of (cut_is e i)
 
--- what begins with a text
+-- a text that begins with another
 pub begins_so : (text head : List ℕ) → begins_with text head ≡ true → text ≡ head ++ drop (length head) text
 begins_so text head h =
     let e : head ≡ take (length head) text = (bytes_eq-Decides head (take (length head) text)).0 h in
@@ -228,7 +228,7 @@ equality_from piece left value c l v semi feed =
       kept = kept_twice left;
     }
 
--- what reading puts into a state
+-- what reading inserts into a state
 abbrev PutsInto : List (List ℕ) → Option (List (List ℕ)) → Type 0
 PutsInto state None = Unit {0}
 PutsInto state (Some more) = IsState more
@@ -312,7 +312,7 @@ unfolding with_pieces
 one_more_piece state piece [] = refl
 one_more_piece state piece (x ∷ xs) = refl
 
--- what stands before an equality
+-- the text before an equality
 abbrev Before : List (List ℕ) → List ℕ → Type 0
 Before state e = AllOf (λ t. (compare t e ≡ Less) × (begins_with t (head_of e) ≡ false)) state
 
@@ -428,6 +428,7 @@ state_put text h =
     pieces_put [] (later_unblanked (slice_split (λ byte. byte == 59) text)) (record { equalities = tt; ascends = tt; apart = tt })
     (all_later no_semi (slice_split (λ byte. byte == 59) text) (split_lacks 59 text)) (all_later no_feed (slice_split (λ byte. byte == 59) text) (split_feeds text h))
 
+-- the form that is read from a text without line feeds can be printed and read back
 pub form_is : (text form : List ℕ) → list_all no_feed text ≡ true → form_read text ≡ Ok form → IsForm form
 unfolding form_read
 form_is text form h e = by_read (state_read text) (state_put text h) e

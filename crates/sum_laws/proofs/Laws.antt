@@ -26,7 +26,7 @@ use Rattle.sum_laws.proofs.Said.{IsRead}
 use Rattle.sum_laws.proofs.Whole.{IsTold, IsToldOf, Keeps, Stands, whole, running, keeps_nothing, files_keep}
 use Rattle.sum_laws.proofs.Names.{tests_distinct, tests_between, told_of, none_told_of, test_there, no_facts}
 
--- what is told of a test
+-- what is said of a test
 told_facts_of : (name : List ℕ) (entries : List Entry) → AllOf IsToldOf entries → AllOf IsTold (facts_of name entries)
 told_facts_of name [] a = tt
 told_facts_of name (e ∷ entries) a =
@@ -127,7 +127,7 @@ printable name entries a l g c h =
       hash = is_hashed facts (summed facts).hash told_here (sym (hash_is facts)) (λ hash e. l.hashes name hash e);
     }
 
--- behind whole logs each test is whole
+-- after whole logs each test is whole
 stands_whole : (s : Seen) (name : List ℕ) → s.place ≡ outside → Stands s name → Complete (facts_of name s.entries)
 stands_whole s name p (whole complete) = complete
 stands_whole s name p (running inside same) = absurd (let k : true ≡ false = sym (ap is_outside p) ∙ inside in cc)
@@ -140,7 +140,7 @@ all_printable [] entries h = tt
 all_printable (n ∷ names) entries h =
     (h n (rw (bytes_same n) refl), all_printable names entries (λ name e. h name (by_test (bytes_eq name n) (λ f. rw f refl) (λ f. rw f e))))
 
--- what is told of logs that are printed
+-- what printed logs say
 abbrev reprinted : List Entry → List Entry
 reprinted entries = flat_map (λ name. told name (summed (facts_of name entries))) (tests_of entries)
 
@@ -329,7 +329,7 @@ two_sums first second one other n i j =
     let m : NoFault ((one ∷ []) ++ (second ++ [])) = no_fault_by (one ∷ (second ++ [])) (first ++ second) (ap (λ t. logs_text (one ∷ t)) (append-nil second) ∙ a) n in
     replace (one ∷ []) second [] other m j ∙ ap (λ t. logs_text (one ∷ t)) (append-nil second) ∙ a
 
--- files that stand for logs, between others
+-- files that represent logs, between others
 stand_between : (files logs : List (List ℕ)) → StandFor files logs → (before after : List (List ℕ)) → NoFault (before ++ (logs ++ after)) → logs_text (before ++ (files ++ after)) ≡ logs_text (before ++ (logs ++ after))
 stand_between _ _ none before after n = refl
 stand_between _ _ (a_log log files logs rest) before after n =
@@ -350,8 +350,10 @@ all_stand files logs s n =
     let same : logs ++ [] ≡ logs = append-nil logs in
     ap logs_text (sym (append-nil files)) ∙ stand_between files logs s [] [] (subst NoFault (sym same) n) ∙ ap logs_text same
 
+-- a printed sum is a log without a fault, whose sum it is
 pub sums_are_logs : SumsAreLogs
 sums_are_logs = record { same = sum_again }
 
+-- the sum of sums is the sum
 pub sum_of_sums : SumOfSums
 sum_of_sums = record { two = two_sums; between = replace; trees = all_stand; parts = both_parts }

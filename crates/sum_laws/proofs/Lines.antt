@@ -31,12 +31,14 @@ own = numerals_by_value _ (search rules)
 below : (n : ℕ) → n ≤ last_count → n < 2 ^ 64
 below n h = omega arith
 
+-- a printed count is made of digits
 pub digits_all : (n : ℕ) → n ≤ last_count → list_all is_ascii_digit (decimal n) ≡ true
 digits_all n h = digits_decimal own n (below n h)
 
 digit_plain : (b : ℕ) → is_ascii_digit b ≡ true → is_plain b ≡ true
 digit_plain b h = grind (arith, nat_tests)
 
+-- a printed count has no blank and no line feed
 pub decimal_plain : (n : ℕ) → n ≤ last_count → list_all is_plain (decimal n) ≡ true
 decimal_plain n h = all_weaker is_ascii_digit is_plain digit_plain (decimal n) (digits_all n h)
 
@@ -44,6 +46,7 @@ some_bytes : (text : List ℕ) → 0 < length text → is_nil text ≡ false
 some_bytes [] h = absurd (omega arith)
 some_bytes (b ∷ text) h = refl
 
+-- a printed count isn't empty
 pub decimal_some : (n : ℕ) → n ≤ last_count → is_nil (decimal n) ≡ false
 decimal_some n h = some_bytes (decimal n) (decimal_nonempty n (below n h))
 
@@ -52,6 +55,7 @@ pub record Stops (p : ℕ → Bool) (text : List ℕ) : Type 0 where
   pub run : run_of p text ≡ []
   pub after : after_run p text ≡ text
 
+-- a run ends where the text begins with no byte that passes
 pub run_front : (p : ℕ → Bool) (front text : List ℕ) → list_all p front ≡ true → Stops p text → run_of p (front ++ text) ≡ front
 unfolding run_of
 run_front p [] text h s = s.run
@@ -59,6 +63,7 @@ run_front p (b ∷ front) text h s =
     let k : (p b ≡ true) × (list_all p front ≡ true) = and_parts (p b) (list_all p front) h in
     rw k.0 (ap (λ t. b ∷ t) (run_front p front text k.1 s))
 
+-- the text after that run
 pub after_front : (p : ℕ → Bool) (front text : List ℕ) → list_all p front ≡ true → Stops p text → after_run p (front ++ text) ≡ text
 unfolding after_run
 after_front p [] text h s = s.after
@@ -66,10 +71,12 @@ after_front p (b ∷ front) text h s =
     let k : (p b ≡ true) × (list_all p front ≡ true) = and_parts (p b) (list_all p front) h in
     rw k.0 (after_front p front text k.1 s)
 
+-- an empty text begins with no byte that passes
 pub stops_nil : (p : ℕ → Bool) → Stops p []
 unfolding run_of after_run
 stops_nil p = record { run = refl; after = refl }
 
+-- a text whose first byte doesn't pass
 pub stops_at : (p : ℕ → Bool) (b : ℕ) (text : List ℕ) → p b ≡ false → Stops p (b ∷ text)
 unfolding run_of after_run
 stops_at p b text h = record { run = rw h refl; after = rw h refl }
@@ -81,34 +88,42 @@ counted_digits (b ∷ digits) rest n h e s = rw (e, s) refl
 small_so : (n : ℕ) → n ≤ last_count → nat_le n last_count ≡ true
 small_so n h = grind (arith, nat_tests)
 
+-- a printed count is read back, with the text after it
 pub count_is : (n : ℕ) (rest : List ℕ) → n ≤ last_count → Stops is_ascii_digit rest → count_read (decimal n ++ rest) ≡ Ok (n, rest)
 unfolding count_read
 count_is n rest h s =
     rw (run_front is_ascii_digit (decimal n) rest (digits_all n h) s, after_front is_ascii_digit (decimal n) rest (digits_all n h) s)
     (counted_digits (decimal n) rest n (decimal_some n h) (digits_value-decimal own n (below n h)) (small_so n h))
 
+-- a printed count alone is read back
 pub count_alone : (n : ℕ) → n ≤ last_count → count_read (decimal n) ≡ Ok (n, [])
 count_alone n h = ap count_read (sym (append-nil (decimal n))) ∙ count_is n [] h (stops_nil is_ascii_digit)
 
--- the printed lines
+-- the line that begins a block
 abbrev pub head_line : List ℕ → Kind → List ℕ
 head_line name kind = codes "Test " ++ (name ++ 32 ∷ kind_word kind)
 
+-- the line of the number of states
 abbrev pub number_line : ℕ → List ℕ
 number_line n = codes "Histogram (" ++ (decimal n ++ codes " states)")
 
+-- the line of a state
 abbrev pub counted_line : ℕ → Mark → List ℕ → List ℕ
 counted_line count mark form = decimal count ++ (filling (decimal count) ++ (mark_sign mark ++ form))
 
+-- the line of the sums of the counts of both marks
 abbrev pub totals_line : ℕ → ℕ → List ℕ
 totals_line starred plain = codes "Positive: " ++ (decimal starred ++ (codes ", Negative: " ++ decimal plain))
 
+-- the line of the condition
 abbrev pub claim_line : List ℕ → Bool → List ℕ
 claim_line text b = codes "Condition " ++ (text ++ verdict_end b)
 
+-- the line of a hash
 abbrev pub told_hash : List ℕ → List ℕ
 told_hash hash = codes "Hash=" ++ hash
 
+-- the line of the observation, which ends a block
 abbrev pub end_line : List ℕ → List ℕ → List ℕ
 end_line name rest = codes "Observation " ++ (name ++ 32 ∷ rest)
 
@@ -131,6 +146,7 @@ head_read : (name : List ℕ) (kind : Kind) → test_line (codes "Test" ∷ name
 unfolding test_line
 head_read name kind = kind_cases (λ k. test_line (codes "Test" ∷ name ∷ kind_word k ∷ []) ≡ Some (name, k)) refl refl refl kind
 
+-- the line that begins a block is read back
 pub head_said : (name : List ℕ) (kind : Kind) → is_word name ≡ true → line_said outside (head_line name kind) ≡ Ok (begins name kind)
 unfolding line_said place_after
 head_said name kind h = rw (head_words name kind h, head_read name kind) refl
@@ -160,6 +176,7 @@ number_read : (n : ℕ) → n ≤ last_count → histogram_line (codes "Histogra
 unfolding histogram_line
 number_read n h = rw (count_alone n h) refl
 
+-- the line of the number of states is read back
 pub number_said : (kind : Kind) (n : ℕ) → n ≤ last_count → line_said (histogram kind) (number_line n) ≡ Ok (counts n)
 unfolding line_said place_after
 number_said kind n h = rw (number_words n h, number_read n h) refl
@@ -210,12 +227,14 @@ row_is n mark form h e f =
     rw (counted_trimmed n mark form h e, count_is n (filling (decimal n) ++ (mark_sign mark ++ form)) h (filled_stops (6 - length (decimal n)) mark form), blanks_off (6 - length (decimal n)) (mark_sign mark ++ form), sign_first mark form)
     (mark_cases (λ m. row_marked n (mark_read (mark_sign m ++ form)) ≡ Ok (row_with form m n)) (rw f refl) (rw f refl) mark)
 
+-- the line of a state is read back
 pub state_said : (kind : Kind) (left n : ℕ) (mark : Mark) (form : List ℕ) → n ≤ last_count → before_blanks form ≡ form → form_read form ≡ Ok form
     → line_said (states_left kind (suc left)) (counted_line n mark form) ≡ Ok (a_state (row_with form mark n))
 unfolding line_said
 state_said kind left n mark form h e f = rw (row_is n mark form h e f) refl
 
--- the lines behind the states
+-- the lines after the states
+-- the line of the verdict is read back
 pub verdict_said : (kind : Kind) (b : Bool) → line_said (judgement kind) (verdict_word b) ≡ Ok judged
 unfolding line_said place_after words
 verdict_said kind true = refl
@@ -245,14 +264,17 @@ passed_said : (kind : Kind) (b : ℕ) (text first : List ℕ) (rest : List (List
 unfolding line_said place_after
 passed_said kind b text first rest e f g h i j = rw (e, h, not_head first rest f, no_condition first rest g, not_hash b text i j) refl
 
+-- an empty line inside a block is passed over
 pub empty_said : (kind : Kind) → line_said (in_rest kind) [] ≡ Ok passed_over
 unfolding line_said place_after words test_line condition_line hash_line after_run before_blanks
 empty_said kind = refl
 
+-- an empty line outside the blocks is passed over
 pub outside_said : line_said outside [] ≡ Ok passed_over
 unfolding line_said place_after words test_line
 outside_said = refl
 
+-- the line `Witnesses` is passed over
 pub witnesses_said : (kind : Kind) → line_said (in_rest kind) (codes "Witnesses") ≡ Ok passed_over
 unfolding line_said place_after words test_line condition_line hash_line after_run before_blanks
 witnesses_said kind = refl
@@ -261,6 +283,7 @@ positive_words : words (codes "Positive:") ≡ codes "Positive:" ∷ []
 unfolding words
 positive_words = refl
 
+-- the line of the sums of the counts of both marks is passed over
 pub totals_said : (kind : Kind) (starred plain : ℕ) → line_said (in_rest kind) (totals_line starred plain) ≡ Ok passed_over
 totals_said kind starred plain =
     let rest : List ℕ = decimal starred ++ (codes ", Negative: " ++ decimal plain) in
@@ -303,6 +326,7 @@ claim_words text b =
     ∙ ap (λ t. codes "Condition" ∷ words (text ++ t)) (verdict_ended b)
     ∙ ap (λ t. codes "Condition" ∷ t) (words_both text (end_text b) ∙ ap (λ t. words text ++ t) (ended_words b))
 
+-- the verdict by whether the condition is validated
 abbrev pub said_as : Bool → Verdict
 said_as true = validated
 said_as false = not_validated
@@ -320,6 +344,7 @@ claim_read : (text : List ℕ) (b : Bool) → joined_words (words text) ≡ text
 unfolding condition_line
 claim_read text b e some = ap verdict_cut (joined_so (words text) (end_words b) text e some ∙ ap (λ t. text ++ t) (later_ended b)) ∙ verdict_cut_is text b
 
+-- the line of the condition is read back
 pub claim_said : (kind : Kind) (text : List ℕ) (b : Bool) → joined_words (words text) ≡ text → is_nil text ≡ false → begins_with text (quantifier kind) ≡ true
     → line_said (in_rest kind) (claim_line text b) ≡ Ok (conditioned text (said_as b))
 unfolding line_said place_after
@@ -332,6 +357,7 @@ first_word : (b : ℕ) (text : List ℕ) → is_blank b ≡ false
 unfolding words
 first_word b text h = let f = first_piece is_blank text in rw (h, f.is) refl
 
+-- the line of a hash is read back
 pub hash_said : (kind : Kind) (hash : List ℕ) → before_blanks (told_hash hash) ≡ told_hash hash → line_said (conditioned_at kind) (told_hash hash) ≡ Ok (hashed hash)
 unfolding line_said place_after hash_line after_run
 hash_said kind hash e =
@@ -343,6 +369,7 @@ observation_words : words (codes "Observation") ≡ codes "Observation" ∷ []
 unfolding words
 observation_words = refl
 
+-- the line of the observation ends its block
 pub end_said : (kind : Kind) (name rest : List ℕ) → line_said (conditioned_at kind) (end_line name rest) ≡ Ok ends
 unfolding line_said place_after
 end_said kind name rest =

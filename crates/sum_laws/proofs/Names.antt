@@ -30,6 +30,7 @@ any_with k names x =
     (λ e. rw e (or_known (list_any (bytes_eq k) names) (bytes_eq k x) (λ h. ap (λ y. list_any (bytes_eq y) names) (bytes_is k x h) ∙ e)))
     (λ e. rw e (list_any-append (bytes_eq k) names (x ∷ []) ∙ ap (λ b. list_any (bytes_eq k) names || b) (or-false (bytes_eq k x))))
 
+-- a name is among those with others added where it is among either
 pub any_names : (k : List ℕ) (names xs : List (List ℕ)) → list_any (bytes_eq k) (fold with_name names xs) ≡ list_any (bytes_eq k) names || list_any (bytes_eq k) xs
 any_names k names [] = sym (or-false (list_any (bytes_eq k) names))
 any_names k names (x ∷ xs) =
@@ -50,6 +51,7 @@ distinct_fold : (names xs : List (List ℕ)) → Distinct names → Distinct (fo
 distinct_fold names [] d = d
 distinct_fold names (x ∷ xs) d = distinct_fold (with_name names x) xs (distinct_with names x d)
 
+-- the tests of entries are all different
 pub tests_distinct : (entries : List Entry) → Distinct (tests_of entries)
 tests_distinct entries = distinct_fold [] (map (λ (e : Entry). e.test) entries) tt
 
@@ -67,7 +69,7 @@ or_second false b h = h
 there : (names : List (List ℕ)) (x : List ℕ) → list_any (bytes_eq x) (with_name names x) ≡ true
 there names x = any_with x names x ∙ or_second (list_any (bytes_eq x) names) (bytes_eq x x) (bytes_same x)
 
--- names that were put together go to others as they came
+-- names that are collected first are added to others as they came
 fold_names : (names more xs : List (List ℕ)) → fold with_name names (fold with_name more xs) ≡ fold with_name (fold with_name names more) xs
 fold_names names more [] = refl
 fold_names names more (x ∷ xs) =
@@ -102,6 +104,7 @@ told_tests names name sum =
     same_tests names name (state_entries name sum.states ++ entry name (a_condition (or_else [] sum.condition) (said_as (is_validated sum))) ∷ hash_entries name sum.hash)
     (all_of_both (λ (e : Entry). e.test ≡ name) (state_entries name sum.states) (entry name (a_condition (or_else [] sum.condition) (said_as (is_validated sum))) ∷ hash_entries name sum.hash) (states_named name sum.states) (refl, hash_named name sum))
 
+-- the tests of printed tests are added as the names of the tests
 pub all_told_tests : (names : List (List ℕ)) (sum : List ℕ → Summed) (tests : List (List ℕ)) → fold with_name names (map (λ (e : Entry). e.test) (flat_map (λ name. told name (sum name)) tests)) ≡ fold with_name names tests
 all_told_tests names sum [] = refl
 all_told_tests names sum (t ∷ tests) =
@@ -117,6 +120,7 @@ tests_folded front mid back =
     ∙ fold-append with_name [] (map (λ (e : Entry). e.test) front) (map (λ (e : Entry). e.test) mid ++ map (λ (e : Entry). e.test) back)
     ∙ fold-append with_name (fold with_name [] (map (λ (e : Entry). e.test) front)) (map (λ (e : Entry). e.test) mid) (map (λ (e : Entry). e.test) back)
 
+-- entries between others have the same tests as what is printed of them
 pub tests_between : (front mid back : List Entry) (sum : List ℕ → Summed) → tests_of (front ++ (flat_map (λ name. told name (sum name)) (tests_of mid) ++ back)) ≡ tests_of (front ++ (mid ++ back))
 tests_between front mid back sum =
     tests_folded front (flat_map (λ name. told name (sum name)) (tests_of mid)) back
@@ -133,6 +137,7 @@ none_told_of name sum (t ∷ tests) h =
     ∙ ap (λ x. x ++ facts_of name (flat_map (λ n. told n (sum n)) tests)) (told_elsewhere name t (sum t) (eq_swap t name ∙ e))
     ∙ none_told_of name sum tests (rw e at h))
 
+-- a test that is printed has the facts that it gives
 pub told_of : (name : List ℕ) (sum : List ℕ → Summed) (tests : List (List ℕ)) → Distinct tests → list_any (bytes_eq name) tests ≡ true → facts_of name (flat_map (λ n. told n (sum n)) tests) ≡ told_facts (sum name)
 told_of name sum [] d h = absurd (cc)
 told_of name sum (t ∷ tests) d h =
@@ -151,9 +156,11 @@ mapped : (name : List ℕ) (es : List Entry) → list_any (bytes_eq name) (map (
 mapped name [] = refl
 mapped name (e ∷ es) = rw (eq_swap name e.test, mapped name es) refl
 
+-- a test is among the tests of entries where an entry is of it
 pub test_there : (name : List ℕ) (entries : List Entry) → list_any (bytes_eq name) (tests_of entries) ≡ list_any (λ (e : Entry). bytes_eq e.test name) entries
 test_there name entries = any_names name [] (map (λ (e : Entry). e.test) entries) ∙ mapped name entries
 
+-- a test without an entry has no facts
 pub no_facts : (name : List ℕ) (entries : List Entry) → list_any (λ (e : Entry). bytes_eq e.test name) entries ≡ false → facts_of name entries ≡ []
 no_facts name [] h = refl
 no_facts name (e ∷ entries) h =

@@ -1,4 +1,4 @@
--- Texts in byte order, each once: what is in them is all that they are.
+-- Texts in byte order, each once: two such lists with the same texts are the same.
 use Rattle.std.proofs.Common.{◌≡◌, ℕ, List, [], ◌∷◌, true, false, refl, sym, ap, ◌∙◌, subst}
 use Rattle.std.specs.Prelude.{◌||◌, fold}
 use Rattle.std.specs.List.{list_any}
@@ -14,14 +14,16 @@ use Rattle.sum_laws.proofs.Texts.{bytes_same}
 use Rattle.log_sum.proofs.OrderLaws.{order, is_text}
 use Rattle.log_sum.proofs.SumLaws.{compare, Above, Ascends, above_all, reversed, fold_ascends, not_equal, any_fold}
 
+-- a text below another: the other is above it
 pub reversed_less : (k x : List ℕ) → compare k x ≡ Less → compare x k ≡ Greater
 reversed_less k x h = order.antisymm x k ∙ ap ordering_reverse h
 
+-- a text below all of these isn't among them
 pub above_not_in : (k : List ℕ) (xs : List (List ℕ)) → Above k xs → list_any (bytes_eq k) xs ≡ false
 above_not_in k [] a = refl
 above_not_in k (x ∷ xs) a = rw (not_equal k x Less a.0 refl) (above_not_in k xs a.1)
 
--- what is in two lists decides
+-- two lists in byte order with the same texts are the same
 abbrev SameIn : List (List ℕ) → List (List ℕ) → Type 0
 SameIn xs ys = (k : List ℕ) → list_any (bytes_eq k) xs ≡ list_any (bytes_eq k) ys
 
@@ -55,7 +57,7 @@ same_in (x ∷ xs) (y ∷ ys) a b h = by_ordering (λ c. same_in xs ys a.1 b.1 c
         let tails : xs ≡ ys = further (same_tails x xs ys a.0 above rest) in
         rw (same, tails) refl
 
--- texts put in order go into others as they came
+-- texts that are sorted first are inserted into others as they came
 pub fold_sorted : (xs ks : List (List ℕ)) → Ascends xs → fold (insert_key (slice_cmp nat_cmp)) xs (fold (insert_key (slice_cmp nat_cmp)) [] ks) ≡ fold (insert_key (slice_cmp nat_cmp)) xs ks
 fold_sorted xs ks a =
     same_in (fold (insert_key (slice_cmp nat_cmp)) xs (fold (insert_key (slice_cmp nat_cmp)) [] ks)) (fold (insert_key (slice_cmp nat_cmp)) xs ks)
@@ -67,6 +69,7 @@ abbrev pub Distinct : List (List ℕ) → Type 0
 Distinct [] = Unit {0}
 Distinct (x ∷ xs) = (list_any (bytes_eq x) xs ≡ false) × Distinct xs
 
+-- texts in byte order, each once, are all different
 pub ascends_distinct : (xs : List (List ℕ)) → Ascends xs → Distinct xs
 ascends_distinct [] a = tt
 ascends_distinct (x ∷ xs) a = (above_not_in x xs a.0, ascends_distinct xs a.1)

@@ -35,17 +35,21 @@ pub record IsHash (hash : List ℕ) : Type 0 where
   pub trimmed : before_blanks (told_hash hash) ≡ told_hash hash
   pub line : IsLine (told_hash hash)
 
+-- states can be printed: their counts aren't too large, and their forms are read back
 abbrev pub AreForms : List StateSummed → Type 0
 AreForms [] = Unit {0}
 AreForms (s ∷ states) = (s.1.1 ≤ last_count) × (IsForm s.0 × AreForms states)
 
+-- a hash can be printed, where there is one
 abbrev pub IsHashed : Option (List ℕ) → Type 0
 IsHashed None = Unit {0}
 IsHashed (Some hash) = IsHash hash
 
+-- the kind with which a test is printed
 abbrev pub kind_of_test : Summed → Kind
 kind_of_test test = or_else allowed test.kind
 
+-- a test can be printed and read back
 pub record Printable (name : List ℕ) (test : Summed) : Type 0 where
   pub named : is_word name ≡ true
   pub number : length test.states ≤ last_count
@@ -55,15 +59,17 @@ pub record Printable (name : List ℕ) (test : Summed) : Type 0 where
   pub condition : IsCondition (kind_of_test test) (or_else [] test.condition)
   pub hash : IsHashed test.hash
 
--- the facts of a printed test
+-- the entries of the states of a printed test
 abbrev pub state_entries : List ℕ → List StateSummed → List Entry
 state_entries name [] = []
 state_entries name (s ∷ states) = entry name (a_row (row_with s.0 s.1.0 s.1.1)) ∷ state_entries name states
 
+-- the entry of the hash of a printed test, where it has one
 abbrev pub hash_entries : List ℕ → Option (List ℕ) → List Entry
 hash_entries name None = []
 hash_entries name (Some hash) = entry name (a_hash hash) ∷ []
 
+-- the entries that a printed test gives
 abbrev pub told : List ℕ → Summed → List Entry
 told name test =
     entry name (a_kind (kind_of_test test)) ∷ (state_entries name test.states ++ entry name (a_condition (or_else [] test.condition) (said_as (is_validated test))) ∷ hash_entries name test.hash)
@@ -214,7 +220,7 @@ test_by_parts : (name : List ℕ) (test : Summed) (rest : List ℕ)
 unfolding test_text condition_text
 test_by_parts name test rest = simp append_assoc
 
--- steps that tell no fact, and steps to a line that isn't told
+-- steps that give no fact, and steps to a line whose number isn't given
 pub quiet : (before : List Entry) (test : List ℕ) (place : Place) (line : ℕ) (text rest : List ℕ) (said : Said) → IsLine text → line_said place text ≡ Ok said
     → Fits (text ++ 10 ∷ rest) → fact_said said ≡ None
     → Goes (seen_at before test place line) (seen_at before (test_after test said) (place_after place said) (next_line line)) (text ++ 10 ∷ rest) rest
@@ -236,6 +242,7 @@ pub record Read (s : Seen) (entries : List Entry) (bytes rest : List ℕ) : Type
   pub line : ℕ
   pub goes : Goes s (seen_at entries test outside line) bytes rest
 
+-- something holds of all elements
 abbrev pub AllOf : {A : Type 0} → (A → Type 0) → List A → Type 0
 AllOf P [] = Unit {0}
 AllOf P (x ∷ xs) = P x × AllOf P xs
@@ -309,7 +316,7 @@ end_goes before name kind line sum rest n h k f =
     let two = quiet before name outside (next_line line) [] rest passed_over empty_is_line outside_said one.fits refl in
     rw e (goes_on one two)
 
--- a printed test is read as what it tells
+-- a printed test is read as the entries that it gives
 pub test_goes : (before : List Entry) (test name : List ℕ) (line : ℕ) (sum : Summed) (rest : List ℕ) → Printable name sum → Fits (test_text name sum ++ rest) → Clean before (told name sum)
     → Went (seen_at before test outside line) (before ++ told name sum) name outside (test_text name sum ++ rest) rest
 test_goes before test name line sum rest p f c =
@@ -336,7 +343,7 @@ test_goes before test name line sum rest p f c =
     let all : (((before ++ a) ++ b) ++ d) ++ h ≡ before ++ (a ++ (b ++ (d ++ h))) = simp append_assoc in
     rw (e, sym all) (record { line = next_line (next_line five.line); goes = goes_on one (goes_on two.goes (goes_on three (goes_on four (goes_on five.goes six)))) })
 
--- and so is a list of them
+-- a list of printed tests is read as the entries that they give
 pub texts_go : (before : List Entry) (test : List ℕ) (line : ℕ) (sum : List ℕ → Summed) (names : List (List ℕ)) (rest : List ℕ) → AllOf (λ name. Printable name (sum name)) names
     → Fits (flat_map (λ name. test_text name (sum name)) names ++ rest) → Clean before (flat_map (λ name. told name (sum name)) names)
     → Read (seen_at before test outside line) (before ++ flat_map (λ name. told name (sum name)) names) (flat_map (λ name. test_text name (sum name)) names ++ rest) rest
@@ -351,11 +358,12 @@ texts_go before test line sum (name ∷ names) rest p f c =
     rw (e, sym (append_assoc before (told name (sum name)) (flat_map (λ n. told n (sum n)) names)))
     (record { test = further.test; line = further.line; goes = goes_on one.goes further.goes })
 
--- a file that is printed so
+-- a file whose reading gives these entries is judged so
 file_read : (s : Seen) (entries : List Entry) (text : List ℕ) → Read s entries text [] → file_judged s text ≡ Ok (seen_at entries [] outside 1)
 unfolding file_judged lines_of rest_of last_judged
 file_read s entries text r = rw (r.goes.lines, r.goes.last) refl
 
+-- a file of printed tests is judged as the entries that they give
 pub file_goes : (before : List Entry) (sum : List ℕ → Summed) (names : List (List ℕ)) → AllOf (λ name. Printable name (sum name)) names
     → Fits (flat_map (λ name. test_text name (sum name)) names) → Clean before (flat_map (λ name. told name (sum name)) names)
     → file_judged (seen_at before [] outside 1) (flat_map (λ name. test_text name (sum name)) names) ≡ Ok (seen_at (before ++ flat_map (λ name. told name (sum name)) names) [] outside 1)

@@ -29,7 +29,7 @@ pub record IsRead (hash : List ℕ) : Type 0 where
   pub trimmed : before_blanks (told_hash hash) ≡ told_hash hash
   pub one : list_all no_feed hash ≡ true
 
--- a block is behind its condition
+-- a block has had its condition
 unfoldable pub is_behind : Place → Bool
 is_behind p = is_ok (line_said p (codes "Observation"))
 
@@ -284,6 +284,7 @@ conditioned_says k text said h e =
     (λ t. let f = rw t at e in let same : ends ≡ said = cc in subst (SaidOf (conditioned_at k)) same (inside_conditioned k, behind_conditioned k))
     (λ t. rest_says (conditioned_at k) text said (inside_conditioned k) h (rw t at e))
 
+-- what a line without line feeds says fits its place, and can be printed
 pub line_says : (p : Place) (text : List ℕ) (said : Said) → list_all no_feed text ≡ true → line_said p text ≡ Ok said → SaidOf p said
 line_says p text said h =
     place_cases (λ x. line_said x text ≡ Ok said → SaidOf x said)

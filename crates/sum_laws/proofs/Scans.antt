@@ -1,4 +1,4 @@
--- What logs tell is the same behind any entries, where it has no fault there.
+-- What logs say is the same after any entries, where it has no fault there.
 use Rattle.std.proofs.Common.{◌≡◌, ℕ, List, [], ◌∷◌, ◌++◌, false, refl, sym, ap, ◌∙◌, arith, subst, append_assoc, append-nil, Some, None}
 use Rattle.std.specs.Prelude.{Option, Result, Ok, Err}
 use Rattle.log_sum.specs.declared.errors.LogError.{LogError}
@@ -11,21 +11,23 @@ use Rattle.sum_laws.proofs.Cases.{Place, outside, is_outside, outside_is}
 use Rattle.text_laws.proofs.RunLaws.{by_test}
 use Rattle.sum_laws.proofs.Blocks.{seen_at, entry, Clean, clean_parts}
 
+-- entries without a fault, and others without a fault after them, have none together
 pub clean_both : (before one two : List Entry) → Clean before one → Clean (before ++ one) two → Clean before (one ++ two)
 clean_both before [] two c d = rw (append-nil before) at d
 clean_both before (e ∷ one) two c d = (c.0, clean_both (before ++ e ∷ []) one two c.1 (rw (sym (append_assoc before (e ∷ []) one)) at d))
 
--- a reading tells entries, whatever was told before
+-- a reading gives the same entries, whatever the entries before
 pub record Scanned (read : Seen → Result Seen LogError) (s t : Seen) : Type 0 where
   pub told : List Entry
   pub entries : t.entries ≡ s.entries ++ told
   pub clean : Clean s.entries told
   pub again : (before : List Entry) → Clean before told → read (record s { entries = before }) ≡ Ok (record t { entries = before ++ told })
 
+-- a reading that has no fault gives entries so
 abbrev pub Scans : (Seen → Result Seen LogError) → Type 0
 Scans read = (s t : Seen) → read s ≡ Ok t → Scanned read s t
 
--- one reading behind another
+-- one reading after another
 pub then_scans : (one two : Seen → Result Seen LogError) → Scans one → Scans two → Scans (λ s. one s >>= two)
 then_scans one two f g s t e = by_first (one s) refl e
   where
@@ -44,7 +46,7 @@ then_scans one two f g s t e = by_first (one s) refl e
               rw (a.again before parts.0, b.again (before ++ a.told) parts.1, append_assoc before a.told b.told) refl;
         }
 
--- no entry is told
+-- no entry is given
 nothing_told : (read : Seen → Result Seen LogError) (s t : Seen) → t.entries ≡ s.entries → ((before : List Entry) → read (record s { entries = before }) ≡ Ok (record t { entries = before })) → Scanned read s t
 nothing_told read s t e again = record {
   told = [];
@@ -110,10 +112,12 @@ last_scans (b ∷ bytes) s t e =
 inside_ends : (s t : Seen) (p : Place) → is_outside p ≡ false → end_at s p ≡ Ok t → ⊥
 inside_ends s t p h e = grind arith
 
+-- a file has ended outside the blocks, and nothing of it is left but its entries
 pub record Ended (s t : Seen) : Type 0 where
   pub place : s.place ≡ outside
   pub is : t ≡ seen_at s.entries [] outside 1
 
+-- where the end of a file is no fault, the file has ended so
 pub end_is : (s t : Seen) → end_judged s ≡ Ok t → Ended s t
 end_is s t e = by_test (is_outside s.place)
     (λ h. let p : s.place ≡ outside = outside_is s.place h in
@@ -133,12 +137,14 @@ file_scans bytes =
     then_scans (λ s. lines_judged s (lines_of bytes) >>= (λ next. last_judged next (rest_of bytes))) end_judged
     (then_scans (λ s. lines_judged s (lines_of bytes)) (λ s. last_judged s (rest_of bytes)) (lines_scan (lines_of bytes)) (last_scans (rest_of bytes))) end_scans
 
+-- whole files give entries so
 pub files_scan : (files : List (List ℕ)) → Scans (λ s. files_judged s files)
 files_scan [] s t e =
     let same : s ≡ t = cc in
     nothing_told (λ x. files_judged x []) s t (ap (λ (x : Seen). x.entries) (sym same)) (λ before. ap Ok (ap (λ (x : Seen). record x { entries = before }) same))
 files_scan (file ∷ files) s t e = then_scans (λ x. file_judged x file) (λ x. files_judged x files) (file_scans file) (files_scan files) s t e
 
+-- files are judged one list after another
 pub files_both : (s : Seen) (one two : List (List ℕ)) → files_judged s (one ++ two) ≡ (files_judged s one >>= (λ next. files_judged next two))
 files_both s [] two = refl
 files_both s (file ∷ one) two = by_first (λ next. files_both next one two) (file_judged s file)
@@ -148,7 +154,7 @@ files_both s (file ∷ one) two = by_first (λ next. files_both next one two) (f
     by_first law (Err error) = refl
     by_first law (Ok next) = law next
 
--- behind whole files only the entries matter
+-- after whole files only the entries matter
 abbrev pub IsEnd : Seen → Type 0
 IsEnd s = s ≡ seen_at s.entries [] outside 1
 
@@ -160,6 +166,7 @@ file_ends s bytes t e = by_end (lines_judged s (lines_of bytes) >>= (λ next. la
     by_end (Err error) next h = absurd (cc)
     by_end (Ok s) next h = subst IsEnd (sym (end_is s next h).is) refl
 
+-- files that are judged from such an end have such an end
 pub files_end : (files : List (List ℕ)) (s t : Seen) → IsEnd s → files_judged s files ≡ Ok t → IsEnd t
 files_end [] s t i e = let same : s ≡ t = cc in subst IsEnd same i
 files_end (file ∷ files) s t i e = by_first (λ next. files_end files next t) (file_judged s file) refl e

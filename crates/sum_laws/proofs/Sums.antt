@@ -1,4 +1,4 @@
--- What a printed test tells sums up to what its facts did.
+-- The facts of a printed test have the sum that the test was printed from.
 use Rattle.std.proofs.Common.{◌≡◌, ℕ, ◌+◌, List, [], ◌∷◌, ◌++◌, true, false, refl, sym, ap, ◌∙◌, arith, append-nil, zero-add, add-zero, Some, None}
 use Rattle.std.specs.Prelude.{Bool, ◌||◌, cond, Option, map}
 use Rattle.std.specs.List.{list_any}
@@ -15,15 +15,17 @@ use Rattle.sum_laws.proofs.Agreeing.{rows_both, conditions_both, hashes_both, or
 use Rattle.log_sum.proofs.SumLaws.{Ascends, fold_ascends, any_fold, eq_swap}
 use Rattle.sum_laws.proofs.Orders.{Distinct, ascends_distinct}
 
--- the facts that a printed test tells
+-- the facts of the states of a printed test
 abbrev pub state_facts : List StateSummed → List Fact
 state_facts [] = []
 state_facts (s ∷ states) = a_row (row_with s.0 s.1.0 s.1.1) ∷ state_facts states
 
+-- the fact of the hash of a printed test, where it has one
 abbrev pub hash_facts : Option (List ℕ) → List Fact
 hash_facts None = []
 hash_facts (Some hash) = a_hash hash ∷ []
 
+-- the facts that a printed test gives
 abbrev pub told_facts : Summed → List Fact
 told_facts sum = a_kind (kind_of_test sum) ∷ (state_facts sum.states ++ a_condition (or_else [] sum.condition) (said_as (is_validated sum)) ∷ hash_facts sum.hash)
 
@@ -36,6 +38,7 @@ hash_here : (name : List ℕ) (hash : Option (List ℕ)) → facts_of name (hash
 hash_here name None = refl
 hash_here name (Some hash) = fact_here name (entry name (a_hash hash)) [] (bytes_same name)
 
+-- the facts of the test among the entries that it gives are those facts
 pub told_here : (name : List ℕ) (sum : Summed) → facts_of name (told name sum) ≡ told_facts sum
 told_here name sum =
     let condition : Fact = a_condition (or_else [] sum.condition) (said_as (is_validated sum)) in
@@ -52,6 +55,7 @@ hash_elsewhere : (other name : List ℕ) (hash : Option (List ℕ)) → bytes_eq
 hash_elsewhere other name None h = refl
 hash_elsewhere other name (Some hash) h = fact_elsewhere other (entry name (a_hash hash)) [] h
 
+-- the entries of one test have no facts of another
 pub told_elsewhere : (other name : List ℕ) (sum : Summed) → bytes_eq name other ≡ false → facts_of other (told name sum) ≡ []
 told_elsewhere other name sum h =
     let condition : Fact = a_condition (or_else [] sum.condition) (said_as (is_validated sum)) in
@@ -60,7 +64,7 @@ told_elsewhere other name sum h =
     ∙ ap (λ t. t ++ facts_of other (entry name condition ∷ hash_entries name sum.hash)) (states_elsewhere other name sum.states h)
     ∙ fact_elsewhere other (entry name condition) (hash_entries name sum.hash) h ∙ hash_elsewhere other name sum.hash h
 
--- the facts of each sort that it tells
+-- the row that a printed state gives
 abbrev pub row_of_state : StateSummed → Row
 row_of_state s = row_with s.0 s.1.0 s.1.1
 
@@ -88,17 +92,20 @@ hash_first : (hash : Option (List ℕ)) → first_of (hashes (hash_facts hash)) 
 hash_first None = refl
 hash_first (Some h) = refl
 
+-- the rows that a printed test gives are those of its states
 pub told_rows : (sum : Summed) → rows (told_facts sum) ≡ map row_of_state sum.states
 told_rows sum =
     rows_both (state_facts sum.states) (a_condition (or_else [] sum.condition) (said_as (is_validated sum)) ∷ hash_facts sum.hash)
     ∙ ap (λ t. rows (state_facts sum.states) ++ t) (hash_no_row sum.hash) ∙ append-nil (rows (state_facts sum.states)) ∙ states_rows sum.states
 
+-- a printed test gives one condition, with its verdict
 pub told_conditions : (sum : Summed) → conditions (told_facts sum) ≡ (or_else [] sum.condition, said_as (is_validated sum)) ∷ []
 told_conditions sum =
     conditions_both (state_facts sum.states) (a_condition (or_else [] sum.condition) (said_as (is_validated sum)) ∷ hash_facts sum.hash)
     ∙ ap (λ t. t ++ (or_else [] sum.condition, said_as (is_validated sum)) ∷ conditions (hash_facts sum.hash)) (states_no_condition sum.states)
     ∙ ap (λ t. (or_else [] sum.condition, said_as (is_validated sum)) ∷ t) (hash_no_condition sum.hash)
 
+-- a printed test gives its hash, where it has one
 pub told_hash_first : (sum : Summed) → first_of (hashes (told_facts sum)) ≡ sum.hash
 told_hash_first sum =
     ap first_of (hashes_both (state_facts sum.states) (a_condition (or_else [] sum.condition) (said_as (is_validated sum)) ∷ hash_facts sum.hash)
@@ -176,6 +183,7 @@ pub states_in : (x : List ℕ) (rs : List Row) → list_any (bytes_eq x) (states
 unfolding states_of
 states_in x rs = any_fold x (map (λ (r : Row). r.state) rs) []
 
+-- the states of rows are in byte order
 pub states_ascend : (rs : List Row) → Ascends (states_of rs)
 unfolding states_of
 states_ascend rs = fold_ascends (map (λ (r : Row). r.state) rs) [] tt
@@ -191,6 +199,7 @@ no_state x (r ∷ rs) h =
       mark_both x (r ∷ []) rs ∙ ap (λ o. or_first o (mark_in x rs)) (mark_one x r ∙ ap (λ b. cond b (Some r.mark) None) f) ∙ further.1,
     ))
 
+-- a state that a row has has a mark
 pub a_state_there : (x : List ℕ) (rs : List Row) → list_any (bytes_eq x) (map (λ (r : Row). r.state) rs) ≡ true → mark_in x rs ≡ Some (or_else plain (mark_in x rs))
 a_state_there x [] h = absurd (cc)
 a_state_there x (r ∷ rs) h =
@@ -212,6 +221,7 @@ map_twice f g (x ∷ xs) = ap (λ t. f (g x) ∷ t) (map_twice f g xs)
 as_rows : (rs : List Row) → printed_rows rs ≡ rows_by (λ s. or_else plain (mark_in s rs)) (λ s. state_sum s rs) (states_of rs)
 as_rows rs = map_twice row_of_state (state_by rs) (states_of rs)
 
+-- the printed rows have the same sum of each state
 pub printed_state : (x : List ℕ) (rs : List Row) → state_sum x (printed_rows rs) ≡ state_sum x rs
 printed_state x rs =
     ap (state_sum x) (as_rows rs) ∙ state_by_rows (λ s. or_else plain (mark_in s rs)) (λ s. state_sum s rs) x (states_of rs)
@@ -219,6 +229,7 @@ printed_state x rs =
     ∙ ap (λ b. cond b (state_sum x rs) 0) (states_in x rs)
     ∙ by_test (list_any (bytes_eq x) (map (λ (r : Row). r.state) rs)) (λ e. rw e refl) (λ e. rw e (sym (no_state x rs e).0))
 
+-- the printed rows have the same mark of each state
 pub printed_mark : (x : List ℕ) (rs : List Row) → mark_in x (printed_rows rs) ≡ mark_in x rs
 printed_mark x rs =
     ap (mark_in x) (as_rows rs) ∙ mark_by_rows (λ s. or_else plain (mark_in s rs)) (λ s. state_sum s rs) x (states_of rs)
@@ -273,6 +284,7 @@ marks_found mark all [] a b h = tt
 marks_found mark all (r ∷ rs) a b h =
     (a.0 ∙ sym (mark_law mark all b r.state (or_else plain (mark_in r.state all)) (a_state_there r.state all h.0)), marks_found mark all rs a.1 b h.1)
 
+-- the printed rows have the same sum of each mark
 pub printed_marked : (mark : List ℕ → Mark) (m : Mark) (rs : List Row) → Marks mark rs → marked_sum m (printed_rows rs) ≡ marked_sum m rs
 printed_marked mark m rs a =
     let there : AllOf (λ (r : Row). list_any (bytes_eq r.state) (states_of rs) ≡ true) rs = in_states rs rs (λ x e. states_in x rs ∙ e) in

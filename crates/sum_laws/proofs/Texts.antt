@@ -1,4 +1,4 @@
--- Bytes of texts: what passes a test stays so in parts of the text; words of texts that are put together.
+-- Bytes of texts: what passes a test does so in parts of the text; words of texts that are joined.
 use Rattle.std.proofs.Common.{◌≡◌, ◌==◌, ℕ, zero, suc, ◌-◌, List, [], ◌∷◌, ◌++◌, length, take, drop, true, false, refl, sym, ap, ◌∙◌, arith, length-append, append_assoc, append-nil}
 use Rattle.std.specs.Prelude.{Bool, not, ◌&&◌}
 use Rattle.std.specs.List.{slice_split, onto_first, filter, list_all}
@@ -15,29 +15,36 @@ use Rattle.log_sum.specs.Texts.{later_words, joined_words, ends_with, before_end
 use Rattle.text_laws.proofs.RunLaws.{by_test}
 use Rattle.text_laws.proofs.PieceLaws.{first_piece}
 
+-- what isn't true is false
 pub not_true : (b : Bool) → not b ≡ true → b ≡ false
 not_true true h = cc
 not_true false h = refl
 
+-- what isn't false is true
 pub not_false : (b : Bool) → not b ≡ false → b ≡ true
 not_false true h = refl
 not_false false h = cc
 
+-- a text is equal to itself
 pub bytes_same : (t : List ℕ) → bytes_eq t t ≡ true
 bytes_same t = (bytes_eq-Decides t t).1 refl
 
+-- what holds of all elements of two lists holds of all elements of both together
 pub all_both : {A : Type 0} (p : A → Bool) (xs ys : List A) → list_all p xs ≡ true → list_all p ys ≡ true → list_all p (xs ++ ys) ≡ true
 all_both p xs ys h k = list_all-append p xs ys ∙ and_from (list_all p xs) (list_all p ys) h k
 
+-- what holds of all elements of two lists together holds of all elements of each
 pub all_parts : {A : Type 0} (p : A → Bool) (xs ys : List A) → list_all p (xs ++ ys) ≡ true → (list_all p xs ≡ true) × (list_all p ys ≡ true)
 all_parts p xs ys h = and_parts (list_all p xs) (list_all p ys) (sym (list_all-append p xs ys) ∙ h)
 
+-- what holds of all elements holds of them when it is weakened
 pub all_weaker : {A : Type 0} (p q : A → Bool) → ((x : A) → p x ≡ true → q x ≡ true) → (xs : List A) → list_all p xs ≡ true → list_all q xs ≡ true
 all_weaker p q weaker [] h = refl
 all_weaker p q weaker (x ∷ xs) h =
     let k : (p x ≡ true) × (list_all p xs ≡ true) = and_parts (p x) (list_all p xs) h in
     and_from (q x) (list_all q xs) (weaker x k.0) (all_weaker p q weaker xs k.1)
 
+-- two things that hold of all elements hold of them together
 pub all_and : {A : Type 0} (p q : A → Bool) (xs : List A) → list_all p xs ≡ true → list_all q xs ≡ true → list_all (λ x. p x && q x) xs ≡ true
 all_and p q [] h g = refl
 all_and p q (x ∷ xs) h g =
@@ -45,6 +52,7 @@ all_and p q (x ∷ xs) h g =
     let l : (q x ≡ true) × (list_all q xs ≡ true) = and_parts (q x) (list_all q xs) g in
     and_from (p x && q x) (list_all (λ y. p y && q y) xs) (and_from (p x) (q x) k.0 l.0) (all_and p q xs k.1 l.1)
 
+-- what holds of all elements holds of the first ones
 pub all_take : {A : Type 0} (p : A → Bool) (n : ℕ) (xs : List A) → list_all p xs ≡ true → list_all p (take n xs) ≡ true
 all_take p zero xs h = refl
 all_take p (suc n) [] h = refl
@@ -52,11 +60,13 @@ all_take p (suc n) (x ∷ xs) h =
     let k : (p x ≡ true) × (list_all p xs ≡ true) = and_parts (p x) (list_all p xs) h in
     and_from (p x) (list_all p (take n xs)) k.0 (all_take p n xs k.1)
 
+-- what holds of all elements holds of the later ones
 pub all_drop : {A : Type 0} (p : A → Bool) (n : ℕ) (xs : List A) → list_all p xs ≡ true → list_all p (drop n xs) ≡ true
 all_drop p zero xs h = h
 all_drop p (suc n) [] h = refl
 all_drop p (suc n) (x ∷ xs) h = all_drop p n xs (and_parts (p x) (list_all p xs) h).1
 
+-- what holds of all bytes holds of those after a run
 pub all_after : (p q : ℕ → Bool) (text : List ℕ) → list_all p text ≡ true → list_all p (after_run q text) ≡ true
 unfolding after_run
 all_after p q [] h = refl
@@ -67,6 +77,7 @@ all_kept : (p : ℕ → Bool) (b : ℕ) (text : List ℕ) → p b ≡ true → l
 all_kept p b [] h k = by_test (is_blank b) (λ e. rw e refl) (λ e. rw e (and_from (p b) true h refl))
 all_kept p b (c ∷ text) h k = and_from (p b) (list_all p (c ∷ text)) h k
 
+-- what holds of all bytes holds of those before the last blanks
 pub all_before : (p : ℕ → Bool) (text : List ℕ) → list_all p text ≡ true → list_all p (before_blanks text) ≡ true
 unfolding before_blanks
 all_before p [] h = refl
@@ -74,6 +85,7 @@ all_before p (b ∷ text) h =
     let k : (p b ≡ true) × (list_all p text ≡ true) = and_parts (p b) (list_all p text) h in
     all_kept p b (before_blanks text) k.0 (all_before p text k.1)
 
+-- what holds of all bytes holds of those between the blanks at both ends
 pub all_trimmed : (p : ℕ → Bool) (text : List ℕ) → list_all p text ≡ true → list_all p (trimmed text) ≡ true
 all_trimmed p text h = all_before p (unblanked text) (all_after p is_blank text h)
 
@@ -83,12 +95,13 @@ unfolding before_blanks
 kept_twice b [] h = by_test (is_blank b) (λ e. rw e refl) (λ e. rw e (rw e refl))
 kept_twice b (c ∷ text) h = ap (kept_before b) h
 
+-- the blanks at the end are left out once and for all
 pub before_twice : (text : List ℕ) → before_blanks (before_blanks text) ≡ before_blanks text
 unfolding before_blanks
 before_twice [] = refl
 before_twice (b ∷ text) = kept_twice b (before_blanks text) (before_twice text)
 
--- a text that has no blank at its end keeps what stands before it
+-- a text that has no blank at its end keeps the text before it
 kept_whole : (b c : ℕ) (text : List ℕ) → kept_before b (c ∷ text) ≡ b ∷ c ∷ text
 kept_whole b c text = refl
 
@@ -96,11 +109,13 @@ one_more : (c b : ℕ) (text : List ℕ) → before_blanks (b ∷ text) ≡ b �
 unfolding before_blanks
 one_more c b text h = ap (kept_before c) h
 
+-- a text whose later part has no blank at its end stays as it is
 pub end_stays : (front : List ℕ) (b : ℕ) (text : List ℕ) → before_blanks (b ∷ text) ≡ b ∷ text → before_blanks (front ++ b ∷ text) ≡ front ++ b ∷ text
 end_stays [] b text h = h
 end_stays (c ∷ []) b text h = one_more c b text h
 end_stays (c ∷ d ∷ front) b text h = one_more c d (front ++ b ∷ text) (end_stays (d ∷ front) b text h)
 
+-- a byte that isn't a blank stays before a text that stays
 pub ink_stays : (b : ℕ) (text : List ℕ) → is_blank b ≡ false → before_blanks text ≡ text → before_blanks (b ∷ text) ≡ b ∷ text
 unfolding before_blanks
 ink_stays b [] h e = rw h refl
@@ -110,12 +125,14 @@ ink_stays b (c ∷ text) h e = ap (kept_before b) e
 some_words : List (List ℕ) → List (List ℕ)
 some_words pieces = filter (λ word. not (is_nil word)) pieces
 
+-- a text that is split at a byte that passes is the pieces of both parts
 pub split_both : (p : ℕ → Bool) (front : List ℕ) (b : ℕ) (text : List ℕ) → p b ≡ true → slice_split p (front ++ b ∷ text) ≡ slice_split p front ++ slice_split p text
 split_both p [] b text h = rw h refl
 split_both p (c ∷ front) b text h =
     let first = first_piece p front in
     by_test (p c) (λ e. rw e (ap (λ t. [] ∷ t) (split_both p front b text h))) (λ e. rw e (ap (onto_first c) (split_both p front b text h) ∙ rw first.is refl))
 
+-- a text of which no byte passes is one piece
 pub split_whole : (p : ℕ → Bool) (text : List ℕ) → list_all (λ b. not (p b)) text ≡ true → slice_split p text ≡ text ∷ []
 split_whole p [] h = refl
 split_whole p (b ∷ text) h =
@@ -123,12 +140,14 @@ split_whole p (b ∷ text) h =
     let n : p b ≡ false = not_true (p b) k.0 in
     rw n (ap (onto_first b) (split_whole p text k.1))
 
+-- the words of two texts with a blank between them are those of both
 pub words_both : (front text : List ℕ) → words (front ++ 32 ∷ text) ≡ words front ++ words text
 unfolding words
 words_both front text =
     ap (filter (λ word. not (is_nil word))) (split_both is_blank front 32 text refl)
     ∙ filter-append (λ word. not (is_nil word)) (slice_split is_blank front) (slice_split is_blank text)
 
+-- a text without blanks that isn't empty is one word
 pub one_word : (word : List ℕ) → list_all is_inked word ≡ true → is_nil word ≡ false → words word ≡ word ∷ []
 unfolding words
 one_word word h some = ap (filter (λ w. not (is_nil w))) (split_whole is_blank word h) ∙ rw some refl
@@ -137,9 +156,11 @@ one_word word h some = ap (filter (λ w. not (is_nil w))) (split_whole is_blank 
 abbrev pub is_plain : ℕ → Bool
 is_plain b = is_inked b && not (b == 10)
 
+-- a byte isn't a line feed
 abbrev pub no_feed : ℕ → Bool
 no_feed b = not (b == 10)
 
+-- a text is a word: it isn't empty, and has neither blanks nor line feeds
 abbrev pub is_word : List ℕ → Bool
 is_word word = not (is_nil word) && list_all is_plain word
 
@@ -166,10 +187,12 @@ some_plain (piece ∷ pieces) h =
     (λ e. rw e (some_plain pieces l.1))
     (λ e. rw e (and_from (is_word piece) (list_all is_word (filter (λ word. not (is_nil word)) pieces)) (and_from (not (is_nil piece)) (list_all is_plain piece) (rw e refl) l.0) (some_plain pieces l.1)))
 
+-- the words of a text without line feeds are words
 pub words_plain : (text : List ℕ) → list_all no_feed text ≡ true → list_all is_word (words text) ≡ true
 unfolding words
 words_plain text h = some_plain (slice_split is_blank text) (pieces_plain text h)
 
+-- what it is to be a word, part by part
 pub word_parts : (word : List ℕ) → is_word word ≡ true → (is_nil word ≡ false) × (list_all is_inked word ≡ true) × (list_all no_feed word ≡ true)
 word_parts word h =
     let k : (not (is_nil word) ≡ true) × (list_all is_plain word ≡ true) = and_parts (not (is_nil word)) (list_all is_plain word) h in (
@@ -178,6 +201,7 @@ word_parts word h =
       all_weaker is_plain no_feed (λ b p. (and_parts (is_inked b) (not (b == 10)) p).1) word k.1,
     )
 
+-- the words of a word are the word
 pub word_is : (word : List ℕ) → is_word word ≡ true → words word ≡ word ∷ []
 word_is word h = let k = word_parts word h in one_word word k.1 k.0
 
@@ -188,10 +212,12 @@ later_is (w ∷ ws) front h =
     let k : (is_word w ≡ true) × (list_all is_word ws ≡ true) = and_parts (is_word w) (list_all is_word ws) h in
     words_both front (w ++ later_words ws) ∙ ap (λ t. words front ++ t) (later_is ws w k.1 ∙ ap (λ t. t ++ ws) (word_is w k.0))
 
+-- an empty text has no words
 pub no_words : words [] ≡ []
 unfolding words
 no_words = refl
 
+-- words that are joined are read back
 pub joined_is : (ws : List (List ℕ)) → list_all is_word ws ≡ true → words (joined_words ws) ≡ ws
 joined_is [] h = no_words
 joined_is (w ∷ ws) h =
@@ -202,6 +228,7 @@ later_both : (ws vs : List (List ℕ)) → later_words (ws ++ vs) ≡ later_word
 later_both [] vs = refl
 later_both (w ∷ ws) vs = ap (λ t. (32 ∷ w) ++ t) (later_both ws vs) ∙ sym (append_assoc (32 ∷ w) (later_words ws) (later_words vs))
 
+-- words are joined one list after another
 pub joined_both : (w : List ℕ) (ws vs : List (List ℕ)) → joined_words ((w ∷ ws) ++ vs) ≡ joined_words (w ∷ ws) ++ later_words vs
 joined_both w ws vs = ap (λ t. w ++ t) (later_both ws vs) ∙ sym (append_assoc w (later_words ws) (later_words vs))
 
@@ -211,6 +238,7 @@ later_no_feed (w ∷ ws) h =
     let k : (is_word w ≡ true) × (list_all is_word ws ≡ true) = and_parts (is_word w) (list_all is_word ws) h in
     all_both no_feed w (later_words ws) (word_parts w k.0).2 (later_no_feed ws k.1)
 
+-- words that are joined have no line feed
 pub joined_no_feed : (ws : List (List ℕ)) → list_all is_word ws ≡ true → list_all no_feed (joined_words ws) ≡ true
 joined_no_feed [] h = refl
 joined_no_feed (w ∷ ws) h =
@@ -221,8 +249,10 @@ joined_no_feed (w ∷ ws) h =
 end_begins : (text tail : List ℕ) → drop (length (text ++ tail) - length tail) (text ++ tail) ≡ tail
 end_begins text tail = let e : length (text ++ tail) - length tail ≡ length text = omega (arith, length-append text tail) in rw e (drop_at text tail (length text) refl)
 
+-- a text before another ends with that
 pub ends_so : (text tail : List ℕ) → ends_with (text ++ tail) tail ≡ true
 ends_so text tail = ap (λ t. bytes_eq t tail) (end_begins text tail) ∙ bytes_same tail
 
+-- without the end it is the first text
 pub before_so : (text tail : List ℕ) → before_end (text ++ tail) tail ≡ text
 before_so text tail = let e : length (text ++ tail) - length tail ≡ length text = omega (arith, length-append text tail) in rw e (take_at text tail (length text) refl)

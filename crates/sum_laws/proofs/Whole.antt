@@ -1,4 +1,4 @@
--- Logs tell whole tests: behind them each test has a kind and a condition, and what is told of it is fit to print.
+-- Logs give whole tests: after them each test has a kind and a condition, and what logs say of it can be printed.
 use Rattle.std.proofs.Common.{◌≡◌, ◌==◌, ℕ, zero, suc, List, [], ◌∷◌, ◌++◌, true, false, refl, sym, ap, ◌∙◌, subst, Some, None}
 use Rattle.std.specs.Prelude.{Bool, ◌||◌, Option, Result, Ok, Err}
 use Rattle.std.specs.List.{list_any, list_all, slice_split}
@@ -28,13 +28,14 @@ use Rattle.sum_laws.proofs.Agreeing.{all_of_both, kinds_both, conditions_both, o
 use Rattle.sum_laws.proofs.Alike.{Complete}
 use Rattle.sum_laws.proofs.Said.{IsRead, SaidOf, is_behind, line_says}
 
--- what is told is fit to print
+-- a fact can be printed
 abbrev pub IsTold : Fact → Type 0
 IsTold (a_kind kind) = Unit {0}
 IsTold (a_row row) = IsForm row.state
 IsTold (a_condition text verdict) = Unit {0}
 IsTold (a_hash hash) = IsRead hash
 
+-- an entry can be printed: its test is a word, and its fact can be printed
 abbrev pub IsToldOf : Entry → Type 0
 IsToldOf e = (is_word e.test ≡ true) × IsTold e.fact
 
@@ -43,6 +44,7 @@ pub data Stands (s : Seen) (name : List ℕ) : Type 0 where
   whole : (complete : Complete (facts_of name s.entries)) → Stands s name
   running : (inside : is_outside s.place ≡ false) (same : name ≡ s.test) → Stands s name
 
+-- the entries so far can be printed, and each test is whole or is the running one
 pub record Keeps (s : Seen) : Type 0 where
   pub told : AllOf IsToldOf s.entries
   pub named : is_outside s.place ≡ false → is_word s.test ≡ true
@@ -50,6 +52,7 @@ pub record Keeps (s : Seen) : Type 0 where
   pub behind : is_outside s.place ≡ false → is_behind s.place ≡ true → Complete (facts_of s.test s.entries)
   pub tests : (name : List ℕ) → list_any (λ (e : Entry). bytes_eq e.test name) s.entries ≡ true → Stands s name
 
+-- at the start that is so
 pub keeps_nothing : Keeps nothing_seen
 keeps_nothing = record {
   told = tt;
@@ -59,7 +62,7 @@ keeps_nothing = record {
   tests = λ name h. absurd (let k : false ≡ true = h in cc);
 }
 
--- what was told first stays
+-- what was said first stays
 first_stays : {A : Type 0} (xs ys : List A) (x : A) → first_of xs ≡ Some x → first_of (xs ++ ys) ≡ Some x
 first_stays xs ys x e = first_both xs ys ∙ ap (λ o. or_first o (first_of ys)) e
 
@@ -123,7 +126,7 @@ inside_after k (suc n) = inside_left k n
 not_both : {G : Type 0} (b : Bool) → b ≡ true → b ≡ false → G
 not_both b h k = let f : true ≡ false = sym h ∙ k in absurd (cc)
 
--- a step that tells no fact, to a place that isn't behind a condition
+-- a step that gives no fact, to a place that isn't after a condition
 moved : (s : Seen) (place : Place) (line : ℕ) → Keeps s → is_outside s.place ≡ false → kind_at place ≡ kind_at s.place → is_outside place ≡ false → is_behind place ≡ false → Keeps (record s { place = place; line = line })
 moved s place line k o e i b = record {
   told = k.told;
@@ -162,7 +165,7 @@ in_more entries e name h f =
     by_left false true f k = cc
     by_left false false f k = cc
 
--- a step inside a block that tells a fact of it
+-- a step inside a block that gives a fact of it
 told_more : (s : Seen) (place : Place) (line : ℕ) (fact : Fact) → Keeps s → is_outside s.place ≡ false → IsTold fact → kind_at place ≡ kind_at s.place → is_outside place ≡ false
     → (is_behind place ≡ true → Complete (facts_of s.test (s.entries ++ entry s.test fact ∷ []))) → Keeps (record s { entries = s.entries ++ entry s.test fact ∷ []; place = place; line = line })
 told_more s place line fact k o t e i c = record {
@@ -355,6 +358,7 @@ file_keeps bytes s t k e = by_lines (lines_judged s (lines_of bytes)) refl e
         let i : Keeps u = lines_keep (lines_of bytes) s u (but_last_lines (slice_split (λ byte. byte == 10) bytes) (split_lacks 10 bytes)) k f in
         by_last (last_judged u (rest_of bytes)) (λ v h. last_keeps (rest_of bytes) u v (last_line (slice_split (λ byte. byte == 10) bytes) (split_lacks 10 bytes)) i h) g
 
+-- whole files without a fault keep that so
 pub files_keep : (files : List (List ℕ)) (s t : Seen) → Keeps s → files_judged s files ≡ Ok t → Keeps t
 files_keep [] s t k e = let same : s ≡ t = cc in subst Keeps same k
 files_keep (file ∷ files) s t k e = by_first (λ next i f. files_keep files next t i f) (file_judged s file) refl e

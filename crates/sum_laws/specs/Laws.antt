@@ -10,8 +10,8 @@ use Rattle.log_sum.specs.Summed.{summed}
 use Rattle.log_sum.specs.SumText.{sum_text}
 use Rattle.log_sum.specs.Standing.{logs_text}
 
--- a printed sum keeps the limits of a log: none of its lines is too long, it writes the number of the states of each test, and
--- no hash ends with a carriage return, which would be taken for a part of the line's end
+-- a printed sum keeps the limits of a log: none of its lines is too long, the number of the states of each test isn't above the
+-- greatest count, and no hash ends with a carriage return, which would be taken for a part of the line's end
 pub record KeepsLimits (entries : List Entry) : Type 0 where
   pub lines : list_all (λ line. not (is_too_long line)) (lines_of (sum_text entries)) ≡ true
   pub states : (test : List ℕ) → length (summed (facts_of test entries)).states ≤ last_count
@@ -29,7 +29,7 @@ pub record IsSum (logs : List (List ℕ)) (text : List ℕ) : Type 0 where
   pub printed : text ≡ sum_text seen.entries
   pub limits : KeepsLimits seen.entries
 
--- files stand for logs, in their order: each of them is a log, or the printed sum of files that stand for logs
+-- files represent logs, in their order: each file is a log, or the printed sum of files that represent logs
 pub data StandFor : List (List ℕ) → List (List ℕ) → Type 0 where
   none : StandFor [] []
   a_log : (log : List ℕ) (files logs : List (List ℕ)) (rest : StandFor files logs) → StandFor (log ∷ files) (log ∷ logs)

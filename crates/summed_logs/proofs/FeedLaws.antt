@@ -9,7 +9,7 @@ not_so : (b : Bool) → (b ≡ true → ⊥) → b ≡ false
 not_so true h = absurd (h refl)
 not_so false h = refl
 
--- one byte more at the front
+-- one byte more at the start
 feeds_cons : (b : ℕ) (text : List ℕ) → line_feed_count (b ∷ text) ≡ cond (b == 10) 1 0 + line_feed_count text
 feeds_cons b text = sum_by-append (λ byte. cond (byte == 10) 1 0) (b ∷ []) text ∙ ap (λ n. n + line_feed_count text) (zero-add (cond (b == 10) 1 0))
 
@@ -47,6 +47,7 @@ counted_on text rest next count k found e so_far =
     let behind : next ≡ drop (k + 1) rest = e ∙ take_all (length rest - (k + 1)) (drop (k + 1) rest) (omega (arith, length-drop (k + 1) rest)) in
     add_assoc count 1 (line_feed_count next) ∙ ap (λ n. count + n) (sym (feeds_found rest next k found behind)) ∙ so_far
 
+-- the count and the bytes that are left are at most the bytes of the text, also after the next line feed
 pub few_on : (text rest next : List ℕ) (count k : ℕ) → IsFirstByte (is_byte 10) rest (Some k) → next ≡ take (length rest - (k + 1)) (drop (k + 1) rest)
     → count + length rest ≤ length text → (count + 1) + length next ≤ length text
 few_on text rest next count k found e few =
@@ -54,6 +55,6 @@ few_on text rest next count k found e few =
     let inside : k < length rest = found.0.high in
     omega (arith, ap length behind, length-drop (k + 1) rest)
 
--- and is whole where none is found
+-- the count is whole where no other is found
 pub counted_all : (text rest : List ℕ) (count : ℕ) → IsFirstByte (is_byte 10) rest None → count + line_feed_count rest ≡ line_feed_count text → count ≡ line_feed_count text
 counted_all text rest count none so_far = sym (add-zero count) ∙ ap (λ n. count + n) (sym (feeds_none rest none)) ∙ so_far

@@ -58,7 +58,7 @@ pub log_refused : (kept : Kept) (logs : List (List ℕ)) (log : List ℕ) (error
 log_refused kept logs log (sums.Log error) ended = λ more. end_fault_stays logs more log error ended.0
 log_refused kept logs log sums.NoMemory ended = tt
 
--- nothing was read yet
+-- nothing has been read
 pub reads_nothing : (old : SourceSeen) (feeding : Feeding) (logs : List (List ℕ)) → Reads feeding logs [] → ReadSoFar old old feeding logs
 reads_nothing old feeding logs reads = record {
   bytes = [];
@@ -108,7 +108,7 @@ reads_whole old mid new feeding logs piece r took none end same =
       no_fault = same ∙ r.no_fault;
     }
 
--- bytes that were consumed are the front of a log
+-- bytes that were consumed are the beginning of a log
 record FrontOf (told : Option (List ℕ)) (bytes : List ℕ) : Type 0 where
   pub log : List ℕ
   pub rest : List ℕ

@@ -11,7 +11,7 @@ use Rattle.summed_logs.proofs.FeedingLaws.{reads_whole}
 pub gave_took : (old new : ShelfSeen) (bytes : List ℕ) (room : ℕ) → Gave old new bytes room → Took (log_seen old) (log_seen new) bytes
 gave_took old new bytes room gave = record { consumed = gave.consumed; counted = gave.taken }
 
--- the file is open still
+-- the file is still open
 pub gave_mode : (old new : ShelfSeen) (bytes : List ℕ) (room : ℕ) → Gave old new bytes room → IsReading new.mode
 gave_mode old new bytes room gave = subst IsReading (sym gave.mode) tt
 

@@ -33,7 +33,7 @@ opened_summed old mid new feeding before name opened s same = record {
   took = opened_took old mid new name s.log opened s.taken same;
 }
 
--- or isn't
+-- a file that was opened isn't summed
 pub opened_refused : (old mid new : ShelfSeen) (feeding : Feeding) (before : List (List ℕ)) (name : List ℕ) (fault : ReadFault) → Opened old mid name
     → ClosedTo (log_seen mid) (log_seen new) feeding before (Err fault) → new.opened ≡ mid.opened
     → FileTo old new feeding before name (Err (Read fault))
@@ -64,11 +64,12 @@ opened_refused old mid new feeding before name Device opened s same =
           );
     }
 
--- a file that couldn't be opened
+-- a file that isn't there
 pub open_absent : (old new : ShelfSeen) (feeding : Feeding) (before : List (List ℕ)) (name : List ℕ) → NotThere old new name
     → FileTo old new feeding before name (Err Missing)
 open_absent old new feeding before name there = record { absent = there.absent; took = took_nothing old new there.counts }
 
+-- a file at which the shelf failed
 pub open_failed : (old new : ShelfSeen) (feeding : Feeding) (before : List (List ℕ)) (name : List ℕ) → Stopped old new
     → FileTo old new feeding before name (Err (Read Device))
 open_failed old new feeding before name stopped = record { fault = stopped.faulted.fault; took = inl (took_nothing old new stopped.counts) }

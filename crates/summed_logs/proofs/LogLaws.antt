@@ -131,7 +131,7 @@ closed_summed old mid new feeding before s end same no_fault = record {
   no_fault = no_fault ∙ s.no_fault;
 }
 
--- the device failed when a log was closed that was summed
+-- the device failed when a log that was summed was closed
 pub closed_failed : (old mid new : SourceSeen) (feeding : Feeding) (before : List (List ℕ)) → LogSummed old mid feeding before
     → new.taken ≡ mid.taken → Rose mid.faults new.faults → mid.faults ≤ new.faults → LogFailed old new feeding before
 closed_failed old mid new feeding before s same rose falls =
@@ -169,24 +169,27 @@ pub record Closed (old new : ShelfSeen) : Type 0 where
 pub idle_at_end : (mode : Mode) → mode ≡ Idle → IsAtEnd (left_to_read mode)
 idle_at_end mode idle = subst (λ m. IsAtEnd (left_to_read m)) (sym idle) tt
 
+-- an attempt to close a file closes it, whatever the answer
 pub closed : (old new : ShelfSeen) (r : Result (Unit {0}) Failed) → OnOk r (Finished old new) → OnErr r (Stopped old new) → Closed old new
 closed old new (Ok x) f s = record { mode = f.mode; files = f.files; taken = f.counts.taken; opened = f.counts.opened; never_falls = (let e : new.faults ≡ old.faults = f.no_fault in omega arith) }
 closed old new (Err x) f s = record { mode = s.mode; files = s.files; taken = s.counts.taken; opened = s.counts.opened; never_falls = s.faulted.never_falls }
 
--- an answer to the reading of a log, where it is known
+-- the reading of a log that answers a fault of the log
 pub at_part : (old new : SourceSeen) (feeding : Feeding) (logs : List (List ℕ)) (r : Result (Unit {0}) ReadFault) (fault : LogFault)
     → ReadTo old new feeding logs r → r ≡ Err (Log fault) → ReadPart old new logs fault
 at_part old new feeding logs r fault h e = let P : Result (Unit {0}) ReadFault → Type 0 = λ r. ReadTo old new feeding logs r in subst P e h
 
+-- the reading of a log that answers that the device failed
 pub at_failed : (old new : SourceSeen) (feeding : Feeding) (logs : List (List ℕ)) (r : Result (Unit {0}) ReadFault)
     → ReadTo old new feeding logs r → r ≡ Err Device → LogFailed old new feeding logs
 at_failed old new feeding logs r h e = let P : Result (Unit {0}) ReadFault → Type 0 = λ r. ReadTo old new feeding logs r in subst P e h
 
--- an answer to a log, where it is known
+-- the summing of a log that answers a fault of the log
 pub summed_refused : (old new : SourceSeen) (feeding : Feeding) (logs : List (List ℕ)) (r : Result (Unit {0}) ReadFault) (fault : LogFault)
     → SummedTo old new feeding logs r → r ≡ Err (Log fault) → LogFaulty old new logs fault × (new.faults ≡ old.faults)
 summed_refused old new feeding logs r fault h e = let P : Result (Unit {0}) ReadFault → Type 0 = λ r. SummedTo old new feeding logs r in subst P e h
 
+-- the summing of a log that answers that the device failed
 pub summed_failed : (old new : SourceSeen) (feeding : Feeding) (logs : List (List ℕ)) (r : Result (Unit {0}) ReadFault)
     → SummedTo old new feeding logs r → r ≡ Err Device → LogFailed old new feeding logs
 summed_failed old new feeding logs r h e = let P : Result (Unit {0}) ReadFault → Type 0 = λ r. SummedTo old new feeding logs r in subst P e h

@@ -1,4 +1,4 @@
--- What feeding a log to a summer in pieces says of it.
+-- What an answer says of a log that is fed to a summer in pieces.
 -- Source: own.
 use Rattle.std.specs.Prelude.{◌≡◌, ◌⊎◌, ℕ, List, [], ◌∷◌, ◌++◌, length, Result, Ok, Err}
 use Rattle.std.specs.Io.KnownBytes.{Consumes, IsAtEnd}
@@ -14,7 +14,7 @@ use Rattle.summed_logs.specs.declared.feeding.ReadFault.{ReadFault}
 use Rattle.summed_logs.specs.declared.feeding.ReadFault.TheVariants.{Log, Device}
 use Rattle.summed_logs.specs.Logs.{IsText, IsShort, TookCount, FrontWrong, FrontFull, UpToFault, IsWrong, IsTooMuch, ReadFailed}
 
--- whole logs and the bytes that have come of one more were fed, and of this one the bytes and line feeds are counted
+-- whole logs and the bytes so far of one more were fed, and the bytes and line feeds of this one are counted
 pub record Reads (feeding : Feeding) (logs : List (List ℕ)) (bytes : List ℕ) : Type 0 where
   pub stands : StandsFor feeding.summer logs bytes
   pub read : feeding.read ≡ length bytes
@@ -24,13 +24,13 @@ pub record Reads (feeding : Feeding) (logs : List (List ℕ)) (bytes : List ℕ)
 abbrev pub ForLogs : Feeding → (List (List ℕ) → Type 0) → Type 0
 ForLogs feeding Holds = (logs : List (List ℕ)) → Reads feeding logs [] → Holds logs
 
--- why no more of a log is fed, where these bytes have come of it
+-- why no more of a log is fed, where these are its bytes so far
 abbrev pub IsFault : List (List ℕ) → List ℕ → LogFault → Type 0
 IsFault logs bytes (Wrong error) = FrontWrong logs bytes error
 IsFault logs bytes (TooMuch line) = FrontFull logs bytes line
 IsFault logs bytes NoMemory = Unit {0}
 
--- an answer to a piece of a log, where these bytes have come with it
+-- an answer to a piece of a log, where these are the bytes so far with the piece
 abbrev pub FedOn : Feeding → List (List ℕ) → List ℕ → Result (Unit {0}) LogFault → Type 0
 FedOn new logs bytes (Ok x) = Reads new logs bytes
 FedOn new logs bytes (Err fault) = IsFault logs bytes fault
@@ -73,7 +73,7 @@ pub record ReadPart (old new : SourceSeen) (logs : List (List ℕ)) (fault : Log
   pub is : IsFault logs bytes fault
   pub no_fault : new.faults ≡ old.faults
 
--- the device failed when a log was read, or when one was closed that was summed
+-- the device failed when a log was read, or when a log that was summed was closed
 pub record LogFailed (old new : SourceSeen) (feeding : Feeding) (before : List (List ℕ)) : Type 0 where
   pub failed : ReadFailed old new before
   pub fed : Reads feeding before failed.bytes ⊎ ((failed.bytes ≡ failed.log) × Reads feeding (before ++ failed.log ∷ []) [])
@@ -94,7 +94,7 @@ pub record LogSummed (old new : SourceSeen) (feeding : Feeding) (before : List (
   pub reads : Reads feeding (before ++ log ∷ []) []
   pub no_fault : new.faults ≡ old.faults
 
--- what a fault says of the log after others, of which these bytes were taken
+-- what a fault says of a log after others, where these bytes were taken of the log
 abbrev pub IsFaulty : List (List ℕ) → List ℕ → List ℕ → LogFault → Type 0
 IsFaulty before log taken (Wrong error) = IsWrong before log taken error
 IsFaulty before log taken (TooMuch line) = IsTooMuch before log taken line
@@ -114,7 +114,7 @@ SummedTo old new feeding before (Ok x) = LogSummed old new feeding before
 SummedTo old new feeding before (Err (Log fault)) = LogFaulty old new before fault × (new.faults ≡ old.faults)
 SummedTo old new feeding before (Err Device) = LogFailed old new feeding before
 
--- an answer to a log that is closed: it is known before, but where the log has no fault and the closing fails
+-- an answer to a log that is closed: it is known before the closing, unless the log has no fault and the closing fails
 abbrev pub ClosedTo : SourceSeen → SourceSeen → Feeding → List (List ℕ) → Result (Unit {0}) ReadFault → Type 0
 ClosedTo old new feeding before (Ok x) = LogSummed old new feeding before
 ClosedTo old new feeding before (Err (Log fault)) = LogFaulty old new before fault

@@ -22,7 +22,7 @@ use Rattle.summed_logs.specs.declared.feeding.ReadFault.TheVariants.{Log, Device
 abbrev pub log_seen : ShelfSeen → SourceSeen
 log_seen shelf = record { left = left_to_read shelf.mode; taken = shelf.taken; faults = shelf.faults }
 
--- the file is open still, but where the shelf failed
+-- the file is still open, unless the shelf failed
 abbrev pub ModeAfter : Mode → Result (Unit {0}) ReadFault → Type 0
 ModeAfter mode (Ok x) = IsReading mode
 ModeAfter mode (Err (Log fault)) = IsReading mode

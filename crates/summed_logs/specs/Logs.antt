@@ -8,7 +8,7 @@ use Rattle.log_sum.specs.declared.errors.LogError.{LogError}
 use Rattle.log_sum.specs.Reading.{Seen, input_judged}
 use Rattle.log_sum.specs.Standing.{logs_text}
 
--- a text is the one that is told, where one is told
+-- a log has the text that is known, where one is known
 abbrev pub IsText : Option (List ℕ) → List ℕ → Type 0
 IsText told log = IfSome told (λ whole. whole ≡ log)
 
@@ -25,7 +25,7 @@ pub record AreRight (logs : List (List ℕ)) : Type 0 where
   pub text : List ℕ
   pub is : logs_text logs ≡ Ok text
 
--- the bytes that have come of the log after these show no fault
+-- the bytes so far of a log after these logs show no fault
 pub record ShowsNone (before : List (List ℕ)) (bytes : List ℕ) : Type 0 where
   pub seen : Seen
   pub is : input_judged before bytes ≡ Ok seen
@@ -60,7 +60,8 @@ pub record UpToFault (before : List (List ℕ)) (log taken : List ℕ) : Type 0 
   pub no_fault : ShowsNone before earlier
   pub one : length piece ≤ max_piece
 
--- the first fault of logs is one of the log after these: the bytes that were taken of it show it, or its end, where they are all
+-- the first fault of logs is one of the log after these: the bytes that were taken of it show the fault, or its end does, where all
+-- its bytes were taken
 pub record IsWrong (before : List (List ℕ)) (log taken : List ℕ) (error : LogError) : Type 0 where
   pub right_before : AreRight before
   pub wrong : (more : List (List ℕ)) → logs_text (before ++ log ∷ more) ≡ Err error
@@ -73,7 +74,7 @@ pub record IsTooMuch (before : List (List ℕ)) (log taken : List ℕ) (line : �
   pub up_to : UpToFault before log taken
   pub full : FrontFull before taken line
 
--- so many bytes were taken, as far as they are counted
+-- so many bytes were taken, up to the greatest count
 abbrev pub TookCount : SourceSeen → SourceSeen → ℕ → Type 0
 TookCount old new count = count_of new.taken ≡ count_of (old.taken + count)
 

@@ -48,6 +48,7 @@ pub record InputTooMuch (old new : SourceSeen) (line : ℕ) : Type 0 where
   pub is : IsTooMuch [] log bytes line
   pub no_fault : new.faults ≡ old.faults
 
+-- a fault of a kind, at a line
 abbrev pub error_at : ℕ → LogKind → LogError
 error_at line kind = record { line = line; kind = kind }
 
@@ -112,7 +113,7 @@ pub record FileTooMuch (old new : ShelfSeen) (words : List (List ℕ)) (first pl
   pub is : IsTooMuch before log bytes line
   pub took : TookFiles old new (before ++ bytes ∷ [])
 
--- the word at a place names no file, where the files are told; the logs before it have no fault, and no more was opened
+-- the word at a place names no file, where the files are known; the logs before it have no fault, and no more was opened
 pub record FileMissing (old new : ShelfSeen) (words : List (List ℕ)) (first place : ℕ) : Type 0 where
   pub before : List (List ℕ)
   pub name : List ℕ

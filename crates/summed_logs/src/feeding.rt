@@ -64,7 +64,7 @@ fn line_feeds(text: &[u8]) -> u64
 }
 
 impl LogFault {
-    /// The end where a log is at fault.
+    /// The end where a log has a fault.
     pub(crate) fn end_at(self, file: Option<usize>) -> SumEnd
         ensures { result ≡ end_at file self }
     {
@@ -89,7 +89,7 @@ impl Feeding {
         })
     }
 
-    /// Feeds a piece of the running log, but for what stands behind its first 2^40 bytes.
+    /// Feeds a piece of the running log, without the bytes after the first 2^40 of the log.
     pub(crate) fn feed(&mut self, piece: &[u8]) -> Result<(), LogFault>
         ensures fed { (logs : List (List ℕ)) (bytes : List ℕ) → Reads self.old logs bytes → FedOn self.new logs (bytes ++ piece.now) result }
         ensures counted { OnOk result (self.new.read ≡ self.old.read + length piece.now) }

@@ -30,7 +30,7 @@ impl FileFault {
     }
 }
 
-// Reads the file that is open to its end, which stays open, but where the shelf fails.
+// Reads the open file to its end. The file stays open, unless the shelf fails.
 fn read_file<H: Shelf>(
     feeding: &mut Feeding,
     shelf: &mut H,
@@ -57,7 +57,7 @@ fn read_file<H: Shelf>(
     }
 }
 
-// Sums the file that is open, which stays open, but where the shelf fails.
+// Sums the open file, which stays open, unless the shelf fails.
 fn sum_log<H: Shelf>(feeding: &mut Feeding, shelf: &mut H, buf: &mut [u8]) -> Result<(), ReadFault>
     requires reading { IsReading (H.seen shelf.old).mode }
     requires some { 0 < length buf.old }
@@ -78,7 +78,7 @@ fn sum_log<H: Shelf>(feeding: &mut Feeding, shelf: &mut H, buf: &mut [u8]) -> Re
     }
 }
 
-// Sums the file that is open, and closes it. A log's fault is the answer also where the closing fails.
+// Sums the open file, and closes it. A fault of the log is the answer even where the closing fails.
 fn sum_open<H: Shelf>(feeding: &mut Feeding, shelf: &mut H, buf: &mut [u8]) -> Result<(), ReadFault>
     requires reading { IsReading (H.seen shelf.old).mode }
     requires some { 0 < length buf.old }

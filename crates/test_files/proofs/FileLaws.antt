@@ -85,6 +85,6 @@ failed_after old mid new before name files took h = elim h.took [
   | inr some ↦ inr (some.0, subst (λ o. Begins o name some.0) files some.1, took_one_more old mid new before some.0 took some.2)
 ]
 
--- what is so of a fault is so of an answer that is that fault
+-- what holds of a fault holds of an answer that is that fault
 pub is_fault : {X E : Type 0} (P : Result X E → Type 0) (answer : Result X E) (fault : E) → IsErrAnd answer (λ e. e ≡ fault) → P (Err fault) → P answer
 is_fault P answer fault is h = let p = err_from_is_err_and answer is in subst P (sym (p.1 ∙ ap Err p.2)) h

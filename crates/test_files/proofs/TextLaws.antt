@@ -21,7 +21,7 @@ front_of None new bytes h = record { text = bytes; rest = []; is = tt; parts = s
 front_of (Some xs) None bytes h = absurd h
 front_of (Some xs) (Some ys) bytes h = record { text = xs; rest = ys; is = refl; parts = h }
 
--- nothing was read yet
+-- nothing was read so far
 pub reads_nothing : (old : ShelfSeen) (bytes : List ℕ) → bytes ≡ [] → IsReading old.mode → ReadSoFar old old bytes
 reads_nothing old bytes none mode = subst (ReadSoFar old old) (sym none) (record {
   consumed = Consumes-nil (left_to_read old.mode);

@@ -16,12 +16,15 @@ use Rattle.test_files.specs.FilesRead.{Begins}
 abbrev pub AreFew : List (List ℕ) → Type 0
 AreFew taken = All (λ bytes. length bytes ≤ MAX_TEXT + 1) taken
 
+-- no files are few
 pub none_few : AreFew []
 none_few k d less = absurd (omega arith)
 
+-- one file is of few bytes where its bytes are few
 pub one_few : (bytes : List ℕ) → length bytes ≤ MAX_TEXT + 1 → AreFew (bytes ∷ [])
 one_few bytes few k d less = let zero : k ≡ 0 = omega arith in subst (λ i. length (get_or (bytes ∷ []) i d) ≤ MAX_TEXT + 1) (sym zero) few
 
+-- two lists of files of few bytes make one
 pub both_few : (xs ys : List (List ℕ)) → AreFew xs → AreFew ys → AreFew (xs ++ ys)
 both_few xs ys p q = All-append (λ bytes. length bytes ≤ MAX_TEXT + 1) xs ys p q
 

@@ -19,7 +19,7 @@ pub record FileRead (old new : ShelfSeen) (name text : List ℕ) (closed : Resul
   pub no_fault : OnOk closed (new.faults ≡ old.faults)
   pub fault : OnErr closed (Rose old.faults new.faults)
 
--- a file isn't there; where the files aren't told, that is a fault
+-- a file isn't there; where the files aren't shown, that is a fault
 pub record FileAbsent (old new : ShelfSeen) (name : List ℕ) : Type 0 where
   pub absent : MatchOption old.files (Rose old.faults new.faults) (λ there. there name ≡ None)
   pub took : TookFiles old new []

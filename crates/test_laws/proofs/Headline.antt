@@ -130,6 +130,7 @@ renumbered_asks a register_name register_number es mode test number x e = (
     p : cycle_program a es mode number ≡ test_program test
     p = renumbered_program a register_name es mode test number e
 
+-- each test that is a cycle's test but for the numbers of places forces the cycle
 pub renumbered_force_law : RenumberedForce
 renumbered_force_law a register_name register_number es mode test number laws finds t e = record {
   stand = λ x w.
@@ -145,6 +146,7 @@ renumbered_force_law a register_name register_number es mode test number laws fi
     n : IsNumbering es number
     n = renumbered_numbers a register_name es mode test number t.code e
 
+-- the executions that such a test asks for are the outcomes of its program
 pub tests_ask_law : TestsAsk
 tests_ask_law a register_name register_number es mode test number x laws finds t e = (
   λ w. subst (λ (p : Program). IsOutcome es mode number p x) p (asked_outcome a register_name es mode number test.places register_number x laws finds t.code n named ((renumbered_asks a register_name register_number es mode test number x e).0 w)),
@@ -168,6 +170,7 @@ code_same (code ∷ threads) = λ i. sym (renumbered_same code) i ∷ code_same 
 pub numbered_plainly : (test : TestSeen) → IsRenumbered test test plain
 numbered_plainly test = record { threads = code_same test.threads; count = refl; names = λ place name h. h; cond = refl }
 
+-- the test of each cycle that has one forces the cycle
 pub tests_force_law : TestsForce
 tests_force_law a register_name register_number es mode laws finds t =
     renumbered_force_law a register_name register_number es mode (test_of a register_name es mode) plain laws finds t (numbered_plainly (test_of a register_name es mode))

@@ -39,9 +39,11 @@ accesses_planned es mode number =
     (map-map (observer_steps es number) (map step_access) (observed_locations es mode)
     ∙ map_same (λ l. map step_access (observer_steps es number l)) (observer_accesses es number) (observed_locations es mode) (λ l. map-map (observing (number l)) step_access (upto (write_count es l)))))
 
+-- the accesses of a thread of the test are those of its steps
 pub planned_at : (es : List Edge) (mode : ObsMode) (number : ℕ → ℕ) (k : ℕ) (steps : List Step) → slice_get (cycle_steps es mode number) k ≡ Some steps → slice_get (cycle_accesses es mode number) k ≡ Some (map step_access steps)
 planned_at es mode number k steps g = ap (λ l. slice_get l k) (accesses_planned es mode number) ∙ got_map (map step_access) (cycle_steps es mode number) k steps g
 
+-- the test's accesses are in as many threads as its steps
 pub planned-count : (es : List Edge) (mode : ObsMode) (number : ℕ → ℕ) → length (cycle_accesses es mode number) ≡ length (cycle_steps es mode number)
 planned-count es mode number = ap length (accesses_planned es mode number) ∙ length-map (cycle_steps es mode number) (map step_access)
 

@@ -27,6 +27,7 @@ terms_of_thread P a name n (t ∷ threads) zero m steps e h g =
 terms_of_thread P a name n (t ∷ threads) (suc k) m steps e h g =
     terms_of_thread P a name (n + 1) threads k m steps (omega (arith, e)) (all_parts P (thread_terms a name n t) (load_terms a name (n + 1) threads) h).1 g
 
+-- what holds of the terms of each thread holds of the terms of all loads
 pub terms_from_threads : (P : TermSeen → Type 0) (a : Puts) (name : ℕ → List ℕ) (n : ℕ) (threads : List (List Step)) → ((k m : ℕ) (steps : List Step) → n + k ≡ m → slice_get threads k ≡ Some steps → AllByRecursion P (thread_terms a name m steps)) → AllByRecursion P (load_terms a name n threads)
 terms_from_threads P a name n [] h = tt
 terms_from_threads P a name n (t ∷ threads) h =
@@ -71,6 +72,7 @@ terms_read a final name thread steps regs vs s b h c t =
     same_numbers regs (compiled a steps).loads vs (numbers_read steps) (omega (arith, loads-count a steps, c)) (loads-count a steps) h
     (terms_hold final name thread a.registers regs (compiled a steps).loads (numbers_read steps) s b (loads-count a steps) t)
 
+-- where a thread reads the numbers asked for, its terms are met
 pub read_terms : (a : Puts) (final : LeftSeen → Option Value) (name : ℕ → List ℕ) (thread : ℕ) (steps : List Step) (regs : ℕ → Value) (vs : List ℕ) → ShowsRegisters final name thread a.registers regs → AllBelow a.registers (compiled a steps).loads → HoldNumbers regs (compiled a steps).loads vs → vs ≡ numbers_read steps → AllByRecursion (IsMet final) (thread_terms a name thread steps)
 read_terms a final name thread steps regs vs s b h e =
     hold_terms final name thread a.registers regs (compiled a steps).loads (numbers_read steps) s b (subst (HoldNumbers regs (compiled a steps).loads) e h)

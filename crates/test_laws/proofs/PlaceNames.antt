@@ -25,6 +25,7 @@ letter_at n l h =
 earlier_differs : (m l : ℕ) → m < l → l < MAX_EDGES → bytes_eq (location_name m) (location_name l) ≡ false
 earlier_differs m l h b = position_none (λ name. bytes_eq name (location_name l)) 0 (letters l) m (location_name m) (location_new l b).new (letter_at l m h)
 
+-- two locations with one name are one
 pub names_differ : (m l : ℕ) → m < MAX_EDGES → l < MAX_EDGES → bytes_eq (location_name m) (location_name l) ≡ true → m ≡ l
 names_differ m l a b h =
     by_less m l
@@ -41,6 +42,7 @@ names_differ m l a b h =
 abbrev pub AreNamed : List Edge → (ℕ → ℕ) → List (List ℕ) → Type 0
 AreNamed es number names = (location : ℕ) → location < move_count es → slice_get names (number location) ≡ Some (location_name location)
 
+-- a cycle has fewer locations than a cycle may have edges
 pub locations_few : (es : List Edge) → IsResolved es → move_count es < MAX_EDGES
 locations_few es r = omega (arith, external_and_moves es, r.composes.few, r.threads)
 

@@ -13,7 +13,7 @@ each_at P [] i all h = absurd (omega (arith, h))
 each_at P (x ∷ names) zero all h = all.0
 each_at P (x ∷ names) (suc i) all h = each_at P names i all.1 (omega (arith, h))
 
--- each of some distinct names is found where it stands
+-- each of some distinct names is found at its place
 name_found : (names : List (List ℕ)) (k i : ℕ) → IsDistinct bytes_eq names → i < length names → position_from (λ x. bytes_eq x (get_or names i [])) k names ≡ Some (k + i)
 unfolding IsDistinct
 name_found [] k i once h = absurd (omega (arith, h))

@@ -1,5 +1,5 @@
--- Where the accesses of each thread of a cycle and of each observer stand among those of the cycle's test, and that
--- nothing else stands there.
+-- Where the accesses of each thread of a cycle and of each observer are among those of the cycle's test, and that
+-- there is nothing else.
 use Rattle.std.proofs.Common.{◌≡◌, ℕ, ◌+◌, ◌-◌, ◌<◌, ◌≤◌, true, List, length, map, Some, slice_get, sym, ◌∙◌, arith, length-append}
 use Rattle.std.specs.List.{count_by}
 use Rattle.std.proofs.lemmas.List.{length-map}
@@ -24,13 +24,13 @@ thread_steps_at es mode number k h =
     slice_get-append_left (map (thread_steps es number) (upto (external_count es))) (map (observer_steps es number) (observed_locations es mode)) k (omega (arith, length-map-upto (thread_steps es number) (external_count es), h))
     ∙ slice_get-map-upto (thread_steps es number) (external_count es) k h
 
--- the threads behind those of the cycle are the observers
+-- the threads after those of the cycle are the observers
 observers_at : (es : List Edge) (mode : ObsMode) (number : ℕ → ℕ) (k o : ℕ) → k ≡ external_count es + o → slice_get (cycle_steps es mode number) k ≡ slice_get (map (observer_steps es number) (observed_locations es mode)) o
 unfolding cycle_steps
 observers_at es mode number k o h =
     slice_get-append_right (map (thread_steps es number) (upto (external_count es))) (map (observer_steps es number) (observed_locations es mode)) k o (omega (arith, length-map-upto (thread_steps es number) (external_count es), h))
 
--- behind the threads of the cycle, thread number o is the observer of observed location number o
+-- after the threads of the cycle, thread number o is the observer of observed location number o
 pub observer_steps_at : (es : List Edge) (mode : ObsMode) (number : ℕ → ℕ) (k o location : ℕ) → k ≡ external_count es + o → slice_get (observed_locations es mode) o ≡ Some location → slice_get (cycle_steps es mode number) k ≡ Some (observer_steps es number location)
 observer_steps_at es mode number k o location h g =
     observers_at es mode number k o h ∙ got_map (observer_steps es number) (observed_locations es mode) o location g

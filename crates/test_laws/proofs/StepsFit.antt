@@ -108,6 +108,7 @@ pub record Before (es : List Edge) (i : ℕ) : Type 0 where
   pub thread : thread_of es event ≡ thread_of es i
   pub slot : slot_of es i ≡ slot_of es event + 1
 
+-- an event that isn't the first of its thread has an event before it, to which an internal edge joins it
 pub inner_before : (es : List Edge) (i : ℕ) → IsResolved es → i < length es → 0 < slot_of es i → Before es i
 inner_before es zero r h l = absurd (omega (arith, slot-zero es))
 inner_before es (suc j) r h l =
@@ -125,7 +126,7 @@ inner_before es (suc j) r h l =
       slot = sym (ap (slot_of es) e) ∙ w.slot;
     })
 
--- the link of an event behind another in its thread is that of the edge between them
+-- the link of an event after another in its thread is that of the edge between them
 pub link_between : (es : List Edge) (i : ℕ) (b : Before es i) → event_link es i ≡ edge_link (edge_at es b.event)
 link_between es i b =
     cond-false {A = Link} (slot_of es i == 0) Plain (edge_link (edge_at es (event_before es i))) (ne_eqb (slot_of es i) 0 (λ e. omega (arith, e, b.slot)))
@@ -135,7 +136,7 @@ link_between es i b =
 pub link_first : (es : List Edge) (i : ℕ) → slot_of es i ≡ 0 → event_link es i ≡ Plain
 link_first es i h = cond-true {A = Link} (slot_of es i == 0) Plain (edge_link (edge_at es (event_before es i))) (eq-eqb (slot_of es i) 0 h)
 
--- an access behind another in its thread fits
+-- an access after another in its thread fits
 pub event_fits : (es : List Edge) (arch : ArchName) (number : ℕ → ℕ) (i : ℕ) → IsResolved es → list_all (λ e. is_of_arch e arch) es ≡ true → (b : Before es i) → FitStep arch (is_load_dir (source_of (edge_at es b.event))) (event_step es number i)
 event_fits es arch number i r a b = record {
   of_arch =
@@ -199,6 +200,7 @@ pub record IsThread (arch : ArchName) (steps : List Step) : Type 0 where
   pub some : 0 < length steps
   pub few : length steps ≤ MAX_EDGES
 
+-- each thread of a cycle's test is one of the architecture
 pub steps_fit : (es : List Edge) (mode : ObsMode) (number : ℕ → ℕ) (arch : ArchName) (k : ℕ) (steps : List Step) → IsResolved es → list_all (λ e. is_of_arch e arch) es ≡ true → slice_get (cycle_steps es mode number) k ≡ Some steps → IsThread arch steps
 steps_fit es mode number arch k steps r a g =
     by_steps es mode number k steps g
@@ -219,6 +221,7 @@ pub record IsPlaced (es : List Edge) (number : ℕ → ℕ) (s : Step) : Type 0 
   pub below : spot < move_count es
   pub place_is : s.place ≡ number spot
 
+-- each access of a cycle's test is at the place of a location
 pub steps_placed : (es : List Edge) (mode : ObsMode) (number : ℕ → ℕ) (k j : ℕ) (steps : List Step) (s : Step) → IsResolved es → slice_get (cycle_steps es mode number) k ≡ Some steps → slice_get steps j ≡ Some s → IsPlaced es number s
 steps_placed es mode number k j steps s r g h =
     by_steps es mode number k steps g

@@ -31,9 +31,11 @@ use Rattle.test_laws.specs.TestOf.{is_named, last_term, last_terms, load_term, t
 pub reads-count : (steps : List Step) → length (numbers_read steps) ≡ loads_in steps
 reads-count steps = length-map (filter (λ s. is_load_dir s.dir) steps) (λ s. s.value) ∙ length-filter (λ s. is_load_dir s.dir) steps
 
+-- a thread's code has as many loads as its steps read numbers
 pub loads-count : (a : Puts) (steps : List Step) → length (compiled a steps).loads ≡ length (numbers_read steps)
 loads-count a steps = thread_loads_length a (setting_out a.registers) steps ∙ sym (reads-count steps)
 
+-- a thread has as many terms as loads
 pub thread_terms-count : (a : Puts) (name : ℕ → List ℕ) (thread : ℕ) (steps : List Step) → length (thread_terms a name thread steps) ≡ loads_in steps
 thread_terms-count a name thread steps =
     let l = length-zip (compiled a steps).loads (numbers_read steps) in
@@ -49,7 +51,7 @@ load_terms-append a name thread (steps ∷ front) back =
     ∙ ap (λ t. load_terms a name (thread + 1) front ++ load_terms a name t back) (omega arith))
     ∙ sym (append_assoc (thread_terms a name thread steps) (load_terms a name (thread + 1) front) (load_terms a name (thread + length (steps ∷ front)) back))
 
--- one thread more
+-- one more thread
 pub load_terms_more : (a : Puts) (name : ℕ → List ℕ) (threads : List (List Step)) (k : ℕ) (d : List Step) → k < length threads → load_terms a name 0 (take (k + 1) threads) ≡ load_terms a name 0 (take k threads) ++ thread_terms a name k (get_or threads k d)
 load_terms_more a name threads k d h =
     ap (load_terms a name 0) (take_more threads k d h)

@@ -54,6 +54,7 @@ pub record Origin (a : Puts) (es : List Edge) (mode : ObsMode) (number : ℕ →
   pub steps_are : map (step_at number) plain_steps ≡ steps
   pub code_at : slice_get (cycle_codes a es mode number) k ≡ Some (renumbered number (compiled a plain_steps))
 
+-- the steps of a thread under some numbers come from those under the locations' own numbers
 pub origin_of : (a : Puts) (es : List Edge) (mode : ObsMode) (number : ℕ → ℕ) (k : ℕ) (steps : List Step) → slice_get (cycle_steps es mode number) k ≡ Some steps → Origin a es mode number k steps
 origin_of a es mode number k steps g =
     let i = image_of (map (step_at number)) (cycle_steps es mode plain) k steps (ap (λ l. slice_get l k) (steps_numbered es mode number) ∙ g) in

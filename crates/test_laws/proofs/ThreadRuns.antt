@@ -109,13 +109,14 @@ pub record ThreadOf (threads : List (List Step)) (x : Execution) (k : ℕ) : Typ
   pub steps_at : slice_get threads k ≡ Some steps
   pub reads_at : slice_get x.reads k ≡ Some reads
 
+-- each number below that of the threads is that of a thread with its steps and its reads
 pub thread_of : (threads : List (List Step)) (x : Execution) (k : ℕ) → length x.reads ≡ length threads → k < length threads → ThreadOf threads x k
 thread_of threads x k c h =
     let s = got_below threads k h in
     let r = got_below x.reads k (omega (arith, c, h)) in
     record { steps = s.element; reads = r.element; steps_at = s.got; reads_at = r.got }
 
--- what stands in the executions of the program stands there for one of its threads
+-- the items of a thread in an execution of the program are those of one of its threads
 pub items_below : (codes : List ThreadCode) (places : ℕ) (x : Execution) (k : ℕ) (items : List Item) → slice_get (items_in (program_of codes places) x) k ≡ Some items → k < length codes
 items_below codes places x k items g =
     let p = program_of codes places in
@@ -123,6 +124,7 @@ items_below codes places x k items g =
     let c = got_map accesses_of (visits_in p x) k (visits_of items) v in
     omega (arith, slice_get_within (accesses_in p x) k (accesses_of (visits_of items)) c, accesses-count p x, length-map codes thread_from)
 
+-- the visits of a thread in an execution of the program are those of one of its threads
 pub visits_below : (codes : List ThreadCode) (places : ℕ) (x : Execution) (k : ℕ) (visits : List Visit) → slice_get (visits_in (program_of codes places) x) k ≡ Some visits → k < length codes
 visits_below codes places x k visits g =
     let p = program_of codes places in

@@ -1,4 +1,4 @@
--- The marks of the accesses of the program of a cycle's test, and what stands between them, are what the edges of the
+-- The marks of the accesses of the program of a cycle's test, and what comes between them, are what the edges of the
 -- cycle say.
 use Rattle.std.proofs.Common.{◌≡◌, ℕ, suc, ◌+◌, ◌-◌, ◌<◌, true, false, List, [], length, take, Some, slice_get, refl, sym, ◌∙◌, ap, subst, arith, add-one}
 use Rattle.std.specs.List.{list_all}
@@ -53,7 +53,7 @@ thread_did : (codes : List ThreadCode) (es : List Edge) (mode : ObsMode) (number
 thread_did codes es mode number x k m c t =
     did_thread codes (cycle_steps es mode number) (move_count es) x k t.steps t.reads m t.steps_at t.reads_at (candidate_enough codes es mode number x m c k t.steps t.reads t.steps_at t.reads_at)
 
--- an event stands at its slot among the visits of its thread
+-- an event is at its slot among the visits of its thread
 event_visit : (es : List Edge) (visits : List (List Visit)) (i : ℕ) (e : Named) (k j : ℕ) (thread : List Visit) → IsEvent es visits i e → event_thread es i ≡ k → slot_of es i ≡ j → slice_get visits k ≡ Some thread → slice_get thread j ≡ Some e.visit
 event_visit es visits i e k j thread v t s g =
     ap (λ o. got_from o j) (sym g)
@@ -121,7 +121,7 @@ is_behind arch codes es mode number x i e f r o m c h inside u v =
               (event_visit es (visits_in (program_of codes (move_count es)) x) (event_after es i) f (event_thread es i) (suc (slot_of es i)) (thread_visits (thread_steps es number (event_thread es i)) 0 0 (values_read t.reads)) v n.thread n.slot d.visits_are);
         }
 
--- what stands in a visit of a thread of the test
+-- the visits of a thread of the test are those of its steps
 visits_of_thread : (codes : List ThreadCode) (es : List Edge) (mode : ObsMode) (number : ℕ → ℕ) (x : Execution) (k : ℕ) (visits : List Visit) (m : AreCodesOf codes (cycle_steps es mode number)) (c : IsCandidate (program_of codes (move_count es)) x) (t : ThreadOf (cycle_steps es mode number) x k) → slice_get (visits_in (program_of codes (move_count es)) x) k ≡ Some visits → thread_visits t.steps 0 0 (values_read t.reads) ≡ visits
 visits_of_thread codes es mode number x k visits m c t g =
     let d = thread_did codes es mode number x k m c t in
@@ -160,7 +160,7 @@ event_mark codes es mode number x i e r m c h u =
         (got_map (event_step es number) (events_in es (event_thread es i)) (slot_of es i) i (event_in_slot es i h)) visit in
         ap (λ (y : Visit). y.mark) made.is
 
--- the marks of the accesses of the program of a cycle's test, and what stands between them, are what the edges say, and
+-- the marks of the accesses of the program of a cycle's test, and what comes between them, are what the edges say, and
 -- else there is nothing
 pub tied_up : (arch : ArchName) (codes : List ThreadCode) (es : List Edge) (mode : ObsMode) (number : ℕ → ℕ) (x : Execution) → IsResolved es → list_all (λ e. is_of_arch e arch) es ≡ true → AreCodesOf codes (cycle_steps es mode number) → IsCandidate (program_of codes (move_count es)) x → IsTiedUp es (program_of codes (move_count es)) x
 tied_up arch codes es mode number x r o m c = record {

@@ -34,7 +34,7 @@ abbrev pub data_met : Step → Dir → ℕ → ℕ
 data_met s dirs.R k = 0
 data_met s dirs.W k = mask_if (is_data s.link) k
 
--- an access that load number k stands before, where branches depended on the loads of c
+-- the visit of an access that comes after load number k, where branches depended on the loads of c
 abbrev pub step_visit : Step → Dir → ℕ → ℕ → ℕ → Visit
 step_visit s d v k c = record {
   barriers = link_barred s.link k c;
@@ -90,7 +90,7 @@ item_ends s d v k c rest = of_link s.link d
     of_link links.CtrlIsync d = of_access (link_barred links.CtrlIsync k c) (link_control links.CtrlIsync k c) links.CtrlIsync d
     of_link links.CtrlIsb d = of_access (link_barred links.CtrlIsb k c) (link_control links.CtrlIsb k c) links.CtrlIsb d
 
--- no barrier stands behind the last access of a thread
+-- no barrier comes after the last access of a thread
 pub ends_free : (ss : List Step) (n c : ℕ) (vs : List ℕ) → barriers_behind [] (thread_items ss n c vs) ≡ []
 ends_free [] n c vs = refl
 ends_free (s ∷ ss) n c vs =

@@ -1,4 +1,4 @@
--- What stands before an access of a thread and what its masks name, by the place of the access in its thread.
+-- What comes before an access of a thread and what its masks name, by the place of the access in its thread.
 use Rattle.std.proofs.Common.{◌≡◌, ℕ, zero, suc, ◌+◌, ◌-◌, ◌<◌, ◌≤◌, ◌^◌, Bool, true, cond, List, [], ◌∷◌, length, take, Some, slice_get, refl, sym, ◌∙◌, ap, subst, lt_of_lt_of_le, arith}
 use Rattle.std.specs.List.{count_by}
 use Rattle.std.proofs.lemmas.List.Sums.{sum_by-cons}
@@ -18,11 +18,12 @@ use Rattle.program_meaning.specs.Standing.{IsFree, StartsFree}
 use Rattle.communication.specs.Joining.{AreFree}
 use Rattle.test_laws.proofs.Visits.{link_barred, step_visit, thread_visits}
 
--- the visit at a place is that of the access there, behind the loads and the branches before it
+-- the visit at a place is that of the access there, after the loads and the branches before it
 pub record IsVisit (s : Step) (k c : ℕ) (visit : Visit) : Type 0 where
   pub value : ℕ
   pub is : visit ≡ step_visit s s.dir value k c
 
+-- the visit at a place is that of the access there, as the accesses before it leave it
 pub visit_at : (ss : List Step) (n c : ℕ) (vs : List ℕ) (j : ℕ) (s : Step) (visit : Visit) → slice_get ss j ≡ Some s → slice_get (thread_visits ss n c vs) j ≡ Some visit → IsVisit s (n + loads_in (take j ss) - 1) (control_after (take j ss) n c) visit
 visit_at [] n c vs j s visit g h = cc
 visit_at (t ∷ ss) n c vs zero s visit g h =
@@ -56,7 +57,7 @@ reads_taken (s ∷ ss) n c vs (suc j) =
     let d : ◌≡◌ {A = ℕ} (cond (reads_by s.dir) 1 0) (cond (is_load_dir s.dir) 1 0) = ap (λ t. cond t 1 0) (reads_same s.dir) in
     omega (arith, a, b, d, reads_taken ss (loads_after s.dir n) (link_control s.link (n - 1) c) (left_after s.dir vs) j)
 
--- one access more
+-- one more access
 pub loads_more : (ss : List Step) (j : ℕ) (s : Step) → slice_get ss j ≡ Some s → loads_in (take (suc j) ss) ≡ loads_in (take j ss) + cond (is_load_dir s.dir) 1 0
 loads_more [] j s g = cc
 loads_more (t ∷ ss) zero s g =
@@ -65,7 +66,7 @@ loads_more (t ∷ ss) zero s g =
 loads_more (t ∷ ss) (suc j) s g =
     omega (arith, sum_by-cons (λ u. cond (is_load_dir u.dir) 1 0) t (take (suc j) ss), sum_by-cons (λ u. cond (is_load_dir u.dir) 1 0) t (take j ss), loads_more ss j s g)
 
--- behind an access, and the link of the next one, branches depend only on loads before the access
+-- after an access, and the link of the next one, branches depend only on loads before the access
 pub control_behind : (arch : ArchName) (b : Bool) (ss : List Step) (n c j : ℕ) → FitSteps arch b ss → (b ≡ true → 0 < n) → c < 2 ^ n → j < length ss → control_after (take (suc j) ss) n c < 2 ^ (n + loads_in (take j ss))
 control_behind arch b [] n c j fit some h l = absurd (omega arith)
 control_behind arch b (s ∷ ss) n c zero fit some h l =

@@ -29,12 +29,12 @@ edge_got [] k e h = cc h
 edge_got (x ∷ es) zero e h = cc h
 edge_got (x ∷ es) (suc k) e h = edge_got es k e h
 
--- an event in a slot behind the first isn't the first event
+-- an event in a slot after the first isn't the first event
 pub slot_behind : (es : List Edge) (i : ℕ) → (slot_of es i ≡ 0 → ⊥) → 0 < i
 slot_behind es zero h = absurd (h (slot-zero es))
 slot_behind es (suc i) h = omega arith
 
--- the link of an event in a slot behind the first
+-- the link of an event in a slot after the first
 pub link_behind : (es : List Edge) (i : ℕ) (e : Edge) → (slot_of es i ≡ 0 → ⊥) → slice_get es (i - 1) ≡ Some e → edge_link e ≡ event_link es i
 link_behind es zero e h got = absurd (h (slot-zero es))
 link_behind es (suc i) e h got =

@@ -72,7 +72,7 @@ placed a name thread steps threads room codes code cond0 cond1 (Ok _) within bef
   put.3,
 )
 
--- no thread is made yet
+-- no thread is made so far
 pub grown_none : (a : Puts) (name : ℕ → List ℕ) (es : List Edge) (mode : ObsMode) (threads : ArrayVec Code) (cond : Cond) →
     Grown a name es mode 0 threads cond cond
 grown_none a name es mode threads cond = record {
@@ -82,7 +82,7 @@ grown_none a name es mode threads cond = record {
   terms = sym (append-nil (map term_view cond.terms.items));
 }
 
--- one thread more
+-- one more thread
 pub grown_more : (a : Puts) (name : ℕ → List ℕ) (es : List Edge) (mode : ObsMode) (k : ℕ) (steps : List Step) (threads threads' : ArrayVec Code) (cond0 cond1 cond2 : Cond) →
     Grown a name es mode k threads cond0 cond1 → slice_get (cycle_steps es mode plain) k ≡ Some steps →
     PutsThread a name k steps threads threads' cond1 cond2 (Ok tt) → Grown a name es mode (k + 1) threads' cond0 cond2

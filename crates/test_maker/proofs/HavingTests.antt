@@ -62,6 +62,7 @@ pub made_has_code : (a : Puts) (register_name : ℕ → List ℕ) (es : List Edg
 made_has_code a register_name es mode test (Ok _) resolved of_arch made = uncrowded_has_code a es mode resolved of_arch made.0
 made_has_code a register_name es mode test (Err refusal) resolved of_arch made = tt
 
+-- a cycle that isn't refused has a test, once it is turned
 pub accepted_has_test : (a : Puts) (cycle : List Edge) (mode : ObsMode) → IsCycle cycle → refusal_of a cycle mode ≡ None → HasTest a (turned cycle) mode
 accepted_has_test a cycle mode is_cycle h =
     let parts = neither (foreign_edge a.name cycle) (resolved_refusal a (resolution_of cycle) mode) h in

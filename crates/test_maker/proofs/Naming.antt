@@ -18,10 +18,11 @@ use Rattle.value_laws.specs.Values.{write_count}
 use Rattle.test_laws.specs.TestOf.{is_named, last_term}
 use Rattle.test_maker.proofs.Filling.{found_more}
 
+-- there are as many names of locations as locations
 pub letters-length : (n : ℕ) → length (letters n) ≡ n
 letters-length n = length-map-range_with_len location_name 0 n
 
--- there is room for a term more
+-- there is room for one more term
 pub last_room : (es : List Edge) (mode : ObsMode) (location : ℕ) (terms : List Term) → IsResolved es →
     map term_view terms ≡ map (last_term es) (filter (is_named es mode) (upto location)) → location < move_count es → length terms < 128
 last_room es mode location terms r e h =
@@ -29,11 +30,11 @@ last_room es mode location terms r e h =
     let long : length terms ≡ length named = sym (length-map terms term_view) ∙ ap length e ∙ length-map named (last_term es) in
     omega (arith, long, length-filter-upto (is_named es mode) location, count_upto-le (is_named es mode) location, external_and_moves es, r.composes.few)
 
--- the name of a location stands at its number
+-- the name of a location is at its number
 pub letter_at : (n location : ℕ) → location < n → slice_index_or (letters n) location [] ≡ location_name location
 letter_at n location h = get_or-map-range_with_len location_name 0 n location location [] h (omega arith)
 
--- one location more that is named
+-- one more location that is named
 pub named_more : (es : List Edge) (mode : ObsMode) (location writes : ℕ) (places : List (List ℕ)) (terms terms' : List Term) →
     map term_view terms ≡ map (last_term es) (filter (is_named es mode) (upto location)) → is_named es mode location ≡ true →
     places ≡ letters (move_count es) → location < move_count es → writes ≡ write_count es location →

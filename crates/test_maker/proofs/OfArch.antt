@@ -24,7 +24,7 @@ list_all_both p xs ys = list_all-append p xs ys ∙ and_turned (list_all p xs) (
     and_turned false true = refl
     and_turned false false = refl
 
--- none stands out where all pass
+-- there is no first that fails where all pass
 pub none_foreign : {X : Type 0} (p : X → Bool) (xs : List X) (k : ℕ) → position_from (λ x. not (p x)) k xs ≡ None → list_all p xs ≡ true
 none_foreign p [] k h = refl
 none_foreign p (x ∷ xs) k h =
@@ -35,6 +35,7 @@ none_foreign p (x ∷ xs) k h =
     some_none : {G : Type 0} (k : ℕ) → Some k ≡ None → G
     some_none k e = cc e
 
+-- a cycle that resolves has an external edge, and its resolution is the turned cycle
 pub resolved_turned : (cycle es : List Edge) → resolution_of cycle ≡ Ok es → (0 < external_count cycle) × (turned cycle ≡ es)
 resolved_turned cycle es r =
     by_test (nat_lt (external_count cycle) 2)
@@ -52,6 +53,7 @@ resolved_turned cycle es r =
     more_than_none : (n : ℕ) → nat_lt n 2 ≡ false → 0 < n
     more_than_none n e = grind (arith, nat_tests, e)
 
+-- the resolution of a cycle of an architecture is of that architecture
 pub turned_of_arch : (a : Puts) (cycle es : List Edge) → AreOfArch a cycle → resolution_of cycle ≡ Ok es → AreOfArch a es
 turned_of_arch a cycle es h r =
     let found = resolved_turned cycle es r in

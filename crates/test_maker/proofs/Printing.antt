@@ -79,7 +79,7 @@ registers_below low (link ∷ links) high h =
 abbrev pub labels_below : ℕ → List Micro → Bool
 labels_below n code = list_all (λ l. nat_lt l n) (labels_of code)
 
--- a label that stands in code is below the number
+-- a label that occurs in code is below the number
 stands_below : (n label : ℕ) (code : List Micro) → labels_below n code ≡ true → stands label code ≡ true → nat_lt label n ≡ true
 stands_below n label [] h s = cc
 stands_below n label (ops.Label k ∷ code) h s =
@@ -131,6 +131,7 @@ none_crowded a i (suc k) (t ∷ threads) ss e g = by_test (is_crowded a t)
     (λ f. let z : Some i ≡ None = sym (ap (λ b. cond b (Some i) (position_from (is_crowded a) (i + 1) threads)) f) ∙ e in cc)
     (λ f. none_crowded a (i + 1) k threads ss (sym (ap (λ b. cond b (Some i) (position_from (is_crowded a) (i + 1) threads)) f) ∙ e) g)
 
+-- where no thread is crowded, none is found among the threads of the test
 pub uncrowded : (a : Puts) (es : List Edge) (mode : ObsMode) → crowded_thread a es mode ≡ None → position_from (is_crowded a) 0 (cycle_steps es mode plain) ≡ None
 uncrowded a es mode e = none_of (position_from (is_crowded a) 0 (cycle_steps es mode plain)) e
   where

@@ -1,4 +1,4 @@
--- Names of their forms: as code tests them, and that they are short and ASCII.
+-- Names of places and registers: how code tests their form, and that they are short and ASCII.
 use Rattle.std.proofs.Common.{◌≡◌, ℕ, ◌-◌, ◌≤◌, List, [], ◌∷◌, length, get_or, take, drop, refl, ap, ◌∙◌, arith}
 use Rattle.std.specs.Prelude.{Bool, true, ◌&&◌, nat_le}
 use Rattle.std.specs.Char.{is_ascii, is_ascii_alphabetic, is_ascii_alphanumeric}
@@ -11,17 +11,18 @@ use Rattle.std.proofs.lemmas.Str.{IsUtf8-from_ascii}
 use Rattle.std.proofs.lemmas.Str.Ascii.{IsAscii-nil, IsAscii-cons}
 use Rattle.text_laws.specs.Names.{begins_place, is_place_byte, is_place_name, is_register_name}
 
+-- without its first byte a text is the others
 pub rest_is : (byte : ℕ) (bytes : List ℕ) → take (length (byte ∷ bytes) - 1) (drop 1 (byte ∷ bytes)) ≡ bytes
 rest_is byte bytes = ap (λ n. take n bytes) (omega arith) ∙ take-length bytes
 
--- a place's name by its first byte and the others
+-- whether a text names a place is seen from its first byte and the others
 pub is_place_name_parts : (name : List ℕ) → 1 ≤ length name → is_place_name name
     ≡ (begins_place (get_or name 0 0) && list_all is_place_byte (take (length name - 1) (drop 1 name)) && nat_le (length name) 16)
 unfolding is_place_name
 is_place_name_parts [] h = absurd (omega arith)
 is_place_name_parts (byte ∷ bytes) h = rw rest_is refl
 
--- a register's name by its first byte and the others
+-- whether a text names a register is seen from its first byte and the others
 pub is_register_name_parts : (name : List ℕ) → 1 ≤ length name → is_register_name name
     ≡ (is_ascii_alphabetic (get_or name 0 0) && list_all is_ascii_alphanumeric (take (length name - 1) (drop 1 name)) && nat_le (length name) 16)
 unfolding is_register_name
@@ -38,6 +39,7 @@ all_ascii (byte ∷ bytes) h =
 pub utf8_from_ascii : (bytes : List ℕ) → list_all is_ascii bytes ≡ true → IsUtf8 bytes
 utf8_from_ascii bytes h = IsUtf8-from_ascii bytes (all_ascii bytes h)
 
+-- bytes that all pass a test all pass a weaker one
 pub all_weaker : (p q : ℕ → Bool) → ((byte : ℕ) → p byte ≡ true → q byte ≡ true) → (bytes : List ℕ) → list_all p bytes ≡ true → list_all q bytes ≡ true
 all_weaker p q weaker [] h = refl
 all_weaker p q weaker (byte ∷ bytes) h =
@@ -71,27 +73,34 @@ shaped first others byte bytes h =
     let q : (first byte ≡ true) × (list_all others bytes ≡ true) = and_parts (first byte) (list_all others bytes) p.0 in
     record { byte = byte; bytes = bytes; is = refl; begins = q.0; goes_on = q.1; short = leb-true (length (byte ∷ bytes)) 16 p.1 }
 
+-- the name of a place has that shape
 pub place_shaped : (name : List ℕ) → is_place_name name ≡ true → Shaped begins_place is_place_byte name
 unfolding is_place_name
 place_shaped [] h = absurd (cc)
 place_shaped (byte ∷ bytes) h = shaped begins_place is_place_byte byte bytes h
 
+-- the name of a register has that shape
 pub register_shaped : (name : List ℕ) → is_register_name name ≡ true → Shaped is_ascii_alphabetic is_ascii_alphanumeric name
 unfolding is_register_name
 register_shaped [] h = absurd (cc)
 register_shaped (byte ∷ bytes) h = shaped is_ascii_alphabetic is_ascii_alphanumeric byte bytes h
 
+-- a test that the first byte and the others pass is passed by all bytes of the name
 pub shaped_all : (first others q : ℕ → Bool) → ((byte : ℕ) → first byte ≡ true → q byte ≡ true) → ((byte : ℕ) → others byte ≡ true → q byte ≡ true) → (name : List ℕ) → Shaped first others name → list_all q name ≡ true
 shaped_all first others q f g name s = rw s.is (and_from (q s.byte) (list_all q s.bytes) (f s.byte s.begins) (all_weaker others q g s.bytes s.goes_on))
 
+-- the name of a place has at most 16 bytes
 pub place_name_short : (name : List ℕ) → is_place_name name ≡ true → length name ≤ 16
 place_name_short name h = (place_shaped name h).short
 
+-- the name of a register has at most 16 bytes
 pub register_name_short : (name : List ℕ) → is_register_name name ≡ true → length name ≤ 16
 register_name_short name h = (register_shaped name h).short
 
+-- the name of a place is ASCII
 pub place_name_ascii : (name : List ℕ) → is_place_name name ≡ true → list_all is_ascii name ≡ true
 place_name_ascii name h = shaped_all begins_place is_place_byte is_ascii begins_place_ascii place_byte_ascii name (place_shaped name h)
 
+-- the name of a register is ASCII
 pub register_name_ascii : (name : List ℕ) → is_register_name name ≡ true → list_all is_ascii name ≡ true
 register_name_ascii name h = shaped_all is_ascii_alphabetic is_ascii_alphanumeric is_ascii letter_ascii register_byte_ascii name (register_shaped name h)

@@ -16,6 +16,7 @@ use Rattle.std.proofs.lemmas.Str.Parse.{IsNumeralModel, numerals_by_value, parse
 use Rattle.text_laws.specs.Numbers.{number_of}
 use Rattle.text_laws.proofs.NameLaws.{all_weaker, utf8_from_ascii}
 
+-- decimal digits, without a sign, are numerals of base 10
 pub own : IsNumeralModel (λ ds. list_all is_ascii_digit ds ≡ true) (digits_value 10)
 own = numerals_by_value _ (search rules)
 
@@ -32,6 +33,7 @@ pub record Writes (digits : List ℕ) (n : ℕ) : Type 0 where
   pub small : n < 2 ^ 32
   pub is : digits ≡ decimal n
 
+-- a text that is read as a number is its decimal
 pub number_of_some : (digits : List ℕ) (n : ℕ) → number_of digits ≡ Some n → Writes digits n
 unfolding number_of
 number_of_some digits n h =
@@ -47,6 +49,7 @@ none_from : (o : Option ℕ) → ((n : ℕ) → o ≡ Some n → ⊥) → o ≡ 
 none_from None h = refl
 none_from (Some n) h = absurd (h n refl)
 
+-- a text with a byte that isn't a digit is no number
 pub not_digits : (digits : List ℕ) → list_all is_ascii_digit digits ≡ false → number_of digits ≡ None
 not_digits digits h = none_from (number_of digits) (λ n e.
     let w : Writes digits n = number_of_some digits n e in
@@ -56,6 +59,7 @@ zero_written : (n : ℕ) → n < 2 ^ 32 → get_or (decimal n) 0 0 ≡ 48 → le
 zero_written zero h e = ap length (decimal_digit 0 (omega arith))
 zero_written (suc n) h e = absurd (let k : 48 < get_or (decimal (suc n)) 0 0 = first_decimal (suc n) (omega arith) (omega arith) in omega arith)
 
+-- a text of two or more bytes with a leading zero is no number
 pub leading_zero : (digits : List ℕ) → get_or digits 0 0 ≡ 48 → 2 ≤ length digits → number_of digits ≡ None
 leading_zero digits first more = none_from (number_of digits) (λ n e.
     let w : Writes digits n = number_of_some digits n e in
@@ -63,6 +67,7 @@ leading_zero digits first more = none_from (number_of digits) (λ n e.
     let same : length digits ≡ length (decimal n) = ap length w.is in
     omega arith)
 
+-- digits are UTF-8
 pub digits_ascii : (digits : List ℕ) → list_all is_ascii_digit digits ≡ true → IsUtf8 digits
 digits_ascii digits h = utf8_from_ascii digits (all_weaker is_ascii_digit is_ascii (λ byte p. grind (arith, nat_tests)) digits h)
 
@@ -86,6 +91,7 @@ none_written digits never all = none_from (number_of digits) (λ n e.
     let some : 0 < length (decimal n) = decimal_nonempty n s in
     never (all, omega arith, subst (λ (m : ℕ). m < 2 ^ 32) (sym v) w.small))
 
+-- the library's parser gives the number that digits write
 pub parsed : {E : Type 0} (digits : List ℕ) (r : Result ℕ E) → list_all is_ascii_digit digits ≡ true → (get_or digits 0 0 ≡ 48 → length digits < 2) → ParsesUnsigned 32 10 digits r → result_ok r ≡ number_of digits
 parsed digits r all plain parses = by_answer r (parse_plain own 32 digits r parses (no_plus digits all))
   where

@@ -1,4 +1,4 @@
--- The front of a text as far as its bytes pass: how a walk finds it, and what it is where the text is known.
+-- The longest beginning of a text whose bytes all pass a test: how a walk finds it, and what it is for a text that is known.
 use Rattle.std.proofs.Common.{◌≡◌, ℕ, suc, ◌+◌, ◌<◌, ◌≤◌, List, [], ◌∷◌, ◌++◌, length, get_or, take, drop, refl, sym, ap, ◌∙◌, arith, add-one, append_assoc, append-nil, length-append}
 use Rattle.std.specs.Prelude.{Bool, true, false}
 use Rattle.std.specs.List.{list_all}
@@ -6,6 +6,7 @@ use Rattle.std.proofs.Math.Seq.{drop-cons, drop-length, take-length}
 use Rattle.std.proofs.lemmas.List.{take_more}
 use Rattle.text_laws.specs.Runs.{run_of, after_run}
 
+-- what follows both from a test that holds and from one that fails follows
 pub by_test : {G : Type 0} (b : Bool) → (b ≡ true → G) → (b ≡ false → G) → G
 by_test true p q = p refl
 by_test false p q = q refl
@@ -31,9 +32,11 @@ pub record Passed (passes : ℕ → Bool) (text : List ℕ) (i : ℕ) : Type 0 w
   pub run : run_of passes text ≡ take i text ++ run_of passes (drop i text)
   pub rest : after_run passes text ≡ after_run passes (drop i text)
 
+-- at the beginning the walk has passed no bytes
 pub none_passed : (passes : ℕ → Bool) (text : List ℕ) → Passed passes text 0
 none_passed passes text = record { run = refl; rest = refl }
 
+-- a byte that passes takes the walk one place further
 pub one_passed : (passes : ℕ → Bool) (text : List ℕ) (i : ℕ) → i < length text → passes (get_or text i 0) ≡ true → Passed passes text i → Passed passes text (i + 1)
 one_passed passes text i inside passing p =
     let e : drop i text ≡ get_or text i 0 ∷ drop (i + 1) text = rw add-one (drop-cons text i 0 inside) in
@@ -65,7 +68,7 @@ run_passes passes [] = refl
 run_passes passes (byte ∷ text) =
     by_test (passes byte) (λ h. rw (h, h, run_passes passes text) refl) (λ h. rw h refl)
 
--- what stands behind a run is no longer than the text
+-- what comes after a run is no longer than the text
 pub after_run-le : (passes : ℕ → Bool) (text : List ℕ) → length (after_run passes text) ≤ length text
 unfolding after_run
 after_run-le passes [] = omega arith

@@ -1,4 +1,4 @@
--- The writes of a place that are put one after another, and those of the first places.
+-- The writes of a place that are added one after another, and those of the first places.
 use Rattle.std.proofs.Common.{◌≡◌, ℕ, ◌+◌, ◌-◌, ◌<◌, ◌≤◌, ◌==◌, List, [], ◌∷◌, ◌++◌, length, Option, Some, None, refl, sym, ap, ◌∙◌, subst, arith}
 use Rattle.std.specs.Prelude.{if◌then◌else◌}
 use Rattle.std.specs.List.{filter_map}
@@ -19,17 +19,18 @@ abbrev pub place_to : List Edge → Option ℕ → ℕ → Execution → ℕ →
 place_to es moved location old place n =
     record old { orders = appended old.orders place (filter_map (λ k. write_of es location (value_there es moved location (k + 1))) (upto n)) }
 
+-- before the first write the execution is as it was
 pub place_begins : (es : List Edge) (moved : Option ℕ) (location : ℕ) (old : Execution) (place : ℕ) → old ≡ place_to es moved location old place 0
 place_begins es moved location old place = ap (λ orders. record old { orders = orders }) (sym (appended_none old.orders place))
 
--- the place is still there
+-- the place is still there after some of its writes were added
 pub place_inside : (es : List Edge) (moved : Option ℕ) (location : ℕ) (old x : Execution) (place n : ℕ) → place < length old.orders
     → x ≡ place_to es moved location old place n → place < length x.orders
 place_inside es moved location old x place n h before =
     let some = filter_map (λ k. write_of es location (value_there es moved location (k + 1))) (upto n) in
     subst (λ (z : Execution). place < length z.orders) (sym before) (subst (λ m. place < m) (sym (appended_length old.orders place some)) h)
 
--- one write more
+-- with the next write added, the place has one write more of the location
 pub place_more : (es : List Edge) (moved : Option ℕ) (location : ℕ) (old x y : Execution) (place n value : ℕ) (write : WriteAt) → value ≡ value_there es moved location (n + 1)
     → write_of es location value ≡ Some write → x ≡ place_to es moved location old place n → y ≡ with_write x place write → y ≡ place_to es moved location old place (n + 1)
 place_more es moved location old x y place n value write v f before put =
@@ -38,25 +39,26 @@ place_more es moved location old x y place n value write v f before put =
     ∙ ap (λ orders. record old { orders = orders }) (added_appended old.orders place (filter_map there (upto n)) write)
     ∙ ap (λ orders. record old { orders = appended old.orders place orders }) (sym (found_more there n write (ap (write_of es location) (sym v) ∙ f)))
 
--- a value that no write has
+-- a value that no write has leaves the place with the writes that it has
 pub place_same : (es : List Edge) (moved : Option ℕ) (location : ℕ) (old x : Execution) (place n value : ℕ) → value ≡ value_there es moved location (n + 1)
     → write_of es location value ≡ None → x ≡ place_to es moved location old place n → x ≡ place_to es moved location old place (n + 1)
 place_same es moved location old x place n value v f before =
     let there = λ (k : ℕ). write_of es location (value_there es moved location (k + 1)) in
     before ∙ ap (λ orders. record old { orders = appended old.orders place orders }) (sym (found_no_more there n (ap (write_of es location) (sym v) ∙ f)))
 
+-- where no write is left, the place has all writes of its order
 pub place_whole : (es : List Edge) (moved : Option ℕ) (location : ℕ) (old x : Execution) (place n : ℕ) → n ≡ write_count es location → x ≡ place_to es moved location old place n
     → x ≡ record old { orders = appended old.orders place (order_of es moved location) }
 unfolding order_of
 place_whole es moved location old x place n e before = before ∙ ap (λ m. place_to es moved location old place m) e
 
--- one place more has its writes
+-- with the order of one place more, the first places have their orders
 pub places_more : (f : ℕ → List WriteAt) (old x y : Execution) (n k : ℕ) → k < n → x ≡ record old { orders = filled_to f n k }
     → y ≡ record x { orders = appended x.orders k (f k) } → y ≡ record old { orders = filled_to f n (k + 1) }
 places_more f old x y n k h before put =
     put ∙ ap (λ (z : Execution). record z { orders = appended z.orders k (f k) }) before ∙ ap (λ orders. record old { orders = orders }) (filled_more f n k h)
 
--- a value where two are exchanged is one up to the most
+-- where two values are exchanged, the value is still at most the greatest
 pub swapped_most : (w v n : ℕ) → w ≤ n → v ≤ n → swapped w v ≤ n
 swapped_most w v n a b =
     by_test (v == w)

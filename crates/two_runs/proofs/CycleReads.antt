@@ -30,7 +30,7 @@ both_tests p q (x ∷ xs) =
     (λ reads. simp (other, reads) (both_tests p q xs))
     (λ none. simp (other, none) (both_tests p q xs)))
 
--- all of them
+-- the reads of a thread among all events are all its reads
 pub reads_all : (es : List Edge) (thread n : ℕ) → n ≡ length es → reads_before es thread n ≡ reads_in es thread
 unfolding events_in
 reads_all es thread n e =
@@ -41,10 +41,11 @@ reads_all es thread n e =
 abbrev pub thread_to : List Edge → Execution → ℕ → ℕ → Execution
 thread_to es old thread n = record old { reads = appended old.reads thread (map (event_read es) (reads_before es thread n)) }
 
+-- before the first event the execution is as it was
 pub thread_begins : (es : List Edge) (old : Execution) (thread : ℕ) → old ≡ thread_to es old thread 0
 thread_begins es old thread = ap (λ reads. record old { reads = reads }) (sym (appended_none old.reads thread))
 
--- one read more
+-- with the next read added, the thread has the reads up to that event
 pub thread_more : (es : List Edge) (old x y : Execution) (thread n location value : ℕ) (from : Option WriteAt) → is_read_of es thread n ≡ true
     → value ≡ value_of es n → location ≡ location_of es n → from ≡ write_of es location value
     → x ≡ thread_to es old thread n → y ≡ with_read x thread (value, from) → y ≡ thread_to es old thread (n + 1)
@@ -57,18 +58,19 @@ thread_more es old x y thread n location value from reads v l f before put =
     ∙ ap (λ reads. record old { reads = appended old.reads thread reads })
     (sym (ap (map (event_read es)) (filter_yes (is_read_of es thread) n reads) ∙ map-append (event_read es) (reads_before es thread n) (n ∷ [])))
 
--- an event that isn't one
+-- an event that isn't a read of the thread leaves the thread with the reads that it has
 pub thread_same : (es : List Edge) (old x : Execution) (thread n : ℕ) → is_read_of es thread n ≡ false
     → x ≡ thread_to es old thread n → x ≡ thread_to es old thread (n + 1)
 thread_same es old x thread n none before =
     before ∙ ap (λ events. record old { reads = appended old.reads thread (map (event_read es) events) }) (sym (filter_no (is_read_of es thread) n none))
 
+-- where no event is left, the thread has all its reads
 pub thread_whole : (es : List Edge) (old x : Execution) (thread n : ℕ) → n ≡ length es → x ≡ thread_to es old thread n
     → x ≡ record old { reads = appended old.reads thread (map (event_read es) (reads_in es thread)) }
 thread_whole es old x thread n e before =
     before ∙ ap (λ events. record old { reads = appended old.reads thread (map (event_read es) events) }) (reads_all es thread n e)
 
--- one thread more has its reads
+-- with the reads of one thread more, the first threads have their reads
 pub threads_more : (f : ℕ → List (ℕ × Option WriteAt)) (old x y : Execution) (n k : ℕ) → k < n → x ≡ record old { reads = filled_to f n k }
     → y ≡ record x { reads = appended x.reads k (f k) } → y ≡ record old { reads = filled_to f n (k + 1) }
 threads_more f old x y n k h before put =

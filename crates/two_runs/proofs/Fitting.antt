@@ -33,7 +33,7 @@ each_below P n f i d h =
     let below : i < n = omega (arith, h, length-upto n) in
     subst P (sym (get_or-upto n i d below)) (f i below)
 
--- what is found holds of each, and no more is found than is sought
+-- what holds of each thing that can be found holds of all that are found, and no more are found than are looked for
 found_first : {Y : Type 0} (P : Y → Type 0) (found : Option Y) (ys : List Y) → ((y : Y) → found ≡ Some y → P y) → All P ys → All P (cons_option found ys)
 found_first P None ys f h = h
 found_first P (Some y) ys f h = All-cons P y ys (f y refl) h
@@ -54,11 +54,11 @@ no_more_found g (x ∷ xs) = omega (arith, no_more_first (g x) (filter_map g xs)
 few_edges : (es : List Edge) → IsResolved es → length es ≤ MAX_EDGES
 few_edges es r = r.composes.few
 
--- an event can be named
+-- a text can name an event
 event_fits : (es : List Edge) (i : ℕ) → IsResolved es → i < length es → AccessFits (external_count es) (event_name es i)
 event_fits es i r h = (thread_below es i r h, omega (arith, slot_most es i, h, few_edges es r))
 
--- and so can the write of a location with a value, or there is none
+-- a text can name the write of a location with a value, or there is none
 write_fits : (es : List Edge) (location value : ℕ) → IsResolved es → SourceFits (external_count es) (write_of es location value)
 write_fits es location zero r = tt
 write_fits es location (suc k) r = at_event (write_at es location k) refl
@@ -67,14 +67,14 @@ write_fits es location (suc k) r = at_event (write_at es location k) refl
     at_event None e = tt
     at_event (Some i) e = event_fits es i r (number_written es location k i e).below
 
--- what an event reads can be told
+-- a text can name what an event reads
 read_fits : (es : List Edge) (i : ℕ) → IsResolved es → ReadFits (external_count es) (event_read es i)
 read_fits es i r = (
   omega (arith, value_most es i, write_count_most es (location_of es i), few_edges es r),
   write_fits es (location_of es i) (value_of es i) r,
 )
 
--- the reads of a thread can be told, and are few
+-- a text can name the reads of a thread, and they are few
 thread_fits : (es : List Edge) (thread : ℕ) → IsResolved es → All (ReadFits (external_count es)) (map (event_read es) (reads_in es thread))
 thread_fits es thread r = All-map (ReadFits (external_count es)) (event_read es) (reads_in es thread) (λ k d h. read_fits es _ r)
 
@@ -90,7 +90,7 @@ thread_few es thread r =
       few_edges es r,
     )
 
--- the writes of a location can be told, and are few
+-- a text can name the writes of a location, and they are few
 order_fits : (es : List Edge) (moved : Option ℕ) (location : ℕ) → IsResolved es → All (AccessFits (external_count es)) (order_of es moved location)
 unfolding order_of
 order_fits es moved location r =

@@ -9,18 +9,19 @@ use Rattle.list_laws.proofs.Numbers.{length-map-upto, map-upto_more}
 use Rattle.exec_meaning.specs.Kept.{added, empty_lists}
 use Rattle.two_runs.specs.Runs.{appended}
 
--- nothing more
+-- lists with no element more are as they were
 pub appended_none : {X : Type 0} (lists : List (List X)) (k : ℕ) → appended lists k [] ≡ lists
 appended_none [] k = refl
 appended_none (xs ∷ lists) zero = ap (λ ys. ys ∷ lists) (append-nil xs)
 appended_none (xs ∷ lists) (suc k) = ap (λ ls. xs ∷ ls) (appended_none lists k)
 
--- one more after some
+-- one element after some appended is all of them appended
 pub added_appended : {X : Type 0} (lists : List (List X)) (k : ℕ) (xs : List X) (x : X) → added (appended lists k xs) k x ≡ appended lists k (xs ++ x ∷ [])
 added_appended [] k xs x = refl
 added_appended (ys ∷ lists) zero xs x = ap (λ zs. zs ∷ lists) (append_assoc ys xs (x ∷ []))
 added_appended (ys ∷ lists) (suc k) xs x = ap (λ ls. ys ∷ ls) (added_appended lists k xs x)
 
+-- appended elements don't change how many lists there are
 pub appended_length : {X : Type 0} (lists : List (List X)) (k : ℕ) (xs : List X) → length (appended lists k xs) ≡ length lists
 appended_length lists k xs = length-set lists k (unwrap_or (slice_get lists k) [] ++ xs)
 
@@ -29,10 +30,11 @@ at_end : {X : Type 0} (done : List (List X)) (ys : List X) (rest : List (List X)
 at_end [] ys rest xs = refl
 at_end (zs ∷ done) ys rest xs = ap (λ ls. zs ∷ ls) (at_end done ys rest xs)
 
--- the first lists have their elements, and the others none
+-- the first lists have their elements, and the others have none
 abbrev pub filled_to : {X : Type 0} → (ℕ → List X) → ℕ → ℕ → List (List X)
 filled_to f n k = map f (upto k) ++ empty_lists (n - k)
 
+-- with the elements of the next list, one list more has its elements
 pub filled_more : {X : Type 0} (f : ℕ → List X) (n k : ℕ) → k < n → appended (filled_to f n k) k (f k) ≡ filled_to f n (k + 1)
 filled_more f n k h =
     let left : n - k ≡ suc (n - (k + 1)) = omega arith in
@@ -43,16 +45,19 @@ filled_more f n k h =
     ∙ sym (append_assoc (map f (upto k)) (f k ∷ []) rest)
     ∙ ap (λ ls. ls ++ rest) (sym (map-upto_more f k))
 
+-- before the first list all lists are empty
 pub filled_none : {X : Type 0} (f : ℕ → List X) (n : ℕ) → filled_to f n 0 ≡ empty_lists n
 filled_none f n =
     let all : n - 0 ≡ n = omega arith in
     ap empty_lists all
 
+-- where no list is left, all lists have their elements
 pub filled_whole : {X : Type 0} (f : ℕ → List X) (n : ℕ) → filled_to f n n ≡ map f (upto n)
 filled_whole f n =
     let none : n - n ≡ zero = omega arith in
     ap (λ m. map f (upto n) ++ empty_lists m) none ∙ append-nil (map f (upto n))
 
+-- there is a list for each number below n, however many have their elements
 pub filled_length : {X : Type 0} (f : ℕ → List X) (n k : ℕ) → k < n → k < length (filled_to f n k)
 filled_length f n k h =
     let left : n - k ≡ suc (n - (k + 1)) = omega arith in
@@ -61,23 +66,25 @@ filled_length f n k h =
     longer : {Y : Type 0} (ys : List Y) (y : Y) (rest : List Y) (k : ℕ) → length ys ≡ k → k < length (ys ++ y ∷ rest)
     longer ys y rest k e = rw (length-append ys (y ∷ rest)) (omega (arith, e))
 
--- numbers that pass a test, and one number more
+-- a number that passes a test is the last of those up to it that pass
 pub filter_yes : (p : ℕ → Bool) (n : ℕ) → p n ≡ true → filter p (upto (n + 1)) ≡ filter p (upto n) ++ n ∷ []
 filter_yes p n h =
     let more : n + 1 ≡ suc n = omega arith in
     ap (λ m. filter p (upto m)) more ∙ filter-append p (upto n) (n ∷ []) ∙ ap (λ b. filter p (upto n) ++ cond b (n ∷ []) []) h
 
+-- a number that doesn't pass a test adds none to those that pass
 pub filter_no : (p : ℕ → Bool) (n : ℕ) → p n ≡ false → filter p (upto (n + 1)) ≡ filter p (upto n)
 filter_no p n h =
     let more : n + 1 ≡ suc n = omega arith in
     ap (λ m. filter p (upto m)) more ∙ filter-append p (upto n) (n ∷ []) ∙ ap (λ b. filter p (upto n) ++ cond b (n ∷ []) []) h ∙ append-nil (filter p (upto n))
 
--- what numbers lead to, and one number more
+-- a number that leads to something adds that to what the numbers before it lead to
 pub found_more : {X : Type 0} (f : ℕ → Option X) (n : ℕ) (x : X) → f n ≡ Some x → filter_map f (upto (n + 1)) ≡ filter_map f (upto n) ++ x ∷ []
 found_more f n x h =
     let more : n + 1 ≡ suc n = omega arith in
     ap (λ m. filter_map f (upto m)) more ∙ filter_map-append f (upto n) (n ∷ []) ∙ ap (λ y. filter_map f (upto n) ++ cons_option y []) h
 
+-- a number that leads to nothing adds nothing to what the numbers before it lead to
 pub found_no_more : {X : Type 0} (f : ℕ → Option X) (n : ℕ) → f n ≡ None → filter_map f (upto (n + 1)) ≡ filter_map f (upto n)
 found_no_more f n h =
     let more : n + 1 ≡ suc n = omega arith in

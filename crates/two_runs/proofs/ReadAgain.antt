@@ -1,4 +1,4 @@
--- The text of an execution that is made is read as that execution, by what the text of the test is read as.
+-- The text of an execution that is made is read as that execution, with the threads and places of the test that was read.
 use Rattle.std.proofs.Common.{◌≡◌, ◌≤◌, ◌<◌, ℕ, List, [], ◌∷◌, map, length, true, refl, sym, ap, ◌∙◌, subst, arith}
 use Rattle.std.specs.Prelude.{Option, Result, Ok}
 use Rattle.std.specs.List.{AllByRecursion, list_all}

@@ -1,5 +1,5 @@
--- What is made is what is to be shown: the two executions are the intended one and the exchanged one, and the law of refusals speaks
--- of the test that was read.
+-- What is made is what is to be shown: the two executions are the intended one and the exchanged one, and the law of refusals
+-- is about the test that was read.
 use Rattle.std.proofs.Common.{◌≡◌, ℕ, suc, ◌+◌, ◌<◌, Bool, false, cond, List, [], ◌∷◌, ◌++◌, length, map, Option, Some, None, Ok, Err, refl, sym, ap, ◌∙◌, subst, arith, append-nil}
 use Rattle.std.specs.Prelude.{Result}
 use Rattle.std.specs.List.{filter, filter_map}
@@ -55,7 +55,7 @@ in_order es location =
     ap (λ f. filter_map f (upto (write_count es location)))
     (fun_ext (λ (k : ℕ). let next : k + 1 ≡ suc k = omega arith in ap (write_of es location) next))
 
--- no write is exchanged
+-- where no write is exchanged, the execution is the intended one
 pub run_intended : (es : List Edge) (number : ℕ → ℕ) → run_by es None number ≡ intended es Avoid number
 unfolding intended
 run_intended es number = λ i. record {
@@ -63,7 +63,7 @@ run_intended es number = λ i. record {
   orders = map (λ place. in_order es (location_numbered es number place) i) (upto (move_count es));
 }
 
--- a write and the one before it are
+-- where a write and the one before it are exchanged, the execution is the exchanged one
 pub run_exchanged : (es : List Edge) (event : ℕ) (number : ℕ → ℕ) → run_by es (Some event) number ≡ exchanged es number event
 unfolding exchanged order_of exchanged_order
 run_exchanged es event number = λ i. record {
@@ -78,13 +78,13 @@ need_below es need event resolved needs e =
     let same : need.event ≡ event = cc in
     subst (λ i. i < length es) same (refused_entry es need (resolves es resolved) needs).below
 
--- the law, by the architecture's own name
+-- the law of refusals, under the architecture's own name
 pub undecided : (a : Puts) (arch : ArchName) (w : Writing) (name : List ℕ) (es : List Edge) (need : NeedsObserver) → a.name ≡ arch → PrintedUndecided a arch w
     → IsTestName name → HasCode a es Avoid → observer_need es ≡ Some need → BytesUndecided a.name w (test_text a.name w name (shown_test a w es Avoid)) es need.event
 undecided a arch w name es need same law named code needs =
     subst (λ (n : ArchName). BytesUndecided n w (test_text n w name (shown_test a w es Avoid)) es need.event) (sym same) (law name es need named code needs)
 
--- a fault that is told is that of the text
+-- a fault that is given is that of the text
 pub gives_fault : {X : Type 0} (view : X → TestRead) (read : Result TestRead TextError) (error : ReadError) (fault : TextError) → error ≡ errors.Text fault
     → GivesInMemory view (Err error) read → read ≡ Err fault
 gives_fault view read error fault e gives = subst (λ (error : ReadError). GivesInMemory view (Err error) read) e gives
@@ -97,7 +97,7 @@ no_fault arch w text bytes whole es event fault t b u e = apart u.test (sym u.re
     apart : (test : TestRead) → (let left : Result TestRead TextError = Ok test in left) ≡ Err fault → ⊥
     apart test e = cc e
 
--- what is made is to be shown
+-- what is made is what is to be shown
 pub are_runs : (a : Puts) (w : Writing) (name : List ℕ) (es : List Edge) (need : NeedsObserver) (text bytes : List ℕ) (test : TestRead) (one two : Execution)
     → text ≡ test_text a.name w name (shown_test a w es Avoid) → bytes ≡ text → BytesUndecided a.name w (test_text a.name w name (shown_test a w es Avoid)) es need.event
     → test_read a.name w bytes ≡ Ok test → one ≡ run_by es None (numbers_by test.places) → two ≡ run_by es (Some need.event) (numbers_by test.places)

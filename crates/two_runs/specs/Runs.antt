@@ -41,7 +41,7 @@ thread_reads es thread = map (event_read es) (reads_in es thread)
 abbrev pub cycle_reads : List Edge → List (List (ℕ × Option WriteAt))
 cycle_reads es = map (thread_reads es) (upto (external_count es))
 
--- the value whose write stands where the write of a value would, if a write and the one before it are exchanged, or none are
+-- the value whose write takes the place of a value's write, where a write and the one before it are exchanged, or none are
 abbrev pub value_there : List Edge → Option ℕ → ℕ → ℕ → ℕ
 value_there es None location v = v
 value_there es (Some event) location v = exchanged_value es event location v
@@ -50,7 +50,7 @@ value_there es (Some event) location v = exchanged_value es event location v
 unfoldable pub order_of : List Edge → Option ℕ → ℕ → List WriteAt
 order_of es moved location = filter_map (λ k. write_of es location (value_there es moved location (k + 1))) (upto (write_count es location))
 
--- the execution with these orders
+-- the execution of a cycle's test with the cycle's reads and these orders
 abbrev pub run_by : List Edge → Option ℕ → (ℕ → ℕ) → Execution
 run_by es moved number = record {
   reads = cycle_reads es;

@@ -46,13 +46,13 @@ abbrev pub needless : Puts → List Edge → Option NeedsObserver → Option Why
 needless a es None = Some refusals.NothingToShow
 needless a es (Some need) = crowded a es
 
--- why nothing is shown of a cycle that has this resolution, or none
+-- why nothing is shown of a cycle that has this resolution, or none that is right
 abbrev pub unshown : Puts → Result (List Edge) ResolveError → Option WhyRefusal
 unshown a (Err resolving.TooFewThreads) = Some refusals.TooFewThreads
 unshown a (Err resolving.CoherenceOnly) = Some refusals.CoherenceOnly
 unshown a (Ok es) = needless a es (observer_need es)
 
--- an edge isn't of the architecture: the first such
+-- why nothing is shown of a cycle with an edge that isn't of the architecture: the first such
 abbrev pub foreign : ArchName → List Edge → Option WhyRefusal
 foreign arch cycle = option_map (λ at. refusals.NotOfArch at) (position_from (λ edge. not (is_of_arch edge arch)) 0 cycle)
 
@@ -73,44 +73,46 @@ pub record AreRuns (a : Puts) (w : Writing) (name : List ℕ) (es : List Edge) (
   pub first_reads : execution_read (length test.threads) test.places (text_of_execution test.places one) ≡ Ok one
   pub second_reads : execution_read (length test.threads) test.places (text_of_execution test.places two) ≡ Ok two
 
--- the text of the test without observers is given, which has code on the architecture; or the first thread that needs too many
--- registers; or no thread does, and there is no memory
+-- given is the text of the test without observers, which has code on the architecture; or the first thread that needs too many
+-- registers; or, where no thread does, that there is no memory
 abbrev pub GivesText : Puts → Writing → List ℕ → List Edge → Result (Vec ℕ Global) WhyError → Type 0
 GivesText a w name es (Ok text) = (crowded a es ≡ None) × HasCode a es Avoid × (text.items ≡ test_text a.name w name (shown_test a w es Avoid))
 GivesText a w name es (Err errors.NoMemory) = crowded a es ≡ None
 GivesText a w name es (Err (errors.Refused refusal)) = crowded a es ≡ Some refusal
 
--- that is shown, or there is the first reason against it, or there is none, but no memory: of a resolved cycle in which this
--- write needs an observer
+-- what is given for a resolved cycle in which this write needs an observer: the text and the two executions; or the first reason
+-- why nothing is shown; or, where there is no such reason, that there is no memory
 abbrev pub ShowsNeed : {A : Type 0} → Puts → Writing → List ℕ → List Edge → NeedsObserver → Result (TwoRuns A) WhyError → Type 0
 ShowsNeed a w name es need (Ok runs) = (crowded a es ≡ None) × AreRuns a w name es need runs.text.items runs.test runs.one runs.two
 ShowsNeed a w name es need (Err errors.NoMemory) = crowded a es ≡ None
 ShowsNeed a w name es need (Err (errors.Refused refusal)) = crowded a es ≡ Some refusal
 
--- the same of a resolved cycle that has this need of an observer, or none
+-- a write of the resolved cycle needs an observer, and the text and the executions are those of this need
 pub record AreRunsFor (a : Puts) (w : Writing) (name : List ℕ) (es : List Edge) (needed : Option NeedsObserver) (text : List ℕ) (test : TestRead) (one two : Execution) : Type 0 where
   pub need : NeedsObserver
   pub needs : needed ≡ Some need
   pub runs : AreRuns a w name es need text test one two
 
+-- what is given for a resolved cycle in which this write needs an observer, or none does
 abbrev pub ShowsResolved : {A : Type 0} → Puts → Writing → List ℕ → List Edge → Option NeedsObserver → Result (TwoRuns A) WhyError → Type 0
 ShowsResolved a w name es needed (Ok runs) = (needless a es needed ≡ None) × AreRunsFor a w name es needed runs.text.items runs.test runs.one runs.two
 ShowsResolved a w name es needed (Err errors.NoMemory) = needless a es needed ≡ None
 ShowsResolved a w name es needed (Err (errors.Refused refusal)) = needless a es needed ≡ Some refusal
 
--- the same of a cycle by its resolution, if it has one
+-- a cycle has a resolution, and the text and the executions are those of the resolved cycle
 pub record AreRunsIn (a : Puts) (w : Writing) (name : List ℕ) (resolution : Result (List Edge) ResolveError) (text : List ℕ) (test : TestRead) (one two : Execution) : Type 0 where
   pub es : List Edge
   pub resolved : resolution ≡ Ok es
   pub runs : AreRunsFor a w name es (observer_need es) text test one two
 
+-- what is given for a cycle by its resolution, if it has one
 abbrev pub ShowsResolution : {A : Type 0} → Puts → Writing → List ℕ → Result (List Edge) ResolveError → Result (TwoRuns A) WhyError → Type 0
 ShowsResolution a w name resolution (Ok runs) = (unshown a resolution ≡ None) × AreRunsIn a w name resolution runs.text.items runs.test runs.one runs.two
 ShowsResolution a w name resolution (Err errors.NoMemory) = unshown a resolution ≡ None
 ShowsResolution a w name resolution (Err (errors.Refused refusal)) = unshown a resolution ≡ Some refusal
 
--- a call shows a cycle: the text of its test without observers and the two executions; or it gives the first reason why
--- nothing is shown; or there is no such reason, but no memory
+-- what a call gives for a cycle: the text of its test without observers and the two executions; or the first reason why
+-- nothing is shown; or, where there is no such reason, that there is no memory
 abbrev pub Shows : {A : Type 0} → Puts → Writing → List ℕ → List Edge → Result (TwoRuns A) WhyError → Type 0
 Shows a w name cycle (Ok runs) =
     (why_refused a cycle ≡ None) × AreRunsFor a w name (turned cycle) (observer_need (turned cycle)) runs.text.items runs.test runs.one runs.two

@@ -19,7 +19,7 @@ pub enum WhyRefusal {
     TooManyRegisters { thread: u8 },
 }
 
-/// Why they aren't given.
+/// Why two executions aren't given.
 #[derive(Clone, Copy, Debug, PartialEq, Eq)]
 pub enum WhyError {
     /// There is nothing to show, for this reason, the first that holds.

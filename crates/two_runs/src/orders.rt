@@ -13,8 +13,8 @@ use coherence_values::Valued;
 use diy_io::NoMemory;
 use exec_meaning::Execution;
 
-/// Adds the writes of all places. Those of a location are in the order of their values, but that the write
-/// `moved`, if there is one, stands before the one before it.
+/// Adds the writes of all places. Those of a location are in the order of their values, except that the write
+/// `moved`, if there is one, is exchanged with the one before it.
 pub(crate) fn add_orders(
     valued: &Valued,
     places: &Places,
@@ -53,7 +53,7 @@ fn add_order(
     Ok(())
 }
 
-/// The value whose write stands where the write of a value would, if a write and the one before it are
+/// The value whose write takes the place of a value's write, where a write and the one before it are
 /// exchanged.
 fn value_there(valued: &Valued, moved: Option<u8>, location: u8, value: u8) -> u8
     requires some { 1 ≤ value }
@@ -71,7 +71,7 @@ fn value_there(valued: &Valued, moved: Option<u8>, location: u8, value: u8) -> u
     }
 }
 
-/// The same where the writes of a value and of the value before it are exchanged.
+/// That value, where the writes of `value` and of the value before it are exchanged.
 fn swapped(value: u8, v: u8) -> u8
     requires some { 1 ≤ v }
     requires below { v < 255 }

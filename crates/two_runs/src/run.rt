@@ -11,8 +11,8 @@ use exec_meaning::Execution;
 use std::alloc::Global;
 
 /// The execution of a cycle's test without observers in which each read reads the write of its value, and
-/// the writes of a location are in the order of their values, but that the write `moved`, if there is one,
-/// stands before the one before it. Places are numbered by these names.
+/// the writes of a location are in the order of their values, except that the write `moved`, if there is one,
+/// is exchanged with the one before it. Places are numbered by these names.
 pub(crate) fn run_of(
     alloc: Global,
     valued: &Valued,

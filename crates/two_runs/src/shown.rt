@@ -30,7 +30,7 @@ pub struct TwoRuns<A> {
     pub test: ReadTest<A>,
     /// The intended execution, in which all edges of the cycle stand.
     pub one: Execution,
-    /// The same, but with the write that needs an observer exchanged with the write before it in the
+    /// The same, except that the write that needs an observer is exchanged with the write before it in the
     /// coherence order: the edge into that write doesn't stand.
     pub two: Execution,
 }

@@ -1,4 +1,4 @@
--- Values along the edges: at a write the value grows by one, at a read it stays, and behind a `d` edge it begins at 0.
+-- Values along the edges: at a write the value grows by one, at a read it stays, and after a `d` edge it begins at 0.
 use Rattle.std.proofs.Common.{◌≡◌, ℕ, ◌+◌, ◌<◌, ◌≤◌, Bool, true, false, ◌==◌, ◌&&◌, cond, List, length, refl, sym, ◌∙◌, ap, arith, eq-eqb}
 use Rattle.std.specs.List.{count_by}
 use Rattle.std.specs.Prelude.{nat_le}
@@ -41,7 +41,7 @@ value_one_on es i k h l e w =
     (λ f. let none : q k ≡ false = and_left (is_write_at es (location_of es i) k) (nat_le (way_place es k) (way_place es i + 1)) (and_left (is_write es k) (location_of es k == location_of es i) f) in
     rw f (omega (arith, count_upto_same q p (length es) (λ j a. by_same j k (λ z. rw z (none ∙ sym old)) (others j a)))))
 
--- behind a `d` edge the arc begins
+-- after a `d` edge an arc begins
 value_begins : (es : List Edge) (i : ℕ) → IsResolved es → i < length es → is_diff (edge_at es i) ≡ true → value_of es (i + 1) ≡ cond (is_write es (i + 1)) 1 0
 unfolding value_of writes_up_to
 value_begins es i r h t =
@@ -76,7 +76,7 @@ values_up es i j e w =
     (λ m l t. let parts = and_parts (is_write_at es (location_of es j) m) (nat_le (way_place es m) (way_place es i)) t in
     and_from (is_write_at es (location_of es j) m) (nat_le (way_place es m) (way_place es j)) parts.0 (le-leb (way_place es m) (way_place es j) (omega (arith, w, leb-true (way_place es m) (way_place es i) parts.1)))))
 
--- and into a write by at least one
+-- at one location, along the way into a write values grow by at least one
 pub values_grow : (es : List Edge) (i j : ℕ) → j < length es → location_of es i ≡ location_of es j → way_place es i < way_place es j → is_write es j ≡ true → value_of es i + 1 ≤ value_of es j
 unfolding value_of
 values_grow es i j h e w t =
@@ -114,10 +114,11 @@ write_value es i r h t =
     let a = value_after es (event_before es i) r (before_below es i h) in
     omega (arith, rw (after_before es i h, t) at a)
 
--- in one thread at one location values grow, and into a write by at least one
+-- in one thread at one location values don't fall
 pub values_in_thread : (es : List Edge) (i j : ℕ) → IsResolved es → i ≤ j → j < length es → thread_of es i ≡ thread_of es j → location_of es i ≡ location_of es j → value_of es i ≤ value_of es j
 values_in_thread es i j r h l t e = values_up es i j e (way_in_thread es i j r h l t e)
 
+-- in one thread at one location values grow into a write by at least one
 pub values_in_thread_grow : (es : List Edge) (i j : ℕ) → IsResolved es → i < j → j < length es → thread_of es i ≡ thread_of es j → location_of es i ≡ location_of es j → is_write es j ≡ true → value_of es i + 1 ≤ value_of es j
 values_in_thread_grow es i j r h l t e w =
     values_grow es i j l e

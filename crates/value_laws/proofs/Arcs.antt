@@ -85,7 +85,7 @@ place_on_arc es l i h e =
 below_all : (n : ℕ) → All (λ i. i < n) (upto n)
 below_all n k d h = omega (arith, h, length-upto n, get_or-upto n k d (omega (arith, h, length-upto n)))
 
--- behind the moves the way begins, and all others come later
+-- the way begins after the last move, and all other events come later
 behind_place : (es : List Edge) (i : ℕ) → is_behind_moves es i ≡ true → way_place es i ≡ i
 unfolding way_place
 behind_place es i t = rw t refl
@@ -120,7 +120,7 @@ way_grows es =
     later : ℕ → Bool
     later i = not (is_behind_moves es i)
 
--- and so along each arc
+-- the place on the way grows along each arc
 pub arc_places_grow : (es : List Edge) (l : ℕ) → AllPairs (λ i j. way_place es i < way_place es j) (arc es l)
 unfolding arc
 arc_places_grow es l = AllPairs-filter (λ i j. way_place es i < way_place es j) (λ i. location_of es i == l) (way es) (way_grows es)
@@ -140,7 +140,7 @@ value_on_arc es i k h =
     exchanged false true c = refl
     exchanged false false c = refl
 
--- a write stands on its arc behind as many writes as its value says, but for itself
+-- a write comes on its arc after one fewer writes than its value
 write_rank : (es : List Edge) (l i k : ℕ) → slice_get (arc es l) k ≡ Some i → location_of es i ≡ l → is_write es i ≡ true → value_of es i ≡ count_by (is_write es) (take k (arc es l)) + 1
 write_rank es l i k h e t =
     let v = rw e at (value_on_arc es i k (ap (λ x. slice_get (arc es x) k) e ∙ h)) in
@@ -178,7 +178,7 @@ way_below es =
     (All-filter (is_behind_moves es) (λ i. i < length es) (upto (length es)) (below_all (length es)))
     (All-filter (λ i. not (is_behind_moves es i)) (λ i. i < length es) (upto (length es)) (below_all (length es)))
 
--- the way is the arcs of all locations, one behind the other
+-- the way is the arcs of all locations, one after the other
 pub way_of_arcs : (es : List Edge) → IsResolved es → way es ≡ flat_map (arc es) (upto (move_count es))
 unfolding arc
 way_of_arcs es r =

@@ -101,6 +101,7 @@ pub record Inner (es : List Edge) (l i : ℕ) : Type 0 where
   pub later : 1 < value_of es i
   pub earlier : value_of es i < write_count es l
 
+-- an inner write that an external edge enters has these parts
 pub inner_parts : (es : List Edge) (l i : ℕ) → is_inner_entry es l i ≡ true → Inner es l i
 inner_parts es l i h =
     let a = and_parts (is_write_at es l i && is_external (edge_into es i) && nat_lt 1 (value_of es i)) (nat_lt (value_of es i) (write_count es l)) h in
@@ -157,13 +158,15 @@ pub no_need_more : (es : List Edge) (k : ℕ) → first_need es (upto k) ≡ Non
 no_need_more es k n s =
     ap (λ m. first_need es (upto m)) (add-one k) ∙ first_need-append es (upto k) (k ∷ []) ∙ rw (n, no_need es k s) refl
 
--- the answer in the mode avoid, and in the others
+-- the mode avoid refuses a cycle of which a location needs an observer
 pub avoid_refused : (es : List Edge) (need : NeedsObserver) → observer_need es ≡ Some need → valuation_of es Avoid ≡ Err need
 avoid_refused es need h = rw h refl
 
+-- the mode avoid gives values where no location needs an observer
 pub avoid_allowed : (es : List Edge) → observer_need es ≡ None → valuation_of es Avoid ≡ Ok (record { edges = es; mode = Avoid })
 avoid_allowed es h = rw h refl
 
+-- the other modes give values always
 pub others_allowed : (es : List Edge) (mode : ObsMode) → (mode ≡ Avoid → ⊥) → valuation_of es mode ≡ Ok (record { edges = es; mode = mode })
 others_allowed es Accept h = refl
 others_allowed es Avoid h = absurd (h refl)
@@ -188,6 +191,7 @@ need_none es k (suc d) h n =
     or_none_right None y e = e
     or_none_right (Some x) y e = cc
 
+-- where no location needs an observer, no event is an inner write that an external edge enters
 pub no_inner_entry : (es : List Edge) (l i : ℕ) → observer_need es ≡ None → l < move_count es → i < length es → is_inner_entry es l i ≡ false
 no_inner_entry es l i n h b =
     let none : first_inner_entry es l ≡ None = unmapped (first_inner_entry es l) (need_none es l (move_count es) h n) in

@@ -52,7 +52,7 @@ serialization_value es i reach r h e =
     let d : is_diff (edge_at es i) ≡ false = rw e refl in
     omega (arith, rw (d, f) at v)
 
--- an event with a value above 0 comes behind the write of its location that has this value, and no write is between them
+-- an event with a value above 0 comes after the write of its location that has this value, and no write is between them
 pub record LastWrite (es : List Edge) (i : ℕ) : Type 0 where
   pub event : ℕ
   pub is : Write es (location_of es i) (value_of es i - 1) event
@@ -60,6 +60,7 @@ pub record LastWrite (es : List Edge) (i : ℕ) : Type 0 where
   pub before : way_place es event ≤ way_place es i
   pub none_between : (x : ℕ) → x < length es → is_write_at es (location_of es i) x ≡ true → way_place es event < way_place es x → way_place es i < way_place es x
 
+-- an event with a value above 0 has such a last write
 pub last_write : (es : List Edge) (i : ℕ) → IsResolved es → i < length es → 0 < value_of es i → LastWrite es i
 last_write es i r h v =
     let w = write_with_value es (value_of es i - 1) i r h (omega arith) in

@@ -41,17 +41,19 @@ pub record Found (p : ℕ → Bool) (xs : List ℕ) : Type 0 where
   pub is : slice_get xs place ≡ Some element
   pub passes : p element ≡ true
 
+-- where the count is above 0, some element passes
 pub found_counted : (p : ℕ → Bool) (xs : List ℕ) → 0 < count_by p xs → Found p xs
 found_counted p xs h =
     let w = counted (λ j. p (get_or xs j 0)) (length xs) (omega (arith, h, count_all p xs 0)) in
     record { place = w.number; element = get_or xs w.number 0; is = slice_get-get_or xs w.number 0 w.below; passes = w.passes }
 
+-- where an element passes, the count is above 0
 pub counted_found : (p : ℕ → Bool) (xs : List ℕ) (k x : ℕ) → slice_get xs k ≡ Some x → p x ≡ true → 0 < count_by p xs
 counted_found p xs k x h t =
     let v = get_or_from_slice_get xs k x 0 h in
     omega (arith, count_all p xs 0, count_upto_past (λ j. p (get_or xs j 0)) k (length xs) (slice_get_within xs k x h) (ap p v ∙ t))
 
--- an element that passes stands in the filter at the place of its rank
+-- an element that passes is in the filter at the place of its rank
 pub rank_filter : (p : ℕ → Bool) (xs : List ℕ) (k x : ℕ) → slice_get xs k ≡ Some x → p x ≡ true → slice_get (filter p xs) (count_by p (take k xs)) ≡ Some x
 rank_filter p [] k x h t = cc
 rank_filter p (y ∷ ys) zero x h t =
@@ -62,13 +64,14 @@ rank_filter p (y ∷ ys) (suc k) x h t =
     (λ u. ap (slice_get (filter p (y ∷ ys))) (count_yes p y (take k ys) u) ∙ rw u (rank_filter p ys k x h t))
     (λ f. ap (slice_get (filter p (y ∷ ys))) (count_no p y (take k ys) f) ∙ rw f (rank_filter p ys k x h t))
 
--- what stands in the filter at a place: its place in the list, and that its rank is that place
+-- what is in the filter at a place: its place in the list, and that its rank is that place
 pub record Unranked (p : ℕ → Bool) (xs : List ℕ) (s x : ℕ) : Type 0 where
   pub place : ℕ
   pub is : slice_get xs place ≡ Some x
   pub passes : p x ≡ true
   pub rank : count_by p (take place xs) ≡ s
 
+-- each element of a filter is such an element of the list
 pub unrank_filter : (p : ℕ → Bool) (xs : List ℕ) (s x : ℕ) → slice_get (filter p xs) s ≡ Some x → Unranked p xs s x
 unrank_filter p [] s x h = cc
 unrank_filter p (y ∷ ys) s x h =
@@ -83,7 +86,7 @@ unrank_filter p (y ∷ ys) s x h =
         let u = later r g in
         record { place = suc u.place; is = u.is; passes = u.passes; rank = count_yes p y (take u.place ys) t ∙ ap (λ n. suc n) u.rank }
 
--- two lists one behind the other, where each element of the first stands in the relation to each of the second
+-- two lists one after the other, where each element of the first has the relation to each of the second
 pub pairs_append : (R : ℕ → ℕ → Type 0) (xs ys : List ℕ) → AllPairs R xs → AllPairs R ys → All (λ x. All (R x) ys) xs → AllPairs R (xs ++ ys)
 pairs_append R [] ys a b c = b
 pairs_append R (x ∷ xs) ys a b c =
@@ -91,7 +94,7 @@ pairs_append R (x ∷ xs) ys a b c =
     (All-append (R x) xs ys (λ k d l. a 0 (suc k) d (omega arith) (omega arith)) (All-head (λ z. All (R z) ys) x xs c))
     (pairs_append R xs ys (λ i j d h l. a (suc i) (suc j) d (omega arith) (omega arith)) b (All-tail (λ z. All (R z) ys) x xs c))
 
--- another relation, which follows for what the list has
+-- a relation between all pairs of a list, from another of which it follows for what the list has
 pub pairs_change : (R S : ℕ → ℕ → Type 0) (P : ℕ → Type 0) (xs : List ℕ) → AllPairs R xs → All P xs → ((x y : ℕ) → P x → P y → R x y → S x y) → AllPairs S xs
 pairs_change R S P xs a p f i j d h l = f (get_or xs i d) (get_or xs j d) (p i d (omega (arith, h, l))) (p j d l) (a i j d h l)
 
@@ -100,7 +103,7 @@ pub upto_grows : (n : ℕ) → AllPairs (λ i j. i < j) (upto n)
 upto_grows n i j d h l =
     omega (arith, h, get_or-upto n i d (omega (arith, h, l, length-upto n)), get_or-upto n j d (omega (arith, l, length-upto n)))
 
--- where a number grows along a list, what stands up to an element are those with a number at most its own
+-- where a number grows along a list, the elements up to one are those with a number at most its own
 pub count_along : (f : ℕ → ℕ) (p : ℕ → Bool) (xs : List ℕ) (k x : ℕ) → AllPairs (λ i j. f i < f j) xs → slice_get xs k ≡ Some x → count_by (λ j. p j && nat_le (f j) (f x)) xs ≡ count_by p (take (k + 1) xs)
 count_along f p xs k x grows h =
     let within = slice_get_within xs k x h in
@@ -113,16 +116,17 @@ count_along f p xs k x grows h =
     rw (le-leb (f (get_or xs m 0)) (f x) low) (and-true (p (get_or xs m 0))))
     ∙ sym (count_take p xs 0 (k + 1) (omega arith))
 
--- a filter that passes nothing, and one that passes everything
+-- a filter that no element passes leaves none
 filter_nothing : (p : ℕ → Bool) (xs : List ℕ) → All (λ x. p x ≡ false) xs → filter p xs ≡ []
 filter_nothing p [] h = refl
 filter_nothing p (x ∷ xs) h = rw (All-head (λ y. p y ≡ false) x xs h) (filter_nothing p xs (All-tail (λ y. p y ≡ false) x xs h))
 
+-- a filter that all elements pass leaves the list as it is
 pub filter_everything : (p : ℕ → Bool) (xs : List ℕ) → All (λ x. p x ≡ true) xs → filter p xs ≡ xs
 filter_everything p [] h = refl
 filter_everything p (x ∷ xs) h = rw (All-head (λ y. p y ≡ true) x xs h) (ap (λ l. x ∷ l) (filter_everything p xs (All-tail (λ y. p y ≡ true) x xs h)))
 
--- where a number doesn't fall along a list, those with it up to c are those with it below c, and behind them those with c
+-- where a number doesn't fall along a list, those with it up to c are those with it below c, and then those with c
 split_filter : (g : ℕ → ℕ) (c : ℕ) (xs : List ℕ) → AllPairs (λ x y. g x ≤ g y) xs → filter (λ x. nat_lt (g x) (suc c)) xs ≡ filter (λ x. nat_lt (g x) c) xs ++ filter (λ x. g x == c) xs
 split_filter g c [] a = refl
 split_filter g c (x ∷ xs) a =
@@ -134,7 +138,7 @@ split_filter g c (x ∷ xs) a =
     (λ s. rw (lt-ltb (g x) (suc c) (omega (arith, s)), le-ltb (g x) c m, eq-eqb (g x) c s, none) (ap (λ r. x ∷ r) (rest ∙ ap (λ r. r ++ filter (λ y. g y == c) xs) none)))
     (λ d. rw (le-ltb (g x) (suc c) (omega (arith, m, d)), le-ltb (g x) c m, ne_eqb (g x) c d) rest))
 
--- so such a list is its classes by that number, one behind the other
+-- a list along which a number doesn't fall is its classes by that number, one after the other
 pub classes_follow : (g : ℕ → ℕ) (c : ℕ) (xs : List ℕ) → AllPairs (λ x y. g x ≤ g y) xs → filter (λ x. nat_lt (g x) c) xs ≡ flat_map (λ l. filter (λ x. g x == l) xs) (upto c)
 classes_follow g zero xs a = filter_nothing (λ x. nat_lt (g x) 0) xs (λ k d h. le-ltb (g (get_or xs k d)) 0 (omega arith))
 classes_follow g (suc c) xs a =

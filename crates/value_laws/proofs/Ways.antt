@@ -1,4 +1,4 @@
--- The way round a cycle that begins behind the last edge to another location: its places, and who stands where.
+-- The way round a cycle that begins after the last edge to another location: its places, and which event is at each.
 use Rattle.std.proofs.Common.{◌≡◌, ℕ, ◌+◌, ◌<◌, ◌≤◌, true, false, ◌==◌, List, length, arith, eq-eqb}
 use Rattle.std.proofs.lemmas.Bool.{ne_eqb, cond-true, cond-false}
 use Rattle.relax_edges.specs.declared.edge.Edge.{Edge}
@@ -10,24 +10,24 @@ use Rattle.resolution_laws.proofs.Arcs.{several_locations, moves_last, location_
 use Rattle.resolution_laws.proofs.Around.{by_after, moves_within}
 use Rattle.value_laws.specs.Values.{way_place}
 
--- behind the last move the way begins
+-- after the last move the way begins
 pub way_behind : (es : List Edge) (i : ℕ) → moves_before es i ≡ move_count es → way_place es i ≡ i
 unfolding way_place
 way_behind es i h = cond-true {A = ℕ} (moves_before es i == move_count es) i (length es + i) (eq-eqb (moves_before es i) (move_count es) h)
 
--- and goes on from event 0
+-- the way goes on from event 0
 pub way_ahead : (es : List Edge) (i : ℕ) → moves_before es i < move_count es → way_place es i ≡ length es + i
 unfolding way_place
 way_ahead es i h = cond-false {A = ℕ} (moves_before es i == move_count es) i (length es + i) (ne_eqb (moves_before es i) (move_count es) (λ e. omega (arith, e, h)))
 
--- an event is behind the last move, or before it
+-- an event is after the last move, or before it
 pub by_way : {G : Type 0} (es : List Edge) (i : ℕ) → i < length es → (moves_before es i ≡ move_count es → location_of es i ≡ 0 → way_place es i ≡ i → G) → (moves_before es i < move_count es → location_of es i ≡ moves_before es i → way_place es i ≡ length es + i → G) → G
 by_way es i h behind ahead =
     location_cases es i h
     (λ w z. behind w z (way_behind es i w))
     (λ l e. ahead l e (way_ahead es i l))
 
--- no two events stand at one place of the way
+-- no two events are at one place of the way
 pub only_on_way : (es : List Edge) (i j : ℕ) → i < length es → j < length es → way_place es i ≡ way_place es j → i ≡ j
 only_on_way es i j h l e =
     by_way es i h
@@ -45,7 +45,7 @@ way_next es i r h f =
     (λ a b c. omega (arith, c, way_ahead es (i + 1) (omega (arith, a, k))))))
     (λ l e. rw e (omega (arith, l, way_behind es i (moves_last es i r l), way_ahead es 0 (omega (arith, two, moves-zero es)))))
 
--- the event behind a `d` edge is the first of its arc
+-- the event after a `d` edge is the first of its arc
 pub first_on_arc : (es : List Edge) (i j : ℕ) → IsResolved es → i < length es → is_diff (edge_at es i) ≡ true → j < length es → location_of es j ≡ location_of es (i + 1) → way_place es j ≤ way_place es (i + 1) → j ≡ i + 1
 first_on_arc es i j r h t l e w =
     let two = several_locations es r in

@@ -14,10 +14,11 @@ use Rattle.value_laws.specs.Values.{is_write_at, way_place, value_of, write_coun
 use Rattle.value_laws.proofs.Ways.{only_on_way, way_next}
 use Rattle.value_laws.proofs.Along.{is_write, value_after, value_most, value_at_end, values_grow}
 
--- an event is a write of the location exactly where it is a write and there
+-- a write at a location is a write, and is at that location
 pub write_at_parts : (es : List Edge) (l i : ℕ) → is_write_at es l i ≡ true → (is_write es i ≡ true) × (location_of es i ≡ l)
 write_at_parts es l i h = let p = and_parts (is_write es i) (location_of es i == l) h in (p.0, eqb-true (location_of es i) l p.1)
 
+-- an event that is a write, and is at a location, is a write at that location
 pub write_at_from : (es : List Edge) (l i : ℕ) → is_write es i ≡ true → location_of es i ≡ l → is_write_at es l i ≡ true
 write_at_from es l i w e = and_from (is_write es i) (location_of es i == l) w (eq-eqb (location_of es i) l e)
 
@@ -60,7 +61,7 @@ pub record SomeWrite (es : List Edge) (l k : ℕ) : Type 0 where
   pub event : ℕ
   pub is : Write es l k event
 
--- an event that doesn't begin its arc comes one place behind the one before it
+-- an event that doesn't begin its arc comes one place after the one before it
 record Behind (es : List Edge) (i : ℕ) : Type 0 where
   below : event_before es i < length es
   location : location_of es (event_before es i) ≡ location_of es i
@@ -110,7 +111,7 @@ written_below es l r h =
     let w = counted (is_write_at es l) (length es) h in
     omega (arith, location_below es w.number r w.below, (write_at_parts es l w.number w.passes).1)
 
--- write number k of a location, for each k below the number of its writes
+-- a location has a write with the value k + 1, for each k below the number of its writes
 pub some_write : (es : List Edge) (l k : ℕ) → IsResolved es → k < write_count es l → SomeWrite es l k
 some_write es l k r h =
     let below = written_below es l r (omega (arith, h)) in
@@ -119,10 +120,11 @@ some_write es l k r h =
     let all : value_of es end.event ≡ write_count es l = value_at_end es end.event r end.below end.leaves ∙ ap (write_count es) here in
     rw here at (write_with_value es k end.event r end.below (omega (arith, h, all)))
 
+-- there is a write number k of a location, for each k below the number of its writes
 pub write_number : (es : List Edge) (l k : ℕ) → IsResolved es → k < write_count es l → (i : ℕ) × (write_at es l k ≡ Some i)
 write_number es l k r h = let w = some_write es l k r h in (w.event, is_write_number es l k w.event w.is)
 
--- and there are no others
+-- a write's number is below the number of its location's writes
 pub write_number_below : (es : List Edge) (l k i : ℕ) → write_at es l k ≡ Some i → k < write_count es l
 write_number_below es l k i h =
     let w = write_of es l k i h in

@@ -14,10 +14,10 @@ is_later_entry es i = is_external (edge_into es i) && nat_lt 1 (value_of es i)
 unfoldable pub first_entry : List Edge → ℕ → List ℕ → Option ℕ
 first_entry es location numbers = find (is_later_entry es) (filter_map (write_at es location) numbers)
 
--- the first one among the first n writes of a location, but for the last of these
+-- the first such event among the first n writes of a location, except the last of these
 abbrev pub inner_entry : List Edge → ℕ → ℕ → Option ℕ
 inner_entry es location n = first_entry es location (upto (n - 1))
 
--- the last of the first n writes of a location, where it is one
+-- the last of the first n writes of a location, where it is such an event
 abbrev pub last_entry : List Edge → ℕ → ℕ → Option ℕ
 last_entry es location n = first_entry es location ((n - 1) ∷ [])

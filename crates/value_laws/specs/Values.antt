@@ -17,15 +17,15 @@ use Rattle.value_laws.specs.declared.needs.NeedsObserver.{NeedsObserver}
 abbrev pub is_write : List Edge → ℕ → Bool
 is_write es i = same_dir (source_of (edge_at es i)) dirs.W
 
--- event i stands behind the last edge to another location
+-- event i comes after the last edge to another location
 abbrev pub is_behind_moves : List Edge → ℕ → Bool
 is_behind_moves es i = moves_before es i == move_count es
 
--- the way round the cycle that begins behind the last edge to another location: the events behind it, and then all others
+-- the way round the cycle that begins after the last edge to another location: the events after it, and then all others
 unfoldable pub way : List Edge → List ℕ
 way es = filter (is_behind_moves es) (upto (length es)) ++ filter (λ i. not (is_behind_moves es i)) (upto (length es))
 
--- the arc of a location: its events, in the order in which they stand on that way
+-- the arc of a location: its events, in the order in which they come on that way
 unfoldable pub arc : List Edge → ℕ → List ℕ
 arc es location = filter (λ i. location_of es i == location) (way es)
 
@@ -74,7 +74,7 @@ is_inner_entry es location i =
 unfoldable pub first_inner_entry : List Edge → ℕ → Option ℕ
 first_inner_entry es location = find (is_inner_entry es location) (filter_map (write_at es location) (upto (write_count es location)))
 
--- a location has an observer thread
+-- a location has an observer thread in this mode
 unfoldable pub is_observed : List Edge → ObsMode → ℕ → Bool
 is_observed es Accept location = list_any (is_inner_entry es location) (upto (length es))
 is_observed es Avoid location = false

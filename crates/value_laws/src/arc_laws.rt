@@ -12,7 +12,7 @@ pub fn arcs_have_their_events()
     ensures { (es : List Edge) → (location i : ℕ) → count_by (λ j. j == i) (arc es location) ≡ (if is_event_at es location i then 1 else 0) }
 {}
 
-/// The way round a resolved cycle is the arcs of all locations, one behind the other.
+/// The way round a resolved cycle is the arcs of all locations, one after the other.
 #[tactic(auto, using(crate::proofs::Arcs::way_of_arcs))]
 pub fn arcs_make_the_way()
     ensures { (es : List Edge) → IsResolved es → way es ≡ flat_map (arc es) (upto (move_count es)) }

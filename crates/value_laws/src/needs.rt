@@ -1,5 +1,5 @@
 /// A write that is neither the first nor the last of its location, and that an external edge
-/// enters: only an observer can tell its place in the coherence order.
+/// enters: only an observer can show its place in the coherence order.
 #[derive(Clone, Copy, Debug, PartialEq, Eq, thiserror::Error)]
 #[error("location {location} needs an observer, for its write at event {event}")]
 pub struct NeedsObserver {

@@ -7,7 +7,7 @@ use Rattle.walk_laws.specs.Order.{Above, IsNormal, ranks_below}
 use Rattle.walk_laws.specs.Beginning.{none_below, may_begin}
 use Rattle.walk_laws.proofs.Ordering.{above_of_ranks, above_longer}
 
--- a back part of a list that is less than it
+-- a suffix of a list that is less than the list
 record BackBelow (u v : List Edge) : Type 0 where
   front : List Edge
   back : List Edge

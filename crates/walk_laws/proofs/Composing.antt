@@ -44,7 +44,7 @@ turned_cycle front back c = record {
 pub rotated_cycle : (k : ℕ) (u : List Edge) → IsCycle u → IsCycle (rotated k u)
 rotated_cycle k u c = turned_cycle (take k u) (drop k u) (rw take-append-drop c)
 
--- a front part of a joined list is joined
+-- a prefix of a joined list is joined
 pub joined_front : (u v : List Edge) → is_joined (u ++ v) ≡ true → is_joined u ≡ true
 joined_front [] v h = refl
 joined_front (e ∷ []) v h = refl
@@ -86,7 +86,7 @@ break_within (e ∷ f ∷ u) i h =
       | false ↦ λ t. let z : 0 ≡ i = cc in omega arith
     ] h
 
--- edges that no break keeps from closing are a cycle
+-- edges without a break, cyclically, are a cycle
 pub unbroken_cycle : (u : List Edge) (e : Edge) → slice_get u 0 ≡ Some e → length u ≤ MAX_EDGES → first_break (u ++ e ∷ []) ≡ None → IsCycle u
 unbroken_cycle [] e s l h = cc
 unbroken_cycle (f ∷ u) e s l h = record {
@@ -95,7 +95,7 @@ unbroken_cycle (f ∷ u) e s l h = record {
   closed = let z : e ≡ f = cc in joined_unbroken ((f ∷ u) ++ f ∷ []) (rw z at h);
 }
 
--- two lists, one behind the other, are joined where each is, and the last edge of one joins the first of the other
+-- two lists, one after the other, are joined where each is, and the last edge of one joins the first of the other
 pub joined_parts : (u v : List Edge) → is_joined (u ++ v) ≡ (is_joined u && (last_joins u v && is_joined v))
 joined_parts [] v = refl
 joined_parts (e ∷ []) v = refl
@@ -120,7 +120,7 @@ pub closed_parts : (u : List Edge) → is_closed u ≡ (is_joined u && last_join
 closed_parts u =
     joined_parts u (take 1 u) ∙ ap (λ b. is_joined u && b) (ap (λ b. last_joins u (take 1 u) && b) (one_joined u) ∙ and-true (last_joins u (take 1 u)) ∙ last_joins_one u u)
 
--- what the last edge of a list and the first of another say
+-- whether a list joins another, by its last edge and the other's first
 pub last_joins_at : (u v : List Edge) (d e : Edge) → 0 < length u → 0 < length v → last_joins u v ≡ joins_to (get_or u (length u - 1) d) (get_or v 0 e)
 last_joins_at [] v d e h k = absurd (omega arith)
 last_joins_at (x ∷ []) [] d e h k = absurd (omega arith)

@@ -9,6 +9,7 @@ use Rattle.relax_edges.proofs.Spellings.{edge_of-word_of, edge_of-spelling, edge
 use Rattle.walk_laws.specs.EdgeLaws.{WordsDecide, HasParts, PartsDecide}
 use Rattle.walk_laws.proofs.Marks.{marked_edge_is, marked_edge_of, source_mark_fits, target_mark_fits}
 
+-- a word and its edge determine each other
 pub words_decide : WordsDecide
 words_decide = record {
   read = edge_of-word_of;
@@ -24,6 +25,7 @@ parts_of kind from to edge e =
 of_parts : (kind : Kind) (from to : Mark) (edge : Edge) → HasParts edge kind from to → marked_edge kind from to ≡ Some edge
 of_parts kind from to edge h = rw (← h.kind_is, ← h.source_is, ← h.target_is) (marked_edge_of edge)
 
+-- a kind and two marks determine an edge, and each edge's marks fit what its accesses do
 pub parts_decide : PartsDecide
 parts_decide = record {
   made = λ kind from to edge. (parts_of kind from to edge, of_parts kind from to edge);

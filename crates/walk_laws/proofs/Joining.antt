@@ -1,4 +1,4 @@
--- What it says that an edge joins the next: the two agree on what the access between them does, and on its mark.
+-- Where an edge joins the next, the two agree on what the access between them does, and on its mark.
 use Rattle.std.specs.Prelude.{◌≡◌, Bool, true, false}
 use Rattle.std.proofs.Common.{refl}
 use Rattle.std.proofs.lemmas.Bool.{and_parts}
@@ -15,6 +15,7 @@ same_dir_is dirs.W dirs.W e = refl
 same_dir_is dirs.R dirs.W e = cc
 same_dir_is dirs.W dirs.R e = cc
 
+-- marks that the test finds the same are equal
 pub same_mark_is : (a b : Mark) → same_mark a b ≡ true → b ≡ a
 same_mark_is Plain Plain e = refl
 same_mark_is Acquire Acquire e = refl
@@ -26,12 +27,12 @@ same_mark_is Acquire Release e = cc
 same_mark_is Release Plain e = cc
 same_mark_is Release Acquire e = cc
 
--- the next edge leaves an access that does what the access does which the edge enters
+-- the access that the next edge leaves does what the access that the edge enters does
 pub joined_dirs : (edge next : Edge) → joins_to edge next ≡ true → source_of next ≡ target_of edge
 joined_dirs edge next joins =
     same_dir_is (target_of edge) (source_of next) (and_parts (same_dir (target_of edge) (source_of next)) (same_mark (target_mark edge) (source_mark next)) joins).0
 
--- and that has its mark
+-- and it has the same mark
 pub joined_marks : (edge next : Edge) → joins_to edge next ≡ true → source_mark next ≡ target_mark edge
 joined_marks edge next joins =
     same_mark_is (target_mark edge) (source_mark next) (and_parts (same_dir (target_of edge) (source_of next)) (same_mark (target_mark edge) (source_mark next)) joins).1

@@ -8,7 +8,7 @@ use Rattle.relax_edges.specs.EdgeTable.{joins_to}
 use Rattle.walk_laws.specs.Composable.{is_joined, is_closed, first_break, one_later, JoinsNext}
 use Rattle.walk_laws.proofs.Places.{get_front, get_behind, past_once}
 
--- each edge of a joined list joins the one behind it
+-- each edge of a joined list joins the one after it
 pub joined_at_place : (v : List Edge) → is_joined v ≡ true → (i : ℕ) (e f : Edge) → slice_get v i ≡ Some e → slice_get v (suc i) ≡ Some f → joins_to e f ≡ true
 joined_at_place [] h i e f s t = cc
 joined_at_place (x ∷ []) h i e f s t = cc
@@ -18,7 +18,7 @@ joined_at_place (x ∷ y ∷ v) h zero e f s t =
     rw (← a, ← b) ((and_parts (joins_to x y) (is_joined (y ∷ v)) h).0)
 joined_at_place (x ∷ y ∷ v) h (suc i) e f s t = joined_at_place (y ∷ v) ((and_parts (joins_to x y) (is_joined (y ∷ v)) h).1) i e f s t
 
--- a list is joined where each edge joins the one behind it
+-- a list is joined where each edge joins the one after it
 pub joined_of_places : (v : List Edge) → ((i : ℕ) (e f : Edge) → slice_get v i ≡ Some e → slice_get v (suc i) ≡ Some f → joins_to e f ≡ true) → is_joined v ≡ true
 joined_of_places [] h = refl
 joined_of_places (x ∷ []) h = refl
@@ -35,7 +35,7 @@ later : (at : Option ℕ) (i : ℕ) → one_later at ≡ Some i → Later at i
 later None i h = cc
 later (Some j) i h = let e : j + 1 ≡ i = cc in record { before = j; found = refl; is = omega arith }
 
--- the edge at a break doesn't join the one behind it
+-- the edge at a break doesn't join the one after it
 pub broken_at : (v : List Edge) (i : ℕ) → first_break v ≡ Some i → (e f : Edge) → slice_get v i ≡ Some e → slice_get v (suc i) ≡ Some f → joins_to e f ≡ false
 broken_at [] i h e f s t = cc
 broken_at (x ∷ []) i h e f s t = cc
@@ -53,7 +53,7 @@ broken_at (x ∷ y ∷ v) i h e f s t =
           rw (← c, ← d) q
     ] refl h
 
--- each edge before a break joins the one behind it
+-- each edge before a break joins the one after it
 pub joined_before : (v : List Edge) (i : ℕ) → first_break v ≡ Some i → (j : ℕ) → j < i → (e f : Edge) → slice_get v j ≡ Some e → slice_get v (suc j) ≡ Some f → joins_to e f ≡ true
 joined_before [] i h j l e f s t = cc
 joined_before (x ∷ []) i h j l e f s t = cc
@@ -111,7 +111,7 @@ closed_of_places u h =
           absurd (omega (arith, slice_get_within (u ++ take 1 u) (suc i) f t, length-append u (take 1 u), length-take 1 u))
     ])
 
--- a break of a list that its first edge follows again is a place whose edge doesn't join the next one, cyclically
+-- a break of a list with its first edge repeated at the end is a place whose edge doesn't join the next one, cyclically
 pub break_is : (u : List Edge) (i : ℕ) → first_break (u ++ take 1 u) ≡ Some i → i < length u → JoinsNext u i → ⊥
 break_is u i h within joins =
     let here = got u i within in
@@ -121,7 +121,7 @@ break_is u i h within joins =
     broken_at (u ++ take 1 u) i h here.edge next.edge (get_front u (take 1 u) i within ∙ here.is) (first_again u i within ∙ next.is) in
     cc
 
--- and each before it does
+-- and each edge before that place joins the next one
 pub break_is_first : (u : List Edge) (i : ℕ) → first_break (u ++ take 1 u) ≡ Some i → (j : ℕ) → j < i → JoinsNext u j
 break_is_first u i h j l e f s t =
     let within : j < length u = slice_get_within u j e s in

@@ -38,7 +38,7 @@ above_longer [] v a b h = absurd h
 above_longer (x ∷ u) [] a b h = absurd h
 above_longer (x ∷ u) (y ∷ v) a b h = elim h [ inl less ↦ inl less | inr both ↦ inr (both.0, above_longer u v a b both.1) ]
 
--- a common front part doesn't matter
+-- a common prefix doesn't matter
 pub above_behind : (front u v : List Edge) → Above (front ++ u) (front ++ v) → Above u v
 above_behind [] u v h = h
 above_behind (x ∷ front) u v h = elim h [ inl less ↦ absurd (omega arith) | inr both ↦ above_behind front u v both.1 ]
@@ -47,7 +47,7 @@ pub above_before : (front u v : List Edge) → Above u v → Above (front ++ u) 
 above_before [] u v h = h
 above_before (x ∷ front) u v h = inr (refl, above_before front u v h)
 
--- of two edges one has the smaller rank, or they are one
+-- of two edges one has the smaller rank, or they are equal
 pub by_rank : (x y : Edge) {G : Type 0} → (rank_of x < rank_of y → G) → (rank_of y < rank_of x → G) → (x ≡ y → G) → G
 by_rank x y less more same =
     elim (cases_order (rank_of x) (rank_of y)) [
@@ -55,7 +55,7 @@ by_rank x y less more same =
       | inr other ↦ elim other [ inl l ↦ less l | inr m ↦ more m ]
     ]
 
--- of two lists of one length one is above the other, or they are one
+-- of two lists of one length one is above the other, or they are equal
 pub above_or_same : (u v : List Edge) → length u ≡ length v → (Above u v) ⊎ ((Above v u) ⊎ (u ≡ v))
 above_or_same [] [] l = inr (inr refl)
 above_or_same [] (y ∷ v) l = absurd (omega arith)
@@ -67,7 +67,7 @@ above_or_same (x ∷ u) (y ∷ v) l =
       | inr other ↦ elim other [ inl h ↦ inr (inl (inr (sym e, h))) | inr s ↦ inr (inr (cc)) ]
     ])
 
--- lists of one length of which neither is above the other are one
+-- lists of one length are equal where neither is above the other
 pub same_if_not_above : (u v : List Edge) → length u ≡ length v → (Above u v → ⊥) → (Above v u → ⊥) → u ≡ v
 same_if_not_above u v l a b =
     elim (above_or_same u v l) [
@@ -75,7 +75,7 @@ same_if_not_above u v l a b =
       | inr other ↦ elim other [ inl h ↦ absurd (b h) | inr same ↦ same ]
     ]
 
--- the test by ranks decides the order
+-- where the test by ranks passes, the second list is above the first
 pub above_of_ranks : (u v : List Edge) → ranks_below (map rank_of u) (map rank_of v) ≡ true → Above u v
 above_of_ranks [] v h = cc
 above_of_ranks (x ∷ u) [] h = cc
@@ -87,6 +87,7 @@ above_of_ranks (x ∷ u) (y ∷ v) h =
           inr (rank_injective x y (eqb-true (rank_of x) (rank_of y) both.0), above_of_ranks u v both.1)
     ]
 
+-- where the second list is above the first, the test by ranks passes
 pub ranks_of_above : (u v : List Edge) → Above u v → ranks_below (map rank_of u) (map rank_of v) ≡ true
 ranks_of_above [] v h = absurd h
 ranks_of_above (x ∷ u) [] h = absurd h
@@ -113,7 +114,7 @@ follows_transitive u v w a b =
       ]
     ]
 
--- of two lists one follows the other, or they are one
+-- of two lists one follows the other, or they are equal
 pub follows_or_same : (u v : List Edge) → (Follows u v) ⊎ ((Follows v u) ⊎ (u ≡ v))
 follows_or_same u v =
     elim (cases_order (length u) (length v)) [

@@ -11,11 +11,13 @@ pub past_once : (i n m : ℕ) → i ≡ n + m → m < n → i % n ≡ m
 past_once i n m e h = rw e (add-mod_left n m ∙ mod-eq_of_lt h)
 
 module _ {A : Type 0} where
+  -- an element of the first list is at its own place
   pub get_front : (u v : List A) (i : ℕ) → i < length u → slice_get (u ++ v) i ≡ slice_get u i
   get_front [] v i h = absurd (omega arith)
   get_front (x ∷ u) v zero h = refl
   get_front (x ∷ u) v (suc i) h = get_front u v i (omega arith)
 
+  -- an element of the second list comes after all of the first
   pub get_behind : (u v : List A) (i : ℕ) → slice_get (u ++ v) (length u + i) ≡ slice_get v i
   get_behind [] v i = let e : 0 + i ≡ i = omega arith in rw e refl
   get_behind (x ∷ u) v i = let e : suc (length u) + i ≡ suc (length u + i) = omega arith in rw e (get_behind u v i)

@@ -77,15 +77,16 @@ place_of_rotation u v some r =
     whole front (x ∷ back) from to h =
         absurd (let e : length u ≡ length (front ++ x ∷ back) = ap length from in omega (arith, length-append front (x ∷ back)))
 
--- two normal forms of which one is a rotation of the other are one
+-- two normal forms of which one is a rotation of the other are equal
 pub normal_once : (u v : List Edge) → IsNormal u → IsNormal v → IsRotation u v → u ≡ v
 normal_once u v n m r = same_if_not_above u v (sym (rotation_length u v r)) (λ h. m u (rotation_back u v r) h) (λ h. n v r h)
 
--- least rotations are one exactly where the lists are rotations of each other
+-- where two lists are rotations of each other, their least rotations are equal
 pub least_same : (u v a b : List Edge) → IsLeast u a → IsLeast v b → IsRotation u v → a ≡ b
 least_same u v a b p q r =
     normal_once a b p.normal q.normal (rotation_on a v b (rotation_on a u v (rotation_back u a p.rotation) r) q.rotation)
 
+-- where the least rotations of two lists are equal, the lists are rotations of each other
 pub same_least : (u v a b : List Edge) → IsLeast u a → IsLeast v b → a ≡ b → IsRotation u v
 same_least u v a b p q e = rotation_on u a v p.rotation (rotation_back v a (rw e q.rotation))
 

@@ -31,7 +31,7 @@ pub record IsCycle (u : List Edge) : Type 0 where
   pub few : length u ≤ MAX_EDGES
   pub closed : is_closed u ≡ true
 
--- a place of the list behind the first one
+-- a place of the list without its first element, as a place of the whole list
 abbrev pub one_later : Option ℕ → Option ℕ
 one_later None = None
 one_later (Some i) = Some (i + 1)
@@ -47,7 +47,7 @@ last_joins [] _ = true
 last_joins (e ∷ []) v = joins_first e v
 last_joins (_ ∷ f ∷ u) v = last_joins (f ∷ u) v
 
--- the edge at place i of a list joins the next one, that behind the last being the first
+-- the edge at place i of a list joins the next one, where the last edge is followed by the first
 abbrev pub JoinsNext : List Edge → ℕ → Type 0
 JoinsNext u i =
     (e f : Edge) → slice_get u i ≡ Some e → slice_get u ((i + 1) % length u) ≡ Some f → joins_to e f ≡ true

@@ -7,7 +7,7 @@ use Rattle.relax_edges.specs.EdgeTable.{kind_of, source_of, target_of, source_ma
 use Rattle.relax_edges.specs.Words.{word_of}
 use Rattle.relax_edges.specs.Spelling.{is_spelling, edge_of}
 
--- a word and its edge are each other's
+-- a word and its edge determine each other
 pub record WordsDecide : Type 0 where
   pub read : (edge : Edge) → edge_of (word_of edge) ≡ Some edge
   pub spelled : (edge : Edge) (text : List ℕ) → (edge_of text ≡ Some edge) ↔ (is_spelling edge text ≡ true)

@@ -17,7 +17,7 @@ ranks_below [] _ = false
 ranks_below (_ ∷ _) [] = false
 ranks_below (x ∷ u) (y ∷ v) = nat_lt x y || nat_eq x y && ranks_below u v
 
--- v comes behind u in the order of cycles: by length, and then as lists
+-- v comes after u in the order of cycles: by length, and then as lists
 abbrev pub Follows : List Edge → List Edge → Type 0
 Follows u v = (length u < length v) ⊎ ((length u ≡ length v) × Above u v)
 

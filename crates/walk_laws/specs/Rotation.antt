@@ -3,7 +3,7 @@
 use Rattle.std.specs.Prelude.{◌≡◌, ℕ, List, ◌++◌, take, drop}
 use Rattle.relax_edges.specs.declared.edge.Edge.{Edge}
 
--- v is a rotation of u, the same cycle: a front and a back part of u are exchanged in it
+-- v is a rotation of u, the same cycle: it is u with a prefix moved to the end
 pub record IsRotation (u v : List Edge) : Type 0 where
   pub front : List Edge
   pub back : List Edge

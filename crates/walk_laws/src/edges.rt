@@ -1,6 +1,6 @@
 ghost use Rattle.walk_laws.specs.EdgeLaws.{WordsDecide, PartsDecide};
 
-/// A word and its edge are each other's: a printed word is read as its edge, a text is read as the
+/// A word and its edge determine each other: a printed word is read as its edge, a text is read as the
 /// edge that it spells, and no two edges have one word.
 #[tactic(auto, using(crate::proofs::EdgeLaws::words_decide))]
 pub fn words_decide()

@@ -1,3 +1,4 @@
+-- The law `all_edges_stand` holds.
 use Rattle.communication.proofs.Laws.{all_edges_stand_law}
 use Rattle.communication.proofs.all_edges_stand.Goals as goal
 

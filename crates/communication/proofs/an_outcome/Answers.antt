@@ -1,3 +1,4 @@
+-- The law `an_outcome` holds.
 use Rattle.communication.proofs.Laws.{an_outcome_law}
 use Rattle.communication.proofs.an_outcome.Goals as goal
 

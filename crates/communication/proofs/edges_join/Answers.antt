@@ -1,3 +1,4 @@
+-- The law `edges_join` holds.
 use Rattle.communication.proofs.Laws.{edges_join_law}
 use Rattle.communication.proofs.edges_join.Goals as goal
 

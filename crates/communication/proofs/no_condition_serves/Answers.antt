@@ -1,3 +1,4 @@
+-- The law `no_condition_serves` holds.
 use Rattle.communication.proofs.Laws.{no_condition_serves_law}
 use Rattle.communication.proofs.no_condition_serves.Goals as goal
 

@@ -1,3 +1,4 @@
+-- The law `one_outcome` holds.
 use Rattle.communication.proofs.Laws.{one_outcome_law}
 use Rattle.communication.proofs.one_outcome.Goals as goal
 

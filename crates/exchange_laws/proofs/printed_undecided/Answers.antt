@@ -1,3 +1,4 @@
+-- The law `printed_undecided` holds.
 use Rattle.exchange_laws.proofs.Printed.{printed_undecided_law}
 use Rattle.exchange_laws.proofs.printed_undecided.Goals as goal
 

@@ -1,3 +1,4 @@
+-- Each architecture has registers enough for two accesses a thread, so every cycle made of a family's has a test.
 use Rattle.std.proofs.Common.{arith}
 use Rattle.arch_x86.specs.Puts as x86
 use Rattle.arch_power.specs.Puts as power

@@ -27,7 +27,7 @@ impl<'a> Pieces<'a> {
         }
     }
 
-    /// The first piece that is left, and those behind it.
+    /// The first piece that is left, and those after it.
     pub(crate) fn first(self) -> Option<(&'a [u8], Pieces<'a>)>
         ensures { FirstPiece result (pieces_left self.entry) }
     {
@@ -57,7 +57,7 @@ pub(crate) fn two_words(text: &[u8]) -> Option<(&[u8], &[u8])>
     }
 }
 
-/// The letters at the front of a text, and the text behind them.
+/// The letters at the beginning of a text, and the text after them.
 pub(crate) fn split_letters(text: &[u8]) -> (&[u8], &[u8])
     ensures letters { result.0.now ≡ run_of is_ascii_alphabetic text.now }
     ensures rest { result.1.now ≡ after_run is_ascii_alphabetic text.now }

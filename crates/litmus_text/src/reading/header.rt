@@ -123,7 +123,7 @@ fn is_setting(text: &[u8]) -> bool
     !letters.is_empty() && matches!(rest, [b'=', ..])
 }
 
-/// What is left behind the lines of letters, `=` and anything.
+/// What is left after the lines of letters, `=` and anything.
 #[tactic(auto, using(crate::proofs::PartLoops::settings_more, crate::proofs::PartLoops::settings_stop, crate::proofs::PartLoops::settings_end))]
 pub(crate) fn after_settings(text: Text<'_>) -> Text<'_>
     ensures { text_left result ≡ after_settings (text_left text.entry) }

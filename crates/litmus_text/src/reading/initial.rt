@@ -44,7 +44,7 @@ impl Begun {
             .any(|given| given.0 == thread && given.1.0 == register)
     }
 
-    /// Gives a register a value, which stands at a line.
+    /// Gives a register a value, at a line.
     fn give(
         &mut self,
         line: u64,
@@ -66,7 +66,7 @@ impl Begun {
         Ok(())
     }
 
-    /// Names a place, which stands at a line.
+    /// Names a place, at a line.
     fn name(&mut self, line: u64, name: &PlaceName) -> Result<(), ReadError>
         requires { is_place_name name.now.bytes ≡ true }
         ensures { GivesInMemory (λ _. begun_seen self.new) result (name_put line (begun_seen self.old) name.now.bytes) }
@@ -150,7 +150,7 @@ fn read_ended_items<A: Arch>(joined: &Joined, begun: &mut Begun) -> Result<(), R
     Ok(())
 }
 
-/// What ends the items: a `}`, with the rest of its line and what is left behind that, or the text.
+/// What ends the items: a `}`, with the rest of its line and what is left after that, or the text.
 #[derive(Clone, Copy)]
 pub(crate) enum Braced<'a> {
     Closed {
@@ -158,11 +158,11 @@ pub(crate) enum Braced<'a> {
         behind: &'a [u8],
         rest: Text<'a>,
     },
-    /// With the number behind the last line.
+    /// With the number after that of the last line.
     Open(u64),
 }
 
-/// Puts the text up to the first `}` into `joined`, from the rest of a line on.
+/// Appends the text up to the first `}` to `joined`, from the rest of a line on.
 fn join_braced<'a>(
     joined: &mut Joined,
     number: u64,
@@ -223,7 +223,7 @@ fn read_braced<'a, A: Arch>(
     }
 }
 
-/// Reads the initial state into `begun`, in which nothing is given yet.
+/// Reads the initial state into `begun`, in which nothing is given so far.
 #[tactic(auto, unfolding(crate::specs::InitialState::initial_read))]
 pub(crate) fn read_initial<'a, A: Arch>(
     alloc: Global,

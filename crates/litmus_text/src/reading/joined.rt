@@ -44,7 +44,7 @@ impl Joined {
         Ok(())
     }
 
-    /// Appends all lines that are left, each behind a blank.
+    /// Appends all lines that are left, each after a blank.
     pub(crate) fn push_all(&mut self, text: Text<'_>) -> Result<(), AllocError>
         ensures { OnOk result (joined_seen self.new ≡ all_joined (joined_seen self.old) (text_left text.entry)) }
     {

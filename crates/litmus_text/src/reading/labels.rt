@@ -22,14 +22,14 @@ fn count_labels(label: u8, ops: &[Placed]) -> usize
     ops.iter().filter(|placed| is_label(label, placed)).count()
 }
 
-/// Whether a label stands once in a thread, behind a branch.
+/// Whether a label is in a thread once, after a branch.
 fn lands_once(label: u8, all: &[Placed], behind: &[Placed]) -> bool
     ensures { result ≡ lands_once label all.now behind.now }
 {
     count_labels(label, all) == 1 && count_labels(label, behind) == 1
 }
 
-/// Whether the label of an operation stands as it must, if the operation is a branch.
+/// Whether the label of an operation comes once in its thread, after it, if the operation is a branch.
 fn is_landing(op: &Micro, all: &[Placed], behind: &[Placed]) -> bool
     ensures { result ≡ is_landing op.now all.now behind.now }
 {

@@ -5,7 +5,7 @@ ghost use Rattle.litmus_text.specs.Views.{text_left, lines_seen, IsShorter};
 use crate::reading::text::Text;
 use text_parts::{cut, trimmed, without_return};
 
-/// A line that isn't passed over, and what is left behind it.
+/// A line that isn't passed over, and what is left after it.
 #[derive(Clone, Copy)]
 pub(crate) struct Line<'a> {
     pub(crate) number: u64,
@@ -16,7 +16,7 @@ pub(crate) struct Line<'a> {
 /// The lines that are left.
 #[derive(Clone, Copy)]
 pub(crate) enum Lines<'a> {
-    /// None, with the number behind the last line.
+    /// None, with the number after that of the last line.
     Ends(u64),
     Line(Line<'a>),
 }
@@ -44,7 +44,7 @@ impl<'a> Text<'a> {
         Text { bytes, number: 1 }
     }
 
-    /// The first line, and what is left behind it.
+    /// The first line, and what is left after it.
     fn first(self) -> (&'a [u8], Text<'a>)
         requires { 0 < length self.bytes.now }
         ensures line { text_left self.entry ≡ kept self.entry.number result.0.now (text_left result.1) }

@@ -121,7 +121,7 @@ fn read_one_cell<A: Arch>(
     }
 }
 
-/// Judges the end of a row behind its last column: no cell is left, and the row is whole.
+/// Judges the end of a row after its last column: no cell is left, and the row is whole.
 #[tactic(auto, unfolding(crate::specs::Table::row_read))]
 fn judge_end(number: u64, pieces: Pieces<'_>, is_whole: bool) -> Result<(), TextError>
     ensures { EndsRow number is_whole (pieces_left pieces.entry) result }
@@ -196,7 +196,7 @@ pub(crate) fn read_rows<'a, A: Arch>(
     }
 }
 
-/// What is left behind a line of locations, if the next line is one.
+/// What is left after a line of locations, if the next line is one.
 #[tactic(auto, unfolding(crate::specs::Table::after_locations))]
 pub(crate) fn after_locations(text: Text<'_>) -> Text<'_>
     ensures { text_left result ≡ after_locations (text_left text.entry) }

@@ -15,7 +15,7 @@ use itoa::Buffer;
 use micro_ops::Micro;
 use text_parts::{cut, trimmed};
 
-/// An operation, and the line where it stands.
+/// An operation, and its line.
 #[derive(Clone, Copy, Debug)]
 pub struct Placed {
     pub op: Micro,

@@ -30,7 +30,7 @@ impl Setting {
     }
 }
 
-/// The names of places, and the line of the first place that was one too many, behind the line where
+/// The names of places, and the line of the first place that was one too many, after the line where
 /// the condition begins.
 #[derive(Debug, Drop)]
 pub(crate) struct Mentioned {
@@ -87,7 +87,7 @@ fn put_left<A: Arch>(
     }
 }
 
-/// Reads the term at the front of what is left.
+/// Reads the term at the beginning of what is left.
 #[tactic(auto, unfolding(crate::specs::Condition::term_here))]
 fn read_term<'a, A: Arch>(
     here: &Setting,
@@ -112,7 +112,7 @@ fn read_term<'a, A: Arch>(
     }
 }
 
-/// Puts the terms into `terms`, which is empty, up to the `)` behind the last.
+/// Appends the terms to `terms`, which is empty, up to the `)` after the last.
 pub(crate) fn read_terms<'a, A: Arch>(
     here: &Setting,
     text: &'a [u8],

@@ -127,7 +127,7 @@ fn test_of<A: Arch>(
     })
 }
 
-/// Reads what stands behind the table, and makes the test.
+/// Reads what comes after the table, and makes the test.
 #[tactic(auto, unfolding(crate::specs::Views::rest_read))]
 fn read_rest<A: Arch>(
     alloc: Global,
@@ -149,7 +149,7 @@ fn read_rest<A: Arch>(
     Ok(test)
 }
 
-/// Reads the rows of the table and what stands behind them.
+/// Reads the rows of the table and what comes after them.
 #[tactic(auto, unfolding(crate::specs::Views::table_read))]
 fn read_table<A: Arch>(
     alloc: Global,
@@ -169,7 +169,7 @@ fn read_table<A: Arch>(
     read_rest::<A>(alloc, head, &values, &columns, names, text)
 }
 
-/// Reads the initial state and what stands behind it.
+/// Reads the initial state and what comes after it.
 #[tactic(auto, unfolding(crate::specs::Views::body_read))]
 fn read_body<A: Arch>(
     alloc: Global,

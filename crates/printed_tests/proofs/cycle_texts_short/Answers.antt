@@ -1,3 +1,4 @@
+-- That the text of the test of a cycle, under the cycle's name, is short.
 use Rattle.printed_tests.proofs.Cycles.{cycle_text_short}
 use Rattle.printed_tests.proofs.cycle_texts_short.Goals as goal
 

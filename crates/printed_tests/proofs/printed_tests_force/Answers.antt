@@ -1,3 +1,4 @@
+-- That the printed text of the test of a cycle forces the cycle.
 use Rattle.printed_tests.proofs.Printed.{printed_force}
 use Rattle.printed_tests.proofs.printed_tests_force.Goals as goal
 

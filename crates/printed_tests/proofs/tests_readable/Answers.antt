@@ -1,3 +1,4 @@
+-- That the test of a cycle, under a name of its form, is within the limits of the format.
 use Rattle.printed_tests.proofs.Readable.{readable}
 use Rattle.printed_tests.proofs.tests_readable.Goals as goal
 

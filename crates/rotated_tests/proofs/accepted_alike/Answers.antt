@@ -1,3 +1,4 @@
+-- The law that rotations are accepted alike is its lemma.
 use Rattle.rotated_tests.proofs.Refused.{accepted_alike}
 use Rattle.rotated_tests.proofs.accepted_alike.Goals as goal
 

@@ -1,3 +1,4 @@
+-- The law that rotations are refused for reasons of the same kind is its lemma.
 use Rattle.rotated_tests.proofs.Refused.{refused_alike}
 use Rattle.rotated_tests.proofs.refused_alike.Goals as goal
 

@@ -1,3 +1,4 @@
+-- The law that lists that begin alike have tests of the same text is its lemma.
 use Rattle.rotated_tests.proofs.Texts.{same_text}
 use Rattle.rotated_tests.proofs.same_text.Goals as goal
 

@@ -1,3 +1,4 @@
+-- The law `printed_are_sc_per_location` holds.
 use Rattle.sc_laws.proofs.Printed.{printed_are_sc_per_location}
 use Rattle.sc_laws.proofs.printed_are_sc_per_location.Goals as goal
 

@@ -1,3 +1,4 @@
+-- The law of lists that may not begin a normal form is its lemma.
 use Rattle.walk_laws.proofs.Laws as laws
 use Rattle.walk_laws.proofs.begins_none.Goals as goal
 

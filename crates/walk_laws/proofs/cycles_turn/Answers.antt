@@ -1,3 +1,4 @@
+-- The law that rotations of a cycle are cycles is its lemma.
 use Rattle.walk_laws.proofs.Laws as laws
 use Rattle.walk_laws.proofs.cycles_turn.Goals as goal
 

@@ -136,7 +136,7 @@ pub const REGISTERS: [(u8, &str); 6] = [
     (5, "EDI"),
 ];
 
-/// Names of places that are new in texts get the numbers from 48 on, and the one behind 63 none.
+/// Names of places that are new in texts get the numbers from 48 to 63, and the next name gets none.
 pub fn try_places(rt: &impl Abort) {
     let mut places = Places::letters(48);
     let mut labels = Places::new();

@@ -1,3 +1,4 @@
+-- The code that was made makes the accesses, and is well formed where it isn't refused.
 use Rattle.std.proofs.Common.{ap, ◌∙◌, ◌≤◌, arith}
 use Rattle.arch_trait.specs.Threads.{shape_of}
 use Rattle.arch_trait.proofs.Whole.{made_so, formed_so}

@@ -1,3 +1,4 @@
+-- The letter of a location is ASCII, and there is room for it.
 use Rattle.std.proofs.Common.{◌<◌, length, ap, arith}
 use Rattle.arch_trait.proofs.Tables.{letter_ascii}
 use Rattle.arch_trait.proofs.places.location_name.Goals as goal

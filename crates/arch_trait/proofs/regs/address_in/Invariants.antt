@@ -1,3 +1,4 @@
+-- None of the registers that were passed holds the address of the place.
 use Rattle.std.proofs.Common.{◌≡◌, drop}
 use Rattle.arch_trait.specs.Taking.{address_in}
 use Rattle.arch_trait.proofs.regs.address_in.Given as goal

@@ -1,3 +1,4 @@
+-- The accesses that are left grow fewer.
 use Rattle.std.proofs.Common.{length}
 use Rattle.arch_trait.proofs.shape.+count_places.Given as goal
 

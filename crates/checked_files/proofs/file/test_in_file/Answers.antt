@@ -1,3 +1,4 @@
+-- That `test_in_file` gives the test that a file is, or why it is none.
 use Rattle.checked_files.proofs.FileLaws.{test_found, test_unclosed, test_wrong}
 use Rattle.checked_files.proofs.file.test_in_file.Goals as goal
 

@@ -1,3 +1,4 @@
+-- That `verdict_in_file` gives the verdict on the execution in a file, or why there is none.
 use Rattle.checked_files.proofs.FileLaws.{exec_judged, exec_unclosed, exec_wrong}
 use Rattle.checked_files.proofs.file.verdict_in_file.Goals as goal
 

@@ -1,3 +1,4 @@
+-- That `check_files` writes the verdict, or ends at the first file with a fault.
 use Rattle.std.proofs.Common.{sym, subst}
 use Rattle.diy_io.specs.Shelf.{ShelfSeen}
 use Rattle.diy_io.specs.Wrote.{SinkSeen, WroteAll, WrotePart}

@@ -1,3 +1,4 @@
+-- That `cycle_of_file` gives the cycle that a file says, or why there is none.
 use Rattle.classified_files.specs.FilesEnds.{Asked}
 use Rattle.classified_files.proofs.FileLaws.{file_said, file_unshut, file_wrong}
 use Rattle.classified_files.proofs.file.cycle_of_file.Goals as goal

@@ -1,3 +1,4 @@
+-- That `classify_files` writes the families of the files' cycles, or ends at the first file with a fault.
 use Rattle.std.proofs.Common.{◌∙◌, ℕ, get_or, sym, subst, arith, refl}
 use Rattle.diy_io.specs.Shelf.{ShelfSeen}
 use Rattle.diy_io.specs.Wrote.{SinkSeen}

@@ -1,3 +1,4 @@
+-- The loop of `classify_files`: which files were read so far.
 use Rattle.std.proofs.Common.{◌≡◌, take}
 use Rattle.diy_io.specs.Shelf.{Idle}
 use Rattle.classified_files.proofs.FilesLaws.{FilesSoFar}

@@ -1,3 +1,4 @@
+-- What is walked is the rest of the arc of location 0.
 use Rattle.std.proofs.Common.{◌≡◌, true, false, length, refl, sym, ◌∙◌, ap, arith}
 use Rattle.relax_edges.specs.EdgeTable.{is_diff}
 use Rattle.resolution_laws.specs.Resolution.{edge_at}

@@ -1,3 +1,4 @@
+-- What holds in the loop over the events after the last edge to another location.
 use Rattle.std.proofs.Common.{◌≡◌, ◌<◌, ◌≤◌}
 use Rattle.resolution_laws.specs.Resolution.{moves_before, location_of}
 use Rattle.value_laws.specs.Values.{edge_into}

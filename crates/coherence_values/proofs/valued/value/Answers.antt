@@ -1,3 +1,4 @@
+-- The answer is the valuation of the cycle in the mode, or the first location that needs an observer.
 use Rattle.std.proofs.Common.{◌≡◌, length, Some, None, sym, ◌∙◌, ap, arith}
 use Rattle.list_laws.specs.Numbers.{upto}
 use Rattle.list_laws.proofs.Numbers.{length-map-upto}

@@ -1,3 +1,4 @@
+-- In the loop over the locations: none before this one needs an observer.
 use Rattle.std.proofs.Common.{◌≡◌, None}
 use Rattle.list_laws.specs.Numbers.{upto}
 use Rattle.value_laws.specs.Values.{first_need}

@@ -1,3 +1,4 @@
+-- What is walked is the values and the arcs of the cycle.
 use Rattle.std.proofs.Common.{◌≡◌, ◌+◌, true, false, length, map, refl, sym, ◌∙◌, ap, arith}
 use Rattle.relax_edges.specs.EdgeTable.{is_diff}
 use Rattle.resolution_laws.specs.Resolution.{edge_at, location_of, moves_before}

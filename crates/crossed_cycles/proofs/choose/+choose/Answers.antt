@@ -1,3 +1,4 @@
+-- Each relaxation of the first list is appended, all choices with it are tried, and it is cut off again.
 use Rattle.std.proofs.Common.{◌≡◌, ◌<◌, ◌+◌, ◌-◌, ◌++◌, length, take, drop, rules, arith, sym, ap, subst, ◌∙◌}
 use Rattle.std.specs.Prelude.{OnOk}
 use Rattle.relax_edges.specs.declared.TheConstants.{MAX_EDGES}

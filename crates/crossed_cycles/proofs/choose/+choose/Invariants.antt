@@ -1,3 +1,4 @@
+-- What is kept so far, and then all choices with the relaxations that are left, is what the whole walk keeps.
 use Rattle.std.proofs.Common.{◌≡◌, drop, length}
 use Rattle.crossed_cycles.specs.Choices.{is_accepted}
 use Rattle.crossed_cycles.specs.Known.{AreNormalForms}

@@ -1,3 +1,4 @@
+-- The answer is the cycle of the edges exactly where they are accepted.
 use Rattle.std.proofs.Common.{sym, ◌∙◌}
 use Rattle.crossed_cycles.proofs.Accepting.{said_accepted, said_refused, not_composed}
 use Rattle.crossed_cycles.proofs.choose.accepted_cycle.Goals as goal

@@ -1,3 +1,4 @@
+-- The answer is the crossed cycles, each of which has a test.
 use Rattle.std.proofs.Common.{◌≡◌, true, rules, sym, ap, subst, ◌∙◌}
 use Rattle.std.specs.Prelude.{All, None}
 use Rattle.test_maker.specs.Refusals.{refusal_of}

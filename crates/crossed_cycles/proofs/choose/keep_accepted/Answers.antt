@@ -1,3 +1,4 @@
+-- The edges are kept where they are accepted.
 use Rattle.std.proofs.Common.{◌≡◌, subst, sym, ◌∙◌}
 use Rattle.std.specs.Prelude.{OnOk}
 use Rattle.crossed_cycles.specs.Choices.{is_accepted}

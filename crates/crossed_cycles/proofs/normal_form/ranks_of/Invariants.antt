@@ -1,3 +1,4 @@
+-- The ranks so far are those of the edges passed.
 use Rattle.std.proofs.Common.{◌≡◌, map, take}
 use Rattle.relax_edges.specs.Order.{rank_of}
 use Rattle.crossed_cycles.proofs.normal_form.ranks_of.Given as goal

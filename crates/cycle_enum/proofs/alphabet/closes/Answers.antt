@@ -1,3 +1,4 @@
+-- A list whose last edge doesn't join its first is no cycle.
 use Rattle.std.proofs.Common.{sym, ◌∙◌}
 use Rattle.cycle_enum.proofs.Composing.{unclosed}
 use Rattle.cycle_enum.proofs.alphabet.closes.Goals as goal

@@ -1,3 +1,4 @@
+-- The marking ends, since each step leaves fewer relaxations.
 use Rattle.std.proofs.Common.{length}
 use Rattle.cycle_enum.proofs.letters.+mark_relaxes.Given as goal
 

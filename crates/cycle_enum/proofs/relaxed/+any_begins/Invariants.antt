@@ -1,3 +1,4 @@
+-- The test of each relaxation ends, since each step leaves fewer relaxations.
 use Rattle.std.proofs.Common.{length}
 use Rattle.cycle_enum.proofs.relaxed.+any_begins.Given as goal
 

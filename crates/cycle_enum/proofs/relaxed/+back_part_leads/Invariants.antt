@@ -1,3 +1,4 @@
+-- The test of each suffix of a relaxation ends, since each step takes a shorter suffix.
 use Rattle.std.proofs.Common.{length}
 use Rattle.cycle_enum.proofs.relaxed.+back_part_leads.Given as goal
 

@@ -1,3 +1,4 @@
+-- The comparison of a relaxation with a list ends, since each step leaves fewer edges.
 use Rattle.std.proofs.Common.{length}
 use Rattle.cycle_enum.proofs.relaxed.+fits.Given as goal
 

@@ -1,3 +1,4 @@
+-- The reading ends, since each step takes a shorter suffix of the list.
 use Rattle.std.proofs.Common.{length}
 use Rattle.cycle_enum.proofs.relaxed.+read_back_parts.Given as goal
 

@@ -1,3 +1,4 @@
+-- No rotation by a place passed so far is a concatenation.
 use Rattle.std.proofs.Common.{ℕ, ◌<◌}
 use Rattle.listing_laws.specs.Listing.{IsConcatenation}
 use Rattle.walk_laws.specs.Rotation.{rotated}

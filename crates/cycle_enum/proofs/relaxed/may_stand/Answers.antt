@@ -1,3 +1,4 @@
+-- A list that can't be part of a concatenation begins no cycle that is made of relaxations.
 use Rattle.std.proofs.Common.{◌∙◌, sym}
 use Rattle.listing_laws.proofs.Relaxing.{stands_nowhere}
 use Rattle.cycle_enum.proofs.relaxed.may_stand.Goals as goal

@@ -1,3 +1,4 @@
+-- That `classify_lines` writes the families of all cycles of the source, or a prefix of them where the sink fails.
 use Rattle.cycle_lines.proofs.TableLaws.{classified, classified_part}
 use Rattle.cycle_lines.proofs.classify.classify_lines.Goals as goal
 

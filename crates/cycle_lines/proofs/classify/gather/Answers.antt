@@ -1,3 +1,4 @@
+-- That `gather` keeps the names of the cycles of a source, line by line.
 use Rattle.std.proofs.Common.{◌++◌}
 use Rattle.cycle_lines.specs.Steps.{last_cycle}
 use Rattle.cycle_lines.proofs.ReadLaws.{found_next, found_last}

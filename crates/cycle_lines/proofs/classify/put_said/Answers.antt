@@ -1,3 +1,4 @@
+-- That `put_said` adds nothing where a line has no cycle.
 use Rattle.cycle_lines.proofs.TableLaws.{adds_none}
 use Rattle.cycle_lines.proofs.classify.put_said.Goals as goal
 

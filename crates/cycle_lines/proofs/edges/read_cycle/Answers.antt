@@ -1,3 +1,4 @@
+-- That `read_cycle` makes the cycle of the edges that were read.
 use Rattle.std.proofs.Common.{◌∙◌}
 use Rattle.cycle_lines.proofs.Words.{read_made}
 use Rattle.cycle_lines.proofs.edges.read_cycle.Goals as goal

@@ -1,3 +1,4 @@
+-- That `hand_on` has nothing to write where the page is empty.
 use Rattle.diy_io.specs.WroteLaws.{wrote_nothing}
 use Rattle.cycle_lines.proofs.NormLaws.{nothing_held}
 use Rattle.cycle_lines.proofs.norm.hand_on.Goals as goal

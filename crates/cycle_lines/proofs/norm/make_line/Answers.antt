@@ -1,3 +1,4 @@
+-- That `make_line` makes the line of a cycle.
 use Rattle.std.proofs.Common.{ap, ◌∙◌, ◌++◌}
 use Rattle.std.specs.Prelude.{codes}
 use Rattle.cycle_lines.proofs.NormLaws.{line_text}

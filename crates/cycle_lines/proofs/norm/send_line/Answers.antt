@@ -1,3 +1,4 @@
+-- That `send_line` sends the line of a cycle as a whole.
 use Rattle.std.proofs.Common.{◌∙◌, arith, ap, length}
 use Rattle.diy_io.specs.PageLaws.{sends_stopped}
 use Rattle.cycle_lines.proofs.NormLaws.{line_sent}

@@ -1,3 +1,4 @@
+-- That `write_last` writes nothing where there is no last cycle.
 use Rattle.std.proofs.Common.{ap, sym, subst}
 use Rattle.diy_io.specs.Wrote.{WroteAll}
 use Rattle.diy_io.specs.WroteLaws.{nothing_wrote}

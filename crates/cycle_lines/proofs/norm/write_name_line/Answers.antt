@@ -1,3 +1,4 @@
+-- That `write_name_line` writes the line of a cycle.
 use Rattle.std.proofs.Common.{◌∙◌}
 use Rattle.diy_io.specs.WroteLaws.{wrote_same}
 use Rattle.cycle_lines.proofs.norm.write_name_line.Goals as goal

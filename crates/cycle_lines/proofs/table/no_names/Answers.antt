@@ -1,3 +1,4 @@
+-- That `no_names` gives the table of no cycle.
 use Rattle.std.proofs.Common.{◌≡◌, ℕ, [], map, take, ap, ◌∙◌, arith}
 use Rattle.cycle_names.specs.declared.family.Family.{Family}
 use Rattle.cycle_lines.specs.Classified.{families_in_order}

@@ -1,3 +1,4 @@
+-- That `put_cycle` adds the name of a cycle to those of its family.
 use Rattle.std.proofs.Common.{◌∙◌, ap}
 use Rattle.cycle_lines.specs.Tables.{place_of}
 use Rattle.cycle_lines.proofs.TableLaws.{adds_cycle, ok_then}

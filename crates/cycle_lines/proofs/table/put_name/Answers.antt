@@ -1,3 +1,4 @@
+-- That `put_name` adds a name to the entry at a place.
 use Rattle.std.proofs.Common.{refl}
 use Rattle.cycle_lines.proofs.TableLaws.{set_shown, put_shown}
 use Rattle.cycle_lines.proofs.table.put_name.Goals as goal

@@ -1,3 +1,4 @@
+-- That `send_families` sends the lines of the families of a table.
 use Rattle.diy_io.specs.PageLaws.{sent_nothing}
 use Rattle.cycle_lines.proofs.TableLaws.{each_entry, part_entry, unsent_err}
 use Rattle.cycle_lines.proofs.table.send_families.Goals as goal

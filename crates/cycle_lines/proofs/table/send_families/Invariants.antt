@@ -1,3 +1,4 @@
+-- The loop of `send_families`: what is sent so far.
 use Rattle.std.proofs.Common.{take}
 use Rattle.std.specs.List.{flat_map}
 use Rattle.diy_io.specs.Page.{SentAll}

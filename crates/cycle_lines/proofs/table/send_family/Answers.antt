@@ -1,3 +1,4 @@
+-- That `send_family` sends the lines of a family, if it has a name.
 use Rattle.std.proofs.Common.{sym}
 use Rattle.diy_io.specs.PageLaws.{sends_then, sends_stopped, sends_same}
 use Rattle.cycle_lines.specs.Tables.{texts_of}

@@ -1,3 +1,4 @@
+-- That `send_names` sends the lines of the names of a family.
 use Rattle.std.proofs.Common.{◌≡◌, map, ap}
 use Rattle.diy_io.specs.PageLaws.{sent_nothing}
 use Rattle.cycle_lines.specs.Tables.{texts_of}

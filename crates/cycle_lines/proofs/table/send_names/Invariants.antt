@@ -1,3 +1,4 @@
+-- The loop of `send_names`: what is sent so far, and what is left.
 use Rattle.std.proofs.Common.{◌≡◌, ◌++◌, map}
 use Rattle.std.specs.List.{flat_map}
 use Rattle.diy_io.specs.Page.{SentAll}

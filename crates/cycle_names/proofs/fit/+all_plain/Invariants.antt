@@ -1,3 +1,4 @@
+-- The test of each access ends, since each step leaves fewer edges.
 use Rattle.std.proofs.Common.{length}
 use Rattle.cycle_names.proofs.fit.+all_plain.Given as goal
 

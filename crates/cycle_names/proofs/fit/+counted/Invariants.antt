@@ -1,3 +1,4 @@
+-- The count ends, since each step leaves fewer edges.
 use Rattle.std.proofs.Common.{length}
 use Rattle.cycle_names.proofs.fit.+counted.Given as goal
 

@@ -1,3 +1,4 @@
+-- The comparison of two lists of places ends, since each step leaves fewer places.
 use Rattle.std.proofs.Common.{length}
 use Rattle.cycle_names.proofs.fit.+is_below.Given as goal
 

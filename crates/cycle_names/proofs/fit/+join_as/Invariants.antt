@@ -1,3 +1,4 @@
+-- The comparison of edges with slots ends, since each step leaves fewer edges.
 use Rattle.std.proofs.Common.{length}
 use Rattle.cycle_names.proofs.fit.+join_as.Given as goal
 

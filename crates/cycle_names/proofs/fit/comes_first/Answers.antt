@@ -1,3 +1,4 @@
+-- Comparing the places of words compares the words of the two rotations.
 use Rattle.std.proofs.Common.{refl, ◌∙◌, arith, length}
 use Rattle.cycle_names.proofs.Places.{compared}
 use Rattle.cycle_names.proofs.fit.comes_first.Goals as goal

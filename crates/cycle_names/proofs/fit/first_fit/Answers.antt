@@ -1,3 +1,4 @@
+-- The first rotation that joins what the likely family's cycle does fits it, and without one the cycle is of none.
 use Rattle.std.proofs.Common.{sym, ◌∙◌, map}
 use Rattle.cycle_names.specs.Fitting.{slot_edge}
 use Rattle.cycle_names.proofs.Places.{fits_none, fits_first, marked_outside}

@@ -1,3 +1,4 @@
+-- The rotation from no place passed joins what the slots do.
 use Rattle.std.proofs.Common.{map}
 use Rattle.cycle_names.specs.Fitting.{slot_edge, JoinsNone}
 use Rattle.cycle_names.proofs.fit.first_place.Given as goal

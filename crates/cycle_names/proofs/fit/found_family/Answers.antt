@@ -1,3 +1,4 @@
+-- The family that a rotation fits is the cycle's.
 use Rattle.std.proofs.Common.{sym}
 use Rattle.cycle_names.proofs.Places.{fits_found}
 use Rattle.cycle_names.proofs.fit.found_family.Goals as goal

@@ -1,3 +1,4 @@
+-- The two parts of a rotation join what the two parts of the slots do exactly where the whole does.
 use Rattle.std.proofs.Common.{sym, ◌∙◌}
 use Rattle.cycle_names.proofs.Places.{joins_parts, both_parts, one_part}
 use Rattle.cycle_names.proofs.fit.joins_at.Goals as goal

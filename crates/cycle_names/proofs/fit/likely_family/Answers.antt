@@ -1,3 +1,4 @@
+-- A cycle with too many edges is of no family, and another only of the one with as many edges of each sort.
 use Rattle.cycle_names.proofs.Families.{too_long}
 use Rattle.cycle_names.proofs.Places.{likely_answer}
 use Rattle.cycle_names.proofs.fit.likely_family.Goals as goal

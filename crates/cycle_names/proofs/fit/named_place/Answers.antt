@@ -1,3 +1,4 @@
+-- The place that the search ends with begins the rotation that the cycle is named from.
 use Rattle.std.proofs.Common.{sym, ◌∙◌, ap, ◌&&◌, map}
 use Rattle.walk_laws.specs.Order.{ranks_below}
 use Rattle.walk_laws.specs.Rotation.{rotated}

@@ -1,3 +1,4 @@
+-- Of the rotations that fit from the places passed, none has words before those of the one from the place kept.
 use Rattle.cycle_names.proofs.Places.{NamedUpTo}
 use Rattle.cycle_names.proofs.fit.named_place.Given as goal
 

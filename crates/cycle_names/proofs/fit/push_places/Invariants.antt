@@ -1,3 +1,4 @@
+-- The places of the words of the edges passed are added, and there is room for the others.
 use Rattle.std.proofs.Common.{◌≡◌, ◌+◌, ◌++◌, length, map, drop}
 use Rattle.cycle_names.specs.Fitting.{word_place}
 use Rattle.cycle_names.proofs.fit.push_places.Given as goal

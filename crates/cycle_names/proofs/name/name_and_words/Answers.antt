@@ -1,3 +1,4 @@
+-- The texts made are the name of the cycle and the words of the rotation that it is named from.
 use Rattle.std.proofs.Common.{◌++◌, sym, ◌∙◌, ap}
 use Rattle.std.specs.Prelude.{codes}
 use Rattle.std.specs.List.{join_by}

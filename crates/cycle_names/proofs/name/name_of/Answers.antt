@@ -1,3 +1,4 @@
+-- The text made is the name of the cycle.
 use Rattle.std.proofs.Common.{◌++◌, sym, ◌∙◌, ap}
 use Rattle.std.specs.Prelude.{codes}
 use Rattle.std.specs.List.{join_by}

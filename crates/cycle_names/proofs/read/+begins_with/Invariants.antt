@@ -1,3 +1,4 @@
+-- The comparison of a word with a text ends, since each step leaves fewer bytes of the word.
 use Rattle.std.proofs.Common.{length}
 use Rattle.cycle_names.proofs.read.+begins_with.Given as goal
 

@@ -1,3 +1,4 @@
+-- One slot more is filled: a link with the next word, another edge as it is.
 use Rattle.std.proofs.Common.{sym, ◌∙◌}
 use Rattle.cycle_names.proofs.Steps.{fill_link, fill_plain}
 use Rattle.cycle_names.proofs.read.+fill_each.Goals as goal

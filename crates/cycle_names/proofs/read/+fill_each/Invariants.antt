@@ -1,3 +1,4 @@
+-- The filling of slots ends, since each step leaves fewer slots.
 use Rattle.std.proofs.Common.{length}
 use Rattle.cycle_names.proofs.read.+fill_each.Given as goal
 

@@ -1,3 +1,4 @@
+-- The way to the last edge ends, since each step leaves fewer edges.
 use Rattle.std.proofs.Common.{length}
 use Rattle.cycle_names.proofs.read.+last_mark.Given as goal
 

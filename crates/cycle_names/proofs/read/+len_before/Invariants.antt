@@ -1,3 +1,4 @@
+-- The search for a byte ends, since each step leaves fewer bytes.
 use Rattle.std.proofs.Common.{length}
 use Rattle.cycle_names.proofs.read.+len_before.Given as goal
 

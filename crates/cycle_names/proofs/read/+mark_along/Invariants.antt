@@ -1,3 +1,4 @@
+-- The marking ends, since each step leaves fewer edges.
 use Rattle.std.proofs.Common.{length}
 use Rattle.cycle_names.proofs.read.+mark_along.Given as goal
 

@@ -1,3 +1,4 @@
+-- The search for a family ends, since each step leaves fewer families.
 use Rattle.std.proofs.Common.{length}
 use Rattle.cycle_names.proofs.read.+named_family.Given as goal
 

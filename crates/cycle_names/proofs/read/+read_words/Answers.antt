@@ -1,3 +1,4 @@
+-- One word more is read: where it spells no edge or there is no room, nothing is.
 use Rattle.std.proofs.Common.{refl, sym, arith, eqb-true}
 use Rattle.std.specs.Prelude.{Ok, Err}
 use Rattle.cycle_names.specs.declared.read.NotAName.{NotAName}

@@ -1,3 +1,4 @@
+-- The reading of words ends, since each step leaves fewer bytes.
 use Rattle.std.proofs.Common.{length}
 use Rattle.cycle_names.proofs.read.+read_words.Given as goal
 

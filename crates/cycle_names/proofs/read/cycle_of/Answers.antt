@@ -1,3 +1,4 @@
+-- The answer is the cycle of the name, and where there is none no cycle of the architecture has the name.
 use Rattle.std.proofs.Common.{sym, ◌∙◌, ap}
 use Rattle.std.proofs.lemmas.Result.{err_from_is_err_and}
 use Rattle.edge_algebra.specs.Compose.{composed}

@@ -1,3 +1,4 @@
+-- The edges of the slots passed are added, and there is room for the others.
 use Rattle.std.proofs.Common.{◌≡◌, ◌++◌, length, map, drop}
 use Rattle.cycle_names.specs.Families.{family_edges}
 use Rattle.cycle_names.specs.Fitting.{slot_edge}

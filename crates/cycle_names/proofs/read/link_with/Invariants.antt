@@ -1,3 +1,4 @@
+-- No edge of a rank passed is the link.
 use Rattle.std.specs.Prelude.{◌≡◌, ◌<◌, false}
 use Rattle.relax_edges.specs.declared.edge.Edge.{Edge}
 use Rattle.relax_edges.specs.EdgeTable.{source_of, target_of}

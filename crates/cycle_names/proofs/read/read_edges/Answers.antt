@@ -1,3 +1,4 @@
+-- The edges added are those that the text would name, by the family whose name it begins with or by their words.
 use Rattle.std.proofs.Common.{◌∙◌}
 use Rattle.cycle_names.proofs.CycleOf.{word_fits, family_marked, family_none, read_none}
 use Rattle.cycle_names.proofs.read.read_edges.Goals as goal

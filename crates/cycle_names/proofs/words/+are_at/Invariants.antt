@@ -1,3 +1,4 @@
+-- The test of each word ends, since each step leaves fewer edges.
 use Rattle.std.proofs.Common.{length}
 use Rattle.cycle_names.proofs.words.+are_at.Given as goal
 

@@ -1,3 +1,4 @@
+-- The search for a link ends, since each step leaves fewer edges.
 use Rattle.std.proofs.Common.{length}
 use Rattle.cycle_names.proofs.words.+first_link.Given as goal
 

@@ -1,3 +1,4 @@
+-- Adding the words ends, since each step leaves fewer edges.
 use Rattle.std.proofs.Common.{length}
 use Rattle.cycle_names.proofs.words.+push_both_behind.Given as goal
 

@@ -1,3 +1,4 @@
+-- Adding the words of links ends, since each step leaves fewer edges.
 use Rattle.std.proofs.Common.{length}
 use Rattle.cycle_names.proofs.words.+push_each.Given as goal
 

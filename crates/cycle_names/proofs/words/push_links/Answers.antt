@@ -1,3 +1,4 @@
+-- What is added is what comes after a family's word in a name.
 use Rattle.std.proofs.Common.{◌++◌, sym, ◌∙◌, ap, append_assoc}
 use Rattle.std.specs.Prelude.{codes}
 use Rattle.std.proofs.lemmas.List.{append-nil}

@@ -1,3 +1,4 @@
+-- The answer is whether the last edge is external.
 use Rattle.std.proofs.Common.{◌-◌, length, arith, sym, ◌∙◌}
 use Rattle.resolution_laws.proofs.Locations.{ends_with}
 use Rattle.cycle_resolve.proofs.resolved.ends_outside.Goals as goal

@@ -1,3 +1,4 @@
+-- The events that are made are those of the cycle.
 use Rattle.std.proofs.Common.{◌≡◌, ◌+◌, length, arith, sym, ◌∙◌, ap}
 use Rattle.list_laws.proofs.Numbers.{length-map-upto, map-upto_more}
 use Rattle.resolution_laws.specs.Resolution.{event_of, thread_of, slot_of}

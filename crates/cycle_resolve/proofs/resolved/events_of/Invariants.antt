@@ -1,3 +1,4 @@
+-- What holds in the loop over the edges.
 use Rattle.std.proofs.Common.{◌≡◌, map}
 use Rattle.list_laws.specs.Numbers.{upto}
 use Rattle.resolution_laws.specs.Resolution.{event_of}

@@ -1,3 +1,4 @@
+-- The answer is whether one thread has all edges to another location.
 use Rattle.std.proofs.Common.{◌≡◌, ◌+◌, length, arith, sym, ◌∙◌}
 use Rattle.resolution_laws.specs.Resolution.{thread_of}
 use Rattle.resolution_laws.proofs.Locations.{moves_in_before, moves_counted}

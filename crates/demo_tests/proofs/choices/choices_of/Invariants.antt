@@ -1,9 +1,10 @@
+-- How the choices grow edge by edge.
 use Rattle.std.proofs.Common.{◌≡◌, take}
 use Rattle.std.specs.Prelude.{filter}
 use Rattle.relax_edges.specs.AllEdges.{edges_in_order}
 use Rattle.family_laws.specs.Filled.{is_choice}
 use Rattle.demo_tests.proofs.choices.choices_of.Given as goal
 
--- the choices among the edges so far are there
+-- the choices among the edges passed are found
 abbrev pub invariant-loop-rank : goal.invariant-loop-rank
 invariant-loop-rank l = l.choices.items ≡ filter (is_choice l.arch l.from l.to) (take l.rank edges_in_order)

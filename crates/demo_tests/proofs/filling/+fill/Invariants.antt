@@ -1,3 +1,4 @@
+-- The filling ends, since each step leaves fewer slots.
 use Rattle.std.proofs.Common.{length}
 use Rattle.demo_tests.proofs.filling.+fill.Given as goal
 

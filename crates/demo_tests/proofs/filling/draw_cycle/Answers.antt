@@ -1,3 +1,4 @@
+-- The edges drawn compose, and their cycle is the one picked for the family.
 use Rattle.std.proofs.Common.{◌∙◌}
 use Rattle.cycle_names.proofs.CycleOf.{made_of}
 use Rattle.demo_tests.proofs.FilledLaws.{filled_from, never_refused}

@@ -1,3 +1,4 @@
+-- The text sent is the summary of the tests.
 use Rattle.diy_io.specs.WroteLaws.{wrote_same}
 use Rattle.demo_tests.proofs.TallyLaws.{summary_is}
 use Rattle.demo_tests.proofs.making.demo.Goals as goal

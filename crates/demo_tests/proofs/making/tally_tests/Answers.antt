@@ -1,3 +1,4 @@
+-- Each test is measured and counted, and there is room for it in the tallies.
 use Rattle.std.proofs.Common.{◌≡◌, ◌<◌, ◌%◌, refl, arith}
 use Rattle.demo_tests.specs.Tallies.{numbered_text}
 use Rattle.demo_tests.proofs.TallyLaws.{family_among, next_seed_of, text_so, accepted, text_tally, texts_short, HasRoom, has_room, all_more, families_more, no_families_counted, none_counted, place_within}

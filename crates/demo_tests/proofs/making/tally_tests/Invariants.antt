@@ -1,3 +1,4 @@
+-- What is known of the tallies and of the sequence of draws before each test.
 use Rattle.std.proofs.Common.{◌≡◌}
 use Rattle.list_laws.specs.Numbers.{upto}
 use Rattle.demo_tests.specs.Tallies.{family_tallies, numbered_text, seed_of, tally_of}

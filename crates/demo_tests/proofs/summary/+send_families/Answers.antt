@@ -1,3 +1,4 @@
+-- The lines of the families are sent one after another.
 use Rattle.demo_tests.proofs.LineLaws.{no_families, no_tallies, lines_sent}
 use Rattle.demo_tests.proofs.summary.+send_families.Goals as goal
 

@@ -1,3 +1,4 @@
+-- The sending ends, since each step leaves fewer families.
 use Rattle.std.proofs.Common.{length}
 use Rattle.demo_tests.proofs.summary.+send_families.Given as goal
 

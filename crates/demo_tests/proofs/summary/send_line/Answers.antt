@@ -1,3 +1,4 @@
+-- The pieces sent are those of the line.
 use Rattle.std.proofs.Common.{◌∙◌}
 use Rattle.diy_io.specs.PageLaws.{sends_same}
 use Rattle.demo_tests.proofs.LineLaws.{line_is}

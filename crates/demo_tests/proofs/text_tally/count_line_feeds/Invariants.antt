@@ -1,8 +1,9 @@
+-- How the count of line feeds grows byte by byte.
 use Rattle.std.proofs.Common.{◌≡◌, ◌≤◌, take}
 use Rattle.diy_io.specs.Sink.{line_feed_count}
 use Rattle.demo_tests.proofs.text_tally.count_line_feeds.Given as goal
 
--- those before the place are counted
+-- the line feeds before the place are counted
 abbrev pub invariant-loop-byte : goal.invariant-loop-byte
 invariant-loop-byte l = record {
   counted : l.count ≡ line_feed_count (take l.byte-index l.text);

@@ -1,3 +1,4 @@
+-- That the loop of `write_whole` ends: the rest gets shorter.
 use Rattle.std.proofs.Common.{length}
 use Rattle.diy_io.proofs.dir_shelf.write_whole.Given as goal
 

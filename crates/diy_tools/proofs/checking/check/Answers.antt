@@ -1,3 +1,4 @@
+-- That `check` answers as mcheck7 does.
 use Rattle.diy_tools.proofs.checking.check.Goals as goal
 
 pub returns-clause-answers : goal.returns-clause-answers

@@ -1,3 +1,4 @@
+-- That `composed` gives the cycle that edges make.
 use Rattle.std.proofs.Common.{◌∙◌, sym}
 use Rattle.diy_tools.proofs.Running.{composed_made}
 use Rattle.diy_tools.proofs.edges.composed.Goals as goal

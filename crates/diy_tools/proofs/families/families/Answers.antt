@@ -1,3 +1,4 @@
+-- That `families` answers as classify7 does, over files or for want of memory.
 use Rattle.std.proofs.Common.{◌∙◌}
 use Rattle.diy_tools.proofs.Classed.{files_asked, memory_asked}
 use Rattle.diy_tools.proofs.families.families.Goals as goal

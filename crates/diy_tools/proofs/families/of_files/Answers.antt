@@ -1,3 +1,4 @@
+-- That `of_files` answers as classify7 does over files.
 use Rattle.diy_tools.proofs.families.of_files.Goals as goal
 
 pub returns-clause-answers : goal.returns-clause-answers

@@ -1,3 +1,4 @@
+-- That `of_lines` answers as classify7 does over the input's lines.
 use Rattle.diy_tools.proofs.families.of_lines.Goals as goal
 
 pub returns-clause-answers : goal.returns-clause-answers

@@ -1,3 +1,4 @@
+-- That `list_on` writes the listing on each of the four architectures.
 use Rattle.relax_edges.specs.declared.kinds.ArchName.TheVariants as archs
 use Rattle.diy_tools.proofs.Listed.{ends_on}
 use Rattle.diy_tools.proofs.listing.list_on.Goals as goal

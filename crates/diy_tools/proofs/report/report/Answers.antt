@@ -1,3 +1,4 @@
+-- That `report` writes the line of a status, or a prefix of it where the sink fails.
 use Rattle.std.proofs.Common.{sym, ap}
 use Rattle.diy_io.specs.WroteLaws.{wrote_nothing}
 use Rattle.diy_tools.specs.Report.{status_line}

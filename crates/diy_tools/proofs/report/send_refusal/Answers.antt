@@ -1,3 +1,4 @@
+-- That `send_refusal` sends the line of a refusal.
 use Rattle.diy_tools.proofs.report.send_refusal.Goals as goal
 
 pub returns-in-DoesNotCompose : goal.returns-in-DoesNotCompose

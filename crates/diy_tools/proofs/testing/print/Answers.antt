@@ -1,3 +1,4 @@
+-- That `print` prints a test, or a prefix of its text.
 use Rattle.std.proofs.Common.{subst, sym}
 use Rattle.relax_edges.specs.declared.kinds.ArchName.{ArchName}
 use Rattle.litmus_text.specs.Tests.{test_seen}

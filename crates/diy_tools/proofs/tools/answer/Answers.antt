@@ -1,3 +1,4 @@
+-- That `answer` answers as norm7 and mcheck7 do, and that the shelf is at nothing after diyone7 with -why.
 use Rattle.std.proofs.Common.{subst, Ok}
 use Rattle.diy_words.specs.declared.request.Request.{Request}
 use Rattle.diy_words.specs.Given.{Gives}

@@ -1,3 +1,4 @@
+-- That the claims of `run` follow from what it answers.
 use Rattle.diy_tools.proofs.Caused.{answers_caused, answers_memory}
 use Rattle.diy_tools.proofs.Completed.{answers_complete}
 use Rattle.diy_tools.proofs.Limits.{answers_limited}

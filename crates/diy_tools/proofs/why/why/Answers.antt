@@ -1,3 +1,4 @@
+-- That `why` answers as diyone7 with -why does on each of the four architectures.
 use Rattle.relax_edges.specs.declared.kinds.ArchName.TheVariants as archs
 use Rattle.diy_tools.proofs.Running.{runs_on}
 use Rattle.diy_tools.proofs.why.why.Goals as goal

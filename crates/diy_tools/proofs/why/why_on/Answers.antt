@@ -1,3 +1,4 @@
+-- That the name of the test has its form where `why_on` calls `why_named`.
 use Rattle.std.proofs.Common.{◌≡◌, true, sym, ◌∙◌, subst}
 use Rattle.std.specs.Prelude.{IfSome}
 use Rattle.arrayvec.specs.ArrayString.{ArrayString}

@@ -1,3 +1,4 @@
+-- That `write_line` writes the line on the files, or a prefix of it.
 use Rattle.std.proofs.Common.{ap, subst}
 use Rattle.diy_io.specs.Page.{SentAll, Sends}
 use Rattle.diy_tools.proofs.Reported.{own_wrote, own_unsent}

@@ -1,3 +1,4 @@
+-- That `read_files` finds the places of the files that words name.
 use Rattle.std.proofs.Common.{arith, ◌∙◌, sym, subst}
 use Rattle.diy_words.proofs.FileLaws.{FilesRead, files_begun, file_read, file_there, where_err, option_first, option_read, files_ended}
 use Rattle.diy_words.proofs.files.read_files.Goals as goal

@@ -1,3 +1,4 @@
+-- That `has_name_bytes` ends: the bytes get fewer.
 use Rattle.std.proofs.Common.{length}
 use Rattle.diy_words.proofs.name.+has_name_bytes.Given as goal
 

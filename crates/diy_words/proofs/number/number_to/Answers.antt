@@ -1,3 +1,4 @@
+-- That `number_to` gives nothing where a text can't be parsed.
 use Rattle.std.proofs.Common.{arith, sym, subst}
 use Rattle.std.specs.Str.Parse.{ParsesUnsigned}
 use Rattle.diy_words.proofs.NumberLaws.{unparsed}

@@ -1,3 +1,4 @@
+-- That `read_places` reads the lists of relaxations that words spell.
 use Rattle.std.proofs.Common.{arith, ◌∙◌, sym, subst}
 use Rattle.diy_words.proofs.PlaceLaws.{PlacesRead, places_begun, place_first, place_read, option_first, option_read, places_ended}
 use Rattle.diy_words.proofs.places.read_places.Goals as goal

@@ -1,3 +1,4 @@
+-- The loop of `read_places`: the lists before a place are read.
 use Rattle.std.proofs.Common.{◌-◌, length}
 use Rattle.diy_words.proofs.PlaceLaws.{PlacesRead}
 use Rattle.diy_words.proofs.places.read_places.Given as goal

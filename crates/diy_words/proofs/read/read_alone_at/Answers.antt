@@ -1,3 +1,4 @@
+-- That `read_alone_at` takes in a word by itself, or gives its fault.
 use Rattle.std.proofs.Common.{◌+◌, arith}
 use Rattle.diy_words.specs.Given.{heard, held}
 use Rattle.diy_words.proofs.Judged.{taken, faulty, alone_first}

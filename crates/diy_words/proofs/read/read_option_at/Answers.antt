@@ -1,3 +1,4 @@
+-- That `read_option_at` takes in an option with its value, or gives the fault.
 use Rattle.std.proofs.Common.{◌≡◌, ◌+◌, arith, length, sym, ap}
 use Rattle.diy_words.specs.Given.{absorbed, heard, held}
 use Rattle.diy_words.proofs.Judged.{taken, faulty, value_first, unvalued_last}

@@ -1,3 +1,4 @@
+-- That `read_request` gives the request of the words, in its form.
 use Rattle.std.proofs.Common.{◌∙◌, sym}
 use Rattle.diy_words.proofs.Judged.{gives_named}
 use Rattle.diy_words.proofs.RequestForm.{request_form, request_within}

@@ -1,3 +1,4 @@
+-- The loop of `read_words`: what is held after all words stays the same.
 use Rattle.std.proofs.Common.{◌≡◌, ◌-◌, length}
 use Rattle.diy_words.specs.Given.{held, held_at_end, nothing_held}
 use Rattle.diy_words.proofs.read.read_words.Given as goal

@@ -1,3 +1,4 @@
+-- The search for a break ends, since each step leaves fewer edges.
 use Rattle.std.proofs.Common.{length}
 use Rattle.edge_algebra.proofs.compose.+first_break.Given as goal
 

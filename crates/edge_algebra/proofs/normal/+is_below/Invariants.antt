@@ -1,3 +1,4 @@
+-- The comparison of two lists of ranks ends, since each step leaves fewer ranks.
 use Rattle.std.proofs.Common.{length}
 use Rattle.edge_algebra.proofs.normal.+is_below.Given as goal
 

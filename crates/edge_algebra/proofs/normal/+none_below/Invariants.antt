@@ -1,3 +1,4 @@
+-- The test of each suffix ends, since each step takes a shorter suffix.
 use Rattle.std.proofs.Common.{length}
 use Rattle.edge_algebra.proofs.normal.+none_below.Given as goal
 

@@ -1,3 +1,4 @@
+-- The place that the search ends with begins the least rotation.
 use Rattle.std.proofs.Common.{◌≡◌, ◌++◌, map, sym, ◌∙◌, arith}
 use Rattle.relax_edges.specs.Order.{rank_of}
 use Rattle.walk_laws.proofs.Rotating.{normal_of_places, rotation_of_place}

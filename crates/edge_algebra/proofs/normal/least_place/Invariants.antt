@@ -1,3 +1,4 @@
+-- Of the rotations from the places passed, none is less than the one from the least place so far.
 use Rattle.edge_algebra.proofs.Windows.{LeastUpTo}
 use Rattle.edge_algebra.proofs.normal.least_place.Given as goal
 

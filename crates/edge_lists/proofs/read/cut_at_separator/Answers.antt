@@ -1,3 +1,4 @@
+-- A text is cut at its first separator, and without one it is one word.
 use Rattle.std.proofs.Common.{sym}
 use Rattle.edge_lists.proofs.ReadingLaws.{all_behind, cut_at, words_none}
 use Rattle.edge_lists.proofs.read.cut_at_separator.Goals as goal

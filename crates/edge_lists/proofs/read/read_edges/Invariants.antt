@@ -1,3 +1,4 @@
+-- Reading the rest of the text after the edges so far gives what reading the whole text gives.
 use Rattle.std.proofs.Common.{◌≡◌, length}
 use Rattle.std.specs.List.{slice_split}
 use Rattle.edge_lists.specs.Spelled.{separates}

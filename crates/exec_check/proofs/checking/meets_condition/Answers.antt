@@ -1,3 +1,4 @@
+-- The answer is whether the final state meets the condition.
 use Rattle.exec_check.proofs.Judging.{condition_holds}
 use Rattle.exec_check.proofs.checking.meets_condition.Goals as goal
 

@@ -1,3 +1,4 @@
+-- How the list of judged edges grows by one edge.
 use Rattle.std.proofs.Common.{◌≡◌, Some, slice_get, subst}
 use Rattle.litmus_text.specs.Programs.{program_read}
 use Rattle.exec_check.proofs.Judging.{one_judged}

@@ -1,3 +1,4 @@
+-- What is sent is the lines of the edges.
 use Rattle.exec_check.proofs.Lines.{edges_none, edges_sent, edges_stopped}
 use Rattle.exec_check.proofs.writing.+send_edges.Goals as goal
 

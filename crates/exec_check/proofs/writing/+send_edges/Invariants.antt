@@ -1,3 +1,4 @@
+-- The recursion over the edges ends.
 use Rattle.std.proofs.Common.{length}
 use Rattle.exec_check.proofs.writing.+send_edges.Given as goal
 

@@ -1,3 +1,4 @@
+-- What is sent is the line of an answer.
 use Rattle.std.proofs.Common.{◌∙◌}
 use Rattle.diy_io.specs.PageLaws.{sends_same}
 use Rattle.exec_check.proofs.Lines.{answer_line_is}

@@ -1,3 +1,4 @@
+-- What is sent is the line of an edge.
 use Rattle.std.proofs.Common.{◌∙◌}
 use Rattle.diy_io.specs.PageLaws.{sends_same}
 use Rattle.exec_check.proofs.Lines.{edge_line_is}

@@ -1,3 +1,4 @@
+-- What is sent is the lines of a candidate's answers.
 use Rattle.std.proofs.Common.{◌++◌, ap}
 use Rattle.std.specs.Prelude.{codes}
 use Rattle.diy_io.specs.PageLaws.{sends_same, sends_stopped, sends_then}

@@ -1,3 +1,4 @@
+-- What is sent is the lines of the verdict.
 use Rattle.std.specs.Prelude.{codes}
 use Rattle.diy_io.specs.PageLaws.{sends_then}
 use Rattle.exec_check.specs.Verdicts.{answer_line, further_lines, verdict_text}

@@ -1,3 +1,4 @@
+-- The recursion over the accesses of a thread ends.
 use Rattle.std.proofs.Common.{length}
 use Rattle.exec_meaning.proofs.candidate.+are_reads.Given as goal
 

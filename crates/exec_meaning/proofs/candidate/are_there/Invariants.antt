@@ -1,3 +1,4 @@
+-- In the loop over the writes: the answer is that for the writes that are left.
 use Rattle.std.proofs.Common.{◌≡◌, drop}
 use Rattle.std.specs.List.{list_all}
 use Rattle.program_meaning.specs.Accesses.{at_name}

@@ -1,3 +1,4 @@
+-- An order that passes leaves the answer to the places after it.
 use Rattle.std.proofs.Common.{sym, ◌∙◌}
 use Rattle.exec_meaning.specs.Deciding.{is_order}
 use Rattle.exec_meaning.proofs.Every.{every_step}

@@ -1,3 +1,4 @@
+-- The answer is whether the execution is a candidate.
 use Rattle.std.proofs.Common.{map, ◌∙◌, ap, subst}
 use Rattle.std.specs.Prelude.{option_map}
 use Rattle.program_meaning.specs.Programs.{runs_of}

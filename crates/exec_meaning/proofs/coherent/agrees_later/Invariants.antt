@@ -1,3 +1,4 @@
+-- In the loop over the accesses: the answer is that for the accesses that are left.
 use Rattle.std.proofs.Common.{◌≡◌, ◌||◌, drop}
 use Rattle.std.specs.Prelude.{not, nat_lt}
 use Rattle.exec_meaning.specs.Deciding.{every, agrees, agrees_later}

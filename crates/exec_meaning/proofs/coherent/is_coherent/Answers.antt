@@ -1,3 +1,4 @@
+-- The answer is whether the execution is coherent.
 use Rattle.std.proofs.Common.{map, ◌∙◌, ap, sym, subst}
 use Rattle.program_meaning.specs.Coherence.{IsCoherent}
 use Rattle.litmus_text.specs.Programs.{program_read}

@@ -1,3 +1,4 @@
+-- The place of a name in the coherence order is that of its numbers.
 use Rattle.std.proofs.Common.{ap, ◌∙◌}
 use Rattle.program_meaning.specs.declared.WriteAt.{WriteAt}
 use Rattle.program_meaning.specs.Coherence.{coherence_place}

@@ -1,3 +1,4 @@
+-- The answer is whether the edge stands in the execution.
 use Rattle.std.proofs.Common.{map, ◌∙◌, ap, sym}
 use Rattle.program_meaning.specs.Accesses.{at_name, visits_of}
 use Rattle.program_meaning.specs.Standing.{event_name}

@@ -1,3 +1,4 @@
+-- How the state grows by the value of one place.
 use Rattle.std.proofs.Common.{◌<◌, ◌≡◌, length, [], ◌∷◌, ◌++◌, get_or, ap, ◌∙◌, arith}
 use Rattle.relax_edges.specs.declared.kinds.Value.TheVariants.{Num}
 use Rattle.program_meaning.specs.Coherence.{final_value}

@@ -1,3 +1,4 @@
+-- In the loop over the places: the state has the values of those before this one.
 use Rattle.std.proofs.Common.{◌≡◌, ◌++◌, take}
 use Rattle.program_meaning.specs.Coherence.{final_value}
 use Rattle.exec_meaning.specs.Finals.{places_at}

@@ -1,3 +1,4 @@
+-- How the state grows by the value of one register.
 use Rattle.std.proofs.Common.{◌<◌, length, [], ◌∷◌, ◌++◌, get_or, ap, ◌∙◌, arith}
 use Rattle.micro_ops.specs.Threads.{value_in}
 use Rattle.final_cond.specs.Conditions.{InRegister}

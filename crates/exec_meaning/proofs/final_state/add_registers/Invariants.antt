@@ -1,3 +1,4 @@
+-- In the loop over the registers of a thread: the state has the values of those before this one.
 use Rattle.std.proofs.Common.{◌≡◌, ◌++◌, take}
 use Rattle.micro_ops.specs.Threads.{value_in}
 use Rattle.exec_meaning.specs.Finals.{registers_at}

@@ -1,3 +1,4 @@
+-- How the state grows by the registers of one thread.
 use Rattle.exec_meaning.proofs.FinalLaws.{threads_more}
 use Rattle.exec_meaning.proofs.final_state.add_threads.Goals as goal
 

@@ -1,3 +1,4 @@
+-- In the loop over the threads: the state has the registers of those before this one.
 use Rattle.std.proofs.Common.{◌≡◌, ◌++◌, map, take}
 use Rattle.micro_ops.specs.Threads.{value_in}
 use Rattle.exec_meaning.specs.Finals.{all_registers}

@@ -1,3 +1,4 @@
+-- The state that is made is the final state of the execution.
 use Rattle.std.proofs.Common.{◌≡◌, length, map, ◌++◌, ap, sym, ◌∙◌, arith}
 use Rattle.litmus_text.specs.Programs.{program_read}
 use Rattle.micro_ops.specs.Threads.{value_in}

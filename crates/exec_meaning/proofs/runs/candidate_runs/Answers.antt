@@ -1,3 +1,4 @@
+-- In a candidate execution all runs end.
 use Rattle.std.proofs.Common.{subst}
 use Rattle.std.specs.Prelude.{option_map}
 use Rattle.program_meaning.specs.Programs.{runs_of}

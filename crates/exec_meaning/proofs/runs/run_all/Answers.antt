@@ -1,3 +1,4 @@
+-- The runs that are made are those of the program, if all end.
 use Rattle.std.proofs.Common.{subst, arith}
 use Rattle.program_meaning.specs.Programs.{runs_of}
 use Rattle.litmus_text.specs.Programs.{program_read}

@@ -1,3 +1,4 @@
+-- What holds in the loop over the threads.
 use Rattle.std.proofs.Common.{◌≡◌, map, take}
 use Rattle.litmus_text.specs.Programs.{program_read}
 use Rattle.program_meaning.specs.Programs.{runs_of}

@@ -1,3 +1,4 @@
+-- In the loop over the reads: the values of those before this one are listed.
 use Rattle.std.proofs.Common.{◌≡◌, map, take}
 use Rattle.exec_meaning.proofs.runs.values_of.Given as goal
 

@@ -1,3 +1,4 @@
+-- What holds in the loop over the words of a place's line.
 use Rattle.std.proofs.Common.{◌≡◌, ◌<◌, length}
 use Rattle.text_laws.specs.Words.{words}
 use Rattle.exec_meaning.specs.Kept.{with_write}

@@ -1,3 +1,4 @@
+-- What is read is the reading of the text, and has the threads and places of the test.
 use Rattle.std.proofs.Common.{◌≡◌, length, ap, ◌∙◌, arith}
 use Rattle.exec_meaning.specs.Kept.{nothing_kept}
 use Rattle.execution_text.specs.ExecutionText.{lines_of}

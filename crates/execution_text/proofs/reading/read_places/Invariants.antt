@@ -1,3 +1,4 @@
+-- What holds in the loop over the places.
 use Rattle.std.proofs.Common.{◌≡◌, ◌+◌, map, drop, length}
 use Rattle.exec_meaning.specs.Kept.{with_write}
 use Rattle.execution_text.specs.declared.errors.ExecKind.TheVariants.{BadPlace, BadWrite}

@@ -1,3 +1,4 @@
+-- What holds in the loop over the threads.
 use Rattle.std.proofs.Common.{◌≡◌, ◌+◌, ◌-◌, map, length}
 use Rattle.std.specs.List.{range_with_len}
 use Rattle.exec_meaning.specs.Kept.{with_read}

@@ -1,3 +1,4 @@
+-- What holds in the loop over the writes of a place.
 use Rattle.std.proofs.Common.{◌≡◌, ◌++◌, map, drop}
 use Rattle.execution_text.specs.Written.{access_word, place_line}
 use Rattle.execution_text.proofs.Appending.{further}

@@ -1,3 +1,4 @@
+-- What holds in the loop over the places.
 use Rattle.std.proofs.Common.{◌≡◌, ◌++◌, map, drop}
 use Rattle.std.specs.List.{flat_map, zip}
 use Rattle.litmus_text.specs.TestText.{ended}

@@ -1,3 +1,4 @@
+-- What holds in the loop over the reads of a thread.
 use Rattle.std.proofs.Common.{◌≡◌, ◌++◌, map, drop}
 use Rattle.execution_text.specs.Written.{read_word, thread_line}
 use Rattle.execution_text.proofs.Appending.{further}

@@ -1,3 +1,4 @@
+-- How the text grows by the line of one thread.
 use Rattle.std.proofs.Common.{◌+◌, ◌++◌, map, drop, ap, sym, ◌∙◌}
 use Rattle.std.specs.List.{enumerate_from, flat_map}
 use Rattle.litmus_text.specs.TestText.{ended}

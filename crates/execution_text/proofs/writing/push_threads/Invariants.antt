@@ -1,3 +1,4 @@
+-- What holds in the loop over the threads.
 use Rattle.std.proofs.Common.{◌≡◌, ◌++◌, map, drop}
 use Rattle.std.specs.List.{enumerate_from, flat_map}
 use Rattle.litmus_text.specs.TestText.{ended}

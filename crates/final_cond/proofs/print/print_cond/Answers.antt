@@ -1,3 +1,4 @@
+-- That `print_cond` writes the text of a condition.
 use Rattle.final_cond.proofs.PrintLaws.{put_wrote}
 use Rattle.final_cond.proofs.print.print_cond.Goals as goal
 

@@ -1,3 +1,4 @@
+-- That `print_further` adds the further terms to a page.
 use Rattle.std.proofs.Common.{arith}
 use Rattle.final_cond.proofs.PrintLaws.{none_put, one_more_put}
 use Rattle.final_cond.proofs.print.print_further.Goals as goal

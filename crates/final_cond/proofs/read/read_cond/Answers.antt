@@ -1,3 +1,4 @@
+-- That the place of a fault that `read_cond` finds lies within the text.
 use Rattle.final_cond.specs.Gives.{fault_view}
 use Rattle.final_cond.specs.Reading.{has_form}
 use Rattle.final_cond.proofs.WithinLaws.{fault_within}

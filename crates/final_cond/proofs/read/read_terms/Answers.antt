@@ -1,3 +1,4 @@
+-- That `read_terms` reads the terms of a condition, or finds the first fault.
 use Rattle.std.proofs.Common.{◌≡◌, ◌≢◌, ◌≤◌, ◌+◌, ◌-◌, ◌++◌, ℕ, false, nat_eq, refl, ◌∷◌, [], map, length, ◌∙◌, sym, arith}
 use Rattle.std.proofs.lemmas.Bool.{eqb-true, eqb-false}
 use Rattle.std.proofs.lemmas.List.{map_push}

@@ -1,3 +1,4 @@
+-- The loop of `read_terms`: the terms so far, and that there is room for fewer.
 use Rattle.std.proofs.Common.{◌≡◌, ◌-◌, map, length}
 use Rattle.final_cond.specs.declared.cond.TheConstants.{MAX_TERMS}
 use Rattle.final_cond.specs.Conditions.{term_view}

@@ -1,3 +1,4 @@
+-- The loop of `holds`: the terms that were passed hold.
 use Rattle.std.specs.Prelude.{◌↔◌}
 use Rattle.std.proofs.Common.{drop}
 use Rattle.final_cond.specs.States.{value_in}

@@ -1,3 +1,4 @@
+-- The loop of `value_of`: the pairs that were passed are of other left sides.
 use Rattle.std.proofs.Common.{◌≡◌, map, drop}
 use Rattle.final_cond.specs.Conditions.{left_view}
 use Rattle.final_cond.specs.States.{value_in, pair_view}

@@ -1,3 +1,4 @@
+-- The forms of operands that are left grow fewer.
 use Rattle.std.proofs.Common.{length}
 use Rattle.instruction_forms.proofs.fits.+fits.Given as goal
 

@@ -1,3 +1,4 @@
+-- The forms that are left grow fewer.
 use Rattle.std.proofs.Common.{length}
 use Rattle.instruction_forms.proofs.has.+any_does.Given as goal
 

@@ -1,3 +1,4 @@
+-- An operation that is no label is printed by a form of the table.
 use Rattle.form_laws.specs.Tables.{table_seen}
 use Rattle.instruction_forms.proofs.Printed.{has_other}
 use Rattle.instruction_forms.proofs.print.print_by.Goals as goal

@@ -1,3 +1,4 @@
+-- The first form that does the operation prints it, and there is one.
 use Rattle.std.proofs.Common.{◌∙◌, sym}
 use Rattle.instruction_forms.proofs.Printed.{walk_good, walk_on, walk_found, walk_ends}
 use Rattle.instruction_forms.proofs.print.print_first.Goals as goal

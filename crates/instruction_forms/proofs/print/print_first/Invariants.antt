@@ -1,3 +1,4 @@
+-- Nothing is printed so far, and the first form that does the operation is among those that are left.
 use Rattle.std.proofs.Common.{◌≡◌, [], length}
 use Rattle.arch_trait.specs.Writing.{name_in}
 use Rattle.instruction_forms.proofs.Printed.{Walk}

@@ -1,3 +1,4 @@
+-- There is room for the word, the blank and the operands of a good form.
 use Rattle.std.proofs.Common.{◌++◌, ◌∙◌, List, ℕ, ap}
 use Rattle.form_laws.specs.Tables.{form_seen}
 use Rattle.instruction_forms.proofs.Room.{word_room, blank_room, form_ready}

@@ -1,3 +1,4 @@
+-- There is room for what is in a hole and for the fixed text after it.
 use Rattle.std.proofs.Common.{◌∙◌, sym, ap, length, length-append, arith}
 use Rattle.arch_trait.specs.Writing.{name_in}
 use Rattle.form_laws.specs.Tables.{piece_seen, filled}

@@ -1,3 +1,4 @@
+-- Operands are printed one after another with commas between, as far as the holes can hold them.
 use Rattle.std.proofs.Common.{refl, ◌∙◌, sym}
 use Rattle.instruction_forms.proofs.Going.{going_piece, going_stops, going_comma, going_on, going_ends}
 use Rattle.instruction_forms.proofs.print.push_pieces.Goals as goal

@@ -1,3 +1,4 @@
+-- Operands are printed as far as those that are left.
 use Rattle.std.proofs.Common.{◌++◌, map, length}
 use Rattle.arch_trait.specs.Writing.{name_in}
 use Rattle.form_laws.specs.Tables.{piece_seen, fits}

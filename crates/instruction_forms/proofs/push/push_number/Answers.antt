@@ -1,3 +1,4 @@
+-- A number of one or two digits is printed digit by digit: there is room for them, and they are its decimal.
 use Rattle.std.proofs.Common.{ℕ, ◌+◌, ◌/◌, ◌%◌, List, [], ◌∷◌, ◌++◌, length, length-append, append_assoc, ◌∙◌, ap, sym, arith}
 use Rattle.std.specs.Fmt.{decimal}
 use Rattle.instruction_forms.proofs.Digits.{one_digit, two_digits}

@@ -1,3 +1,4 @@
+-- What is left of the fixed text and of the text gives what the whole texts give.
 use Rattle.std.proofs.Common.{◌≡◌, length}
 use Rattle.form_laws.specs.Tables.{after_prefix}
 use Rattle.instruction_forms.proofs.read.after_prefix.Given as goal

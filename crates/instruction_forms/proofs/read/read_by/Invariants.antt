@@ -1,3 +1,4 @@
+-- The forms that are left read what the whole table reads.
 use Rattle.std.proofs.Common.{◌≡◌, map, length}
 use Rattle.arch_trait.specs.Pieces.{texts_of}
 use Rattle.form_laws.specs.Tables.{form_seen}

@@ -1,3 +1,4 @@
+-- A form whose sort isn't that of the operation doesn't do it.
 use Rattle.std.proofs.Common.{◌∙◌, sym}
 use denote.Enum.Bare.{same_false}
 use Rattle.form_laws.specs.Tables.{form_seen}

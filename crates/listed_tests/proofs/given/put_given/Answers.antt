@@ -1,3 +1,4 @@
+-- That `put_given` writes the files of cycles and the one that names them.
 use Rattle.std.proofs.Common.{◌≡◌, rules}
 use Rattle.listed_tests.specs.Files.{all_path}
 use Rattle.listed_tests.specs.Plans.{folder_of}

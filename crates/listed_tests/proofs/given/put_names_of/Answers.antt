@@ -1,3 +1,4 @@
+-- That `put_names_of` writes the file that names the files of cycles.
 use Rattle.std.proofs.Common.{drop, rules}
 use Rattle.std.proofs.lemmas.List.{drop_all}
 use Rattle.diy_io.specs.SinkLaws.{on_err}

@@ -1,3 +1,4 @@
+-- The loop of `put_names_of`: what the file has so far, and which lines wait.
 use Rattle.std.proofs.Common.{drop}
 use Rattle.listed_tests.proofs.GivenLaws.{Lists}
 use Rattle.listed_tests.proofs.given.put_names_of.Given as goal

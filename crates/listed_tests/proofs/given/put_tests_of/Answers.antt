@@ -1,3 +1,4 @@
+-- That `put_tests_of` writes the files of the tests of cycles.
 use Rattle.diy_io.specs.SinkLaws.{on_err}
 use Rattle.listed_tests.specs.Plans.{folder_of, named_text}
 use Rattle.listed_tests.proofs.GivenLaws.{left_at, puts_first, puts_more, puts_stop}

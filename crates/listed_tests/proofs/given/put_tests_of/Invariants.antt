@@ -1,3 +1,4 @@
+-- The loop of `put_tests_of`: which files are there so far.
 use Rattle.std.proofs.Common.{drop}
 use Rattle.listed_tests.specs.Plans.{folder_of, named_text}
 use Rattle.listed_tests.proofs.GivenLaws.{Puts}

@@ -1,3 +1,4 @@
+-- That `list_tests` leaves what a listing is to leave.
 use Rattle.std.proofs.Common.{◌≡◌, ◌∙◌, ap, rules, refl}
 use Rattle.listed_tests.proofs.listing.list_tests.Goals as goal
 

@@ -1,3 +1,4 @@
+-- That `list_walk` leaves what the listing of a walk is to leave.
 use Rattle.std.proofs.Common.{inl, inr, refl}
 use Rattle.listed_tests.proofs.Walks.{planned, all_written, naming_stopped}
 use Rattle.listed_tests.proofs.Wanting.{stops_test_too}

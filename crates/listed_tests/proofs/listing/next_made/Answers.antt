@@ -1,3 +1,4 @@
+-- That `next_made` gives the next cycle of a walk that has a test.
 use Rattle.std.proofs.Common.{◌≡◌, ap}
 use Rattle.listed_tests.proofs.PassingOver.{passes_none, passes_one, passes_to, passes_all, fewer}
 use Rattle.listed_tests.proofs.Walks.{went_on, went_to}

@@ -1,3 +1,4 @@
+-- That `put_tests` writes the files of the listed cycles, in order.
 use Rattle.std.proofs.Common.{◌≡◌, Some, None, refl, ap}
 use Rattle.diy_io.specs.SinkLaws.{on_err}
 use Rattle.listing_laws.specs.Listing.{IsAnswer}

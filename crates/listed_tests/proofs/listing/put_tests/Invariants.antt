@@ -1,3 +1,4 @@
+-- The loop of `put_tests`: the files so far are there, and fewer cycles are left.
 use Rattle.std.proofs.Common.{◌≡◌}
 use Rattle.listing_laws.specs.Counting.{later}
 use Rattle.cycle_enum.specs.Walking.{Lists}

@@ -1,3 +1,4 @@
+-- That `write_count` writes the line on how many tests there are.
 use Rattle.std.proofs.Common.{◌∙◌, arith}
 use Rattle.diy_io.specs.WroteLaws.{wrote_same}
 use Rattle.listed_tests.proofs.Lines.{count_built}

@@ -1,3 +1,4 @@
+-- That `make_test` makes a test that is ready to be printed.
 use Rattle.test_maker.specs.CycleTextLaws.{made_text}
 use Rattle.listed_tests.proofs.making.make_test.Goals as goal
 

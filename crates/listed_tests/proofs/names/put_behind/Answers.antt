@@ -1,3 +1,4 @@
+-- That `put_behind` writes the lines that were kept, and then those of the listed cycles after a cycle.
 use Rattle.std.proofs.Common.{◌≡◌, ◌++◌, Some, None, ap, rules}
 use Rattle.diy_io.specs.SinkLaws.{on_err}
 use Rattle.listing_laws.specs.Listing.{IsAnswer}

@@ -1,3 +1,4 @@
+-- That `put_file` writes a file on the shelf, or a part of it.
 use Rattle.std.proofs.Common.{[]}
 use Rattle.diy_io.specs.SinkLaws.{on_err}
 use Rattle.listed_tests.proofs.Shelves.{filling_begun, filling_more, filling_part, closed_ok, closed_err}

@@ -1,3 +1,4 @@
+-- That `put_files` writes the files one after another.
 use Rattle.std.proofs.Common.{[], ◌∷◌, subst}
 use Rattle.std.specs.Prelude.{List, ℕ}
 use Rattle.diy_io.specs.SinkLaws.{on_err}

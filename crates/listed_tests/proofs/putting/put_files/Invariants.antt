@@ -1,3 +1,4 @@
+-- The loop of `put_files`: which files are there so far.
 use Rattle.std.proofs.Common.{drop}
 use Rattle.listed_tests.proofs.FilesPut.{FilesPut}
 use Rattle.listed_tests.proofs.putting.put_files.Given as goal

@@ -1,3 +1,4 @@
+-- That `put_text` writes a file with the text of a test, or a part of it.
 use Rattle.std.proofs.Common.{◌≡◌, ◌<◌, Some, None, length, arith, subst, ap, rules}
 use Rattle.diy_io.specs.SinkLaws.{on_err}
 use Rattle.diy_io.specs.declared.page.TheConstants.{SPILL}

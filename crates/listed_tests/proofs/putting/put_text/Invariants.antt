@@ -1,3 +1,4 @@
+-- The loop of `put_text`: what the file has so far, and that fewer parts are left.
 use Rattle.litmus_text.specs.Tests.{test_seen}
 use Rattle.litmus_text.specs.TestText.{test_text}
 use Rattle.litmus_text.specs.TextParts.{parts_left}

@@ -1,3 +1,4 @@
+-- That `run_after` ends: the edges get fewer.
 use Rattle.std.proofs.Common.{length}
 use Rattle.listed_tests.proofs.runs.+run_after.Given as goal
 

@@ -1,3 +1,4 @@
+-- That `stays_below` ends: the edges get fewer.
 use Rattle.std.proofs.Common.{length}
 use Rattle.listed_tests.proofs.runs.+stays_below.Given as goal
 

@@ -1,3 +1,4 @@
+-- One more text is kept where there is room.
 use Rattle.std.proofs.Common.{arith, refl}
 use Rattle.litmus_text.proofs.KeptLaws.{text_kept, text_lost}
 use Rattle.litmus_text.proofs.column.keep_text.Goals as goal

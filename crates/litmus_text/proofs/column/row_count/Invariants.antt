@@ -1,3 +1,4 @@
+-- The longest of the columns so far gives the number of rows.
 use Rattle.std.proofs.Common.{◌≡◌, ◌+◌, take, max, fold, length}
 use Rattle.litmus_text.proofs.column.row_count.Given as goal
 

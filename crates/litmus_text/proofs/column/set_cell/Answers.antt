@@ -1,3 +1,4 @@
+-- The cell of a row is the header, an instruction, or nothing.
 use Rattle.std.proofs.Common.{◌-◌, arith}
 use Rattle.arch_trait.specs.Codes.{thread_of}
 use Rattle.litmus_text.proofs.TableLaws.{header_cell, op_cell, no_cell}

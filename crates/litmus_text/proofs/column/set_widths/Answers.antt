@@ -1,3 +1,4 @@
+-- With each column its width is added and its cells are kept.
 use Rattle.std.proofs.Common.{arith}
 use Rattle.litmus_text.proofs.TableLaws.{widths_more, widths_whole}
 use Rattle.litmus_text.proofs.KeptLaws.{column_more, columns_whole, kept_few}

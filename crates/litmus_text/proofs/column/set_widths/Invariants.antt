@@ -1,3 +1,4 @@
+-- The walk over the columns keeps their cells and widths.
 use Rattle.std.proofs.Common.{◌≡◌, ◌≤◌, take, map}
 use Rattle.std.specs.List.{All}
 use Rattle.litmus_text.specs.TestText.{columns_of, width_of}

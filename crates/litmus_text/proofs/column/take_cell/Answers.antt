@@ -1,3 +1,4 @@
+-- A cell that is kept is the cell of the column.
 use Rattle.std.proofs.Common.{◌∙◌, arith, refl}
 use Rattle.arch_trait.specs.Codes.{thread_of}
 use Rattle.litmus_text.proofs.TableLaws.{length-column_of}

@@ -1,3 +1,4 @@
+-- The width of a column is that of its widest cell, and its cells are kept.
 use Rattle.std.proofs.Common.{◌<◌, arith, refl, length}
 use Rattle.litmus_text.specs.TestText.{column_of}
 use Rattle.litmus_text.proofs.KeptLaws.{kept_none, kept_more, kept_whole, wider}

@@ -1,3 +1,4 @@
+-- The walk over the rows keeps the cells of a column and finds the widest.
 use Rattle.std.proofs.Common.{◌≡◌, ◌≤◌, ◌++◌, take}
 use Rattle.litmus_text.specs.TestText.{column_of}
 use Rattle.arch_trait.specs.Codes.{thread_of}

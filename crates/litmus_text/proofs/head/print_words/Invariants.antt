@@ -1,9 +1,10 @@
+-- The walk over the edges appends their words.
 use Rattle.std.proofs.Common.{codes}
 use Rattle.relax_edges.specs.Words.{word_of}
 use Rattle.litmus_text.specs.declared.head.TheConstants.{WORD_ROOM}
 use Rattle.litmus_text.proofs.JoinLaws.{Put}
 use Rattle.litmus_text.proofs.head.print_words.Given as goal
 
--- the words so far are put
+-- the words so far are appended
 abbrev pub invariant-loop-i : goal.invariant-loop-i
 invariant-loop-i l = Put word_of (codes " ") WORD_ROOM l.fn.page l.page l.edges l.i

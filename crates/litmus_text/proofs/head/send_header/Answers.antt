@@ -1,3 +1,4 @@
+-- The pieces that are sent are the header.
 use Rattle.std.proofs.Common.{◌≡◌, ◌++◌, codes}
 use Rattle.diy_io.specs.PageLaws.{sends_same}
 use Rattle.relax_edges.specs.Architectures.{arch_word}

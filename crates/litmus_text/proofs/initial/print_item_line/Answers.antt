@@ -1,3 +1,4 @@
+-- A thread has one line of items, or none where it has no address registers.
 use Rattle.std.proofs.Common.{◌≡◌, ◌≢◌, codes, length}
 use Rattle.litmus_text.proofs.InitialLaws.{no_items, some_items, empty_from, some_from}
 use Rattle.litmus_text.proofs.JoinLaws.{nothing_put, two_put}

@@ -1,3 +1,4 @@
+-- The items of a thread are appended one after another, with blanks between.
 use Rattle.std.proofs.Common.{arith}
 use Rattle.litmus_text.proofs.ElementLaws.{below_at}
 use Rattle.litmus_text.proofs.JoinLaws.{none_put, one_put, all_put, all_short}

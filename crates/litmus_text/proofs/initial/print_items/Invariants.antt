@@ -1,9 +1,10 @@
+-- The walk over the address registers appends their items.
 use Rattle.std.proofs.Common.{codes}
 use Rattle.litmus_text.specs.declared.initial.TheConstants.{ITEM_ROOM}
 use Rattle.litmus_text.specs.TestText.{item_text}
 use Rattle.litmus_text.proofs.JoinLaws.{Put}
 use Rattle.litmus_text.proofs.initial.print_items.Given as goal
 
--- the items so far are put
+-- the items so far are appended
 abbrev pub invariant-loop-i : goal.invariant-loop-i
 invariant-loop-i g l = Put (item_text g.A.Arch.writing l.places l.thread) (codes " ") ITEM_ROOM l.fn.page l.page l.links l.i

@@ -1,3 +1,4 @@
+-- The law of reading back holds for each architecture.
 use Rattle.litmus_text.proofs.MentionedBack.{reads_back}
 use Rattle.litmus_text.proofs.law.printed_reads_back.Goals as goal
 

@@ -1,3 +1,4 @@
+-- The part of a thread is its items, and after the last thread the closing brace.
 use Rattle.std.proofs.Common.{arith, map, ap, sym}
 use Rattle.arch_trait.specs.Codes.{thread_of}
 use Rattle.litmus_text.specs.Tests.{test_seen}

@@ -1,3 +1,4 @@
+-- The part of the edges is their line and the opening brace.
 use Rattle.std.proofs.Common.{◌≡◌, ◌++◌, ap, codes, refl, subst, sym}
 use Rattle.std.specs.Prelude.{Some}
 use Rattle.litmus_text.specs.declared.parts.TextPart.TheVariants as parts

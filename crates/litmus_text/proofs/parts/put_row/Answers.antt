@@ -1,3 +1,4 @@
+-- The part of a row is its line, and after the last row the condition.
 use Rattle.std.proofs.Common.{arith, ap}
 use Rattle.litmus_text.specs.Tests.{test_seen}
 use Rattle.litmus_text.proofs.TextParts.{row_put, condition_put}

@@ -1,3 +1,4 @@
+-- What is sent by way of an empty page is what the sink takes.
 use Rattle.diy_io.specs.PageLaws.{sent_wrote, unsent_wrote}
 use Rattle.litmus_text.proofs.SendLaws.{from_nothing}
 use Rattle.litmus_text.proofs.print.print_test_by.Goals as goal

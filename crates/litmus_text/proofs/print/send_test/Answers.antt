@@ -1,3 +1,4 @@
+-- The text of a test is its header, and then its parts.
 use Rattle.std.proofs.Common.{ap, sym}
 use Rattle.std.specs.Prelude.{Some}
 use Rattle.diy_io.specs.PageLaws.{sends_same, sends_stopped, sends_then}

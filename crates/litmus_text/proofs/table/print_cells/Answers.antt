@@ -1,3 +1,4 @@
+-- The cells of a row are appended one after another.
 use Rattle.std.proofs.Common.{◌∙◌, map, arith, get_or, [], refl}
 use Rattle.arch_trait.specs.Codes.{thread_of}
 use Rattle.litmus_text.specs.TestText.{columns_of, column_of}

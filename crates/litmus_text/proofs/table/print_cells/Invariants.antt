@@ -1,3 +1,4 @@
+-- The walk over the threads appends their cells of a row.
 use Rattle.std.proofs.Common.{◌≡◌, ◌≤◌, ◌*◌, codes, map, length, take}
 use Rattle.arch_trait.specs.Codes.{thread_of}
 use Rattle.litmus_text.specs.declared.table.TheConstants.{CELL_ROOM}
@@ -6,7 +7,7 @@ use Rattle.litmus_text.specs.KeptCells.{all_texts}
 use Rattle.litmus_text.proofs.JoinLaws.{Put}
 use Rattle.litmus_text.proofs.table.print_cells.Given as goal
 
--- the cells so far are put, and the next column begins at its place
+-- the cells so far are appended, and the next column begins at its place
 abbrev pub invariant-loop-thread : goal.invariant-loop-thread
 invariant-loop-thread g l = record {
   put : Put (cell_text l.row) (codes " | ") CELL_ROOM l.fn.page l.page (columns_of g.A.Arch.writing l.places (map thread_of l.threads)) l.thread;

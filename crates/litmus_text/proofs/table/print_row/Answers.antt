@@ -1,3 +1,4 @@
+-- A row is a blank, its cells, and what ends the line.
 use Rattle.std.proofs.Common.{codes, map, length, ap, arith, length-append}
 use Rattle.std.specs.List.{join_by}
 use Rattle.arch_trait.specs.Codes.{thread_of}

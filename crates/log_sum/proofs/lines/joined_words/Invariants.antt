@@ -1,10 +1,11 @@
+-- `joined_words`: the words that are joined and those that are left are the words of the text.
 use Rattle.std.proofs.Common.{◌≡◌, length}
 use Rattle.text_laws.specs.Words.{words}
 use Rattle.log_sum.specs.Texts.{joined_words}
 use Rattle.log_sum.proofs.TextLaws.{joined_onto}
 use Rattle.log_sum.proofs.lines.joined_words.Given as goal
 
--- the words that are left, put behind those that are joined
+-- the words that are left, appended to those that are joined
 abbrev pub invariant-loop-word : goal.invariant-loop-word
 invariant-loop-word l = joined_onto l.joined.items (words l.rest) ≡ joined_words (words l.fn.text)
 

@@ -1,3 +1,4 @@
+-- `filled_sign` gives the blanks that fill a count, and the sign of the mark.
 use Rattle.std.proofs.Common.{◌∙◌, ◌++◌, ap, sym}
 use Rattle.log_sum.specs.declared.kinds.Mark.{Mark}
 use Rattle.log_sum.specs.SumText.{filling, mark_sign}

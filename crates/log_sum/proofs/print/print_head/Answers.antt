@@ -1,3 +1,4 @@
+-- `print_head` sends the lines above the states of a test.
 use Rattle.std.proofs.Common.{ap, ◌∙◌, sym, length}
 use Rattle.std.specs.Fmt.{decimal}
 use Rattle.diy_io.specs.PageLaws.{sends_same}

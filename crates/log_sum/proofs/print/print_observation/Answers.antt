@@ -1,3 +1,4 @@
+-- `print_observation` sends the line of the observation.
 use Rattle.std.proofs.Common.{◌∙◌}
 use Rattle.diy_io.specs.PageLaws.{sends_same}
 use Rattle.log_sum.specs.Classes.{test_view}

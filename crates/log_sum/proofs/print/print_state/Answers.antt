@@ -1,3 +1,4 @@
+-- `print_state` sends the line of a state.
 use Rattle.std.proofs.Common.{◌∙◌}
 use Rattle.log_sum.proofs.PrintLaws.{state_is}
 use Rattle.diy_io.specs.PageLaws.{sends_same}

@@ -1,3 +1,4 @@
+-- `print_states`: the states so far and those that are left are the states of the test.
 use Rattle.std.proofs.Common.{◌≡◌, ◌++◌, map}
 use Rattle.std.specs.List.{flat_map}
 use Rattle.diy_io.specs.Page.{SentAll}

@@ -1,3 +1,4 @@
+-- `print_sum` sends the whole text of a test.
 use Rattle.log_sum.specs.SumText.{test_text}
 use Rattle.log_sum.proofs.PrintLaws.{three_sent, first_stopped, second_stopped}
 use Rattle.log_sum.proofs.print.print_sum.Goals as goal

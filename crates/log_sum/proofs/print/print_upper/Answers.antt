@@ -1,3 +1,4 @@
+-- `print_upper` sends the lines of a test up to its condition.
 use Rattle.log_sum.proofs.PrintLaws.{three_sent, first_stopped, second_stopped}
 use Rattle.log_sum.proofs.print.print_upper.Goals as goal
 

@@ -1,3 +1,4 @@
+-- `print_verdict` sends the lines of the verdict and of the counts of both marks.
 use Rattle.std.proofs.Common.{ap, ◌∙◌}
 use Rattle.diy_io.specs.PageLaws.{sends_same}
 use Rattle.log_sum.specs.Classes.{test_view}

@@ -1,3 +1,4 @@
+-- `has_left_twice` finds whether two neighbours have one left side.
 use Rattle.std.proofs.Common.{sym, ◌∙◌, arith}
 use Rattle.std.proofs.lemmas.List.{length-map}
 use Rattle.log_sum.specs.Classes.{texts_of}

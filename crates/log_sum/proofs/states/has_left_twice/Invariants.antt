@@ -1,3 +1,4 @@
+-- `has_left_twice`: no two neighbours so far have one left side.
 use Rattle.std.proofs.Common.{◌≡◌, ℕ, ◌+◌, ◌<◌, false}
 use Rattle.log_sum.specs.Classes.{texts_of}
 use Rattle.log_sum.specs.Equalities.{same_left}

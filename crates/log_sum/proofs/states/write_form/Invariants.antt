@@ -1,3 +1,4 @@
+-- `write_form`: what is written is the form of the equalities so far.
 use Rattle.std.proofs.Common.{◌≡◌}
 use Rattle.std.specs.Prelude.{take}
 use Rattle.log_sum.specs.Classes.{texts_of}

@@ -1,3 +1,4 @@
+-- The registers hold what the initial values name.
 use Rattle.std.proofs.Common.{rules, ◌-◌, arith}
 use Rattle.micro_ops.proofs.Naming.{blank_is_start, name_more}
 use Rattle.micro_ops.proofs.machine.name_registers.Goals as goal

@@ -1,3 +1,4 @@
+-- In the loop over the initial values, from the last: the registers hold those from this one on.
 use Rattle.std.proofs.Common.{◌≡◌, drop}
 use Rattle.micro_ops.specs.Machines.{held_in}
 use Rattle.micro_ops.specs.Running.{starting}

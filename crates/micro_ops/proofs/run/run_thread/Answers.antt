@@ -1,3 +1,4 @@
+-- The run ends as the definition of runs says, or gives the error that has its cause.
 use Rattle.std.proofs.Common.{rules, ◌≡◌, get_or, arith, ap, subst, Err, IfOk, ◌∙◌}
 use Rattle.micro_ops.specs.declared.operation.Micro.TheVariants as ops
 use Rattle.micro_ops.specs.Running.{At, beginning, go, Ended}

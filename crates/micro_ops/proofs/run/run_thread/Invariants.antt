@@ -1,3 +1,4 @@
+-- What holds in the loop over the operations.
 use Rattle.std.proofs.Common.{◌≡◌, take}
 use Rattle.micro_ops.specs.Running.{At, exec, beginning}
 use Rattle.micro_ops.specs.Runners.{point_of}

@@ -1,3 +1,4 @@
+-- The text up to the first end of a word is the word that the text begins with.
 use Rattle.relax_edges.proofs.Fronts.{front_word}
 use Rattle.relax_edges.proofs.relax_items.front_word.Goals as goal
 

@@ -1,3 +1,4 @@
+-- The relaxations of a good bracket are kept, and a bad bracket is refused.
 use Rattle.std.proofs.Common.{◌∙◌}
 use Rattle.std.proofs.lemmas.Result.{err_from_is_err_and}
 use Rattle.relax_edges.proofs.Fronts.{kept_bracket, bad_bracket, bracket_len}

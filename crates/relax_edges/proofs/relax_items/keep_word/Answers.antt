@@ -1,3 +1,4 @@
+-- The relaxations of the word that a text begins with are kept.
 use Rattle.std.proofs.Common.{◌∙◌}
 use Rattle.std.proofs.lemmas.Result.{err_from_is_err_and}
 use Rattle.relax_edges.proofs.Fronts.{kept_run}

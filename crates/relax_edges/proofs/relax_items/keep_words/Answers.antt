@@ -1,3 +1,4 @@
+-- Where some choice of the words' edges joins, the paths found are what the words keep.
 use Rattle.std.proofs.Common.{◌∙◌, sym, arith}
 use Rattle.relax_edges.specs.RelaxText.{words_of}
 use Rattle.relax_edges.proofs.Items.{kept_words_some}

@@ -1,3 +1,4 @@
+-- The items of a text are kept one after another, up to the first that is refused.
 use Rattle.std.proofs.Common.{◌∙◌, sym, rules}
 use Rattle.relax_edges.proofs.Items.{items_step, items_end, items_refused}
 use Rattle.relax_edges.proofs.relax_list.keep_items.Goals as goal

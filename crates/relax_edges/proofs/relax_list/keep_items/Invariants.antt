@@ -1,3 +1,4 @@
+-- What is left of the text adds to the list kept so far what the whole text adds to the list at the start.
 use Rattle.std.proofs.Common.{◌≡◌, ◌≤◌, ◌-◌, length, drop}
 use Rattle.relax_edges.specs.RelaxText.{items_from}
 use Rattle.relax_edges.specs.Relaxations.{kept_items}

@@ -1,3 +1,4 @@
+-- The search keeps exactly the paths that begin with the chosen edges, or is refused where there is no room for them.
 use Rattle.std.proofs.Common.{◌≡◌, ◌∷◌, [], ◌++◌, false, map, refl, ap, ◌∙◌, arith}
 use Rattle.std.proofs.lemmas.Result.{err_from_is_err_and}
 use Rattle.relax_edges.specs.declared.kinds.Reach.TheVariants.{Internal}

@@ -1,3 +1,4 @@
+-- Of a word's edges, the paths by those before the current one are kept.
 use Rattle.std.proofs.Common.{◌≡◌, ◌+◌, ◌*◌, length, map, take}
 use Rattle.relax_edges.specs.RelaxText.{words_of}
 use Rattle.relax_edges.specs.Relaxations.{word_edges}

@@ -1,3 +1,4 @@
+-- A path goes on with an edge that its last edge joins.
 use Rattle.std.proofs.Common.{◌∙◌, sym}
 use Rattle.relax_edges.proofs.Search.{path_extended}
 use Rattle.relax_edges.proofs.relax_search.extends.Goals as goal

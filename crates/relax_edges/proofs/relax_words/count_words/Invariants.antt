@@ -1,3 +1,4 @@
+-- The words counted and those of the rest are the words of the text.
 use Rattle.std.proofs.Common.{◌≡◌, ◌≤◌, ◌+◌, length}
 use Rattle.relax_edges.specs.RelaxText.{words_of}
 use Rattle.relax_edges.proofs.relax_words.count_words.Given as goal

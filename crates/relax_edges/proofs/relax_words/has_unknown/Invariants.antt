@@ -1,3 +1,4 @@
+-- No word passed is unknown, so the rest has an unknown word exactly where the text has.
 use Rattle.std.proofs.Common.{◌≡◌, length}
 use Rattle.std.specs.List.{list_any}
 use Rattle.relax_edges.specs.RelaxText.{words_of, is_empty}

@@ -1,3 +1,4 @@
+-- Only separators are passed, so the rest has the words of the text.
 use Rattle.std.proofs.Common.{◌≡◌, ◌≤◌, length}
 use Rattle.relax_edges.specs.RelaxText.{words_of}
 use Rattle.relax_edges.proofs.relax_words.next_word.Given as goal

@@ -1,3 +1,4 @@
+-- A star as the last byte adds the edges of both its choices.
 use Rattle.std.proofs.Common.{append_assoc}
 use Rattle.relax_edges.proofs.Stars.{pushed_twice}
 use Rattle.relax_edges.proofs.relax_words.push_by_last.Goals as goal

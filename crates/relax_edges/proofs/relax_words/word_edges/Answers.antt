@@ -1,3 +1,4 @@
+-- A word names the edges that its last two bytes choose.
 use Rattle.std.proofs.Common.{sym, ◌∙◌}
 use Rattle.relax_edges.proofs.Stars.{word_edges_split}
 use Rattle.relax_edges.proofs.relax_words.word_edges.Goals as goal

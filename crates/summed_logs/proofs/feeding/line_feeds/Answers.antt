@@ -1,3 +1,4 @@
+-- `line_feeds` counts the line feeds of a text.
 use Rattle.std.proofs.Common.{refl, subst}
 use Rattle.memchr.specs.Find.{IsFirstByte, is_byte}
 use Rattle.summed_logs.proofs.FeedLaws.{counted_on, few_on, counted_all}

@@ -1,8 +1,9 @@
+-- `line_feeds`: the count so far and the line feeds of the rest are those of the text.
 use Rattle.std.proofs.Common.{◌≡◌, ◌≤◌, ◌+◌, length}
 use Rattle.diy_io.specs.Sink.{line_feed_count}
 use Rattle.summed_logs.proofs.feeding.line_feeds.Given as goal
 
--- those before the rest are counted
+-- the line feeds before the rest are counted
 abbrev pub invariant-loop-at : goal.invariant-loop-at
 invariant-loop-at l = record {
   counted : l.count + line_feed_count l.rest ≡ line_feed_count l.text;

@@ -1,3 +1,4 @@
+-- `read_file` reads the open file to its end, or until a fault is seen, and feeds what it reads.
 use Rattle.std.proofs.Common.{take, refl, arith, ◌∙◌}
 use Rattle.summed_logs.specs.Files.{log_seen}
 use Rattle.summed_logs.proofs.FeedingLaws.{reads_nothing, reads_more, reads_part, reads_failed, short_piece}

@@ -1,10 +1,11 @@
+-- `read_file`: what was read so far was fed.
 use Rattle.std.proofs.Common.{◌≡◌, ◌-◌, ◌^◌, ℕ, List, []}
 use Rattle.diy_io.specs.Shelf.{IsReading}
 use Rattle.summed_logs.specs.Feeding.{Reads, ReadSoFar}
 use Rattle.summed_logs.specs.Files.{log_seen}
 use Rattle.summed_logs.proofs.files.read_file.Given as goal
 
--- what was read so far was fed, and the file is open still
+-- what was read so far was fed, and the file is still open
 abbrev pub invariant-loop-count : goal.invariant-loop-count
 invariant-loop-count g l = record {
   read :

@@ -1,3 +1,4 @@
+-- `sum_file` opens a file and sums it.
 use Rattle.summed_logs.proofs.FilesLaws.{opened_summed, opened_refused}
 use Rattle.summed_logs.proofs.files.sum_file.Goals as goal
 

@@ -1,3 +1,4 @@
+-- `sum_files` sums the files that words name, one after another, and writes their sum.
 use Rattle.std.proofs.Common.{◌∙◌, sym, subst, arith}
 use Rattle.diy_io.specs.Wrote.{SinkSeen}
 use Rattle.summed_logs.specs.declared.sum_end.SumEnd.{SumEnd}

@@ -1,3 +1,4 @@
+-- `sum_files`: the files that the words so far name were summed.
 use Rattle.std.proofs.Common.{◌≡◌}
 use Rattle.diy_io.specs.Shelf.{Idle}
 use Rattle.summed_logs.specs.Files.{FilesSoFar}

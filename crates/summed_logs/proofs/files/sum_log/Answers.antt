@@ -1,3 +1,4 @@
+-- `sum_log` sums the open file, which stays open.
 use Rattle.std.proofs.Common.{ap, ◌∙◌, Err}
 use Rattle.summed_logs.proofs.LogLaws.{part_faulty, end_faulty, whole_summed, at_part, at_failed}
 use Rattle.summed_logs.proofs.files.sum_log.Goals as goal

@@ -1,3 +1,4 @@
+-- `sum_open` sums the open file and closes it.
 use Rattle.std.proofs.Common.{ap, ◌∙◌, Err}
 use Rattle.summed_logs.specs.Files.{log_seen}
 use Rattle.summed_logs.proofs.LogLaws.{closed, closed_summed, closed_failed, closed_faulty, summed_refused, summed_failed, idle_at_end}

@@ -1,3 +1,4 @@
+-- `read_input` reads the input to its end, or until a fault is seen, and feeds what it reads.
 use Rattle.std.proofs.Common.{take, arith}
 use Rattle.diy_io.specs.Taken.{SourceSeen}
 use Rattle.summed_logs.proofs.FeedingLaws.{reads_nothing, took_of, reads_more, read_end, reads_part, reads_failed, short_piece}

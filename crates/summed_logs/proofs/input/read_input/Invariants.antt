@@ -1,3 +1,4 @@
+-- `read_input`: what was read so far was fed.
 use Rattle.std.proofs.Common.{◌-◌, ◌^◌, ℕ, List, []}
 use Rattle.summed_logs.specs.Feeding.{Reads, ReadSoFar}
 use Rattle.summed_logs.proofs.input.read_input.Given as goal

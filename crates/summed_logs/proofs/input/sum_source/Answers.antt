@@ -1,3 +1,4 @@
+-- `sum_source` sums the log that the input is.
 use Rattle.std.proofs.Common.{ap, ◌∙◌, Err}
 use Rattle.summed_logs.proofs.LogLaws.{part_faulty, end_faulty, whole_summed, at_part, at_failed}
 use Rattle.summed_logs.proofs.input.sum_source.Goals as goal

@@ -1,3 +1,4 @@
+-- That `read_file` opens, reads and closes the file of a name.
 use Rattle.test_files.proofs.FileLaws.{file_opened}
 use Rattle.test_files.proofs.file.read_file.Goals as goal
 

@@ -1,3 +1,4 @@
+-- That `read_named_file` reads the file that a word names.
 use Rattle.std.proofs.Common.{ℕ, List, subst}
 use Rattle.file_laws.proofs.NameLaws.{named_word}
 use Rattle.test_files.specs.FilesRead.{FileTo}

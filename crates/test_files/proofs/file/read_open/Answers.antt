@@ -1,3 +1,4 @@
+-- That `read_open` reads the file that is open, and closes it.
 use Rattle.test_files.proofs.FileLaws.{open_read}
 use Rattle.test_files.proofs.file.read_open.Goals as goal
 

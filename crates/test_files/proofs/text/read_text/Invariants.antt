@@ -1,3 +1,4 @@
+-- The loop of `read_text`: what was read so far, and that less is left to read.
 use Rattle.std.proofs.Common.{◌<◌, ◌≤◌, ◌+◌, ◌-◌, length}
 use Rattle.litmus_text.specs.declared.limits.TheConstants.{MAX_TEXT}
 use Rattle.test_files.specs.OpenFiles.{ReadSoFar}

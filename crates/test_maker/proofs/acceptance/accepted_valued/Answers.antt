@@ -1,3 +1,4 @@
+-- That `accepted_valued` finds the first thread that needs too many registers, if there is one.
 use Rattle.std.proofs.Common.{◌∙◌, sym, ap}
 use Rattle.std.specs.Prelude.{Some}
 use Rattle.test_maker.proofs.Growing.{crowded_here, calm_here}

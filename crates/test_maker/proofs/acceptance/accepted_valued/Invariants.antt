@@ -1,3 +1,4 @@
+-- The loop of `accepted_valued`: no thread before the next needs too many registers.
 use Rattle.std.proofs.Common.{◌≡◌, drop}
 use Rattle.std.specs.List.{position_from}
 use Rattle.test_laws.specs.Steps.{cycle_steps}

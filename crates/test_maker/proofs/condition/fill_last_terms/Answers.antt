@@ -1,3 +1,4 @@
+-- That `fill_last_terms` gives the terms of the locations whose last value is named.
 use Rattle.std.proofs.Common.{◌∙◌, ◌<◌, map, sym, ap, arith, length}
 use Rattle.resolution_laws.specs.Resolution.{move_count}
 use Rattle.arrayvec.specs.ArrayVec.{ArrayVec}

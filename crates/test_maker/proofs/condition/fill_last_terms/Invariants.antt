@@ -1,3 +1,4 @@
+-- The loop of `fill_last_terms`: the terms of the locations so far.
 use Rattle.std.proofs.Common.{◌≡◌, map}
 use Rattle.std.specs.List.{filter}
 use Rattle.list_laws.specs.Numbers.{upto}

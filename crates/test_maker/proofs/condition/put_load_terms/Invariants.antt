@@ -1,3 +1,4 @@
+-- The loop of `put_load_terms`: the terms so far and those that are left, and that there is room for them.
 use Rattle.std.proofs.Common.{◌≡◌, ◌+◌, ◌≤◌, ◌++◌, length, map, drop}
 use Rattle.std.specs.List.{zip}
 use Rattle.arrayvec.specs.ArrayVec.{array_vec_len}

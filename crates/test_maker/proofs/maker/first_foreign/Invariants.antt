@@ -1,3 +1,4 @@
+-- The loop of `first_foreign`: the edges before a place are of the architecture.
 use Rattle.std.proofs.Common.{◌≡◌, drop, not}
 use Rattle.std.specs.List.{position_from}
 use Rattle.relax_edges.specs.EdgeTable.{is_of_arch}

@@ -1,3 +1,4 @@
+-- That `make_into` makes the test of a cycle that has one.
 use Rattle.std.proofs.Common.{◌∙◌, sym, ap, not}
 use Rattle.std.specs.List.{position_from}
 use Rattle.relax_edges.specs.EdgeTable.{is_of_arch}

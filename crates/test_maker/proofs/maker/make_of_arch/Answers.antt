@@ -1,3 +1,4 @@
+-- That the resolution of a cycle of the architecture is of the architecture too.
 use Rattle.std.proofs.Common.{◌∙◌, sym}
 use Rattle.test_maker.proofs.OfArch.{turned_of_arch}
 use Rattle.test_maker.proofs.maker.make_of_arch.Goals as goal

@@ -1,3 +1,4 @@
+-- That what `make_resolved` makes forces the cycle, and that its refusals name locations of the cycle.
 use Rattle.std.proofs.Common.{sym, ◌∙◌}
 use Rattle.test_maker.proofs.Forcing.{resolved_forces}
 use Rattle.test_maker.proofs.Located.{need_located}

@@ -1,3 +1,4 @@
+-- That the cycle has code where `make_unobserved` makes its test.
 use Rattle.std.proofs.Common.{subst}
 use Rattle.arch_trait.specs.Writing.{name_in}
 use Rattle.value_laws.specs.Values.{Valuation}

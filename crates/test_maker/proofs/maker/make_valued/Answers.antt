@@ -1,3 +1,4 @@
+-- That what `make_valued` makes can be printed.
 use Rattle.std.proofs.Common.{ap, ◌∙◌, subst}
 use Rattle.resolution_laws.specs.Resolution.{IsResolved, move_count}
 use Rattle.arch_trait.specs.Names.{letters}

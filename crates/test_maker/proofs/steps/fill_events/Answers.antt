@@ -1,3 +1,4 @@
+-- That `fill_events` gives the accesses of a thread of the cycle.
 use Rattle.std.proofs.Common.{◌∙◌, ◌≡◌, ◌<◌, ◌==◌, ◌++◌, ◌∷◌, [], map, ap, arith, length}
 use Rattle.std.specs.List.{filter}
 use Rattle.relax_edges.specs.declared.TheConstants.{MAX_EDGES}

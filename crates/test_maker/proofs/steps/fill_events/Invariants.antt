@@ -1,3 +1,4 @@
+-- The loop of `fill_events`: the accesses of the events so far that are in the thread.
 use Rattle.std.proofs.Common.{◌≡◌, ◌==◌, map}
 use Rattle.std.specs.List.{filter}
 use Rattle.list_laws.specs.Numbers.{upto}

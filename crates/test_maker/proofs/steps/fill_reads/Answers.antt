@@ -1,3 +1,4 @@
+-- That `fill_reads` has room for the reads of an observer.
 use Rattle.std.proofs.Common.{◌<◌, arith}
 use Rattle.value_laws.specs.Values.{write_count}
 use Rattle.test_laws.specs.Steps.{observing}

@@ -1,3 +1,4 @@
+-- The loop of `fill_reads`: the reads so far.
 use Rattle.std.proofs.Common.{◌≡◌, map}
 use Rattle.list_laws.specs.Numbers.{upto}
 use Rattle.test_laws.specs.Steps.{observing}

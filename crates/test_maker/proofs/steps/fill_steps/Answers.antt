@@ -1,3 +1,4 @@
+-- That `fill_steps` gives the accesses of a thread of the test, be it one of the cycle or an observer.
 use Rattle.std.proofs.Common.{◌∙◌, ◌<◌, ◌≤◌, ◌-◌, sym, ap, arith, slice_get, Some}
 use Rattle.resolution_laws.specs.Resolution.{external_count}
 use Rattle.program_meaning.specs.Intended.{observed_locations}

@@ -1,3 +1,4 @@
+-- That `link_into` gives the link of the edge before an event.
 use Rattle.std.proofs.Common.{◌∙◌, ◌-◌, sym, ap, slice_get}
 use Rattle.test_maker.proofs.Filling.{slot_behind, link_behind}
 use Rattle.test_maker.proofs.steps.link_into.Goals as goal

@@ -1,3 +1,4 @@
+-- The loop of `observed_location`: how many locations so far are observed.
 use Rattle.std.proofs.Common.{◌≡◌, ◌≤◌}
 use Rattle.std.specs.List.{count_by}
 use Rattle.list_laws.specs.Numbers.{upto}

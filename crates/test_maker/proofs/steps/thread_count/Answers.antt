@@ -1,3 +1,4 @@
+-- That `thread_count` counts the threads of the test.
 use Rattle.std.proofs.Common.{◌∙◌, ap, arith}
 use Rattle.resolution_laws.specs.Resolution.{external_count}
 use Rattle.test_laws.specs.TestOf.{plain}

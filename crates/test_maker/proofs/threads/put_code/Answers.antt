@@ -1,3 +1,4 @@
+-- That the loads of a thread have registers, and that there is room for their terms.
 use Rattle.std.proofs.Common.{◌∙◌, sym, ap, arith, length}
 use Rattle.test_laws.proofs.Terms.{reads-count}
 use Rattle.test_maker.proofs.threads.put_code.Goals as goal

@@ -1,3 +1,4 @@
+-- That `put_thread` makes the code of a thread after those before it.
 use Rattle.std.proofs.Common.{◌≡◌, ◌∙◌, ◌<◌, sym, ap, arith, length, take}
 use Rattle.arch_trait.specs.Writing.{name_in}
 use Rattle.test_maker.proofs.Growing.{placed}

@@ -1,3 +1,4 @@
+-- That `put_threads` makes the code of all threads, or refuses the first that needs too many registers.
 use Rattle.std.proofs.Common.{◌∙◌, sym, ap, arith, Some}
 use Rattle.arch_trait.specs.Writing.{name_in}
 use Rattle.test_laws.specs.TestOf.{plain}

@@ -1,3 +1,4 @@
+-- The loop of `put_threads`: the threads so far are made.
 use Rattle.arch_trait.specs.Writing.{name_in}
 use Rattle.test_maker.proofs.Growing.{Grown}
 use Rattle.test_maker.proofs.threads.put_threads.Given as goal

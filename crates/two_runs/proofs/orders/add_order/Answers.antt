@@ -1,3 +1,4 @@
+-- The place has all writes of its order.
 use Rattle.std.proofs.Common.{◌≡◌, sym, ◌∙◌, arith, None}
 use Rattle.value_laws.specs.Values.{write_count}
 use Rattle.program_meaning.specs.Intended.{write_of}

@@ -1,3 +1,4 @@
+-- Each place has all writes of its order.
 use Rattle.std.proofs.Common.{◌≡◌, ◌<◌, ℕ, List, sym, ◌∙◌, ap, arith, length, subst}
 use Rattle.resolution_laws.specs.Resolution.{move_count}
 use Rattle.program_meaning.specs.declared.WriteAt.{WriteAt}

@@ -1,3 +1,4 @@
+-- What holds in the loop over the places.
 use Rattle.std.proofs.Common.{◌≡◌}
 use Rattle.resolution_laws.specs.Resolution.{move_count}
 use Rattle.program_meaning.specs.Intended.{location_numbered}

@@ -1,3 +1,4 @@
+-- The value at a place of an order is that of a write of the location.
 use Rattle.std.proofs.Common.{◌≡◌, ◌≤◌, sym, ◌∙◌, ap, arith, subst}
 use Rattle.resolution_laws.specs.declared.event.Event.{Event}
 use Rattle.resolution_laws.specs.Resolution.{IsResolved, location_of}

@@ -1,3 +1,4 @@
+-- The location that is found is the one with the place, if there is one.
 use Rattle.std.proofs.Common.{◌≡◌, ◌∙◌, sym, ap, arith, length, []}
 use Rattle.std.specs.Prelude.{slice_index_or}
 use Rattle.resolution_laws.specs.Resolution.{move_count}

@@ -1,3 +1,4 @@
+-- What holds in the loop over the names of the places.
 use Rattle.std.proofs.Common.{◌≡◌}
 use Rattle.litmus_text.specs.Placing.{place_in}
 use Rattle.two_runs.proofs.Numbering.{found_from}

@@ -1,3 +1,4 @@
+-- Each thread has all its reads.
 use Rattle.std.proofs.Common.{◌≡◌, ◌<◌, ℕ, List, Option, sym, ◌∙◌, ap, arith, length, subst, map}
 use Rattle.resolution_laws.specs.Resolution.{external_count}
 use Rattle.program_meaning.specs.declared.WriteAt.{WriteAt}

@@ -1,3 +1,4 @@
+-- What holds in the loop over the threads.
 use Rattle.std.proofs.Common.{◌≡◌, map}
 use Rattle.resolution_laws.specs.Resolution.{external_count}
 use Rattle.program_meaning.specs.Intended.{event_read, reads_in}

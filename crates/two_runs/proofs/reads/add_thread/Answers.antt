@@ -1,3 +1,4 @@
+-- The thread has all its reads.
 use Rattle.std.proofs.Common.{◌≡◌, sym, ◌∙◌, ap, arith, length}
 use Rattle.resolution_laws.specs.declared.event.Event.{Event}
 use Rattle.resolution_laws.specs.Resolution.{location_of}

@@ -1,3 +1,4 @@
+-- The two executions that are made are those of the law.
 use Rattle.std.proofs.Common.{◌≡◌, ◌<◌, ℕ, length, None, Some, sym, ap, ◌∙◌, subst}
 use Rattle.relax_edges.specs.declared.kinds.ArchName.{ArchName}
 use Rattle.value_laws.specs.Values.{Valuation}

@@ -1,3 +1,4 @@
+-- The cycle that is resolved is one of the architecture.
 use Rattle.std.proofs.Common.{◌∙◌, sym, ap, not}
 use Rattle.std.specs.List.{position_from}
 use Rattle.relax_edges.specs.EdgeTable.{is_of_arch}

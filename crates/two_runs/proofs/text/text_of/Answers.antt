@@ -1,3 +1,4 @@
+-- What was written of an execution is read back to it.
 use Rattle.two_runs.proofs.Texts.{written_is}
 use Rattle.two_runs.proofs.text.text_of.Goals as goal
 

@@ -1,3 +1,4 @@
+-- A list without names is a table.
 use Rattle.std.proofs.Common.{ap, map}
 use Rattle.arch_trait.proofs.Tables.{no_names}
 use Rattle.arch_trait.proofs.places.Places.new.Goals as goal

@@ -1,3 +1,4 @@
+-- A table to which a new name is added is a table.
 use Rattle.std.proofs.Common.{[], ◌∷◌, ◌∙◌, ap, map, length, arith}
 use Rattle.std.proofs.lemmas.List.{map-append}
 use Rattle.arch_trait.specs.Names.{number_in}

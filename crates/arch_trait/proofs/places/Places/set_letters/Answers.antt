@@ -1,3 +1,4 @@
+-- The name of each further location is new, and there is room for it.
 use Rattle.std.proofs.Common.{◌<◌, arith}
 use Rattle.arch_trait.specs.declared.step.TheConstants.{MAX_STEPS}
 use Rattle.arch_trait.proofs.Tables.{location_new, length-letters}

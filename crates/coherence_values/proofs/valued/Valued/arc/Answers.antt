@@ -1,3 +1,4 @@
+-- The arc of a location is the one that its number names.
 use Rattle.std.proofs.Common.{◌≡◌, arith, ◌∙◌, ap}
 use Rattle.list_laws.proofs.Numbers.{place_in_map, get_or-map-upto}
 use Rattle.resolution_laws.specs.Resolution.{move_count}

@@ -1,3 +1,4 @@
+-- The value of an event is that of its definition.
 use Rattle.std.proofs.Common.{◌≡◌, length, arith, ◌∙◌, ap}
 use Rattle.list_laws.proofs.Numbers.{place_in_map, get_or-map-upto}
 use Rattle.value_laws.specs.Values.{Valuation, value_of}

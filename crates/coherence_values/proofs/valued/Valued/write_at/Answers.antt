@@ -1,3 +1,4 @@
+-- The write that is found is the one of the location with this number.
 use Rattle.std.proofs.Common.{◌≡◌, ◌+◌, ◌==◌, ◌&&◌, length, Some, None, sym, ◌∙◌, ap, arith}
 use Rattle.list_laws.proofs.Cases.{by_less}
 use Rattle.list_laws.proofs.Finds.{find_upto_first, find_upto_none}

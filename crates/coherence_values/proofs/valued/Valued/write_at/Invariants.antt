@@ -1,3 +1,4 @@
+-- In the loop over the events: none before this one is the write.
 use Rattle.std.proofs.Common.{◌≡◌, ℕ, ◌+◌, ◌<◌, false, ◌==◌, ◌&&◌}
 use Rattle.value_laws.specs.Values.{is_write_at, value_of}
 use Rattle.coherence_values.proofs.valued.Valued.write_at.Given as goal

@@ -1,3 +1,4 @@
+-- A cycle is kept where its normal form isn't known, and then its normal form is known too.
 use Rattle.std.proofs.Common.{◌≡◌, false, ◌++◌, ◌∷◌, [], sym, ◌∙◌}
 use Rattle.std.specs.List.{list_any}
 use Rattle.crossed_cycles.proofs.Keeping.{not_true, not_false}

@@ -1,3 +1,4 @@
+-- The test of each edge ends, since each step leaves fewer edges.
 use Rattle.std.proofs.Common.{length}
 use Rattle.cycle_enum.proofs.alphabet.Alphabet.+has_all.Given as goal
 

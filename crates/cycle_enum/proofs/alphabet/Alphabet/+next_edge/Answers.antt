@@ -1,3 +1,4 @@
+-- No candidate goes on with an edge that is passed over.
 use Rattle.std.proofs.Common.{sym, ◌∙◌, rules}
 use Rattle.relax_edges.specs.declared.order.TheConstants.{EDGES}
 use Rattle.listing_laws.specs.Search.{OccursIn}

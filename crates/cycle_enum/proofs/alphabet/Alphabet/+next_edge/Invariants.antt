@@ -1,3 +1,4 @@
+-- The search for the next edge ends, since the rank grows with each step.
 use Rattle.std.proofs.Common.{◌-◌}
 use Rattle.relax_edges.specs.declared.order.TheConstants.{EDGES}
 use Rattle.cycle_enum.proofs.alphabet.Alphabet.+next_edge.Given as goal

@@ -1,3 +1,4 @@
+-- An edge occurs in a relaxation exactly where it is the first letter from its own rank on.
 use Rattle.std.proofs.Common.{rules}
 use Rattle.relax_edges.specs.Order.{rank_of}
 use Rattle.listing_laws.specs.Search.{OccursIn}

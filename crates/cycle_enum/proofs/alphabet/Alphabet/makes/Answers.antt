@@ -1,3 +1,4 @@
+-- Where each relaxation has one edge, a cycle is made of them exactly where each of its edges occurs in one.
 use Rattle.std.proofs.Common.{◌↔◌, rules}
 use Rattle.std.specs.List.{AllByRecursion}
 use Rattle.std.specs.Prelude.{IsTrue}

@@ -1,3 +1,4 @@
+-- The search by length ends, since the length grows with each step.
 use Rattle.std.proofs.Common.{◌-◌}
 use Rattle.relax_edges.specs.declared.TheConstants.{MAX_EDGES}
 use Rattle.cycle_enum.proofs.walk.Walk.+longer.Given as goal

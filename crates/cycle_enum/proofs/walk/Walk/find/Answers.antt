@@ -1,3 +1,4 @@
+-- The next listed cycle is as long as the last one, or longer where there is none.
 use Rattle.std.proofs.Common.{◌≡◌, Option, Some, None, List, length, refl, rules}
 use Rattle.relax_edges.specs.declared.edge.Edge.{Edge}
 use Rattle.listing_laws.specs.Listing.{IsAnswer}

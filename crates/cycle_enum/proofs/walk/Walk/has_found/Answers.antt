@@ -1,3 +1,4 @@
+-- A list with which no listed cycle begins isn't listed, and the test is asked only where both pruners keep all prefixes.
 use Rattle.std.proofs.Common.{[], length, refl}
 use Rattle.std.proofs.lemmas.List.{append-nil}
 use Rattle.listing_laws.proofs.Stepping.{kept_all}
@@ -9,4 +10,5 @@ returns-then-not-leads_on-clause-other g c _ l = c.if-not-leads_on.ensures.refus
 
 pub has_listed-requires-clause-kept : goal.has_listed-requires-clause-kept
 has_listed-requires-clause-kept g c =
-    kept_all (Lists g.P.Fn.post c.args.self.now) (Keeps g.K.Fn.post g.J.Fn.post c.args.self.now) (length c.args.list.now) c.args.list.now c.requires.kept (c.if-not-leads_on.ensures.kept refl)
+    rw c.edges-2.ensures
+    (kept_all (Lists g.P.Fn.post c.args.self.now) (Keeps g.K.Fn.post g.J.Fn.post c.args.self.now) (length c.args.list.now) c.args.list.now c.requires.kept (c.if-not-leads_on.ensures.kept refl))

@@ -1,3 +1,4 @@
+-- A list is found exactly where it is listed.
 use Rattle.std.proofs.Common.{◌≡◌, refl, rules}
 use Rattle.cycle_enum.proofs.Composing.{composed_is, composed_none}
 use Rattle.cycle_enum.proofs.walk.Walk.has_listed.Goals as goal

@@ -1,3 +1,4 @@
+-- A cycle on which the test says no is not listed.
 use Rattle.std.proofs.Common.{true, false, rules}
 use Rattle.cycle_enum.specs.Walking.{Says}
 use Rattle.cycle_enum.proofs.walk.Walk.is_listed.Goals as goal

@@ -1,4 +1,5 @@
-use Rattle.std.proofs.Common.{◌≡◌, false, rules, IsFalse}
+-- Where the answer is no, no listed cycle begins with the list.
+use Rattle.std.proofs.Common.{◌≡◌, ◌∙◌, sym, false, rules, IsFalse}
 use Rattle.walk_laws.specs.Beginning.{may_begin}
 use Rattle.listing_laws.specs.Listing.{IsMadeOf}
 use Rattle.listing_laws.specs.Search.{LeadsNowhere}
@@ -7,7 +8,7 @@ use Rattle.cycle_enum.proofs.walk.Walk.leads_on.Goals as goal
 
 pub returns-then-not-may_begin-clause-refused : goal.returns-then-not-may_begin-clause-refused
 returns-then-not-may_begin-clause-refused g c _ =
-    let h : may_begin c.args.list.now ≡ false = cc (c.may_begin.ensures, c.if-not-may_begin.true) in
+    let h : may_begin c.args.list.now ≡ false = rw c.ranks.ensures at (sym c.may_begin.ensures ∙ c.if-not-may_begin.true) in
     begins_nowhere _ _ _ _ c.args.list.now h
 
 pub returns-clause-refused : goal.returns-clause-refused

@@ -1,3 +1,4 @@
+-- With each answer the number `later` falls.
 use Rattle.std.proofs.Common.{◌≡◌, Some, rules}
 use Rattle.listing_laws.specs.Listing.{IsNext}
 use Rattle.listing_laws.proofs.Counts.{later_falls}

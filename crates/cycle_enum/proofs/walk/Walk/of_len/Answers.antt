@@ -1,3 +1,4 @@
+-- The search from the first list on finds the first listed cycle of the length.
 use Rattle.std.proofs.Common.{rules}
 use Rattle.listing_laws.specs.Search.{IsCandidate, IsExtended}
 use Rattle.listing_laws.proofs.Answering.{answer_of_length}
@@ -7,6 +8,6 @@ use Rattle.cycle_enum.proofs.walk.Walk.of_len.Goals as goal
 
 pub returns : goal.returns
 returns g c =
-    let extended : IsExtended (IsCandidate c.args.self.now.relaxes) c.new-list.result.items c.extend.new.list.items = search rules in
-    answer_of_length (Lists g.P.Fn.post c.args.self.now) (Keeps g.K.Fn.post g.J.Fn.post c.args.self.now) c.args.len c.extend.new.list.items c.search.new.found c.requires.some
+    let extended : IsExtended (IsCandidate c.args.self.now.relaxes) c.new-list.result c.extend.new.list = search rules in
+    answer_of_length (Lists g.P.Fn.post c.args.self.now) (Keeps g.K.Fn.post g.J.Fn.post c.args.self.now) c.args.len c.extend.new.list c.search.new.found c.requires.some
     (extended_listed _ _ _ _ _ _ (rw c.new-list.ensures at extended)) c.search.ensures

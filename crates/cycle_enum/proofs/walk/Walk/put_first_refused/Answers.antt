@@ -1,3 +1,4 @@
+-- The prefix that is put is the shortest that a pruner refuses, or the whole list where none is refused.
 use Rattle.std.proofs.Common.{◌≡◌, ◌++◌, ◌+◌, drop, refl, sym, arith}
 use Rattle.std.proofs.lemmas.List.{drop_all}
 use Rattle.listing_laws.specs.Search.{LeadsNowhere}
@@ -7,21 +8,21 @@ use Rattle.cycle_enum.proofs.walk.Walk.put_first_refused.Goals as goal
 
 pub returns-then-not-is_kept : goal.returns-then-not-is_kept
 returns-then-not-is_kept g c =
-    let parts : c.push.new.self.items ++ drop (c.loop-edge.edge-index + 1) c.args.edges.now ≡ c.args.edges.now =
-    one_further c.loop-edge.list.items c.push.new.self.items c.args.edges.now c.loop-edge.edge-index _ c.loop-edge.invariant.parts c.loop-edge-test.true c.push.ensures.items in
-    let none : LeadsNowhere (Lists g.P.Fn.post c.args.self.now) c.push.new.self.items = rw c.as_slice.ensures.value at (c.if-not-is_kept.ensures.refused refl) in
-    cut_refused _ _ c.args.edges.now c.loop-edge.list.items c.push.new.self.items _ _ c.push.ensures.items (sym parts) c.loop-edge.invariant.kept none
+    let parts : c.push.new.self ++ drop (c.loop-edge.edge-index + 1) c.args.edges.now ≡ c.args.edges.now =
+    one_further c.loop-edge.list c.push.new.self c.args.edges.now c.loop-edge.edge-index _ c.loop-edge.invariant.parts c.loop-edge-test.true c.push.ensures in
+    let none : LeadsNowhere (Lists g.P.Fn.post c.args.self.now) c.push.new.self = rw c.edges.ensures at (c.if-not-is_kept.ensures.refused refl) in
+    cut_refused _ _ c.args.edges.now c.loop-edge.list c.push.new.self _ _ c.push.ensures (sym parts) c.loop-edge.invariant.kept none
 
 pub loop-edge-preserved : goal.loop-edge-preserved
 loop-edge-preserved g c = record {
   parts =
-      one_further c.loop-edge.list.items c.push.new.self.items c.args.edges.now c.loop-edge.edge-index _ c.loop-edge.invariant.parts c.loop-edge-test.true c.push.ensures.items;
+      one_further c.loop-edge.list c.push.new.self c.args.edges.now c.loop-edge.edge-index _ c.loop-edge.invariant.parts c.loop-edge-test.true c.push.ensures;
   kept =
-      let agreed : Keeps g.K.Fn.post g.J.Fn.post c.args.self.now c.push.new.self.items = rw c.as_slice.ensures.value at (c.if-not-is_kept.ensures.kept refl) in
-      kept_more (Lists g.P.Fn.post c.args.self.now) (Keeps g.K.Fn.post g.J.Fn.post c.args.self.now) c.loop-edge.list.items c.push.new.self.items _ c.push.ensures.items c.loop-edge.invariant.kept agreed;
+      let agreed : Keeps g.K.Fn.post g.J.Fn.post c.args.self.now c.push.new.self = rw c.edges.ensures at (c.if-not-is_kept.ensures.kept refl) in
+      kept_more (Lists g.P.Fn.post c.args.self.now) (Keeps g.K.Fn.post g.J.Fn.post c.args.self.now) c.loop-edge.list c.push.new.self _ c.push.ensures c.loop-edge.invariant.kept agreed;
 }
 
 pub returns : goal.returns
 returns g c =
-    cut_whole _ _ c.args.edges.now c.loop-edge.list.items (drop c.loop-edge.edge-index c.args.edges.now) (sym c.loop-edge.invariant.parts)
+    cut_whole _ _ c.args.edges.now c.loop-edge.list (drop c.loop-edge.edge-index c.args.edges.now) (sym c.loop-edge.invariant.parts)
     (drop_all c.loop-edge.edge-index c.args.edges.now (omega arith)) c.loop-edge.invariant.kept

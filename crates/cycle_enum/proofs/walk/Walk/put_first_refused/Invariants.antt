@@ -1,3 +1,4 @@
+-- The edges passed are a prefix of the list that is kept with all shorter ones.
 use Rattle.std.proofs.Common.{◌≡◌, ◌++◌, drop}
 use Rattle.listing_laws.specs.Asked.{KeptWhole}
 use Rattle.cycle_enum.specs.Walking.{Keeps}
@@ -5,6 +6,6 @@ use Rattle.cycle_enum.proofs.walk.Walk.put_first_refused.Given as goal
 
 abbrev pub invariant-loop-edge : goal.invariant-loop-edge
 invariant-loop-edge g l = record {
-  parts : l.list.items ++ drop l.edge-index l.edges ≡ l.edges;
-  kept : KeptWhole (Keeps g.K.Fn.post g.J.Fn.post l.self) l.list.items;
+  parts : l.list ++ drop l.edge-index l.edges ≡ l.edges;
+  kept : KeptWhole (Keeps g.K.Fn.post g.J.Fn.post l.self) l.list;
 }

@@ -1,3 +1,4 @@
+-- Each step of the search leaves out no listed cycle, and what is found is the first.
 use Rattle.std.proofs.Common.{◌<◌, ◌≤◌, length, refl, rules}
 use Rattle.listing_laws.specs.Search.{IsCandidate, IsExtended, IsRaised, LeadsNowhere}
 use Rattle.listing_laws.proofs.Counts.{raised_falls, extended_falls}
@@ -8,65 +9,65 @@ use Rattle.cycle_enum.proofs.walk.Walk.search.Goals as goal
 
 pub loop-self-init : goal.loop-self-init
 loop-self-init g c = record {
-  stands = stands_first _ _ c.args.len c.args.list.now.items c.requires.within c.requires.kept;
+  stands = stands_first _ _ c.args.len c.args.list.now c.requires.within c.requires.kept;
   none = c.requires.none;
 }
 
 pub loop-self-smaller-else-leads_on : goal.loop-self-smaller-else-leads_on
 loop-self-smaller-else-leads_on g c =
-    let some : 0 < length c.loop-self.list.items = search rules in
-    raised_falls _ c.args.len c.loop-self.list.items c.raise.new.list.items some c.loop-self.invariant.stands.few c.raise.ensures
+    let some : 0 < length c.loop-self.list = search rules in
+    raised_falls _ c.args.len c.loop-self.list c.raise.new.list some c.loop-self.invariant.stands.few c.raise.ensures
 
 pub loop-self-preserved-else-leads_on : goal.loop-self-preserved-else-leads_on
 loop-self-preserved-else-leads_on g c =
-    let some : 0 < length c.loop-self.list.items = search rules in
-    let none : LeadsNowhere (Lists g.P.Fn.post c.args.self.now) c.loop-self.list.items = rw c.as_slice.ensures.value at (c.if-leads_on.ensures.refused refl) in
-    let raised : IsRaised (IsCandidate c.args.self.now.relaxes) c.loop-self.list.items c.raise.new.list.items = search rules in
+    let some : 0 < length c.loop-self.list = search rules in
+    let none : LeadsNowhere (Lists g.P.Fn.post c.args.self.now) c.loop-self.list = c.if-leads_on.ensures.refused refl in
+    let raised : IsRaised (IsCandidate c.args.self.now.relaxes) c.loop-self.list c.raise.new.list = search rules in
     record {
-      stands = stands_raised _ _ c.args.len c.args.list.now.items c.loop-self.list.items c.raise.new.list.items c.loop-self.invariant.stands some none (raised_listed _ _ _ _ _ _ raised);
+      stands = stands_raised _ _ c.args.len c.args.list.now c.loop-self.list c.raise.new.list c.loop-self.invariant.stands some none (raised_listed _ _ _ _ _ _ raised);
       none = c.loop-self.invariant.none;
     }
 
 pub loop-self-smaller-then-leads_on : goal.loop-self-smaller-then-leads_on
 loop-self-smaller-then-leads_on g c =
-    let some : 0 < length c.loop-self.list.items = search rules in
-    let less : length c.loop-self.list.items < c.args.len = search rules in
-    extended_falls _ c.args.len c.loop-self.list.items c.extend.new.list.items some less c.extend.ensures
+    let some : 0 < length c.loop-self.list = search rules in
+    let less : length c.loop-self.list < c.args.len = search rules in
+    extended_falls _ c.args.len c.loop-self.list c.extend.new.list some less c.extend.ensures
 
 pub loop-self-preserved-then-leads_on : goal.loop-self-preserved-then-leads_on
 loop-self-preserved-then-leads_on g c =
-    let some : 0 < length c.loop-self.list.items = search rules in
-    let less : length c.loop-self.list.items < c.args.len = search rules in
-    let agreed : Keeps g.K.Fn.post g.J.Fn.post c.args.self.now c.loop-self.list.items = rw c.as_slice.ensures.value at (c.if-leads_on.ensures.kept refl) in
-    let extended : IsExtended (IsCandidate c.args.self.now.relaxes) c.loop-self.list.items c.extend.new.list.items = search rules in
+    let some : 0 < length c.loop-self.list = search rules in
+    let less : length c.loop-self.list < c.args.len = search rules in
+    let agreed : Keeps g.K.Fn.post g.J.Fn.post c.args.self.now c.loop-self.list = c.if-leads_on.ensures.kept refl in
+    let extended : IsExtended (IsCandidate c.args.self.now.relaxes) c.loop-self.list c.extend.new.list = search rules in
     record {
-      stands = stands_extended _ _ c.args.len c.args.list.now.items c.loop-self.list.items c.extend.new.list.items c.loop-self.invariant.stands some less agreed (extended_listed _ _ _ _ _ _ extended);
+      stands = stands_extended _ _ c.args.len c.args.list.now c.loop-self.list c.extend.new.list c.loop-self.invariant.stands some less agreed (extended_listed _ _ _ _ _ _ extended);
       none = c.loop-self.invariant.none;
     }
 
 pub has_found-requires-clause-kept : goal.has_found-requires-clause-kept
-has_found-requires-clause-kept g c = rw c.as_slice-else-len-from.ensures.value c.loop-self.invariant.stands.kept
+has_found-requires-clause-kept g c = c.loop-self.invariant.stands.kept
 
 pub returns-then-has_found : goal.returns-then-has_found
 returns-then-has_found g c =
-    let some : 0 < length c.loop-self.list.items = search rules in
-    let long : c.args.len ≤ length c.loop-self.list.items = search rules in
-    rw (c.if-has_found.ensures.found refl, c.as_slice-else-len-from.ensures.value)
-    (stands_found _ (Keeps g.K.Fn.post g.J.Fn.post c.args.self.now) c.args.len c.args.list.now.items c.loop-self.list.items c.loop-self.list.items c.loop-self.invariant.stands some long
-    refl (rw c.as_slice-else-len-from.ensures.value at (c.if-has_found.ensures.listed refl)))
+    let some : 0 < length c.loop-self.list = search rules in
+    let long : c.args.len ≤ length c.loop-self.list = search rules in
+    rw (c.if-has_found.ensures.found refl)
+    (stands_found _ (Keeps g.K.Fn.post g.J.Fn.post c.args.self.now) c.args.len c.args.list.now c.loop-self.list c.loop-self.list c.loop-self.invariant.stands some long
+    refl (c.if-has_found.ensures.listed refl))
 
 pub loop-self-smaller : goal.loop-self-smaller
 loop-self-smaller g c =
-    let some : 0 < length c.loop-self.list.items = search rules in
-    raised_falls _ c.args.len c.loop-self.list.items c.raise-else-len-from.new.list.items some c.loop-self.invariant.stands.few c.raise-else-len-from.ensures
+    let some : 0 < length c.loop-self.list = search rules in
+    raised_falls _ c.args.len c.loop-self.list c.raise-else-len-from.new.list some c.loop-self.invariant.stands.few c.raise-else-len-from.ensures
 
 pub loop-self-preserved : goal.loop-self-preserved
 loop-self-preserved g c =
-    let some : 0 < length c.loop-self.list.items = search rules in
-    let long : c.args.len ≤ length c.loop-self.list.items = search rules in
-    let raised : IsRaised (IsCandidate c.args.self.now.relaxes) c.loop-self.list.items c.raise-else-len-from.new.list.items = search rules in
+    let some : 0 < length c.loop-self.list = search rules in
+    let long : c.args.len ≤ length c.loop-self.list = search rules in
+    let raised : IsRaised (IsCandidate c.args.self.now.relaxes) c.loop-self.list c.raise-else-len-from.new.list = search rules in
     record {
-      stands = stands_past _ _ c.args.len c.args.list.now.items c.loop-self.list.items c.raise-else-len-from.new.list.items c.loop-self.invariant.stands some long
-          (rw c.as_slice-else-len-from.ensures.value at (c.if-has_found.ensures.other refl)) (raised_listed _ _ _ _ _ _ raised);
+      stands = stands_past _ _ c.args.len c.args.list.now c.loop-self.list c.raise-else-len-from.new.list c.loop-self.invariant.stands some long
+          (c.if-has_found.ensures.other refl) (raised_listed _ _ _ _ _ _ raised);
       none = search rules;
     }

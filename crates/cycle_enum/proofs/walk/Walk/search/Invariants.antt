@@ -1,3 +1,4 @@
+-- The search is at the list, nothing is found so far, and with each step less is left of it.
 use Rattle.std.proofs.Common.{◌≡◌, None}
 use Rattle.listing_laws.proofs.Counts.{to_go}
 use Rattle.listing_laws.proofs.Stepping.{Standing}
@@ -6,9 +7,9 @@ use Rattle.cycle_enum.proofs.walk.Walk.search.Given as goal
 
 abbrev pub invariant-loop-self : goal.invariant-loop-self
 invariant-loop-self g l = record {
-  stands : Standing (Lists g.P.Fn.post l.self) (Keeps g.K.Fn.post g.J.Fn.post l.self) l.len l.fn.list.items l.list.items;
+  stands : Standing (Lists g.P.Fn.post l.self) (Keeps g.K.Fn.post g.J.Fn.post l.self) l.len l.fn.list l.list;
   none : l.found ≡ None;
 }
 
 abbrev pub decreases-loop-self : goal.decreases-loop-self
-decreases-loop-self g l = to_go l.len l.list.items
+decreases-loop-self g l = to_go l.len l.list

@@ -1,3 +1,4 @@
+-- That `write` writes the text of the families of the cycles that are kept.
 use Rattle.std.proofs.Common.{ℕ, List, subst, sym}
 use Rattle.diy_io.specs.Wrote.{Wrote}
 use Rattle.cycle_lines.specs.Tables.{Entry, Holds}

@@ -1,3 +1,4 @@
+-- That `fill` reads a piece after the bytes that are pending, for which there is room.
 use Rattle.std.proofs.Common.{◌+◌, ap, take, arith, ◌∙◌}
 use Rattle.cycle_lines.proofs.ReadLaws.{fills_behind, short_count}
 use Rattle.cycle_lines.proofs.reader.LineReader.fill.Goals as goal

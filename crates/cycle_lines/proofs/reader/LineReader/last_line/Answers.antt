@@ -1,3 +1,4 @@
+-- That `last_line` gives what the last line says, or its fault.
 use Rattle.std.proofs.Common.{ap, sym, subst, ◌∙◌}
 use Rattle.cycle_lines.specs.Cycles.{line_said}
 use Rattle.cycle_lines.specs.Reading.{ReadToFault}

@@ -1,3 +1,4 @@
+-- That `next_found` gives what the next line says, or the reason why there is none.
 use Rattle.std.proofs.Common.{ap, sym, subst}
 use Rattle.cycle_lines.specs.Steps.{HasRead}
 use Rattle.cycle_lines.proofs.ReadLaws.{line_given, fault_given, ends_less}

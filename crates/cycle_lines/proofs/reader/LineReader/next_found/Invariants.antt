@@ -1,3 +1,4 @@
+-- The loop of `next_found`: what was read before stays read, and the work doesn't grow.
 use Rattle.std.proofs.Common.{◌≤◌, List}
 use Rattle.diy_io.specs.Taken.{SourceSeen}
 use Rattle.relax_edges.specs.declared.edge.Edge.{Edge}

@@ -1,3 +1,4 @@
+-- That `next_line` takes the next line off the pending bytes.
 use Rattle.std.proofs.Common.{◌+◌, ap, sym, refl, subst, ◌∙◌}
 use Rattle.cycle_lines.specs.Cycles.{line_said}
 use Rattle.cycle_lines.specs.Steps.{Without, CutsAt}

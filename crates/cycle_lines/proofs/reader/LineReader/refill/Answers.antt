@@ -1,3 +1,4 @@
+-- That `refill` reads on only where the pending line isn't too long, and finds why it can't.
 use Rattle.std.proofs.Common.{ap, sym, subst, ◌∙◌}
 use Rattle.cycle_lines.specs.declared.errors.LineKind.TheVariants.{LineTooLong}
 use Rattle.text_laws.specs.Lines.{without_return}

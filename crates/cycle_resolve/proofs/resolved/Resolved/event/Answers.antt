@@ -1,3 +1,4 @@
+-- The numbers of an event are those of its definition.
 use Rattle.std.proofs.Common.{◌≡◌, length, arith, ◌∙◌, ap}
 use Rattle.list_laws.proofs.Numbers.{length-map-upto, get_or-map-upto}
 use Rattle.resolution_laws.specs.Resolution.{event_of, events_of}

@@ -1,3 +1,4 @@
+-- The tally is that of the text of the cycle's test.
 use Rattle.std.proofs.Common.{◌≡◌, ◌∙◌, ap}
 use Rattle.relax_edges.specs.declared.kinds.ObsMode.TheVariants.{Accept}
 use Rattle.cycle_names.specs.Names.{name_of}

@@ -1,3 +1,4 @@
+-- The lines of the families are sent, and then the line for all.
 use Rattle.diy_io.specs.PageLaws.{sends_then, sends_stopped}
 use Rattle.demo_tests.proofs.summary.Summary.send.Goals as goal
 

@@ -1,3 +1,4 @@
+-- The tally grows by the bytes and line feeds of the text, and no write fails.
 use Rattle.std.proofs.Common.{subst, refl, arith}
 use Rattle.std.proofs.lemmas.Grind.{common_steps}
 use Rattle.diy_io.specs.Sink.{Tally, Grew, tally_told}

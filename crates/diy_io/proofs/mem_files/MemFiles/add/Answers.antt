@@ -1,3 +1,4 @@
+-- That `add` adds a file of the name without bytes, for which it takes no memory.
 use Rattle.std.proofs.Common.{◌≡◌, ◌-◌, ◌<◌, [], sym, ap, ◌∙◌, arith, vec_len, get_or}
 use Rattle.diy_io.specs.MemEntries.{IsSpare}
 use Rattle.diy_io.proofs.EntriesLaws.{same_state, entry_added, last_spare, if_ok, from_nothing, some_same, one_less}

@@ -1,3 +1,4 @@
+-- That `append` appends bytes to the file at a place.
 use Rattle.std.proofs.Common.{◌-◌, refl, length, ap}
 use Rattle.diy_io.proofs.EntriesLaws.{same_state, entry_grown, if_ok}
 use Rattle.diy_io.proofs.mem_files.MemFiles.append.Goals as goal

@@ -1,3 +1,4 @@
+-- That `clear` takes all bytes from the file at a place.
 use Rattle.std.proofs.Common.{[], refl, ap}
 use Rattle.diy_io.proofs.EntriesLaws.{same_state, entry_set}
 use Rattle.diy_io.proofs.mem_files.MemFiles.clear.Goals as goal

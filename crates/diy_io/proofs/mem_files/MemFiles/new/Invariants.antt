@@ -1,3 +1,4 @@
+-- The loop of `new`: what files to come are made so far.
 use Rattle.std.proofs.Common.{◌≡◌, All, vec_len}
 use Rattle.diy_io.specs.MemEntries.{IsSpare}
 use Rattle.diy_io.proofs.mem_files.MemFiles.new.Given as goal

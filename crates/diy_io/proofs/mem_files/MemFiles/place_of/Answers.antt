@@ -1,3 +1,4 @@
+-- That `place_of` gives the place of a file that is there.
 use Rattle.std.proofs.Common.{ap, ◌∙◌, map}
 use Rattle.diy_io.specs.MemFiles.{place_of}
 use Rattle.diy_io.specs.MemEntries.{entry_view}

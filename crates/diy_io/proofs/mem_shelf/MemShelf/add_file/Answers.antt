@@ -1,3 +1,4 @@
+-- That `add_file` begins a file that wasn't there.
 use Rattle.std.proofs.Common.{◌≡◌, ap, sym, ◌∙◌, subst}
 use Rattle.std.specs.Prelude.{None, length, ◌++◌, ◌∷◌, []}
 use Rattle.diy_io.specs.MemFiles.{place_of}

@@ -1,3 +1,4 @@
+-- That `get` gives the bytes of a file, if it is there.
 use Rattle.std.proofs.Common.{◌≡◌, sym, ap, ◌∙◌, Some, None}
 use Rattle.diy_io.specs.MemFiles.{place_of, bytes_at}
 use Rattle.diy_io.proofs.EntriesLaws.{if_some_at, match_none}

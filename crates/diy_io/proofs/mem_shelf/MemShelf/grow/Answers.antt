@@ -1,3 +1,4 @@
+-- That `grow` appends bytes to the file that is written.
 use Rattle.std.proofs.Common.{◌≡◌, ap, sym, ◌∙◌, subst}
 use Rattle.diy_io.specs.Shelf.{IsWriting}
 use Rattle.diy_io.specs.MemShelf.{mode_of, IsPlace}

@@ -1,3 +1,4 @@
+-- That `append` leaves a prefix of the bytes in the file where the shelf fails.
 use Rattle.std.proofs.Common.{◌≡◌, ap, ◌∙◌}
 use Rattle.diy_io.specs.Count.{next_count}
 use Rattle.diy_io.specs.Shelf.{Stopped}

@@ -1,3 +1,4 @@
+-- That `create` begins a file that was there.
 use Rattle.std.proofs.Common.{◌≡◌, ap, sym, ◌∙◌, refl, [], Some, set}
 use Rattle.diy_io.specs.Count.{next_count}
 use Rattle.diy_io.specs.MemFiles.{place_of, name_at}

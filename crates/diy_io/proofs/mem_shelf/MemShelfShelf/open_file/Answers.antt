@@ -1,3 +1,4 @@
+-- That `open_file` opens a file that is there, and says where there is none.
 use Rattle.std.proofs.Common.{◌≡◌, ℕ, refl, sym, ap, ◌∙◌, Some, None, arith}
 use Rattle.diy_io.specs.Count.{next_count}
 use Rattle.diy_io.specs.MemFiles.{place_of}

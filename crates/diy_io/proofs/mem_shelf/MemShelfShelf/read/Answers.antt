@@ -1,3 +1,4 @@
+-- That `read` gives the next bytes of the file that is read.
 use Rattle.std.proofs.Common.{◌≡◌, ◌+◌, ◌-◌, ℕ, length, take, drop, ap, ◌∙◌, sym, arith, length-drop, length-take}
 use Rattle.std.proofs.lemmas.List.{take_all}
 use Rattle.diy_io.specs.Count.{next_count, count_of}

@@ -1,3 +1,4 @@
+-- That `flush` writes nothing where the page is empty.
 use Rattle.std.proofs.Common.{take, sym, ap, ◌∙◌}
 use Rattle.diy_io.specs.WroteLaws.{wrote_nothing}
 use Rattle.diy_io.proofs.page.Page.flush.Goals as goal

@@ -1,3 +1,4 @@
+-- That `put` adds as much of a text as there is room for.
 use Rattle.diy_io.proofs.PageLemmas.{put_is}
 use Rattle.diy_io.proofs.page.Page.put.Goals as goal
 

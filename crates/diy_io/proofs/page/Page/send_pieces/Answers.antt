@@ -1,3 +1,4 @@
+-- That `send_pieces` sends the pieces one after another.
 use Rattle.std.proofs.Common.{arith}
 use Rattle.diy_io.specs.PageLaws.{sent_nothing}
 use Rattle.diy_io.proofs.PageLemmas.{piece_sent, piece_unsent}

@@ -1,3 +1,4 @@
+-- The loop of `send_pieces`: what is sent so far.
 use Rattle.std.proofs.Common.{take}
 use Rattle.diy_io.specs.Page.{SentAll}
 use Rattle.diy_io.specs.Pieces.{joined_text}

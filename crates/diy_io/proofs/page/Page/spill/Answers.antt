@@ -1,3 +1,4 @@
+-- That `spill` sends nothing where the page holds few bytes.
 use Rattle.diy_io.proofs.PageLemmas.{not_spilled}
 use Rattle.diy_io.proofs.page.Page.spill.Goals as goal
 

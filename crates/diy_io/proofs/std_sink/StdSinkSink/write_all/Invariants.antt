@@ -1,8 +1,9 @@
+-- The loop of `write_all`: the writer takes the bytes before the rest, which gets shorter.
 use Rattle.std.proofs.Common.{◌≡◌, length}
 use Rattle.diy_io.proofs.StdSinkLemmas.{TookBefore}
 use Rattle.diy_io.proofs.std_sink.StdSinkSink.write_all.Given as goal
 
--- the writer took what stands before the rest, and no write failed
+-- the writer took what comes before the rest, and no write failed
 abbrev pub invariant-loop-rest : goal.invariant-loop-rest
 invariant-loop-rest g l = record {
   took : TookBefore (g.W.Write.contents l.fn.self.writer) (g.W.Write.contents l.self.writer) l.bytes l.rest;

@@ -1,3 +1,4 @@
+-- That `write_all` counts the bytes and the line feeds, and never fails.
 use Rattle.std.proofs.Common.{subst, refl, arith}
 use Rattle.std.proofs.lemmas.Grind.{common_steps}
 use Rattle.diy_io.specs.Sink.{Tally, Grew, tally_told}

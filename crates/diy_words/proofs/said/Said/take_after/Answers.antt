@@ -1,3 +1,4 @@
+-- That `take_after` takes in the cycle of `-after`, or gives the fault of its edges.
 use Rattle.std.proofs.Common.{◌≡◌, Some, [], subst}
 use Rattle.std.specs.Option.{option_map}
 use Rattle.edge_lists.specs.declared.read.Separators.TheVariants.{BlanksAndCommas}

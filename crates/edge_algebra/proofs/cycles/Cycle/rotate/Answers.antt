@@ -1,3 +1,4 @@
+-- A rotation of a cycle is a cycle.
 use Rattle.std.proofs.Common.{◌≡◌, rules}
 use Rattle.walk_laws.specs.Rotation.{rotated}
 use Rattle.walk_laws.proofs.Composing.{rotated_cycle}

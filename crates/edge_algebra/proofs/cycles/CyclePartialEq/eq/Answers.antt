@@ -1,3 +1,4 @@
+-- Comparing edge by edge decides whether the lists of two cycles are equal.
 use Rattle.std.proofs.Common.{rules}
 use Rattle.std.proofs.lemmas.Slice.Eq.{slice_eq-Decides}
 use Rattle.relax_edges.proofs.Ranks.{rank_decides}

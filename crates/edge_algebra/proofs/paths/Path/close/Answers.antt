@@ -1,3 +1,4 @@
+-- A path whose last edge joins its first is a cycle.
 use Rattle.std.proofs.Common.{◌≡◌, true, rules}
 use Rattle.walk_laws.specs.Composable.{last_joins}
 use Rattle.walk_laws.proofs.Composing.{path_closed}

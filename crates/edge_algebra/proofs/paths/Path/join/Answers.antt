@@ -1,3 +1,4 @@
+-- Two paths that aren't too long, of which one joins the other, are a path.
 use Rattle.std.proofs.Common.{◌≡◌, ◌+◌, ◌≤◌, ◌++◌, length, true, rules, arith, ap}
 use Rattle.relax_edges.specs.declared.TheConstants.{MAX_EDGES}
 use Rattle.walk_laws.specs.Composable.{last_joins}

@@ -1,3 +1,4 @@
+-- The execution has one write more, or is unchanged where there is no memory.
 use Rattle.std.proofs.lemmas.Result.{err_from_is_err_and}
 use Rattle.exec_meaning.proofs.KeptLists.{write_added, write_kept}
 use Rattle.exec_meaning.proofs.execution.Execution.add_write.Goals as goal

@@ -1,3 +1,4 @@
+-- What is kept is that of the table of the test.
 use Rattle.std.proofs.Common.{◌≡◌, ◌+◌, ◌∙◌, ap, map, take, fold, max, length}
 use Rattle.arch_trait.specs.Codes.{thread_of}
 use Rattle.litmus_text.specs.KeptCells.{all_texts}

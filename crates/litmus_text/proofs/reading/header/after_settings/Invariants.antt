@@ -1,3 +1,4 @@
+-- The lines that were passed are settings.
 use Rattle.std.proofs.Common.{◌≡◌, length}
 use Rattle.litmus_text.specs.Header.{after_settings}
 use Rattle.litmus_text.specs.Views.{text_left}

@@ -1,3 +1,4 @@
+-- The text of the items ends at the first `}`, or with the lines.
 use Rattle.std.proofs.Common.{◌∙◌}
 use Rattle.litmus_text.specs.Views.{joined_seen, text_left}
 use Rattle.litmus_text.proofs.ItemLoops.{brace_found, brace_missing, brace_further}

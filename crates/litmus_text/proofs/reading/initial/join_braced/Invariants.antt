@@ -1,3 +1,4 @@
+-- The text so far and the lines that are left give what the whole gives.
 use Rattle.std.proofs.Common.{◌≡◌, length}
 use Rattle.litmus_text.specs.InitialState.{braced}
 use Rattle.litmus_text.specs.Views.{joined_seen, text_left}

@@ -1,3 +1,4 @@
+-- The blanks around an item are no more than the bytes of its piece, so its lines are found.
 use Rattle.std.proofs.Common.{◌≤◌, length, arith}
 use Rattle.text_laws.specs.Blanks.{is_blank}
 use Rattle.text_laws.proofs.RunLaws.{after_run-le}

@@ -1,3 +1,4 @@
+-- The items of a text are read one after another.
 use Rattle.std.proofs.Common.{sym, ◌∙◌, arith}
 use Rattle.std.proofs.lemmas.Result.{err_from_is_err_and}
 use Rattle.litmus_text.specs.Views.{joined_seen, begun_seen}

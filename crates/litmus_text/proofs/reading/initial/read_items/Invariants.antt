@@ -1,3 +1,4 @@
+-- The items so far and those that are left give what all give.
 use Rattle.std.proofs.Common.{◌≡◌, ◌+◌, length}
 use Rattle.litmus_text.specs.Cuts.{pieces}
 use Rattle.litmus_text.specs.InitialState.{items_read}

@@ -1,3 +1,4 @@
+-- The item of two sides is that of their left side, where this is read to its end.
 use Rattle.std.proofs.Common.{sym, ap, ◌∙◌}
 use Rattle.final_cond.specs.Conditions.{left_view}
 use Rattle.final_cond.specs.Gives.{fault_view}

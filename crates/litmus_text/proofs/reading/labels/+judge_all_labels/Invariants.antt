@@ -1,3 +1,4 @@
+-- The columns that are left grow fewer.
 use Rattle.std.proofs.Common.{length}
 use Rattle.litmus_text.proofs.reading.labels.+judge_all_labels.Given as goal
 

@@ -1,3 +1,4 @@
+-- The label of a branch on a register is judged.
 use Rattle.std.proofs.Common.{sym, ap, ◌∙◌}
 use Rattle.litmus_text.specs.Table.{is_landing}
 use Rattle.litmus_text.proofs.reading.labels.is_landing.Goals as goal

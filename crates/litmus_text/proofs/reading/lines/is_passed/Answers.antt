@@ -1,3 +1,4 @@
+-- A line is passed over where it is blank or a comment.
 use Rattle.std.proofs.Common.{sym, ◌∙◌}
 use Rattle.litmus_text.proofs.CutLaws.{passed_empty, passed_other}
 use Rattle.litmus_text.proofs.reading.lines.is_passed.Goals as goal

@@ -1,3 +1,4 @@
+-- So far there are as many empty columns as were counted.
 use Rattle.std.proofs.Common.{◌≡◌, map}
 use Rattle.litmus_text.specs.Table.{no_columns}
 use Rattle.litmus_text.specs.Views.{column_seen}

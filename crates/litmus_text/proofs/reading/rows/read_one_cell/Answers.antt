@@ -1,3 +1,4 @@
+-- A cell with a label is read as the label, and then as what comes after it.
 use Rattle.litmus_text.specs.Table.{among}
 use Rattle.litmus_text.specs.Views.{column_seen}
 use Rattle.litmus_text.proofs.TableLoops.{cell_labelled}

@@ -1,3 +1,4 @@
+-- The cells of a row are read one after another, one for each column.
 use Rattle.std.proofs.Common.{sym, ap, ◌∙◌, ◌<◌, ◌≡◌, Err, arith, map, take, length, []}
 use Rattle.std.proofs.lemmas.List.{length-map}
 use Rattle.std.proofs.lemmas.Result.{err_from_is_err_and}

@@ -1,3 +1,4 @@
+-- The columns so far and the cells that are left give what the row gives.
 use Rattle.std.proofs.Common.{◌≡◌, map, take, drop}
 use Rattle.litmus_text.specs.Table.{row_read}
 use Rattle.litmus_text.specs.Views.{pieces_left, column_seen}

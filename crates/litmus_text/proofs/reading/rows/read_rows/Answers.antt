@@ -1,3 +1,4 @@
+-- The rows are read one after another, up to the line that ends them.
 use Rattle.std.proofs.Common.{sym, ap, ◌∙◌, Err, arith, map}
 use Rattle.std.proofs.lemmas.Result.{err_from_is_err_and}
 use Rattle.litmus_text.specs.declared.limits.TheConstants.{MAX_ROWS}

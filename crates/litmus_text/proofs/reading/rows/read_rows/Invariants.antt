@@ -1,3 +1,4 @@
+-- The columns so far and the lines that are left give what all rows give.
 use Rattle.std.proofs.Common.{◌≡◌, ◌≤◌, length, map}
 use Rattle.litmus_text.specs.declared.limits.TheConstants.{MAX_ROWS}
 use Rattle.litmus_text.specs.Table.{among, rows_read}

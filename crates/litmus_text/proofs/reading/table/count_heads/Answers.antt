@@ -1,3 +1,4 @@
+-- The cells of the header are counted one after another.
 use Rattle.std.proofs.Common.{sym, ap, ◌∙◌, Err, refl, arith}
 use Rattle.litmus_text.specs.declared.limits.TheConstants.{MAX_THREADS}
 use Rattle.litmus_text.specs.Views.{pieces_left}

@@ -1,3 +1,4 @@
+-- The threads so far and the cells that are left give what the header gives.
 use Rattle.std.proofs.Common.{◌≡◌, ◌≤◌, length}
 use Rattle.litmus_text.specs.declared.limits.TheConstants.{MAX_THREADS}
 use Rattle.litmus_text.specs.Table.{heads_read}

@@ -1,3 +1,4 @@
+-- A left side that was read has its form.
 use Rattle.final_cond.specs.Conditions.{left_view}
 use Rattle.text_laws.specs.Blanks.{unblanked}
 use Rattle.litmus_text.proofs.ItemLaws.{left_form}

@@ -1,3 +1,4 @@
+-- The terms of a condition are read one after another, up to the `)`.
 use Rattle.std.proofs.Common.{◌≡◌, ◌≢◌, ◌≤◌, ◌+◌, ◌-◌, ◌++◌, ℕ, false, nat_eq, ◌∷◌, [], map, length, ◌∙◌, sym, ap, Err, arith}
 use Rattle.std.proofs.lemmas.Bool.{eqb-true, eqb-false}
 use Rattle.std.proofs.lemmas.List.{map_push}

@@ -1,3 +1,4 @@
+-- The walk over the terms of a condition, for which less and less room is left.
 use Rattle.std.proofs.Common.{◌≡◌, ◌-◌, map, length}
 use Rattle.final_cond.specs.declared.cond.TheConstants.{MAX_TERMS}
 use Rattle.final_cond.specs.Conditions.{term_view}

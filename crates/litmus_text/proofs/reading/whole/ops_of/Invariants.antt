@@ -1,3 +1,4 @@
+-- The operations so far are those of the column.
 use Rattle.std.proofs.Common.{◌≡◌, map, take}
 use Rattle.litmus_text.proofs.reading.whole.ops_of.Given as goal
 

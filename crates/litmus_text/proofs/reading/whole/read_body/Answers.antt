@@ -1,3 +1,4 @@
+-- The registers of the initial state are the machine's, as the table asks.
 use Rattle.std.proofs.Common.{◌≤◌, length, arith}
 use Rattle.litmus_text.specs.Views.{begun_seen, text_left}
 use Rattle.litmus_text.proofs.RegistersRead.{initial_below}

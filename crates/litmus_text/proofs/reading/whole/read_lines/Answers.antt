@@ -1,3 +1,4 @@
+-- A test is its header, its quoted text, and its body.
 use Rattle.std.proofs.Common.{ap, sym, ◌∙◌}
 use Rattle.litmus_text.specs.Header.{header_read}
 use Rattle.litmus_text.specs.Views.{text_left}

@@ -1,3 +1,4 @@
+-- A test is read from its table on, and its threads can be run.
 use Rattle.std.proofs.Common.{◌≡◌, ◌∙◌, ap, sym, subst, length, arith}
 use Rattle.litmus_text.specs.Views.{text_left, begun_seen}
 use Rattle.litmus_text.proofs.PartLoops.{table_is, written_back}

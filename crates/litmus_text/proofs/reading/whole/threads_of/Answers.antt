@@ -1,3 +1,4 @@
+-- Each column gives a thread.
 use Rattle.std.proofs.Common.{◌∷◌, [], length-append, arith}
 use Rattle.litmus_text.specs.InitialState.{Begun}
 use Rattle.litmus_text.proofs.PartLoops.{thread_step}

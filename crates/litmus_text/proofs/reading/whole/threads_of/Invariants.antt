@@ -1,3 +1,4 @@
+-- The threads so far are those of as many columns.
 use Rattle.std.proofs.Common.{◌≡◌, map, take, [], length}
 use Rattle.litmus_text.specs.TestReading.{threads_of}
 use Rattle.litmus_text.specs.Views.{column_seen}

@@ -1,3 +1,4 @@
+-- The values so far are those of the thread.
 use Rattle.std.proofs.Common.{◌≡◌, take}
 use Rattle.litmus_text.specs.TestReading.{values_of}
 use Rattle.litmus_text.proofs.reading.whole.values_of.Given as goal

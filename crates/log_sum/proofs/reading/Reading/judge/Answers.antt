@@ -1,3 +1,4 @@
+-- `Reading::judge` reads a line as the definitions do, or answers its fault.
 use Rattle.std.proofs.Common.{refl, sym, ap, ◌∙◌, subst}
 use Rattle.std.proofs.lemmas.Result.{err_from_is_err_and}
 use Rattle.log_sum.specs.declared.kinds.Place.{Place}

@@ -1,3 +1,4 @@
+-- `StateTable::add` adds a count to that of the state at an index, and changes nothing else.
 use Rattle.std.proofs.Common.{sym, ap, ◌∙◌, refl}
 use Rattle.log_sum.specs.declared.state_table.StateTable.{StateTable}
 use Rattle.log_sum.specs.StateEntries.{states_view}

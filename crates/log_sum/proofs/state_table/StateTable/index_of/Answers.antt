@@ -1,3 +1,4 @@
+-- `StateTable::index_of` finds the index of a state.
 use Rattle.std.proofs.Common.{refl}
 use Rattle.std.specs.Str.{bytes_eq}
 use Rattle.log_sum.proofs.EntryLaws.{found_or_not}

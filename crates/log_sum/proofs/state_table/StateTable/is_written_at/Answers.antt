@@ -1,3 +1,4 @@
+-- `StateTable::is_written_at` is true only where the text is read as the state at the index.
 use Rattle.std.proofs.Common.{ap, ◌∙◌}
 use Rattle.log_sum.specs.StateEntries.{written_as}
 use Rattle.log_sum.proofs.EntryLaws.{written_at}

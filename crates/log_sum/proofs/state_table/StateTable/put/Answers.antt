@@ -1,3 +1,4 @@
+-- `StateTable::put` adds a new state.
 use Rattle.std.proofs.Common.{◌≡◌, true, false}
 use Rattle.log_sum.proofs.EntryLaws.{view_put, written_put}
 use Rattle.log_sum.proofs.state_table.StateTable.put.Goals as goal

@@ -1,3 +1,4 @@
+-- `StateTable::put_in_order` sorts the states, which stay the same.
 use Rattle.log_sum.proofs.SortLaws.{view_reordered, written_reordered, sorted_entries}
 use Rattle.log_sum.proofs.state_table.StateTable.put_in_order.Goals as goal
 

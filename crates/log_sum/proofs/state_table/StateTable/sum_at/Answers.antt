@@ -1,3 +1,4 @@
+-- `StateTable::sum_at` gives the mark and the count of the state at an index.
 use Rattle.log_sum.proofs.EntryLaws.{sum_known}
 use Rattle.log_sum.proofs.state_table.StateTable.sum_at.Goals as goal
 

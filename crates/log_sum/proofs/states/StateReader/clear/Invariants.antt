@@ -1,3 +1,4 @@
+-- `StateReader::clear` takes out one equality at a time.
 use Rattle.std.specs.Prelude.{length}
 use Rattle.log_sum.proofs.states.StateReader.clear.Given as goal
 

@@ -1,3 +1,4 @@
+-- `StateReader::put_in_order` gives the set of the equalities, or the fault that two of them have one left side.
 use Rattle.std.proofs.Common.{ap, sym, ◌∙◌}
 use Rattle.log_sum.specs.Classes.{texts_of}
 use Rattle.log_sum.specs.Equalities.{has_left_twice}

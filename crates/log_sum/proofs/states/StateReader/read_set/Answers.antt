@@ -1,3 +1,4 @@
+-- `StateReader::read_set` reads the set of the equalities that a text writes.
 use Rattle.std.proofs.Common.{ap, sym, ◌∙◌, subst}
 use Rattle.std.proofs.lemmas.Result.{err_from_is_err_and}
 use Rattle.log_sum.specs.Classes.{GivesOr, texts_of}

@@ -1,3 +1,4 @@
+-- `StateReader::read_set`: the equalities so far and the rest of the text give the state that the text writes.
 use Rattle.std.proofs.Common.{◌≡◌, length}
 use Rattle.std.specs.List.{All}
 use Rattle.log_sum.specs.Classes.{texts_of}

@@ -1,3 +1,4 @@
+-- `Summer::end_file` answers the first fault of the logs that have ended.
 use Rattle.std.proofs.Common.{ap}
 use Rattle.log_sum.specs.Standing.{Kept}
 use Rattle.log_sum.proofs.FeedLaws.{end_refused}

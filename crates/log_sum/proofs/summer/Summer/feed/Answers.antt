@@ -1,3 +1,4 @@
+-- `Summer::feed` answers the first fault of the bytes that were fed so far.
 use Rattle.std.proofs.Common.{ap}
 use Rattle.log_sum.specs.Standing.{Kept}
 use Rattle.log_sum.proofs.FeedLaws.{fed_refused}

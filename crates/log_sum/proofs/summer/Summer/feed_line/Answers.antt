@@ -1,3 +1,4 @@
+-- `Summer::feed_line` reads a line that a line feed ends, with the bytes of it that were held.
 use Rattle.std.proofs.Common.{◌≡◌, ◌<◌, ◌≤◌, ◌++◌, [], length, sym, ap, ◌∙◌, arith, length-append, subst}
 use Rattle.std.specs.Prelude.{Ok, Err}
 use Rattle.std.proofs.lemmas.Result.{err_from_is_err_and}

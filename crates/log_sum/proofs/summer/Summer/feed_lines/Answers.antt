@@ -1,3 +1,4 @@
+-- `Summer::feed_lines` reads the lines that end in a piece, and holds the rest of the piece.
 use Rattle.std.proofs.Common.{◌++◌, ◌∷◌, [], List, ℕ, refl, sym, ap, ◌∙◌, append_assoc, append-nil, subst}
 use Rattle.std.proofs.lemmas.Result.{err_from_is_err_and}
 use Rattle.log_sum.specs.Standing.{StandsFor}

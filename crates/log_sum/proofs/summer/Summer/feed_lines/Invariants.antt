@@ -1,3 +1,4 @@
+-- `Summer::feed_lines`: the bytes of the piece that come before the rest were fed.
 use Rattle.std.proofs.Common.{length}
 use Rattle.log_sum.specs.Feeding.{FedBefore}
 use Rattle.log_sum.proofs.summer.Summer.feed_lines.Given as goal

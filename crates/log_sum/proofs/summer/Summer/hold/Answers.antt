@@ -1,3 +1,4 @@
+-- `Summer::hold` keeps a part of the running line, unless the line is then too long.
 use Rattle.std.proofs.Common.{◌<◌, ◌≤◌, ◌+◌, length, sym, ap, ◌∙◌, arith, subst}
 use Rattle.log_sum.specs.declared.errors.LogKind.TheVariants.{LineTooLong}
 use Rattle.log_sum.specs.Reading.{Seen, fault_at}

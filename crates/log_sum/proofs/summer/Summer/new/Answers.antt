@@ -1,3 +1,4 @@
+-- `Summer::new` gives a summer that represents no logs.
 use Rattle.std.proofs.Common.{◌≡◌, ℕ, true, List, [], ◌∷◌, refl, ◌∙◌, Ok, map}
 use Rattle.std.specs.List.{list_all}
 use Rattle.std.specs.declared.vec.Vec.{Vec}

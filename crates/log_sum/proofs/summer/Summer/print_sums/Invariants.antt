@@ -1,3 +1,4 @@
+-- `Summer::print_sums`: the texts of the tests so far are sent, and the states of the others are in byte order.
 use Rattle.std.proofs.Common.{◌≡◌, ℕ, true, List, ◌++◌, map}
 use Rattle.std.specs.List.{flat_map, list_all}
 use Rattle.diy_io.specs.Page.{SentAll}
@@ -6,7 +7,7 @@ use Rattle.log_sum.specs.Summed.{Summed}
 use Rattle.log_sum.specs.SumText.{test_text}
 use Rattle.log_sum.proofs.summer.Summer.print_sums.Given as goal
 
--- the texts of the tests so far are sent, and the states of those that are left stand in byte order
+-- the texts of the tests so far are sent, and the states of those that are left are in byte order
 abbrev pub invariant-loop-name : goal.invariant-loop-name
 invariant-loop-name g l = record {
   sent : SentAll (g.O.Sink.seen l.fn.out) l.fn.page (g.O.Sink.seen l.out) l.page

@@ -1,3 +1,4 @@
+-- `Summer::write_sum` writes the sum by way of a page, which is empty at first and is flushed at the end.
 use Rattle.std.proofs.Common.{◌≡◌, ℕ, List, [], Err, subst}
 use Rattle.std.specs.Prelude.{Result}
 use Rattle.std.specs.Result.{IsErrAnd}
@@ -7,7 +8,7 @@ use Rattle.diy_io.specs.Page.{Sends, SentAll}
 use Rattle.diy_io.specs.PageLaws.{sent_wrote, unsent_wrote}
 use Rattle.log_sum.proofs.summer.Summer.write_sum.Goals as goal
 
--- a text that was sent by way of an empty page, which is handed on at the end; and where it was sent in part
+-- a text that was sent by way of an empty page, which is handed on at the end; and one that was sent in part
 own_wrote : (a b c : SinkSeen) (held kept text : List ℕ) (result : Result (Unit {0}) Failed)
     → held ≡ [] → SentAll a held b kept text → Wrote b c kept result → Wrote a c text result
 own_wrote a b c held kept text result e h k = sent_wrote a b c kept text result (subst (λ t. SentAll a t b kept text) e h) k

@@ -1,3 +1,4 @@
+-- `Table::begin` adds the fact that a block of this kind begins: to the test of this name, or to a new test.
 use Rattle.std.proofs.Common.{refl, sym, ap}
 use Rattle.std.proofs.lemmas.Result.{err_from_is_err_and}
 use Rattle.std.specs.Str.{bytes_eq}

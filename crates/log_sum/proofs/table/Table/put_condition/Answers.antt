@@ -1,3 +1,4 @@
+-- `Table::put_condition` adds a condition to the facts of the running test, or answers its fault.
 use Rattle.std.proofs.Common.{refl, sym}
 use Rattle.std.proofs.lemmas.Result.{err_from_is_err_and}
 use Rattle.log_sum.specs.Facts.{a_condition}

@@ -1,3 +1,4 @@
+-- `Table::put_in_order` puts the states of each test in byte order; the tests stay the same.
 use Rattle.std.proofs.Common.{length, refl, sym, ap, ◌∙◌, arith}
 use Rattle.log_sum.specs.Classes.{tests_view}
 use Rattle.log_sum.specs.declared.table.Table.{Table}

@@ -1,3 +1,4 @@
+-- `Table::put_row` adds a row to the facts of the running test, or answers its fault.
 use Rattle.std.proofs.Common.{refl, sym}
 use Rattle.log_sum.specs.Classes.{row_read}
 use Rattle.log_sum.proofs.TableLaws.{none_there, row_answered}

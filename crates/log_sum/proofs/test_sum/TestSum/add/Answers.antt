@@ -1,3 +1,4 @@
+-- `TestSum::add` adds a count to a known state, or answers that its mark differs or that the sum is too large.
 use Rattle.std.proofs.Common.{ℕ, ◌+◌, ◌≤◌, ap, sym, ◌∙◌, refl, Some, Ok, arith, min}
 use Rattle.std.specs.Prelude.{nat_lt, not}
 use Rattle.log_sum.specs.declared.kinds.Mark.{Mark}

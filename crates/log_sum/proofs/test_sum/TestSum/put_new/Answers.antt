@@ -1,3 +1,4 @@
+-- `TestSum::put_new` adds a new state, or answers that the sum is too large.
 use Rattle.std.proofs.Common.{◌+◌, ◌≤◌, ap, sym, ◌∙◌, refl, None, Ok, arith}
 use Rattle.std.specs.Prelude.{nat_lt}
 use Rattle.std.specs.Ordering.{nat_cmp}

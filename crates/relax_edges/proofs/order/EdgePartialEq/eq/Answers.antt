@@ -1,3 +1,4 @@
+-- Two edges are equal exactly where their ranks are.
 use Rattle.relax_edges.proofs.Ranks.{rank_decides}
 use Rattle.relax_edges.proofs.order.EdgePartialEq.eq.Goals as goal
 

@@ -1,3 +1,4 @@
+-- `Feeding::end_log` answers a fault that the end of a log shows.
 use Rattle.std.proofs.Common.{sym, subst}
 use Rattle.summed_logs.specs.Feeding.{IsEndFault}
 use Rattle.summed_logs.proofs.FeedingLaws.{log_refused}

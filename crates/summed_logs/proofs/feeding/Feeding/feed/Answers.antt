@@ -1,3 +1,4 @@
+-- `Feeding::feed` answers a fault that a piece shows, or that the log goes past 2^40 bytes.
 use Rattle.std.proofs.Common.{◌+◌, ◌++◌, take, sym, ap, subst, arith}
 use Rattle.summed_logs.specs.Feeding.{IsFault}
 use Rattle.summed_logs.proofs.FeedingLaws.{piece_refused, piece_full, line_feeds_on}

@@ -1,3 +1,4 @@
+-- `Feeding::write_sum` writes the sum of the logs that were ended.
 use Rattle.log_sum.proofs.StandingLaws.{standing_text}
 use Rattle.summed_logs.proofs.feeding.Feeding.write_sum.Goals as goal
 

@@ -1,3 +1,4 @@
+-- The first piece is what comes before the first sign, or the whole text.
 use Rattle.std.proofs.Common.{sym, ap, ◌∙◌, ◌∷◌}
 use Rattle.litmus_text.specs.Views.{pieces_if}
 use Rattle.litmus_text.proofs.CutLaws.{pieces_cut}

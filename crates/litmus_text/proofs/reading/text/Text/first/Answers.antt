@@ -1,3 +1,4 @@
+-- The first line of a text ends at its first line feed, or with the text.
 use Rattle.std.proofs.Common.{sym, ap, ◌∙◌, ◌+◌, arith}
 use Rattle.litmus_text.specs.Lines.{kept, lines_from}
 use Rattle.text_laws.proofs.CutLaws.{cut_length}

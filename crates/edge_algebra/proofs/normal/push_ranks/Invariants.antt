@@ -1,9 +1,0 @@
-use Rattle.std.proofs.Common.{◌≡◌, ◌+◌, ◌++◌, length, map, drop}
-use Rattle.relax_edges.specs.Order.{rank_of}
-use Rattle.edge_algebra.proofs.normal.push_ranks.Given as goal
-
-abbrev pub invariant-loop-edge : goal.invariant-loop-edge
-invariant-loop-edge l = record {
-  pushed : l.ranks.items ++ map rank_of (drop l.edge-index l.edges) ≡ l.fn.ranks.items ++ map rank_of l.edges;
-  room : length l.ranks.items ≡ length l.fn.ranks.items + l.edge-index;
-}
