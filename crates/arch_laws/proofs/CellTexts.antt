@@ -1,12 +1,13 @@
 -- The parts of which the texts of instructions are made fit in cells.
-use Rattle.std.proofs.Common.{◌≡◌, ◌<◌, ◌^◌, ℕ, List, [], ◌∷◌, ◌++◌, true, refl, ◌∙◌, arith}
+use Rattle.std.proofs.Common.{◌≡◌, ◌<◌, ◌^◌, ℕ, List, [], ◌++◌, true, ◌∙◌, arith}
 use Rattle.std.specs.Prelude.{Bool}
 use Rattle.std.specs.Char.{is_ascii_digit}
 use Rattle.std.specs.Fmt.{decimal}
 use Rattle.std.specs.List.{list_all}
-use Rattle.std.proofs.lemmas.Bool.{and_parts, and_from}
+use Rattle.std.proofs.lemmas.Bool.{and_from}
 use Rattle.std.proofs.lemmas.Bool.Decides.{nat_tests}
 use Rattle.std.proofs.lemmas.List.Folds.{list_all-append}
+use Rattle.list_laws.proofs.Elements.{list_all-weaker}
 use Rattle.text_laws.specs.Names.{is_place_name, is_place_byte}
 use Rattle.final_cond.proofs.BackLaws.{digits_of, place_bytes}
 use Rattle.arch_trait.specs.Cells.{is_cell_byte}
@@ -14,11 +15,6 @@ use Rattle.arch_trait.specs.Cells.{is_cell_byte}
 -- what all bytes of two texts pass, all bytes of both together pass
 pub all_both : (p : ℕ → Bool) (xs ys : List ℕ) → list_all p xs ≡ true → list_all p ys ≡ true → list_all p (xs ++ ys) ≡ true
 all_both p xs ys h k = list_all-append p xs ys ∙ and_from (list_all p xs) (list_all p ys) h k
-
-weaker : (p q : ℕ → Bool) → ((b : ℕ) → p b ≡ true → q b ≡ true) → (text : List ℕ) → list_all p text ≡ true → list_all q text ≡ true
-weaker p q f [] h = refl
-weaker p q f (byte ∷ text) h =
-    let parts = and_parts (p byte) (list_all p text) h in and_from (q byte) (list_all q text) (f byte parts.0) (weaker p q f text parts.1)
 
 place_in_cell : (b : ℕ) → is_place_byte b ≡ true → is_cell_byte b ≡ true
 place_in_cell b h = grind (arith, nat_tests)
@@ -28,8 +24,8 @@ digit_in_cell b h = grind (arith, nat_tests)
 
 -- the name of a place
 pub place_cell : (name : List ℕ) → is_place_name name ≡ true → list_all is_cell_byte name ≡ true
-place_cell name h = weaker is_place_byte is_cell_byte place_in_cell name (place_bytes name h)
+place_cell name h = list_all-weaker is_place_byte is_cell_byte place_in_cell name (place_bytes name h)
 
 -- a number
 pub decimal_cell : (n : ℕ) → n < 2 ^ 32 → list_all is_cell_byte (decimal n) ≡ true
-decimal_cell n h = weaker is_ascii_digit is_cell_byte digit_in_cell (decimal n) (digits_of n h).all
+decimal_cell n h = list_all-weaker is_ascii_digit is_cell_byte digit_in_cell (decimal n) (digits_of n h).all

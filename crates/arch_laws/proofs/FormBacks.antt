@@ -9,14 +9,14 @@ use Rattle.std.proofs.lemmas.Bool.Decides.{nat_tests}
 use Rattle.std.proofs.lemmas.Fmt.{decimal_injective}
 use Rattle.std.proofs.lemmas.List.Folds.{list_all-append}
 use Rattle.std.proofs.lemmas.Slice.Eq.{bytes_eq-Decides}
+use Rattle.list_laws.proofs.Elements.{list_all-weaker}
+use Rattle.list_laws.proofs.Cases.{by_test}
 use Rattle.text_laws.specs.Names.{is_register_name}
 use Rattle.final_cond.proofs.BackLaws.{digits_of}
-use Rattle.text_laws.proofs.NameLaws.{all_weaker}
 use Rattle.arch_trait.specs.declared.numbered.Numbered.{Numbered}
 use Rattle.arch_trait.specs.Cells.{is_cell_byte}
 use Rattle.arch_trait.specs.Forms.{register_name, register_names}
 use Rattle.arch_trait.specs.Writing.{name_in, is_plain, is_label_name, label_name, label_word}
-use Rattle.arch_trait.proofs.Taking.{by_test}
 use Rattle.arch_trait.proofs.Spelling.{is_word_byte}
 use Rattle.arch_trait.proofs.PlainTexts.{three_digits}
 
@@ -48,7 +48,7 @@ label_bytes (b ∷ bytes) h =
 
 -- the name of a label that has its form is plain
 pub label_plain : (l : ℕ) → is_label_name (label_name l) ≡ true → is_plain (label_name l) ≡ true
-label_plain l h = all_weaker is_ascii_alphanumeric is_word_byte name_byte_word (label_name l) (label_bytes (label_name l) h)
+label_plain l h = list_all-weaker is_ascii_alphanumeric is_word_byte name_byte_word (label_name l) (label_bytes (label_name l) h)
 
 -- so is the word that sets the label
 pub label_word_plain : (l : ℕ) → is_label_name (label_name l) ≡ true → is_plain (label_word l) ≡ true
@@ -58,7 +58,7 @@ label_word_plain l h =
 
 -- the name of a label that has its form fits in a cell
 pub label_cell : (l : ℕ) → is_label_name (label_name l) ≡ true → list_all is_cell_byte (label_name l) ≡ true
-label_cell l h = all_weaker is_ascii_alphanumeric is_cell_byte name_byte_cell (label_name l) (label_bytes (label_name l) h)
+label_cell l h = list_all-weaker is_ascii_alphanumeric is_cell_byte name_byte_cell (label_name l) (label_bytes (label_name l) h)
 
 -- the names of numbered registers: as many as they are, each at its number, of their form, and each once
 pub names_count : (n : Numbered) → length (register_names n) ≡ n.count
@@ -83,7 +83,7 @@ formed : (n : Numbered) (r : ℕ) → IsNumbered n → n.first + r < 1000 → is
 unfolding is_register_name
 formed n r h s =
     and_from _ _ (and_from (is_ascii_alphabetic n.letter) (list_all is_ascii_alphanumeric (decimal (n.first + r))) h.letter
-    (all_weaker is_ascii_digit is_ascii_alphanumeric digit_name_byte (decimal (n.first + r)) (digits_of (n.first + r) (omega arith)).all))
+    (list_all-weaker is_ascii_digit is_ascii_alphanumeric digit_name_byte (decimal (n.first + r)) (digits_of (n.first + r) (omega arith)).all))
     (le-leb (length (register_name n r)) 16 (omega (arith, three_digits (n.first + r) s)))
 
 -- the names of numbered registers have the form of registers' names

@@ -7,6 +7,7 @@ use Rattle.std.proofs.lemmas.List.{drop-drop}
 use Rattle.std.proofs.lemmas.Nat.Bits.{bit_at_or, bit_at-pow_same, bit_at_above}
 use Rattle.std.proofs.lemmas.List.Sums.{sum_by-cons}
 use Rattle.std.proofs.Math.Pow.{pow_mono}
+use Rattle.list_laws.proofs.Cases.{by_test}
 use Rattle.relax_edges.specs.declared.kinds.Dir.{Dir}
 use Rattle.relax_edges.specs.declared.kinds.Dir.TheVariants as dirs
 use Rattle.relax_edges.specs.declared.kinds.ArchName.{ArchName}
@@ -16,7 +17,6 @@ use Rattle.arch_trait.specs.declared.link.Link.TheVariants as links
 use Rattle.arch_trait.specs.declared.step.Step.{Step}
 use Rattle.arch_trait.specs.Links.{branches, depends, link_control, link_items}
 use Rattle.arch_trait.specs.Threads.{FitSteps, is_load_dir, loads_in, loads_after, first_of, left_after, access_item, thread_items, control_after}
-use Rattle.arch_trait.proofs.Taking.{by_test}
 
 -- the numbers left after an access are those after the ones that it read
 left_is : (d : Dir) (vs : List ℕ) → left_after d vs ≡ drop (cond (is_load_dir d) 1 0) vs

@@ -2,8 +2,9 @@
 use Rattle.std.proofs.Common.{◌≡◌, ◌<◌, ◌≤◌, ◌+◌, ◌==◌, ℕ, List, [], ◌∷◌, ◌++◌, true, false, cond, length, max, refl, sym, ap, ◌∙◌, subst, arith, append-nil}
 use Rattle.std.specs.Prelude.{Bool, ◌&&◌, ◌||◌, Option, nat_lt, nat_le, is_some}
 use Rattle.std.specs.List.{list_all}
-use Rattle.std.proofs.lemmas.Bool.{eqb-true, eq-eqb, lt-ltb, le-leb}
+use Rattle.std.proofs.lemmas.Bool.{eqb-true, eq-eqb, lt-ltb, le-leb, and_parts, and_from}
 use Rattle.std.proofs.lemmas.List.Sums.{sum_by-append, sum_by-cons}
+use Rattle.list_laws.proofs.Cases.{by_test}
 use Rattle.relax_edges.specs.declared.kinds.Dir.{Dir}
 use Rattle.relax_edges.specs.declared.kinds.Dir.TheVariants as dirs
 use Rattle.micro_ops.specs.declared.operation.Micro.{Micro}
@@ -13,30 +14,22 @@ use Rattle.micro_ops.proofs.Laws.{labels_append, lands_append}
 use Rattle.arch_trait.specs.declared.step.Step.{Step}
 use Rattle.arch_trait.specs.Cells.{is_access, accesses_in, MakesOneAccess}
 use Rattle.arch_trait.specs.LabelOrder.{labels_after, labels_in, is_next, labels_ordered}
-use Rattle.arch_trait.proofs.Taking.{by_test}
 use Rattle.arch_trait.specs.Links.{branches}
 use Rattle.arch_trait.specs.Laws.{IsArch, HasLink}
 use Rattle.arch_trait.specs.Taking.{Taken}
 use Rattle.arch_trait.specs.Threads.{Way, Puts, FitStep, FitSteps, is_load_dir, from_of, put_of, filled_by, next_put, further, step_code, thread_code, branches_in, setting_out, compiled}
 
-both : (p q : Bool) → p && q ≡ true → (p ≡ true) × (q ≡ true)
-both true q h = (refl, h)
-both false q h = cc
-
-both_are : (p q : Bool) → p ≡ true → q ≡ true → p && q ≡ true
-both_are p q h k = rw (h, k) refl
-
 ordered_append : (count : ℕ) (xs ys : List Micro) → labels_ordered count xs ≡ true → labels_ordered (labels_in count xs) ys ≡ true → labels_ordered count (xs ++ ys) ≡ true
 ordered_append count [] ys h k = k
 ordered_append count (op ∷ xs) ys h k =
-    let parts = both (is_next count op) (labels_ordered (labels_after count op) xs) h in
-    both_are (is_next count op) (labels_ordered (labels_after count op) (xs ++ ys)) parts.0 (ordered_append (labels_after count op) xs ys parts.1 k)
+    let parts = and_parts (is_next count op) (labels_ordered (labels_after count op) xs) h in
+    and_from (is_next count op) (labels_ordered (labels_after count op) (xs ++ ys)) parts.0 (ordered_append (labels_after count op) xs ys parts.1 k)
 
 -- a label that occurs is one of the labels
 stands_passes : (p : ℕ → Bool) (label : ℕ) (code : List Micro) → list_all p (labels_of code) ≡ true → stands label code ≡ true → p label ≡ true
 stands_passes p label [] h s = absurd (cc)
 stands_passes p label (ops.Label k ∷ code) h s =
-    let parts = both (p k) (list_all p (labels_of code)) h in
+    let parts = and_parts (p k) (list_all p (labels_of code)) h in
     by_test (k == label)
     (λ e. subst (λ l. p l ≡ true) (eqb-true k label e) parts.0)
     (λ e. stands_passes p label code parts.1 (sym (ap (λ b. b || stands label code) e) ∙ s))
@@ -60,20 +53,20 @@ stands_passes p label (ops.Barrier k ∷ code) h s = stands_passes p label code 
 next_is : (count n label : ℕ) → n ≤ count → n < 64 → (label == n) ≡ true → (nat_le label count && nat_lt label 64) ≡ true
 next_is count n label low small e =
     let same : label ≡ n = eqb-true label n e in
-    both_are (nat_le label count) (nat_lt label 64) (le-leb label count (omega arith)) (lt-ltb label 64 (omega arith))
+    and_from (nat_le label count) (nat_lt label 64) (le-leb label count (omega arith)) (lt-ltb label 64 (omega arith))
 
 -- code whose only label is n
 one_ordered : (count n : ℕ) (code : List Micro) → n ≤ count → n < 64 → lands code ≡ true → list_all (λ l. l == n) (labels_of code) ≡ true → labels_ordered count code ≡ true
 one_ordered count n [] low small l h = refl
 one_ordered count n (ops.Label k ∷ code) low small l h =
-    let parts = both (k == n) (list_all (λ l. l == n) (labels_of code)) h in
-    both_are (nat_le k count && nat_lt k 64) (labels_ordered (max count (k + 1)) code) (next_is count n k low small parts.0) (one_ordered (max count (k + 1)) n code (omega arith) small l parts.1)
+    let parts = and_parts (k == n) (list_all (λ l. l == n) (labels_of code)) h in
+    and_from (nat_le k count && nat_lt k 64) (labels_ordered (max count (k + 1)) code) (next_is count n k low small parts.0) (one_ordered (max count (k + 1)) n code (omega arith) small l parts.1)
 one_ordered count n (ops.BranchEq k ∷ code) low small l h =
-    let parts = both (stands k code) (lands code) l in
-    both_are (nat_le k count && nat_lt k 64) (labels_ordered (max count (k + 1)) code) (next_is count n k low small (stands_passes (λ l. l == n) k code h parts.0)) (one_ordered (max count (k + 1)) n code (omega arith) small parts.1 h)
+    let parts = and_parts (stands k code) (lands code) l in
+    and_from (nat_le k count && nat_lt k 64) (labels_ordered (max count (k + 1)) code) (next_is count n k low small (stands_passes (λ l. l == n) k code h parts.0)) (one_ordered (max count (k + 1)) n code (omega arith) small parts.1 h)
 one_ordered count n (ops.BranchNz a k ∷ code) low small l h =
-    let parts = both (stands k code) (lands code) l in
-    both_are (nat_le k count && nat_lt k 64) (labels_ordered (max count (k + 1)) code) (next_is count n k low small (stands_passes (λ l. l == n) k code h parts.0)) (one_ordered (max count (k + 1)) n code (omega arith) small parts.1 h)
+    let parts = and_parts (stands k code) (lands code) l in
+    and_from (nat_le k count && nat_lt k 64) (labels_ordered (max count (k + 1)) code) (next_is count n k low small (stands_passes (λ l. l == n) k code h parts.0)) (one_ordered (max count (k + 1)) n code (omega arith) small parts.1 h)
 one_ordered count n (ops.LoadAt d q ∷ code) low small l h = one_ordered count n code low small l h
 one_ordered count n (ops.StoreAt q m ∷ code) low small l h = one_ordered count n code low small l h
 one_ordered count n (ops.Imm d m ∷ code) low small l h = one_ordered count n code low small l h
@@ -147,8 +140,8 @@ no_target label code h e = let clash : false ≡ true = stands_passes (λ l. fal
 none_ordered : (count : ℕ) (code : List Micro) → lands code ≡ true → labels_of code ≡ [] → labels_ordered count code ≡ true
 none_ordered count [] l e = refl
 none_ordered count (ops.Label k ∷ code) l e = absurd (cc)
-none_ordered count (ops.BranchEq k ∷ code) l e = no_target k code (both (stands k code) (lands code) l).0 e
-none_ordered count (ops.BranchNz a k ∷ code) l e = no_target k code (both (stands k code) (lands code) l).0 e
+none_ordered count (ops.BranchEq k ∷ code) l e = no_target k code (and_parts (stands k code) (lands code) l).0 e
+none_ordered count (ops.BranchNz a k ∷ code) l e = no_target k code (and_parts (stands k code) (lands code) l).0 e
 none_ordered count (ops.LoadAt d q ∷ code) l e = none_ordered count code l e
 none_ordered count (ops.StoreAt q m ∷ code) l e = none_ordered count code l e
 none_ordered count (ops.Imm d m ∷ code) l e = none_ordered count code l e

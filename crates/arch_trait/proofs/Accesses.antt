@@ -1,6 +1,7 @@
 -- What an architecture shows of its accesses: they write registers that were taken for them, and none
 -- that holds an address.
 use Rattle.std.proofs.Common.{ℕ, ◌+◌, ◌<◌, ◌≤◌, ◌≡◌, ◌==◌, refl, Bool, true, false, cond, not, ◌||◌, List, [], ◌∷◌, ◌++◌, Option, Some, None, ◌∙◌, sym, ap, subst, eq-eqb, ne_eqb, append-nil, arith}
+use Rattle.list_laws.proofs.Cases.{by_test}
 use Rattle.relax_edges.specs.declared.kinds.Dir.TheVariants as dirs
 use Rattle.relax_edges.specs.declared.kinds.Mark.{Mark}
 use Rattle.micro_ops.specs.declared.held.Held.{Held}
@@ -15,7 +16,7 @@ use Rattle.arch_trait.specs.declared.link.Link.TheVariants as links
 use Rattle.arch_trait.specs.Links.{depends, is_addr, is_data}
 use Rattle.arch_trait.specs.Taking.{Taken, address_in, has_address, address_of, with_address}
 use Rattle.arch_trait.specs.Laws.{IsTaken, HoldsPlaces, HasSource, Did, DidLoad, DidLink, access_room}
-use Rattle.arch_trait.proofs.Taking.{by_test, by_option, address_bounds, address_kept, address_added}
+use Rattle.arch_trait.proofs.Taking.{by_option, address_bounds, address_kept, address_added}
 
 -- registers u come from r by writes of registers that were taken between g and h, and the address
 -- registers of h hold their places

@@ -5,10 +5,10 @@ use Rattle.std.proofs.Math.Seq.{take-length}
 use Rattle.std.specs.List.{position, position_or_len, slice_split, onto_first}
 use Rattle.std.proofs.lemmas.List.Splits.{slice_split_first, slice_split_none}
 use Rattle.std.proofs.lemmas.List.Sums.{fails_before_first}
+use Rattle.list_laws.proofs.Cases.{by_test}
 use Rattle.text_laws.specs.Blanks.{trimmed}
 use Rattle.arch_trait.specs.Writing.{none, one, two, three, four, more}
 use Rattle.arch_trait.specs.Reading.{few, operands_if, operands_in}
-use Rattle.arch_trait.proofs.Taking.{by_test}
 
 -- a text cut at its first comma, and one without a comma
 abbrev pub is_comma : ℕ → Bool

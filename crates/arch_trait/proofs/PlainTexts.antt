@@ -1,15 +1,14 @@
 -- Immediates and labels read back from their text, and names and numbers are plain.
-use Rattle.std.proofs.Common.{ℕ, ◌^◌, ◌<◌, ◌≤◌, ◌≡◌, refl, true, ◌&&◌, nat_le, List, [], ◌∷◌, Some, length, ◌∙◌, ap, arith, rules}
+use Rattle.std.proofs.Common.{ℕ, ◌^◌, ◌<◌, ◌≤◌, ◌≡◌, refl, true, ◌&&◌, nat_le, List, [], ◌∷◌, Some, length, ◌∙◌, ap, arith}
 use Rattle.std.specs.Char.{is_ascii_digit}
 use Rattle.std.specs.Fmt.{decimal}
 use Rattle.std.specs.List.{list_all}
-use Rattle.std.specs.Str.Parse.{digits_value}
 use Rattle.std.proofs.lemmas.Bool.{and_parts, and_from, le-leb}
 use Rattle.std.proofs.lemmas.Bool.Decides.{nat_tests}
 use Rattle.std.proofs.lemmas.Fmt.{digits_decimal, length-decimal-le}
-use Rattle.std.proofs.lemmas.Str.Parse.{IsNumeralModel, numerals_by_value}
+use Rattle.list_laws.proofs.Digits.{digits_model}
+use Rattle.list_laws.proofs.Elements.{list_all-weaker}
 use Rattle.text_laws.specs.Names.{is_place_name, is_place_byte, begins_place}
-use Rattle.text_laws.proofs.NameLaws.{all_weaker}
 use Rattle.text_laws.proofs.NumberLaws.{number_of-decimal}
 use Rattle.micro_ops.specs.declared.operation.Micro.TheVariants as ops
 use Rattle.arch_trait.specs.Writing.{immediate, at_most, label, label_name, label_word, label_raw}
@@ -44,15 +43,12 @@ place_name_plain (b ∷ bytes) h =
     let q = and_parts (begins_place b) (list_all is_place_byte bytes) p.0 in
     and_from (is_word_byte b) (list_all is_word_byte bytes)
     (place_word_byte b (first_place_byte b q.0))
-    (all_weaker is_place_byte is_word_byte place_word_byte bytes q.1)
-
-own : IsNumeralModel (λ ds. list_all is_ascii_digit ds ≡ true) (digits_value 10)
-own = numerals_by_value _ (search rules)
+    (list_all-weaker is_place_byte is_word_byte place_word_byte bytes q.1)
 
 -- a number in decimal has neither blanks nor commas
 pub decimal_plain : (n : ℕ) → n < 2 ^ 32 → list_all is_word_byte (decimal n) ≡ true
 decimal_plain n h =
-    all_weaker is_ascii_digit is_word_byte digit_word_byte (decimal n) (digits_decimal own n (omega arith))
+    list_all-weaker is_ascii_digit is_word_byte digit_word_byte (decimal n) (digits_decimal digits_model n (omega arith))
 
 -- a label is read from its name and the colon
 pub label_back : (n : ℕ) → label_raw (label_word n) ≡ Some (record { op = ops.Label 0; name = label (label_name n) })

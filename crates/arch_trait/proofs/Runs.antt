@@ -1,6 +1,7 @@
 -- The run of a thread's code: each access is made in turn, on any numbers that its loads read.
 use Rattle.std.proofs.Common.{ℕ, ◌+◌, ◌-◌, ◌<◌, ◌≤◌, ◌≡◌, ◌⊎◌, inl, inr, refl, Bool, true, false, cond, List, [], ◌∷◌, ◌++◌, Option, Some, None, length, ◌∙◌, sym, ap, subst, append_assoc, append-nil, arith}
 use Rattle.std.proofs.lemmas.List.Sums.{sum_by-cons}
+use Rattle.list_laws.proofs.Cases.{by_test}
 use Rattle.relax_edges.specs.declared.kinds.Dir.{Dir}
 use Rattle.relax_edges.specs.declared.kinds.Dir.TheVariants as dirs
 use Rattle.relax_edges.specs.EdgeTable.{mark_fits}
@@ -15,7 +16,7 @@ use Rattle.arch_trait.specs.Links.{depends, is_data, link_control, link_items}
 use Rattle.arch_trait.specs.Taking.{Taken, address_in}
 use Rattle.arch_trait.specs.Threads.{Way, Puts, FitStep, FitSteps, is_load_dir, loads_in, from_of, put_of, filled_by, next_put, next_filled, further, step_code, thread_code, thread_regs, thread_loads, put_before, access_item, first_of, left_after, loads_after, thread_items, Loaded}
 use Rattle.arch_trait.specs.Laws.{IsTaken, Takes, HoldsPlaces, HasSource, Ready, IsWanting, IsArch}
-use Rattle.arch_trait.proofs.Taking.{by_test, Grew, grew, grew_refl, grew_trans}
+use Rattle.arch_trait.proofs.Taking.{Grew, grew, grew_refl, grew_trans}
 
 -- there is a number to read, if the access reads
 abbrev pub HasFirst : Dir → List ℕ → Type 0

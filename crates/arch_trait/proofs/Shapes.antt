@@ -2,13 +2,14 @@
 use Rattle.std.proofs.Common.{ℕ, ◌+◌, ◌<◌, ◌≡◌, ◌==◌, refl, Bool, true, false, cond, not, ◌&&◌, ◌||◌, List, [], ◌∷◌, ◌∙◌, sym, ap, subst, eqb-true, eq-eqb, ne_eqb, count_by, arith}
 use Rattle.std.proofs.lemmas.Bool.{eqb-false}
 use Rattle.std.proofs.lemmas.List.Sums.{sum_by-cons}
+use Rattle.list_laws.proofs.Cases.{by_test}
 use Rattle.arch_trait.specs.declared.step.Step.{Step}
 use Rattle.arch_trait.specs.declared.step.Shape.{Shape}
 use Rattle.arch_trait.specs.Links.{is_addr}
 use Rattle.arch_trait.specs.Taking.{Taken, has_address}
 use Rattle.arch_trait.specs.Threads.{Way, Puts, FitSteps, is_load_dir, is_store_dir, loads_in, visits, places_in, shape_of, setting_out, from_of, further, thread_regs}
 use Rattle.arch_trait.specs.Laws.{IsArch, grown, no_shape}
-use Rattle.arch_trait.proofs.Taking.{by_test, tracks}
+use Rattle.arch_trait.proofs.Taking.{tracks}
 use Rattle.arch_trait.proofs.Runs.{step_takes}
 use Rattle.arch_trait.proofs.Codes.{IsGiven, given_after, has_link, put_laws}
 

@@ -1,6 +1,6 @@
 -- The text of an instruction reads back as its first word and its operands.
 use Rattle.std.proofs.Common.{ℕ, ◌≡◌, ◌==◌, refl, Bool, true, false, not, ◌&&◌, List, [], ◌∷◌, ◌++◌, Some, map, ◌∙◌, sym, ap, append-nil, append_assoc}
-use Rattle.std.proofs.lemmas.Bool.{and_parts}
+use Rattle.std.proofs.lemmas.Bool.{and_parts, not-true}
 use Rattle.std.specs.List.{list_all, slice_split, onto_first}
 use Rattle.text_laws.specs.Blanks.{is_blank, unblanked, kept_before, before_blanks, trimmed, is_inked}
 use Rattle.text_laws.specs.Runs.{run_of, after_run}
@@ -13,10 +13,6 @@ use Rattle.arch_trait.specs.Reading.{few, operands_if, operands_in, written_in, 
 abbrev pub is_word_byte : ℕ → Bool
 is_word_byte x = not (is_blank x) && not (x == 44)
 
-not_true : (b : Bool) → not b ≡ true → b ≡ false
-not_true true e = cc
-not_true false e = refl
-
 pub record IsByte (b : ℕ) : Type 0 where
   pub inked : is_inked b ≡ true
   pub blank : is_blank b ≡ false
@@ -25,7 +21,7 @@ pub record IsByte (b : ℕ) : Type 0 where
 byte_is : (b : ℕ) → is_word_byte b ≡ true → IsByte b
 byte_is b h =
     let p = and_parts (not (is_blank b)) (not (b == 44)) h in
-    record { inked = p.0; blank = not_true (is_blank b) p.0; comma = not_true (b == 44) p.1 }
+    record { inked = p.0; blank = not-true (is_blank b) p.0; comma = not-true (b == 44) p.1 }
 
 -- a word, by its bytes
 pub record IsWord (t : List ℕ) : Type 0 where

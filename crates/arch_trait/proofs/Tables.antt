@@ -6,11 +6,11 @@ use Rattle.std.proofs.lemmas.List.FromFn.{map-range_with_len_more, length-map-ra
 use Rattle.std.specs.List.{list_all, position_from, IsDistinct, AllByRecursion}
 use Rattle.std.specs.Str.{bytes_eq}
 use Rattle.text_laws.specs.Names.{is_place_name, is_register_name, begins_place, is_place_byte}
-use Rattle.text_laws.proofs.NameLaws.{all_weaker}
 use Rattle.std.specs.Char.{is_ascii_alphabetic, is_ascii_alphanumeric}
+use Rattle.list_laws.proofs.Elements.{list_all-weaker}
+use Rattle.list_laws.proofs.Cases.{by_test}
 use Rattle.arch_trait.specs.declared.step.TheConstants.{MAX_STEPS}
 use Rattle.arch_trait.specs.Names.{IsTable, number_in, location_letters, lap_mark, location_name, letters}
-use Rattle.arch_trait.proofs.Taking.{by_test}
 
 distinct_none : IsDistinct bytes_eq []
 unfolding IsDistinct
@@ -146,6 +146,6 @@ label_is_name (b ∷ bytes) h =
     and_from (begins_place b && list_all is_place_byte bytes) (nat_le (length (b ∷ bytes)) 16)
     (and_from (begins_place b) (list_all is_place_byte bytes)
     (or_left (is_ascii_alphabetic b) (b == 95) q.0)
-    (all_weaker is_ascii_alphanumeric is_place_byte
+    (list_all-weaker is_ascii_alphanumeric is_place_byte
     (λ x e. or_left (is_ascii_alphanumeric x) (x == 95) e) bytes q.1))
     p.1

@@ -1,13 +1,9 @@
 -- The registers of a thread: which hold addresses, as they are taken one after another.
 use Rattle.std.proofs.Common.{ℕ, ◌+◌, ◌<◌, ◌≤◌, ◌≡◌, ◌==◌, ◌⊎◌, inl, inr, refl, Bool, true, false, cond, ◌||◌, List, [], ◌∷◌, ◌++◌, Option, Some, None, is_some, ◌∙◌, sym, ap, subst, eq-eqb, ne_eqb, eqb-true, arith}
+use Rattle.list_laws.proofs.Cases.{by_test}
 use Rattle.micro_ops.specs.Machine.{num, at_place}
 use Rattle.arch_trait.specs.Taking.{Taken, address_in, has_address, begins, with_address}
 use Rattle.arch_trait.specs.Laws.{InOrder, IsTaken, AddsAddress, Takes}
-
--- a choice by a test
-pub by_test : {G : Type 0} (b : Bool) → (b ≡ true → G) → (b ≡ false → G) → G
-by_test true f g = f refl
-by_test false f g = g refl
 
 -- address registers in order are within their bounds
 pub in_order_le : (low : ℕ) (links : List (ℕ × ℕ)) (high : ℕ) → InOrder low links high → low ≤ high

@@ -1,7 +1,7 @@
 -- Files that are read, one after another.
 use Rattle.std.proofs.Common.{◌≡◌, ◌≤◌, ◌<◌, ◌+◌, ℕ, zero, suc, List, [], ◌∷◌, ◌++◌, length, take, drop, get_or, refl, sym, ap, ◌∙◌, subst, arith}
-use Rattle.std.specs.Prelude.{Option, map, Ok, Err}
-use Rattle.std.proofs.lemmas.List.{take_all}
+use Rattle.std.specs.Prelude.{Option, Ok, Err}
+use Rattle.std.proofs.lemmas.List.{take_all, map_push}
 use Rattle.diy_io.specs.Count.{Rose}
 use Rattle.diy_io.specs.Shelf.{Files, ShelfSeen}
 use Rattle.diy_io.specs.Wrote.{SinkSeen}
@@ -47,14 +47,10 @@ more_named files words (p ∷ places) (t ∷ texts) place text named more = (nam
 more_named files words [] (t ∷ texts) place text named more = absurd named
 more_named files words (p ∷ places) [] place text named more = absurd named
 
-map_more : {A B : Type 0} (f : A → B) (xs : List A) (x : A) → map f (xs ++ x ∷ []) ≡ map f xs ++ f x ∷ []
-map_more f [] x = refl
-map_more f (y ∷ xs) x = ap (λ t. f y ∷ t) (map_more f xs x)
-
 more_said : (asked : Asked) (texts : List (List ℕ)) (cycles : List (List Edge)) (text : List ℕ) (cycle : List Edge) → SayCycles asked texts cycles
     → said_on asked text ≡ Ok cycle → SayCycles asked (texts ++ text ∷ []) (cycles ++ cycle ∷ [])
 more_said asked texts cycles text cycle say says =
-    map_more (said_on asked) texts text ∙ rw (say, says) (sym (map_more Ok cycles cycle))
+    map_push (said_on asked) texts text ∙ rw (say, says) (sym (map_push Ok cycles cycle))
 
 -- one more file
 pub one_more : (asked : Asked) (old mid new : ShelfSeen) (words : List (List ℕ)) (places : List ℕ) (place : ℕ) (cycle : List Edge) (before after : List Entry)

@@ -3,9 +3,10 @@ use Rattle.std.proofs.Common.{◌≡◌, ℕ, zero, suc, Bool, true, false, List
 use Rattle.std.specs.Prelude.{◌==◌, nat_lt, nat_le, not}
 use Rattle.std.specs.List.{filter}
 use Rattle.std.proofs.lemmas.Bool.{and_parts, and_from, eqb-true, eq-eqb, lt-ltb, ltb-true, leb-true}
+use Rattle.std.proofs.lemmas.Option.{same_Some}
 use Rattle.relax_edges.specs.declared.kinds.Dir.{Dir}
 use Rattle.relax_edges.specs.declared.kinds.Dir.TheVariants as dirs
-use Rattle.list_laws.proofs.Cases.{by_test}
+use Rattle.list_laws.proofs.Cases.{by_test, implied}
 use Rattle.micro_ops.specs.Running.{Outcome, Ended, ReadsLeft, ReadsShort, NoRule}
 use Rattle.program_meaning.specs.declared.WriteAt.{WriteAt}
 use Rattle.program_meaning.specs.Accesses.{Access, write, reads_by, is_read, at_name}
@@ -16,14 +17,6 @@ use Rattle.communication.proofs.Orders.{same_write-refl, same_write-true}
 use Rattle.communication.proofs.Accesses.{got_from_list}
 use Rattle.communication.proofs.Examples.{name}
 
--- elements that are there are equal where the options are
-pub some_is : {X : Type 0} (x y : X) → Some x ≡ Some y → x ≡ y
-some_is x y e = cc e
-
-implied : (a b : Bool) → (not a || b) ≡ true → a ≡ true → b ≡ true
-implied true b h e = h
-implied false b h e = cc e
-
 -- each element of a list passes at its place
 abbrev pub every : {X : Type 0} → (ℕ → X → Bool) → List X → Bool
 every p [] = true
@@ -32,7 +25,7 @@ every p (x ∷ xs) = p 0 x && every (λ k. p (suc k)) xs
 -- where every element passes at its place, so does each one
 pub every_means : {X : Type 0} (p : ℕ → X → Bool) (xs : List X) → every p xs ≡ true → (k : ℕ) (x : X) → slice_get xs k ≡ Some x → p k x ≡ true
 every_means p [] h k x e = cc e
-every_means p (y ∷ ys) h zero x e = subst (λ v. p 0 v ≡ true) (some_is y x e) (and_parts (p 0 y) (every (λ j. p (suc j)) ys) h).0
+every_means p (y ∷ ys) h zero x e = subst (λ v. p 0 v ≡ true) (same_Some y x e) (and_parts (p 0 y) (every (λ j. p (suc j)) ys) h).0
 every_means p (y ∷ ys) h (suc k) x e = every_means (λ j. p (suc j)) ys (and_parts (p 0 y) (every (λ j. p (suc j)) ys) h).1 k x e
 
 -- each access passes under its name

@@ -1,5 +1,6 @@
 -- Executions of small programs written out: candidates and others, in which the edges of a cycle stand or don't.
 use Rattle.std.proofs.Common.{◌≡◌, ℕ, zero, suc, ◌<◌, ◌≤◌, List, [], ◌∷◌, length, Some, None, refl, sym, ap, subst, arith, ◌∙◌, slice_get}
+use Rattle.std.proofs.lemmas.Option.{same_Some}
 use Rattle.relax_edges.specs.declared.kinds.Value.TheVariants.{Num, Place}
 use Rattle.relax_edges.specs.declared.kinds.Mark.TheVariants.{Plain, Acquire}
 use Rattle.relax_edges.specs.declared.kinds.Dir.{Dir}
@@ -21,7 +22,7 @@ use Rattle.program_meaning.specs.Programs.{Program, IsCandidate, IsCoherentIn, a
 use Rattle.program_meaning.specs.declared.WriteAt.{WriteAt}
 use Rattle.program_meaning.specs.Standing.{Named, AllStand, Communicates, HasEvents, IsEvent, Stands, StartsFree, Observes, event_name}
 use Rattle.communication.proofs.Examples.{store_buffering, two_writes, W3O, name}
-use Rattle.communication.proofs.Decided.{some_is, candidate_means, coheres_means}
+use Rattle.communication.proofs.Decided.{candidate_means, coheres_means}
 
 -- an access without a barrier or a dependency
 abbrev plain : Access → Visit
@@ -46,7 +47,7 @@ not_all es p x i l f all = f.fails (all.stand i f.source f.target l f.leaves f.e
 event_is : (es : List Edge) (visits : List (List Visit)) (i : ℕ) (e : Named) (a : Access) → at_name visits (event_name es i) ≡ Some (free es i a).visit → IsEvent es visits i e → free es i a ≡ e
 event_is es visits i e a got h =
     let n : e.name ≡ event_name es i = h.name_is in
-    let w : e.visit ≡ (free es i a).visit = some_is e.visit (free es i a).visit (sym h.visit_is ∙ ap (at_name visits) n ∙ got) in
+    let w : e.visit ≡ (free es i a).visit = same_Some e.visit (free es i a).visit (sym h.visit_is ∙ ap (at_name visits) n ∙ got) in
     sym (λ k. record { name = n k; visit = w k })
 
 -- an edge that stands between two accesses stands between the events that they are
@@ -94,8 +95,8 @@ square_events d c u v p x s = record {
     there k visits e = ap (λ all. slice_get all k) (sym s.visits) ∙ e
 
     counts : (k : ℕ) (visits : List Visit) → k < 2 → slice_get (square_visits d u v) k ≡ Some visits → length visits ≡ length (events_in (square d c) k)
-    counts zero visits l e = ap length (sym (some_is _ visits e))
-    counts (suc zero) visits l e = ap length (sym (some_is _ visits e))
+    counts zero visits l e = ap length (sym (same_Some _ visits e))
+    counts (suc zero) visits l e = ap length (sym (same_Some _ visits e))
     counts (suc (suc k)) visits l e = cc e
 
     events : (i : ℕ) → i < 4 → (e : Named) × IsEvent (square d c) (square_visits d u v) i e
@@ -111,8 +112,8 @@ square_events d c u v p x s = record {
     observers (suc (suc k)) visits l e = cc e
 
     starts : (k : ℕ) (visits : List Visit) → slice_get (square_visits d u v) k ≡ Some visits → StartsFree visits
-    starts zero visits e = subst StartsFree (some_is _ visits e) (refl, record { address = refl; stored = refl; control = refl })
-    starts (suc zero) visits e = subst StartsFree (some_is _ visits e) (refl, record { address = refl; stored = refl; control = refl })
+    starts zero visits e = subst StartsFree (same_Some _ visits e) (refl, record { address = refl; stored = refl; control = refl })
+    starts (suc zero) visits e = subst StartsFree (same_Some _ visits e) (refl, record { address = refl; stored = refl; control = refl })
     starts (suc (suc k)) visits e = cc e
 
 -- then all four edges stand
@@ -206,8 +207,8 @@ both_initial-all_stand =
     (record { threads = omega arith; visits = refl; ends = ends; leaves = refl; enters = refl; goes = omega arith; returns = omega arith })
   where
     ends : (k : ℕ) (made : List Item) → slice_get (items_in buffers both_initial) k ≡ Some made → barriers_behind [] made ≡ []
-    ends zero made e = subst (λ items. barriers_behind [] items ≡ []) (some_is _ made e) refl
-    ends (suc zero) made e = subst (λ items. barriers_behind [] items ≡ []) (some_is _ made e) refl
+    ends zero made e = subst (λ items. barriers_behind [] items ≡ []) (same_Some _ made e) refl
+    ends (suc zero) made e = subst (λ items. barriers_behind [] items ≡ []) (same_Some _ made e) refl
     ends (suc (suc k)) made e = cc e
 
 one_later-accesses : accesses_in buffers one_later ≡ (write 0 1 ∷ read 1 1 ∷ []) ∷ (write 1 1 ∷ read 0 0 ∷ []) ∷ []
@@ -333,8 +334,8 @@ both_in_order-all_stand =
     (record { threads = omega arith; visits = refl; ends = ends; leaves = refl; enters = refl; goes = omega arith; returns = omega arith })
   where
     ends : (k : ℕ) (made : List Item) → slice_get (items_in double_writes both_in_order) k ≡ Some made → barriers_behind [] made ≡ []
-    ends zero made e = subst (λ items. barriers_behind [] items ≡ []) (some_is _ made e) refl
-    ends (suc zero) made e = subst (λ items. barriers_behind [] items ≡ []) (some_is _ made e) refl
+    ends zero made e = subst (λ items. barriers_behind [] items ≡ []) (same_Some _ made e) refl
+    ends (suc zero) made e = subst (λ items. barriers_behind [] items ≡ []) (same_Some _ made e) refl
     ends (suc (suc k)) made e = cc e
 
 -- the writes of x come in the order of the first thread and then the second

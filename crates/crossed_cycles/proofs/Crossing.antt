@@ -3,6 +3,7 @@ use Rattle.std.proofs.Common.{◌≡◌, ◌<◌, Bool, true, not, List, [], ◌
 use Rattle.std.specs.Prelude.{All}
 use Rattle.std.specs.List.{flat_map}
 use Rattle.std.proofs.lemmas.List.Elements.{All-cons}
+use Rattle.std.proofs.lemmas.Bool.{not-true}
 use Rattle.relax_edges.specs.declared.kinds.ObsMode.{ObsMode}
 use Rattle.relax_edges.specs.declared.edge.Edge.{Edge}
 use Rattle.list_laws.proofs.Cases.{by_test}
@@ -17,7 +18,6 @@ use Rattle.test_maker.specs.Refusals.{refusal_of}
 use Rattle.crossed_cycles.specs.Choices.{choices, is_turn, is_accepted, first_kept, crossed}
 use Rattle.crossed_cycles.specs.Laws.{IsChoice, IsCrossed, AreApart, IsTurnOfOne, AreAllCrossed, CrossesAll}
 use Rattle.crossed_cycles.proofs.Accepting.{accepted_parts}
-use Rattle.crossed_cycles.proofs.Keeping.{not_true}
 use Rattle.crossed_cycles.proofs.Members.{Member, member_first, member_last, member_either, member_filter, filter_member, member_map, map_member}
 use Rattle.crossed_cycles.proofs.Turning.{rotation_of_turn, turn_of_rotation}
 
@@ -97,7 +97,7 @@ first_apart [] some = tt
 first_apart (u ∷ us) some = (
   λ v m r.
       let q = filter_member (λ w. not (is_turn u w)) (first_kept us) v (member_one (filter (λ w. not (is_turn u w)) (first_kept us)) v m) in
-      true≢false (sym (turn_of_rotation u v (some u (inl refl)) r) ∙ not_true (is_turn u v) q.1),
+      true≢false (sym (turn_of_rotation u v (some u (inl refl)) r) ∙ not-true (is_turn u v) q.1),
   apart_filter (λ w. not (is_turn u w)) (first_kept us) (first_apart us (λ v m. some v (inr m))),
 )
 

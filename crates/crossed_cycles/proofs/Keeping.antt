@@ -1,5 +1,5 @@
 -- Lists that are kept one after another are the first of those that are the same cycle.
-use Rattle.std.proofs.Common.{◌≡◌, Bool, true, false, not, cond, List, [], ◌∷◌, ◌++◌, filter, fold, refl, sym, ap, ◌∙◌, append_assoc}
+use Rattle.std.proofs.Common.{◌≡◌, Bool, true, not, cond, List, [], ◌∷◌, ◌++◌, filter, fold, refl, sym, ap, ◌∙◌, append_assoc}
 use Rattle.std.specs.List.{list_any}
 use Rattle.std.proofs.lemmas.List.{append-nil}
 use Rattle.std.proofs.lemmas.List.Folds.{list_any-append}
@@ -65,13 +65,3 @@ accepted_kept accepts kept (u ∷ us) =
     by_test (accepts u)
     (λ t. rw t (accepted_kept accepts (keep kept u) us))
     (λ t. rw t (accepted_kept accepts kept us))
-
--- where the negation of a test is true, the test is false
-pub not_true : (b : Bool) → not b ≡ true → b ≡ false
-not_true true h = cc
-not_true false h = refl
-
--- where the negation of a test is false, the test is true
-pub not_false : (b : Bool) → not b ≡ false → b ≡ true
-not_false true h = refl
-not_false false h = cc

@@ -4,6 +4,7 @@ use Rattle.std.specs.Prelude.{IsTrue}
 use Rattle.std.specs.List.{list_any}
 use Rattle.std.specs.Cmp.Lexicographic.{pointwise}
 use Rattle.std.proofs.lemmas.Slice.Eq.{slice_eq-Decides}
+use Rattle.std.specs.Cmp.{both_ways}
 use Rattle.indexmap.specs.IndexSet.{insert_key}
 use Rattle.relax_edges.specs.declared.edge.Edge.{Edge}
 use Rattle.relax_edges.specs.Order.{rank_of}
@@ -33,17 +34,10 @@ ranks_injective (x ∷ u) (y ∷ v) h =
     let f : u ≡ v = ranks_injective u v (cc) in
     cc
 
--- two tests that are true in the same cases are equal
-same_test : (a b : Bool) → (a ≡ true → b ≡ true) → (b ≡ true → a ≡ true) → a ≡ b
-same_test true true f g = refl
-same_test true false f g = sym (f refl)
-same_test false true f g = g refl
-same_test false false f g = refl
-
 -- normal forms have the same ranks exactly where the cycles are rotations
 one_known : (u v : List Edge) (a b : List ℕ) → 0 < length v → IsNormalForm u a → IsNormalForm v b → pointwise nat_eq b a ≡ is_turn u v
 one_known u v a b some m n =
-    same_test (pointwise nat_eq b a) (is_turn u v)
+    both_ways (pointwise nat_eq b a) (is_turn u v)
     (λ t.
     let e : b ≡ a = (ranks_decide b a).0 t in
     let r : IsRotation u v = same_least u v m.least n.least m.is n.is (ranks_injective m.least n.least (cc)) in

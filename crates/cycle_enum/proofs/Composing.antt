@@ -2,7 +2,7 @@
 use Rattle.std.proofs.Common.{◌≡◌, ◌<◌, ℕ, Bool, true, false, cond, Option, Some, None, Ok, Err, List, [], ◌∷◌, ◌++◌, length, get_or, nat_lt, ◌&&◌, sym, ◌∙◌, arith}
 use Rattle.relax_edges.specs.declared.TheConstants.{MAX_EDGES}
 use Rattle.relax_edges.specs.declared.edge.Edge.{Edge}
-use Rattle.std.proofs.lemmas.Bool.{and_parts}
+use Rattle.std.proofs.lemmas.Bool.{and_parts, true≢false}
 use Rattle.walk_laws.specs.Composable.{IsCycle, first_break, is_joined, last_joins}
 use Rattle.walk_laws.proofs.Composing.{joined_parts}
 use Rattle.edge_algebra.specs.declared.errors.CycleError.{CycleError}
@@ -32,7 +32,4 @@ pub unclosed : (u : List Edge) (d : Edge) → 0 < length u → last_joins u (get
 unclosed [] d some fails c = absurd (omega arith)
 unclosed (x ∷ u) d some fails c =
     let parts = and_parts (is_joined (x ∷ u)) (last_joins (x ∷ u) (x ∷ []) && true) (sym (joined_parts (x ∷ u) (x ∷ [])) ∙ c.closed) in
-    apart (sym (and_parts (last_joins (x ∷ u) (x ∷ [])) true parts.1).0 ∙ fails)
-  where
-    apart : true ≡ false → ⊥
-    apart h = cc
+    true≢false (sym (and_parts (last_joins (x ∷ u) (x ∷ [])) true parts.1).0 ∙ fails)

@@ -1,7 +1,8 @@
 -- Where a text is cut.
-use Rattle.std.proofs.Common.{◌≡◌, ◌==◌, ℕ, List, [], ◌∷◌, ◌++◌, get_or, Some, None, true, false, refl, sym, ap, ◌∙◌}
-use Rattle.std.specs.Prelude.{Bool, not, unwrap_or}
+use Rattle.std.proofs.Common.{◌≡◌, ◌==◌, ℕ, List, [], ◌∷◌, ◌++◌, get_or, Some, None, true, refl, sym, ap, ◌∙◌}
+use Rattle.std.specs.Prelude.{not, unwrap_or}
 use Rattle.std.proofs.lemmas.List.Sums.{AllPass-from_list_all}
+use Rattle.std.proofs.lemmas.Bool.{not-true}
 use Rattle.text_laws.specs.Cuts.{is_without, CutParts}
 use Rattle.cycle_lines.specs.Cycles.{after_colon, without_label}
 use Rattle.cycle_lines.specs.Steps.{Without, CutsAt}
@@ -9,11 +10,7 @@ use Rattle.cycle_lines.proofs.LineLaws.{without_first, without_rest}
 
 -- bytes that pass a test that no byte is a sign hold none
 pub without_is : (sign : ℕ) (text : List ℕ) → is_without sign text ≡ true → Without sign text
-without_is sign text h i d k = not_true (get_or text i d == sign) (AllPass-from_list_all (λ byte. not (byte == sign)) text h i d k)
-  where
-    not_true : (b : Bool) → not b ≡ true → b ≡ false
-    not_true true e = cc
-    not_true false e = refl
+without_is sign text h i d k = not-true (get_or text i d == sign) (AllPass-from_list_all (λ byte. not (byte == sign)) text h i d k)
 
 pub cuts_are : (sign : ℕ) (text front behind : List ℕ) → CutParts sign text front behind → CutsAt sign text front behind
 cuts_are sign text front behind cut = record { without = without_is sign front cut.first; parts = cut.parts }

@@ -1,21 +1,17 @@
 -- How the lines of a text follow from those of its parts.
 use Rattle.std.proofs.Common.{◌≡◌, ◌==◌, ℕ, zero, suc, ◌+◌, ◌<◌, ◌≤◌, List, [], ◌∷◌, ◌++◌, length, true, false, refl, sym, ap, ◌∙◌, arith, append-nil, append_assoc, length-append}
-use Rattle.std.specs.Prelude.{Bool, map}
+use Rattle.std.specs.Prelude.{map}
 use Rattle.std.specs.List.{slice_split, onto_first}
-use Rattle.std.proofs.lemmas.List.{map-append}
+use Rattle.std.proofs.lemmas.List.{map-append, length-map}
 use Rattle.std.proofs.lemmas.List.Splits.{slice_split_at, slice_split_none, length-slice_split}
 use Rattle.std.proofs.lemmas.Bool.Decides.{nat_tests}
+use Rattle.list_laws.proofs.Cases.{by_test}
 use Rattle.diy_io.specs.Sink.{line_feed_count}
 use Rattle.text_laws.specs.Lines.{is_line_feed, without_return, but_last, last_of}
 use Rattle.text_laws.proofs.PieceLaws.{first_piece}
 use Rattle.cycle_lines.specs.Lines.{ended_lines, unended, last_line, lines_of}
 use Rattle.cycle_lines.specs.Cycles.{is_too_long}
 use Rattle.cycle_lines.specs.Steps.{Without}
-
--- what follows in both cases of a test follows
-pub by_test : {G : Type 0} (b : Bool) → (b ≡ true → G) → (b ≡ false → G) → G
-by_test true p q = p refl
-by_test false p q = q refl
 
 by_rest : (byte : ℕ) (line : List ℕ) (rest : List (List ℕ)) (l : List ℕ) (ls : List (List ℕ)) →
     onto_first byte (but_last (line ∷ rest) ++ (last_of (line ∷ rest) ++ l) ∷ ls) ≡ but_last ((byte ∷ line) ∷ rest) ++ (last_of ((byte ∷ line) ∷ rest) ++ l) ∷ ls
@@ -207,14 +203,10 @@ but_last_length : (line : List ℕ) (rest : List (List ℕ)) → length (but_las
 but_last_length line [] = refl
 but_last_length line (next ∷ rest) = ap suc (but_last_length next rest)
 
-map_length : {A B : Type 0} (f : A → B) (xs : List A) → length (map f xs) ≡ length xs
-map_length f [] = refl
-map_length f (x ∷ xs) = ap suc (map_length f xs)
-
 -- as many lines have ended as there are line feeds
 pub ended_count : (text : List ℕ) → length (ended_lines text) ≡ line_feed_count text
 unfolding ended_lines
 ended_count text =
     let first = first_piece is_line_feed text in
     let all : length (first.piece ∷ first.rest) ≡ line_feed_count text + 1 = ap length (sym first.is) ∙ length-slice_split is_line_feed text in
-    map_length without_return (but_last (slice_split is_line_feed text)) ∙ ap (λ t. length (but_last t)) first.is ∙ but_last_length first.piece first.rest ∙ omega arith
+    length-map (but_last (slice_split is_line_feed text)) without_return ∙ ap (λ t. length (but_last t)) first.is ∙ but_last_length first.piece first.rest ∙ omega arith

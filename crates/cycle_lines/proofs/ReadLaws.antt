@@ -9,6 +9,7 @@ use Rattle.std.proofs.lemmas.List.Folds.{list_all-append}
 use Rattle.std.proofs.lemmas.List.Sums.{take_while-cons}
 use Rattle.std.proofs.lemmas.Grind.{flat_map-append}
 use Rattle.std.proofs.Math.Seq.{take-add}
+use Rattle.list_laws.proofs.Cases.{by_test}
 use Rattle.diy_io.specs.declared.source.TheConstants.{MAX_INPUT}
 use Rattle.diy_io.specs.Count.{Rose, count_of, last_count}
 use Rattle.diy_io.specs.Sink.{line_feed_count}
@@ -26,7 +27,7 @@ use Rattle.cycle_lines.specs.Lines.{ended_lines, unended, last_line, lines_of}
 use Rattle.cycle_lines.specs.Cycles.{line_said, fault_of, is_sound, are_sound, cycle_said, cycles_of, is_too_long}
 use Rattle.cycle_lines.specs.Reading.{TookUpTo, Untouched, ReadAll, ReadToFault, ReadToLimit, ReadToStop, ReadSome, whole_of, cycles_before}
 use Rattle.cycle_lines.specs.Steps.{Without, CutsAt, ReaderSeen, HasRead, GivesLine, GivesNext, said_by, work, Fills, FillsBuffer, Ended, Stops, Ends, LessToDo, Continues, last_cycle}
-use Rattle.cycle_lines.proofs.LineLaws.{by_test, ended_behind, unended_behind, lines_behind, ended_none, unended_all, ended_nil, unended_nil, ended_cut, unended_cut, lines_cut, short_pending, long_first, ended_count}
+use Rattle.cycle_lines.proofs.LineLaws.{ended_behind, unended_behind, lines_behind, ended_none, unended_all, ended_nil, unended_nil, ended_cut, unended_cut, lines_cut, short_pending, long_first, ended_count}
 
 -- bytes that are taken one after another
 consumes_both : (a b c : Option (List ℕ)) (x y : List ℕ) → Consumes a b x → Consumes b c y → Consumes a c (x ++ y)

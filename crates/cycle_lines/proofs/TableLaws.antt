@@ -15,6 +15,8 @@ use Rattle.std.proofs.lemmas.List.Elements.{filter-append}
 use Rattle.std.proofs.lemmas.List.Sums.{fold-append}
 use Rattle.std.proofs.lemmas.List.Folds.{flat_map-map}
 use Rattle.std.proofs.lemmas.Grind.{flat_map-append}
+use Rattle.std.proofs.lemmas.List.{length-map, map_push}
+use Rattle.list_laws.proofs.Cases.{by_test}
 use Rattle.diy_io.specs.declared.source.TheConstants.{MAX_INPUT}
 use Rattle.diy_io.specs.declared.errors.Failed.{Failed}
 use Rattle.diy_io.specs.Page.{SentAll, Sends}
@@ -33,12 +35,7 @@ use Rattle.cycle_lines.specs.Reading.{ReadAll}
 use Rattle.cycle_lines.specs.Classified.{families_in_order, is_family, with_text, family_names, name_entry, family_text, families_text, ReadsPart, ClassifiedAll, ClassifiedPart}
 use Rattle.cycle_lines.specs.Tables.{place_of, texts_of, Entry, entry_view, entry_text, table_of, Holds, entry_with, name_put, Adds, AddsLast, Gathered}
 use Rattle.cycle_lines.specs.Steps.{ReaderSeen, HasRead, last_cycle}
-use Rattle.cycle_lines.proofs.LineLaws.{by_test}
 use Rattle.cycle_lines.proofs.ReadLaws.{nothing_read, kept_same}
-
-map_more : {A B : Type 0} (f : A → B) (xs : List A) (x : A) → map f (xs ++ x ∷ []) ≡ map f xs ++ f x ∷ []
-map_more f [] x = refl
-map_more f (y ∷ xs) x = ap (λ t. f y ∷ t) (map_more f xs x)
 
 -- the names of a family with one more cycle
 names_more : (f : Family) (cycles : List (List Edge)) (c : List Edge) →
@@ -48,7 +45,7 @@ names_more f cycles c =
     let is_here = λ (cycle : List Edge). is_family (family_of cycle) f in
     ap (λ cs. fold with_text [] (map name_of cs)) (filter-append is_here cycles (c ∷ []))
     ∙ by_test (is_family (family_of c) f)
-    (λ e. rw e (ap (fold with_text []) (map_more name_of (filter is_here cycles) c) ∙ fold-append with_text [] (map name_of (filter is_here cycles)) (name_of c ∷ [])))
+    (λ e. rw e (ap (fold with_text []) (map_push name_of (filter is_here cycles) c) ∙ fold-append with_text [] (map name_of (filter is_here cycles)) (name_of c ∷ [])))
     (λ e. rw e (ap (λ cs. fold with_text [] (map name_of cs)) (append-nil (filter is_here cycles))))
 
 put_by : (g : Family) (names : Family → List (List ℕ)) (name : List ℕ) →
@@ -134,10 +131,6 @@ unsent_err Q a b held kept text (Err _) h is_err = record { ok = tt; failed = h 
 pub sent_of : (a b : SinkSeen) (held kept text : List ℕ) → held ≡ [] → SentAll a held b kept text → SentAll a [] b kept text
 sent_of a b held kept text e h = subst (λ p. SentAll a p b kept text) e h
 
--- what is sent from a page that holds nothing is sent from an empty page
-pub sends_of : (a b : SinkSeen) (held kept text : List ℕ) (result : Result (Unit {0}) Failed) → held ≡ [] → Sends a held b kept text result → Sends a [] b kept text result
-sends_of a b held kept text result e h = subst (λ p. Sends a p b kept text result) e h
-
 -- names that are sent one after another
 entry_as : (a b : SinkSeen) (held kept s t : List ℕ) → s ≡ t → SentAll a held b kept (name_entry s) → SentAll a held b kept (name_entry t)
 entry_as a b held kept s t e h = subst (λ x. SentAll a held b kept (name_entry x)) e h
@@ -151,7 +144,7 @@ pub names_go : (a b c : SinkSeen) (held mid kept : List ℕ) (ys : List (Bor (Ve
     → SentAll a held c kept (flat_map name_entry (map (λ name. name.now.items) (ys ++ x ∷ [])))
 names_go a b c held mid kept ys x text e h k =
     let shown = map (λ (name : Bor (Vec ℕ Global)). name.now.items) ys in
-    subst (SentAll a held c kept) (sym (ap (flat_map name_entry) (map_more (λ (name : Bor (Vec ℕ Global)). name.now.items) ys x) ∙ names_then shown x.now.items))
+    subst (SentAll a held c kept) (sym (ap (flat_map name_entry) (map_push (λ (name : Bor (Vec ℕ Global)). name.now.items) ys x) ∙ names_then shown x.now.items))
     (sent_both a b c held mid kept (flat_map name_entry shown) (name_entry x.now.items) h (entry_as b c mid kept text x.now.items e k))
 
 -- the names that were passed, with one more, and those that are left are all names
@@ -160,7 +153,7 @@ pub names_cover : (ys : List (Bor (Vec ℕ Global))) (it rest : List (Vec ℕ Gl
 names_cover ys it rest x all h k =
     let f = λ (name : Bor (Vec ℕ Global)). name.now.items in
     let g = λ (name : Vec ℕ Global). name.items in
-    ap (λ t. t ++ map g rest) (map_more f ys x) ∙ append_assoc (map f ys) (f x ∷ []) (map g rest) ∙ ap (λ t. map f ys ++ map g t) (sym h) ∙ k
+    ap (λ t. t ++ map g rest) (map_push f ys x) ∙ append_assoc (map f ys) (f x ∷ []) (map g rest) ∙ ap (λ t. map f ys ++ map g t) (sym h) ∙ k
 
 -- where the sink fails at a name, it has taken a prefix of what the page held and the lines of all names
 pub names_stop : (a b c : SinkSeen) (held mid : List ℕ) (ys : List (Bor (Vec ℕ Global))) (it rest : List (Vec ℕ Global)) (x : Bor (Vec ℕ Global)) (text : List ℕ) (all : List (List ℕ))
@@ -174,7 +167,7 @@ names_stop a b c held mid ys it rest x text all e h k w p =
     sent_part_more a c held (flat_map name_entry shown ++ name_entry x.now.items) (flat_map name_entry left)
     (sent_part a b c held mid (flat_map name_entry shown) (name_entry x.now.items) w here) in
     subst (λ t. WrotePart a c (held ++ t))
-    (ap (λ t. t ++ flat_map name_entry left) (sym (names_then shown x.now.items) ∙ ap (flat_map name_entry) (sym (map_more (λ (name : Bor (Vec ℕ Global)). name.now.items) ys x)))
+    (ap (λ t. t ++ flat_map name_entry left) (sym (names_then shown x.now.items) ∙ ap (flat_map name_entry) (sym (map_push (λ (name : Bor (Vec ℕ Global)). name.now.items) ys x)))
     ∙ sym (flat_map-append name_entry (map (λ (name : Bor (Vec ℕ Global)). name.now.items) (ys ++ x ∷ [])) left) ∙ ap (flat_map name_entry) (names_cover ys it rest x all h k))
     part
 
@@ -208,12 +201,8 @@ unfolding family_text
 some_text f [] h = absurd (omega arith)
 some_text f (n ∷ names) h = refl
 
-map_length : {A B : Type 0} (f : A → B) (xs : List A) → length (map f xs) ≡ length xs
-map_length f [] = refl
-map_length f (x ∷ xs) = ap suc (map_length f xs)
-
 texts_length : (set : BTreeSet (Vec ℕ Global)) → length (texts_of set) ≡ btree_set_len set
-texts_length set = map_length (λ text. text.items) set.keys
+texts_length set = length-map set.keys (λ text. text.items)
 
 -- a set of length 0 holds no text
 pub empty_set : (set : BTreeSet (Vec ℕ Global)) → IsTrue true ↔ (btree_set_len set ≡ 0) → length (texts_of set) ≡ 0

@@ -2,6 +2,7 @@
 use Rattle.std.proofs.Common.{◌≡◌, true, false, nat_lt, nat_le, List, [], ◌∷◌, length, Option, Some, None, Err, refl, ap, ◌∙◌, arith, lit≤}
 use Rattle.std.specs.Option.{option_map}
 use Rattle.std.proofs.lemmas.Bool.Decides.{nat_tests}
+use Rattle.list_laws.proofs.Cases.{by_test}
 use Rattle.relax_edges.specs.declared.TheConstants.{MAX_EDGES}
 use Rattle.relax_edges.specs.declared.kinds.ArchName.{ArchName}
 use Rattle.relax_edges.specs.declared.edge.Edge.{Edge}
@@ -9,7 +10,6 @@ use Rattle.edge_lists.specs.declared.list.EdgeList.{EdgeList}
 use Rattle.edge_lists.specs.Kept.{added, kept}
 use Rattle.edge_lists.specs.KeptLaws.{added_whole}
 use Rattle.cycle_lines.specs.declared.errors.LineKind.TheVariants.{UnknownEdge}
-use Rattle.cycle_lines.proofs.LineLaws.{by_test}
 use Rattle.cycle_lines.specs.Cycles.{cycle_made, spelled_made}
 use Rattle.cycle_lines.specs.Kept.{made_kept}
 

@@ -3,6 +3,7 @@ use Rattle.std.specs.Prelude.{◌≡◌, ◌<◌, ℕ, Bool, true, Some, None, L
 use Rattle.std.specs.Cmp.{both_ways}
 use Rattle.std.proofs.Common.{refl, sym, ◌∙◌, ap, subst, arith}
 use Rattle.std.proofs.lemmas.List.{length-map}
+use Rattle.std.proofs.lemmas.Option.{same_Some}
 use Rattle.list_laws.proofs.Cases.{by_option}
 use Rattle.relax_edges.specs.declared.edge.Edge.{Edge}
 use Rattle.relax_edges.specs.Order.{rank_of}
@@ -74,9 +75,6 @@ candidate_back : (f : Family) (u v : List Edge) → IsCycle u → Member v (cand
 candidate_back f u v c m =
     fit_back f v (cycle_of_rotation u v (rotation_of_member u v (filter_among (fits f) (rotations u) v m)) c) (filter_passes (fits f) (rotations u) v m)
 
-some_list : (u v : List Edge) → Some u ≡ Some v → u ≡ v
-some_list u v e = cc
-
 only_by_words : (f : Family) (u v w : List Edge) → IsCycle u → IsFirst words_below (candidates f u) v → IsFirst words_below (candidates f u) w → w ≡ v
 only_by_words f u v w c h k =
     let a = first_by_ranks f u v h in
@@ -85,7 +83,7 @@ only_by_words f u v w c h k =
     let long : length (map word_place w) ≡ length (map word_place v) =
     omega (arith, length-map w word_place, length-map v word_place, ap length joins, length-map w slot_of, length-map v slot_of) in
     let told : map told_of w ≡ map told_of v = same_lists w v joins (neither_below (map word_place w) (map word_place v) long (a.none w b.member) (b.none v a.member)) in
-    some_list w v (sym (candidate_back f u w c k.member) ∙ ap marked_around told ∙ candidate_back f u v c h.member)
+    same_Some w v (sym (candidate_back f u w c k.member) ∙ ap marked_around told ∙ candidate_back f u v c h.member)
 
 -- the rotation that a cycle of a family is named from
 pub named_in_family : (f : Family) (u v : List Edge) → IsCycle u → found_family u ≡ Some f → IsFirst words_below (candidates f u) v → named_rotation u ≡ v

@@ -3,7 +3,7 @@ use Rattle.std.specs.Prelude.{◌≡◌, ◌≤◌, ℕ, suc, true, false, Optio
 use Rattle.std.specs.Str.{bytes_eq}
 use Rattle.std.specs.Cmp.Lexicographic.{bytes_decides}
 use Rattle.std.proofs.Common.{refl, sym, ◌∙◌, ap, arith}
-use Rattle.std.proofs.lemmas.Bool.{and_parts, cond-true, cond-false}
+use Rattle.std.proofs.lemmas.Bool.{and_parts, cond-true, cond-false, false≢true}
 use Rattle.list_laws.proofs.Cases.{by_test, by_option}
 use Rattle.relax_edges.specs.declared.TheConstants.{MAX_EDGES}
 use Rattle.relax_edges.specs.declared.kinds.ArchName.{ArchName}
@@ -13,6 +13,7 @@ use Rattle.relax_edges.specs.declared.edge.Edge.{Edge}
 use Rattle.relax_edges.specs.EdgeTable.{target_mark}
 use Rattle.relax_edges.specs.Words.{word_of}
 use Rattle.std.specs.List.{join_by}
+use Rattle.std.proofs.lemmas.Option.{same_Some}
 use Rattle.walk_laws.specs.Composable.{IsCycle, first_break}
 use Rattle.walk_laws.specs.Order.{IsLeast}
 use Rattle.walk_laws.specs.Rotation.{rotated}
@@ -64,10 +65,7 @@ read_as name text old edges result i e a u c h =
 
 -- nothing is read: no name
 pub none_read : {E : Type 0} (name text : List ℕ) (arch : ArchName) (old edges : List Edge) (error : E) → text ≡ name → old ≡ [] → Adds (edges_read text) old edges (Err error) → NamesNone name arch
-none_read {E} name text arch old edges error i e a u c o h = not_ok (read_as {E = E} name text old edges (Err error) i e a u c h).done
-  where
-    not_ok : false ≡ true → ⊥
-    not_ok z = cc
+none_read {E} name text arch old edges error i e a u c o h = false≢true (read_as {E = E} name text old edges (Err error) i e a u c h).done
 
 -- the edges don't compose: no name
 pub none_composed : {E : Type 0} (name text : List ℕ) (arch : ArchName) (old edges : List Edge) (result : Result (Unit {0}) E) (error : CycleError) → text ≡ name → old ≡ [] → Adds (edges_read text) old edges result
@@ -124,16 +122,13 @@ record HasRest (p : Option (List Edge)) (v : List Edge) : Type 0 where
   is : p ≡ Some rest
   long : length v ≡ suc (length rest)
 
-some_edges : (u v : List Edge) → Some u ≡ Some v → u ≡ v
-some_edges u v z = cc
-
 before_long : (o : Option Edge) (p : Option (List Edge)) (v : List Edge) → before o p ≡ Some v → HasRest p v
-before_long (Some e) (Some w) v h = record { rest = w; is = refl; long = ap length (some_edges v (e ∷ w) (sym h)) }
+before_long (Some e) (Some w) v h = record { rest = w; is = refl; long = ap length (same_Some v (e ∷ w) (sym h)) }
 before_long (Some e) None v h = cc
 before_long None p v h = cc
 
 along_long : (from : Mark) (u : List Edge) (to : Mark) (v : List Edge) → marked_along from u to ≡ Some v → length v ≡ length u
-along_long from [] to v h = ap length (some_edges v [] (sym h))
+along_long from [] to v h = ap length (same_Some v [] (sym h))
 along_long from (e ∷ u) to v h =
     let r = before_long (marked_between from e (first_mark u to)) (marked_along (target_mark e) u to) v h in
     r.long ∙ ap suc (along_long (target_mark e) u to r.rest r.is)
@@ -171,10 +166,7 @@ module _ {E : Type 0} where
       (λ raw r.
       let made : marked_around raw ≡ Some edges = sym (same ∙ ap marked_if r) ∙ found in
       let long : length edges ≡ length raw = along_long (last_mark Plain raw) raw (first_mark raw Plain) edges made in
-      absurd (not_ok (a raw r (omega (arith, fit, long, ap length n))).0))
-    where
-      not_ok : false ≡ true → ⊥
-      not_ok z = cc
+      absurd (false≢true (a raw r (omega (arith, fit, long, ap length n))).0))
 
 -- a text that begins with no family's name is read by the words after `C+`
 pub read_none : {E : Type 0} (families : List Family) (text : List ℕ) (old new : List Edge) (result : Result (Unit {0}) E) → families ≡ all_families → None ≡ named_family families text

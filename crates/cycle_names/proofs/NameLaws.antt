@@ -6,6 +6,7 @@ use Rattle.std.proofs.Common.{refl, sym, ◌∙◌, ap, subst, arith, length-app
 use Rattle.std.proofs.lemmas.Bool.{and_parts, leb-true, le-leb}
 use Rattle.std.proofs.lemmas.List.Folds.{list_all-append}
 use Rattle.std.proofs.Math.Bool.{and_comm}
+use Rattle.std.proofs.lemmas.Option.{same_Some}
 use Rattle.list_laws.proofs.Cases.{by_test}
 use Rattle.relax_edges.specs.declared.TheConstants.{MAX_EDGES}
 use Rattle.relax_edges.specs.declared.kinds.ArchName.{ArchName}
@@ -30,12 +31,9 @@ use Rattle.cycle_names.proofs.Families.{one_family, family_word_short, family_wo
 use Rattle.cycle_names.proofs.Chosen.{family_turned, named_turned, named_rotates}
 use Rattle.cycle_names.proofs.ReadBack.{name_back}
 
-some_same : (u v : List Edge) → Some u ≡ Some v → u ≡ v
-some_same u v e = cc
-
 -- cycles with one name are named from one rotation
 pub one_rotation : (u v : List Edge) → IsCycle u → IsCycle v → name_of u ≡ name_of v → named_rotation u ≡ named_rotation v
-one_rotation u v c d e = some_same _ _ (sym (name_back u c) ∙ ap edges_read e ∙ name_back v d)
+one_rotation u v c d e = same_Some _ _ (sym (name_back u c) ∙ ap edges_read e ∙ name_back v d)
 
 -- rotations of a cycle have one name
 pub one_name : (u v : List Edge) → IsCycle u → IsRotation u v → name_of u ≡ name_of v

@@ -1,5 +1,5 @@
 -- Rotations that fit: their slots, and that a name says what their edges join and the words of their links.
-use Rattle.std.specs.Prelude.{◌≡◌, ◌==◌, ◌&&◌, ℕ, Bool, true, false, cond, Some, List, [], ◌∷◌, length, map, nat_eq, nat_lt, ◌||◌}
+use Rattle.std.specs.Prelude.{◌≡◌, ◌==◌, ◌&&◌, ℕ, Bool, true, false, cond, List, [], ◌∷◌, length, map, nat_eq, nat_lt, ◌||◌}
 use Rattle.std.specs.declared.cmp.Ordering.{Ordering}
 use Rattle.std.specs.declared.cmp.Ordering.TheVariants.{Less, Equal, Greater}
 use Rattle.std.specs.Ordering.{nat_cmp, is_lt, ordering_then}
@@ -7,6 +7,7 @@ use Rattle.std.specs.Cmp.Lexicographic.{slice_cmp, bytes_decides}
 use Rattle.std.proofs.Common.{refl, sym, ◌∙◌, ap, arith}
 use Rattle.std.proofs.lemmas.Bool.{eqb-true, eq-eqb, and_parts, ltb-true}
 use Rattle.std.proofs.lemmas.List.{length-map}
+use Rattle.std.proofs.lemmas.Option.{same_Some}
 use Rattle.list_laws.proofs.Cases.{by_test}
 use Rattle.relax_edges.specs.declared.edge.Edge.{Edge}
 use Rattle.relax_edges.specs.EdgeTable.{is_diff}
@@ -62,9 +63,6 @@ words_same a b r = (bytes_decides (link_word a) (link_word b)).0 (link_words_equ
 link_depends : (s t : Edge) (u v : List ℕ) → s ≡ t → u ≡ v → link_with s u ≡ link_with t v
 link_depends s t u v d e = rw (d, e) refl
 
-some_same : (a b : Edge) → Some a ≡ Some b → a ≡ b
-some_same a b h = cc
-
 -- a name says the same of two edges that join the same and have the same word
 same_links : (a b : Edge) → slot_of a ≡ slot_of b → word_place a ≡ word_place b → told_of a ≡ told_of b
 same_links a b e r =
@@ -72,7 +70,7 @@ same_links a b e r =
     (λ t.
     let d : is_diff b ≡ true = sym (diff_alike a b e) ∙ t in
     told_link a t
-    ∙ some_same a b (sym (link_back a t) ∙ link_depends (slot_of a) (slot_of b) (link_word a) (link_word b) e (words_same a b r) ∙ link_back b d)
+    ∙ same_Some a b (sym (link_back a t) ∙ link_depends (slot_of a) (slot_of b) (link_word a) (link_word b) e (words_same a b r) ∙ link_back b d)
     ∙ sym (told_link b d))
     (λ f. told_slot a f ∙ e ∙ sym (told_slot b (sym (diff_alike a b e) ∙ f)))
 

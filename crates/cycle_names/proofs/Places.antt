@@ -5,6 +5,7 @@ use Rattle.std.proofs.lemmas.Bool.{and_parts, eqb-true, eq-eqb}
 use Rattle.std.proofs.lemmas.List.{length-map, map-append, length-take-le, take-append-drop}
 use Rattle.std.proofs.lemmas.List.Sums.{sum_by-append, sum_by-cons}
 use Rattle.std.proofs.Math.Bool.{and-false, and-true, and_assoc}
+use Rattle.std.proofs.lemmas.Option.{same_Some}
 use Rattle.relax_edges.specs.declared.edge.Edge.{Edge}
 use Rattle.relax_edges.specs.Order.{rank_of}
 use Rattle.relax_edges.specs.Relaxations.{is_same}
@@ -79,14 +80,11 @@ no_family u h = find_none (is_of_family u) all_families (λ f m t. h f t)
 pub unlikely : (u : List Edge) → family_counted (counted u) ≡ None → found_family u ≡ None
 unlikely u h = no_family u (λ f t. let z : None ≡ Some f = sym h ∙ likely u f t in cc)
 
-some_family : (f g : Family) → Some f ≡ Some g → f ≡ g
-some_family f g e = cc
-
 -- where no rotation joins what the family with as many does, the cycle is of none
 pub fits_none : (u : List Edge) (f : Family) (slots : List Edge) → slots ≡ family_edges f → family_counted (counted u) ≡ Some f → JoinsNone slots u (length u) → found_family u ≡ None
 fits_none u f slots s l h =
     no_family u (λ g t.
-    let same : f ≡ g = some_family f g (sym l ∙ likely u g t) in
+    let same : f ≡ g = same_Some f g (sym l ∙ likely u g t) in
     let w = fitting u g t in
     let joins : joins_at (family_edges g) u w.place ≡ true = (and_parts (joins_at (family_edges g) u w.place) (is_plain_outside (rotated w.place u)) w.fit).0 in
     let z : true ≡ false = sym joins ∙ ap (λ x. joins_at (family_edges x) u w.place) (sym same) ∙ ap (λ x. joins_at x u w.place) (sym s) ∙ h w.place w.within in

@@ -5,7 +5,7 @@ use Rattle.std.specs.Str.{bytes_eq}
 use Rattle.std.specs.Cmp.Lexicographic.{bytes_decides}
 use Rattle.std.proofs.Common.{refl, sym, ◌∙◌, ap, arith, length-append}
 use Rattle.std.proofs.Math.Seq.{drop-append_seam}
-use Rattle.std.proofs.lemmas.Bool.{and_parts, or_right, cond-true, cond-false}
+use Rattle.std.proofs.lemmas.Bool.{and_parts, or_right, cond-true, cond-false, not-true}
 use Rattle.std.proofs.lemmas.List.Folds.{list_any-append}
 use Rattle.std.proofs.lemmas.List.{append-nil, take_at}
 use Rattle.list_laws.proofs.Cases.{by_test, by_option}
@@ -31,22 +31,18 @@ use Rattle.cycle_names.proofs.Outlines.{outline_of_fits, words_of_link, words_of
 use Rattle.cycle_names.proofs.Families.{never_other, found_is_of, family_links, word_alone, word_before}
 use Rattle.cycle_names.proofs.Chosen.{fit_back, named_fits, named_rotates}
 
-no_of : (b : Bool) → not b ≡ true → b ≡ false
-no_of true h = cc
-no_of false h = refl
-
 -- a word up to a byte that doesn't occur in it
 until : (p : ℕ → Bool) (word : List ℕ) (byte : ℕ) (rest : List ℕ) → list_all (λ b. not (p b)) word ≡ true → p byte ≡ true → before_first p (word ++ byte ∷ rest) ≡ word
 until p [] byte rest h t = rw t refl
 until p (b ∷ word) byte rest h t =
     let both = and_parts (not (p b)) (list_all (λ b. not (p b)) word) h in
-    before_first-no p b (word ++ byte ∷ rest) (no_of (p b) both.0) ∙ ap (λ w. b ∷ w) (until p word byte rest both.1 t)
+    before_first-no p b (word ++ byte ∷ rest) (not-true (p b) both.0) ∙ ap (λ w. b ∷ w) (until p word byte rest both.1 t)
 
 until_end : (p : ℕ → Bool) (word : List ℕ) → list_all (λ b. not (p b)) word ≡ true → before_first p word ≡ word
 until_end p [] h = refl
 until_end p (b ∷ word) h =
     let both = and_parts (not (p b)) (list_all (λ b. not (p b)) word) h in
-    before_first-no p b word (no_of (p b) both.0) ∙ ap (λ w. b ∷ w) (until_end p word both.1)
+    before_first-no p b word (not-true (p b) both.0) ∙ ap (λ w. b ∷ w) (until_end p word both.1)
 
 -- the edge of a slot, with the word of the edge
 slot_back : (e : Edge) (word : List ℕ) → (is_diff e ≡ true → word ≡ link_word e) → slot_with (slot_of e) word ≡ Some (told_of e)
@@ -110,7 +106,7 @@ none_of : (p : ℕ → Bool) (xs : List ℕ) → list_all (λ b. not (p b)) xs �
 none_of p [] h = refl
 none_of p (x ∷ xs) h =
     let both = and_parts (not (p x)) (list_all (λ b. not (p b)) xs) h in
-    rw (no_of (p x) both.0) (none_of p xs both.1)
+    rw (not-true (p x) both.0) (none_of p xs both.1)
 
 -- a text with a byte added at its end, without its last byte
 but_last_is : (word : List ℕ) (byte : ℕ) → but_last (word ++ byte ∷ []) ≡ word
@@ -217,13 +213,13 @@ cut_first : (p : ℕ → Bool) (word : List ℕ) (byte : ℕ) (rest : List ℕ) 
 cut_first p [] byte rest h t = rw t refl
 cut_first p (b ∷ word) byte rest h t =
     let both = and_parts (not (p b)) (list_all (λ b. not (p b)) word) h in
-    rw (no_of (p b) both.0) (ap (onto_first b) (cut_first p word byte rest both.1 t))
+    rw (not-true (p b) both.0) (ap (onto_first b) (cut_first p word byte rest both.1 t))
 
 cut_last : (p : ℕ → Bool) (word : List ℕ) → list_all (λ b. not (p b)) word ≡ true → slice_split p word ≡ word ∷ []
 cut_last p [] h = refl
 cut_last p (b ∷ word) h =
     let both = and_parts (not (p b)) (list_all (λ b. not (p b)) word) h in
-    rw (no_of (p b) both.0) (ap (onto_first b) (cut_last p word both.1))
+    rw (not-true (p b) both.0) (ap (onto_first b) (cut_last p word both.1))
 
 split_words : (e : Edge) (v : List Edge) → slice_split is_dash (join_by word_of (codes "-") (e ∷ v)) ≡ word_of e ∷ map word_of v
 split_words e [] = ap (slice_split is_dash) (append-nil (word_of e)) ∙ cut_last is_dash (word_of e) (word_whole e)

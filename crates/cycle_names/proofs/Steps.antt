@@ -7,6 +7,7 @@ use Rattle.std.proofs.lemmas.List.{take_all, append-nil}
 use Rattle.std.proofs.Math.ListN.{drop_of_length-le}
 use Rattle.std.specs.Str.{bytes_eq}
 use Rattle.std.specs.Cmp.Lexicographic.{bytes_decides}
+use Rattle.std.proofs.lemmas.Option.{same_Some}
 use Rattle.list_laws.proofs.Cases.{by_test, by_option, by_less}
 use Rattle.relax_edges.specs.declared.TheConstants.{MAX_EDGES}
 use Rattle.relax_edges.specs.declared.order.TheConstants.{EDGES}
@@ -66,9 +67,6 @@ parts_last : (behind : List ℕ) → length behind < 1 → parts_behind behind �
 parts_last [] h = refl
 parts_last (b ∷ behind) h = absurd (omega arith)
 
-some_edges : (u v : List Edge) → Some u ≡ Some v → u ≡ v
-some_edges u v z = cc
-
 module _ {E : Type 0} where
   -- an edge has been added before others
   pub adds_before : (o : Option Edge) (p : Option (List Edge)) (e : Edge) (old pushed new : List Edge) (result : Result (Unit {0}) E) →
@@ -78,13 +76,10 @@ module _ {E : Type 0} where
       (λ n. let z : None ≡ Some edges = sym (rw (h, n) refl) ∙ found in cc)
       (λ rest s.
       let z : Some (e ∷ rest) ≡ Some edges = sym (rw (h, s) refl) ∙ found in
-      let same : e ∷ rest ≡ edges = some_lists (e ∷ rest) edges z in
+      let same : e ∷ rest ≡ edges = same_Some (e ∷ rest) edges z in
       let long : suc (length rest) ≡ length edges = ap length same in
       let r = a rest s (omega (arith, ap length k, length-append old (e ∷ []), long)) in
       (r.0, r.1 ∙ ap (λ w. w ++ rest) k ∙ append_assoc old (e ∷ []) rest ∙ ap (λ w. old ++ w) same))
-    where
-      some_lists : (u v : List Edge) → Some u ≡ Some v → u ≡ v
-      some_lists u v z = cc
 
   -- nothing is read where an edge isn't there
   pub adds_none : (o : Option Edge) (p : Option (List Edge)) (old new : List Edge) (result : Result (Unit {0}) E) → o ≡ None → Adds (before o p) old new result
@@ -98,12 +93,9 @@ module _ {E : Type 0} where
       (λ n. let z : None ≡ Some edges = sym (rw n refl) ∙ found in cc)
       (λ rest s.
       let z : Some (e ∷ rest) ≡ Some edges = sym (rw s refl) ∙ found in
-      let same : e ∷ rest ≡ edges = some_lists (e ∷ rest) edges z in
+      let same : e ∷ rest ≡ edges = same_Some (e ∷ rest) edges z in
       let long : suc (length rest) ≡ length edges = ap length same in
       absurd (omega (arith, long)))
-    where
-      some_lists : (u v : List Edge) → Some u ≡ Some v → u ≡ v
-      some_lists u v z = cc
 
   adds_same : (p q : Option (List Edge)) (old new : List Edge) (result : Result (Unit {0}) E) → p ≡ q → Adds q old new result → Adds p old new result
   adds_same p q old new result e a edges found fits = a edges (sym e ∙ found) fits
@@ -155,7 +147,7 @@ module _ {E : Type 0} where
   spell_last text word behind n e old pushed result i w b h o k a =
       adds_same (edges_spelled (slice_split is_dash text)) (before (edge_of word) (Some [])) old pushed result
       (spelled_parts text word behind n i w b ∙ ap (λ parts. before (edge_of word) (edges_spelled parts)) (parts_last behind h))
-      (adds_before (edge_of word) (Some []) e old pushed pushed result (sym o) k (λ edges found fits. let z : [] ≡ edges = some_edges [] edges found in (a, sym (append-nil pushed) ∙ ap (λ w. pushed ++ w) z)))
+      (adds_before (edge_of word) (Some []) e old pushed pushed result (sym o) k (λ edges found fits. let z : [] ≡ edges = same_Some [] edges found in (a, sym (append-nil pushed) ∙ ap (λ w. pushed ++ w) z)))
 
   -- no word
   pub spell_none : (text word : List ℕ) (n : ℕ) (old new : List Edge) (result : Result (Unit {0}) E) →

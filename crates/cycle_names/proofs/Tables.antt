@@ -106,10 +106,6 @@ external_same e t = no_of (is_diff e) (so (is_external e) (not (is_diff e)) (eac
     all : list_all (λ e. if_so (is_external e) (not (is_diff e))) edges_in_order ≡ true
     all = refl
 
-    no_of : (b : Bool) → not b ≡ true → b ≡ false
-    no_of true h = cc
-    no_of false h = refl
-
 -- the word of an edge that is no link has no place
 pub no_place : (e : Edge) → is_diff e ≡ false → word_place e ≡ 0
 unfolding if_so edges_in_order
@@ -125,10 +121,6 @@ some_place e t = no_of (word_place e == 0) (so (is_diff e) (not (word_place e ==
   where
     all : list_all (λ e. if_so (is_diff e) (not (word_place e == 0))) edges_in_order ≡ true
     all = refl
-
-    no_of : (b : Bool) → not b ≡ true → b ≡ false
-    no_of true h = cc
-    no_of false h = refl
 
 -- an edge counts what its slot does
 pub edge_counts : (e : Edge) → edge_count (slot_of e) ≡ edge_count e

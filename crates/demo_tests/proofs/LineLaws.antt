@@ -41,7 +41,3 @@ lines_sent a b c held mid kept (g ∷ families) (s ∷ tallies) f t u result h k
     sends_then a b c held mid kept (family_line g s) (family_lines families tallies) u result first
     (subst (λ ts. Sends b mid c kept (family_lines families ts) result) others
     (subst (λ fs. Sends b mid c kept (family_lines fs (take (length (s ∷ tallies) - 1) tallies)) result) left rest))
-
--- what was sent from an empty page
-pub sends_of : (a b : SinkSeen) (held kept text : List ℕ) (result : Result (Unit {0}) Failed) → held ≡ [] → Sends a held b kept text result → Sends a [] b kept text result
-sends_of a b held kept text result e h = subst (λ p. Sends a p b kept text result) e h

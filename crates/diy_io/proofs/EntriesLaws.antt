@@ -70,10 +70,6 @@ if_ok a b c r u e is = rw is at e
 pub from_nothing : (a b c : List ℕ) → a ≡ [] → c ≡ a ++ b → c ≡ b
 from_nothing a b c e is = rw e at is
 
--- equal options hold equal things
-pub some_same : {X : Type 0} (a b : X) → Some a ≡ Some b → a ≡ b
-some_same a b e = cc
-
 -- what holds of the thing in an option, where there is one, holds of this one
 pub if_some_at : {X : Type 0} (r : Option X) (P : X → Type 0) (x : X) → IfSome r P → r ≡ Some x → P x
 if_some_at r P x h e = let Q : Option _ → Type 0 = λ o. IfSome o P in subst Q e h

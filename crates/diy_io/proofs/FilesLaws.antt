@@ -5,15 +5,12 @@ use Rattle.std.specs.Option.{option_map}
 use Rattle.std.specs.List.{position_from}
 use Rattle.std.specs.Str.{bytes_eq}
 use Rattle.std.proofs.Math.Path.{fun_ext}
-use Rattle.std.proofs.lemmas.Option.{none-some}
+use Rattle.std.proofs.lemmas.Option.{none-some, same_Some}
 use Rattle.std.proofs.lemmas.List.Folds.{find-append}
 use Rattle.std.proofs.lemmas.Slice.Eq.{bytes_eq-Decides}
+use Rattle.list_laws.proofs.Cases.{by_test}
 use Rattle.diy_io.specs.Shelf.{with_file}
 use Rattle.diy_io.specs.MemFiles.{Named, has_name, place_of, name_at, bytes_at, files_of}
-
-by_test : {G : Type 0} (b : Bool) → (b ≡ true → G) → (b ≡ false → G) → G
-by_test true yes_case no_case = yes_case refl
-by_test false yes_case no_case = no_case refl
 
 -- a test is passed first at a place, which has the number i where the list begins at k
 pub record FirstAt (t : Named → Bool) (k : ℕ) (xs : List Named) (i : ℕ) : Type 0 where
@@ -47,13 +44,10 @@ first_later t k x xs i failed f = record {
   place_put = λ y h. rw failed (f.place_put y h);
 }
 
-some_is : (a b : ℕ) → Some a ≡ Some b → a ≡ b
-some_is a b e = cc
-
 first_at : (t : Named → Bool) (k : ℕ) (xs : List Named) (i : ℕ) → position_from t k xs ≡ Some i → FirstAt t k xs i
 first_at t k [] i e = absurd (none-some i e)
 first_at t k (x ∷ xs) i e = by_test (t x)
-    (λ passed. first_here t k x xs i (some_is k i (rw passed at e)) passed)
+    (λ passed. first_here t k x xs i (same_Some k i (rw passed at e)) passed)
     (λ failed. first_later t k x xs i failed (first_at t (k + 1) xs i (rw failed at e)))
 
 find_none : (t : Named → Bool) (k : ℕ) (xs : List Named) → position_from t k xs ≡ None → find t xs ≡ None

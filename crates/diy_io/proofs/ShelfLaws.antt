@@ -3,6 +3,7 @@ use Rattle.std.proofs.Common.{◌≡◌, ◌≤◌, ◌<◌, ℕ, ◌+◌, List,
 use Rattle.std.specs.Prelude.{Option, Result, Ok, Err, OnErr, unwrap_or}
 use Rattle.std.proofs.lemmas.List.{take-append-drop, drop_all, drop-drop, get_or-set_same, length-take-le, take-append-le, take-take}
 use Rattle.std.specs.Io.KnownBytes.{Consumes, IsAtEnd}
+use Rattle.std.proofs.lemmas.Option.{same_Some}
 use Rattle.diy_io.specs.Count.{Rose, next_count, count_of}
 use Rattle.diy_io.specs.Shelf.{Idle, Reading, Writing, name_read, left_to_read, name_written, IsReading, IsWriting, with_file, with_more, bytes_in, Opened, NotThere, Stopped, Gave, Created, AppendedPart}
 use Rattle.diy_io.specs.declared.mem_shelf.Work.{Work}
@@ -134,9 +135,6 @@ place_back name files i h e = let P : List ℕ → Type 0 = λ n. place_of n fil
 pub stays_at : (files new : List Named) (i : ℕ) (bytes : List ℕ) → IsPlace i files → new ≡ set files i (name_at i files, bytes) → IsPlace i new
 stays_at files new i bytes h e = subst (IsPlace i) (sym e) (place_on (name_at i files) bytes files i h)
 
-one_place : (a b : ℕ) → Some a ≡ Some b → a ≡ b
-one_place a b e = cc
-
 -- a file that grew stays the one that is written
 pub grown_at : (files new : List Named) (work : Work) (file : ℕ) (bytes : List ℕ) → IsWriting (mode_of files work) → IsAt files work
     → mode_of files work ≡ mode_of files (works.Writing file) → IsPlace file files
@@ -144,7 +142,7 @@ pub grown_at : (files new : List Named) (work : Work) (file : ℕ) (bytes : List
 grown_at files new works.Idle file bytes writing there mode place is = absurd writing
 grown_at files new (works.Reading f n) file bytes writing there mode place is = absurd writing
 grown_at files new (works.Writing f) file bytes writing there mode place is =
-    let same : f ≡ file = one_place f file (sym there ∙ ap (λ n. place_of n files) (ap name_written mode) ∙ place) in
+    let same : f ≡ file = same_Some f file (sym there ∙ ap (λ n. place_of n files) (ap name_written mode) ∙ place) in
     subst (λ i. IsPlace i new) (sym same) (stays_at files new file bytes place is)
 
 -- the bytes of a file that grew

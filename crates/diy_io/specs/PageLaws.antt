@@ -95,6 +95,10 @@ sends_stopped Q a b held mid kept x y e (Err _) h is_err = record { ok = tt; fai
 pub sends_same : (a b : SinkSeen) (held kept x y : List ℕ) (result : Answer) → Sends a held b kept x result → x ≡ y → Sends a held b kept y result
 sends_same a b held kept x y result h e = subst (λ t. Sends a held b kept t result) e h
 
+-- what is sent of a page that holds nothing
+pub sends_of : (a b : SinkSeen) (held kept text : List ℕ) (result : Answer) → held ≡ [] → Sends a held b kept text result → Sends a [] b kept text result
+sends_of a b held kept text result e h = subst (λ p. Sends a p b kept text result) e h
+
 -- a text that is sent is sent under another name for it
 pub sent_same : (a b : SinkSeen) (held kept x y : List ℕ) → SentAll a held b kept x → x ≡ y → SentAll a held b kept y
 sent_same a b held kept x y h e = subst (SentAll a held b kept) e h

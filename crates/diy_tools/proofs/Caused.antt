@@ -93,7 +93,7 @@ abbrev named : ArchName → Sought → Result Asked Usage
 named arch cycle = Ok (AsksName (record { arch = arch; cycle = cycle }))
 
 -- what classify7 is asked for
-abbrev of_files : ArchName → List ℕ → Result Asked Usage
+abbrev pub of_files : ArchName → List ℕ → Result Asked Usage
 of_files arch files = Ok (AsksFamilies (record { arch = arch; files = files }))
 
 module _ (old new : Devices) where

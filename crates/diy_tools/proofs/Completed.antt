@@ -6,7 +6,7 @@ use Rattle.std.specs.List.{list_all}
 use Rattle.std.specs.Result.{result_err}
 use Rattle.std.specs.Io.KnownBytes.{Consumes}
 use Rattle.std.proofs.lemmas.Bool.{and_parts}
-use Rattle.std.proofs.lemmas.Option.{slice_get-get_or, slice_get_within, get_or_from_slice_get}
+use Rattle.std.proofs.lemmas.Option.{slice_get-get_or, slice_get_within, get_or_from_slice_get, same_Some}
 use Rattle.relax_edges.specs.declared.edge.Edge.{Edge}
 use Rattle.relax_edges.specs.declared.kinds.ArchName.{ArchName}
 use Rattle.cycle_lines.specs.declared.errors.LineKind.{LineKind}
@@ -69,7 +69,7 @@ use Rattle.diy_tools.specs.Machines.{machine_of}
 use Rattle.diy_tools.specs.SumAnswers.{EndsInput, EndsSum, sum_status}
 use Rattle.diy_tools.specs.Answers.{Answers, AnswersAsked}
 use Rattle.diy_tools.specs.Complete.{Complete, CanBeDone, CanName, CanSum, CanClassify, AreRightTests, IsSoundText, IsRightLog, AreRightLogs, OfItsText, OfItsFiles, NoFaults, IsDone}
-use Rattle.diy_tools.proofs.Caused.{by_print, listing_failed, crossing_failed}
+use Rattle.diy_tools.proofs.Caused.{by_print, listing_failed, crossing_failed, of_files}
 
 -- what was taken of a source and what is left of it are a text that it can have
 whole_can : (old new : Option (List ℕ)) (text : List ℕ) → Consumes old new text → IsText old (text ++ unwrap_or new [])
@@ -174,10 +174,6 @@ demo_done : (asked : DemoAsked) (status : Status) (before after : SinkSeen) → 
     → Prints (demo_asked asked) status before after → IsDone (Ok (AsksDemo asked)) status
 demo_done asked status before after none h =
     by_print (λ s. IsDone (Ok (AsksDemo asked)) s) (demo_asked asked) status before after h (λ wrote. inl refl) (λ wrote. absurd (none wrote.fault))
-
--- what classify7 is asked for
-abbrev of_files : ArchName → List ℕ → Result Asked Usage
-of_files arch files = Ok (AsksFamilies (record { arch = arch; files = files }))
 
 families_done : (arch : ArchName) (result : Result (Unit {0}) ClassifyError) (status : Status) (old new : Devices) → NoFaults old new
     → OfItsText old.input.left (IsSoundText arch) → status ≡ classify_status result
@@ -311,23 +307,16 @@ input_done status old new sums.NoMemory none right e h = inr (e, tt)
 none_some : {X : Type 0} (x : X) → None ≡ Some x → ⊥
 none_some x e = cc e
 
-some_same : {X : Type 0} (a b : X) → Some a ≡ Some b → a ≡ b
-some_same a b e = cc
-
 -- a list that begins as another one does, and then has an element
 splits : {X : Type 0} (before all : List X) (x : X) → ((k : ℕ) (y : X) → slice_get before k ≡ Some y → slice_get all k ≡ Some y)
     → slice_get all (length before) ≡ Some x → (more : List X) × (all ≡ before ++ x ∷ more)
 splits [] [] x same here = absurd (none_some x here)
-splits [] (y ∷ all) x same here = (all, ap (λ z. z ∷ all) (some_same y x here))
+splits [] (y ∷ all) x same here = (all, ap (λ z. z ∷ all) (same_Some y x here))
 splits (b ∷ before) [] x same here = absurd (none_some b (same 0 b refl))
 splits (b ∷ before) (y ∷ all) x same here =
     let rest = splits before all x (λ k z h. same (suc k) z h) here in
-    let first = some_same y b (same 0 b refl) in
+    let first = same_Some y b (same 0 b refl) in
     (rest.0, ap (λ z. z ∷ all) first ∙ ap (λ zs. b ∷ zs) rest.1)
-
--- the log of a word is the one that the file of its name has
-told_log : (told : Option Files) (files : Files) (name log : List ℕ) → told ≡ Some files → IsFile told name log → files name ≡ Some log
-told_log told files name log e h = let here : IsFile (Some files) name log = subst (λ (t : Option Files). IsFile t name log) e h in here
 
 module _ (words : List (List ℕ)) (files : Files) (right : AreRightLogs files words) where
   -- at each place after the first word there is a log
@@ -342,7 +331,7 @@ module _ (words : List (List ℕ)) (files : Files) (right : AreRightLogs files w
   same_logs told before e are few k log h =
       let inside : k < length before = slice_get_within before k log h in
       let found : files (get_or words (1 + k) []) ≡ Some log =
-      told_log told files (get_or words (1 + k) []) log e
+      told_file told files (get_or words (1 + k) []) log e
       (are.named k (get_or words (1 + k) []) log (slice_get-get_or words (1 + k) [] (omega (arith, right.all))) h) in
       let here : files (get_or words (1 + k) []) ≡ Some (get_or right.logs k []) = at_word k (omega arith) in
       slice_get-get_or right.logs k [] (omega arith) ∙ (sym here ∙ found)
@@ -365,13 +354,13 @@ module _ (words : List (List ℕ)) (files : Files) (right : AreRightLogs files w
       let spot = word_log old.files place h.before h.name h.place_is in
       let parts = splits h.before right.logs h.log
       (same_logs old.files h.before e h.place_is.are (omega (arith, spot.0)))
-      (sym spot.1 ∙ told_log old.files files h.name h.log e h.text) in
+      (sym spot.1 ∙ told_file old.files files h.name h.log e h.text) in
       right_wrong right.logs (h.before ++ h.log ∷ parts.0) error right.right parts.1 (h.is.wrong parts.0)
 
   files_long : (old new : ShelfSeen) (place line : ℕ) → old.files ≡ Some files → FileTooMuch old new words 1 place line → ⊥
   files_long old new place line e h =
       let spot = word_log old.files place h.before h.name h.place_is in
-      let log_at : slice_get right.logs (length h.before) ≡ Some h.log = sym spot.1 ∙ told_log old.files files h.name h.log e h.text in
+      let log_at : slice_get right.logs (length h.before) ≡ Some h.log = sym spot.1 ∙ told_file old.files files h.name h.log e h.text in
       let log_is : get_or right.logs (length h.before) [] ≡ h.log = get_or_from_slice_get right.logs (length h.before) h.log [] log_at in
       let short : IsShort (slice_index_or right.logs (length h.before) []) = right.are.short (length h.before) [] spot.0 in
       short_log h.before h.log h.bytes line (subst (λ (l : List ℕ). IsShort l) log_is short) h.is

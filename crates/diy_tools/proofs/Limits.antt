@@ -1,6 +1,7 @@
 -- What is answered after more than 2^40 bytes, from what is answered.
 use Rattle.std.proofs.Common.{◌≡◌, ◌≤◌, ◌<◌, ◌+◌, ◌^◌, ℕ, List, [], ◌∷◌, length, Option, None, Some, Ok, Err, sym, ap, subst, arith, inl, inr}
 use Rattle.std.specs.Prelude.{Result, ◌⊎◌}
+use Rattle.diy_tools.proofs.Caused.{of_files}
 use Rattle.relax_edges.specs.declared.edge.Edge.{Edge}
 use Rattle.relax_edges.specs.declared.kinds.ArchName.{ArchName}
 use Rattle.cycle_lines.specs.declared.errors.LinesError.TheVariants as lines
@@ -52,10 +53,6 @@ use Rattle.diy_tools.specs.CheckAnswers.{EndsCheck, checked_kind, check_status}
 use Rattle.diy_tools.specs.Answers.{Answers, AnswersAsked}
 use Rattle.diy_tools.proofs.Opened.{IsWithin, files_within, failed_within}
 use Rattle.diy_tools.specs.Limit.{Limited, StopsReading, TookTooMuch}
-
--- what classify7 is asked for
-abbrev of_files : ArchName → List ℕ → Result Asked Usage
-of_files arch files = Ok (AsksFamilies (record { arch = arch; files = files }))
 
 -- at most 2^40 bytes were taken of the input, as far as they are counted
 abbrev InputWithin : SourceSeen → SourceSeen → Type 0

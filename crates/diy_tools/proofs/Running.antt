@@ -4,6 +4,8 @@ use Rattle.std.specs.Prelude.{Result, cond, if◌then◌else◌}
 use Rattle.std.specs.List.{position_from}
 use Rattle.std.specs.Option.{option_or}
 use Rattle.std.proofs.lemmas.Bool.Decides.{nat_tests}
+use Rattle.list_laws.proofs.Elements.{option_or-none}
+use Rattle.list_laws.proofs.Cases.{by_test}
 use Rattle.relax_edges.specs.declared.TheConstants.{MAX_EDGES}
 use Rattle.relax_edges.specs.declared.edge.Edge.{Edge}
 use Rattle.relax_edges.specs.declared.kinds.ObsMode.{ObsMode}
@@ -61,10 +63,6 @@ use Rattle.two_runs.specs.declared.errors.WhyRefusal.{WhyRefusal}
 use Rattle.two_runs.specs.declared.errors.WhyRefusal.TheVariants as showing
 use Rattle.two_runs.specs.Shown.{why_refused}
 
-by_test : {G : Type 0} (b : Bool) → (b ≡ true → G) → (b ≡ false → G) → G
-by_test true t f = t refl
-by_test false t f = f refl
-
 abbrev Answer : Type 0
 Answer = Result (Unit {0}) Failed
 
@@ -110,17 +108,13 @@ pub kept_answered : (m : Machine) (mode : ObsMode) (name : Option (List ℕ)) (e
 kept_answered m mode name es status old new h =
     edges_answered (kept es) es (λ us. refused_making (refusal_of m.puts us mode)) (λ us. cycle_text m.puts m.writing mode (test_name name us) us) m.puts.name status old new (kept_so es) h
 
-or_nothing : {X : Type 0} (a : Option X) → option_or a None ≡ a
-or_nothing None = refl
-or_nothing (Some x) = refl
-
 names_answered : (arch : ArchName) (es : List Edge) (status : Status) (old new : SinkSeen)
     → AnswersEdges (refused_edges arch (kept es)) (name_line (edges_kept (kept es))) status old new
     → AnswersEdges (refused_list arch es) (name_line es) status old new
 names_answered arch es status old new h =
-    subst (λ r. AnswersEdges r (name_line es) status old new) (or_nothing (refused_list arch es))
+    subst (λ r. AnswersEdges r (name_line es) status old new) (option_or-none (refused_list arch es))
     (edges_answered (kept es) es (λ us. None) name_line arch status old new (kept_so es)
-    (subst (λ r. AnswersEdges r (name_line (edges_kept (kept es))) status old new) (sym (or_nothing (refused_edges arch (kept es)))) h))
+    (subst (λ r. AnswersEdges r (name_line (edges_kept (kept es))) status old new) (sym (option_or-none (refused_edges arch (kept es)))) h))
 
 -- what is answered of the cycles that are sought, as they are kept, is answered of those that were asked for
 pub sought_answered : (arch : ArchName) (cycle : Sought) (asked : words.Sought) (status : Status) (old new : SourceSeen) (before after : SinkSeen)

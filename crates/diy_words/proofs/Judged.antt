@@ -1,5 +1,5 @@
 -- What is held while the words are read is what the definition takes from all of them.
-use Rattle.std.proofs.Common.{◌≡◌, ℕ, zero, suc, ◌+◌, Bool, true, false, List, [], ◌∷◌, length, drop, Option, Some, None, Result, Ok, Err, refl, sym, ap, ◌∙◌, subst, arith, slice_get, lit≤}
+use Rattle.std.proofs.Common.{◌≡◌, ℕ, ◌+◌, Bool, true, false, List, [], ◌∷◌, length, drop, Option, Some, None, Result, Ok, Err, refl, sym, ap, ◌∙◌, subst, arith, slice_get, lit≤}
 use Rattle.std.specs.Option.{option_or}
 use Rattle.std.proofs.lemmas.List.{drop_all}
 use Rattle.std.proofs.Math.Bool.{or-false, or-true, or_assoc}
@@ -10,6 +10,7 @@ use Rattle.edge_lists.specs.Kept.{kept, added}
 use Rattle.edge_lists.specs.KeptLaws.{added_more, added_whole}
 use Rattle.std.specs.Prelude.{◌||◌, nat_lt, if◌then◌else◌}
 use Rattle.std.specs.List.{list_any}
+use Rattle.list_laws.proofs.Elements.{option_or-none, drop_given}
 use Rattle.diy_words.specs.declared.request.Request.{Request}
 use Rattle.diy_words.specs.declared.request.Request.TheVariants as requests
 use Rattle.diy_words.specs.declared.request.Sought.{Sought}
@@ -26,11 +27,6 @@ use Rattle.diy_words.specs.Requests.{Said, SaysArch, SaysName, SaysMode, SaysFro
 use Rattle.diy_words.specs.Given.{Held, heard, absorbed, all_absorbed, saying_from, finished, explained, named, Kept, keeps, KeepsTest, KeepsWhy, KeepsName, KeepsList, KeepsFamilies, KeepsSum, KeepsCross, KeepsDemo, KeepsCheck, CrossHeld, crossed, classified, held_at_end, test_held, why_held, diyone_held, tool_held, shown, shown_request, nothing_held, AskedHeld, WhyHeld, NameHeld, SoughtHeld, HeldEdges, HeldName, HeldLines, sought_held, Gives, IsKept, IsSought}
 use Rattle.diy_words.specs.Requests as req
 
-drop_get : {X : Type 0} (xs : List X) (i : ℕ) (x : X) → slice_get xs i ≡ Some x → drop i xs ≡ x ∷ drop (i + 1) xs
-drop_get [] i x h = cc h
-drop_get (y ∷ ys) zero x h = ap (λ z. z ∷ ys) (cc h)
-drop_get (y ∷ ys) (suc i) x h = drop_get ys i x h ∙ (let e : suc i + 1 ≡ suc (i + 1) = omega arith in rw e)
-
 alone_parts : (tool : Tool) (word : List ℕ) (at : ℕ) (rest : List (List ℕ)) (found : Option OptionName) → option_named tool word ≡ found → found ≡ None →
     parts_of tool at (word ∷ rest) ≡ Alone at word ∷ parts_of tool (at + 1) rest
 alone_parts tool word at rest found e n = rw (e ∙ n)
@@ -44,16 +40,16 @@ pub alone_first : (tool : Tool) (before : Before) (words : List (List ℕ)) (at 
     slice_get words at ≡ Some word → option_named tool word ≡ None →
     saying_from tool before words at ≡ said_by tool before (Alone at word) ∷ saying_from tool (before_next before (said_by tool before (Alone at word))) words (at + 1)
 alone_first tool before words at word got plain =
-    ap (λ rest. saying tool before (parts_of tool at rest)) (drop_get words at word got) ∙ ap (saying tool before) (alone_parts tool word at (drop (at + 1) words) None plain refl)
+    ap (λ rest. saying tool before (parts_of tool at rest)) (drop_given words at word got) ∙ ap (saying tool before) (alone_parts tool word at (drop (at + 1) words) None plain refl)
 
 -- an option with its value and what the words after them say
 pub value_first : (tool : Tool) (before : Before) (words : List (List ℕ)) (at : ℕ) (word value : List ℕ) (option : OptionName) →
     slice_get words at ≡ Some word → option_named tool word ≡ Some option → slice_get words (at + 1) ≡ Some value →
     saying_from tool before words at ≡ said_by tool before (Valued option at value) ∷ saying_from tool (before_next before (said_by tool before (Valued option at value))) words (at + 2)
 value_first tool before words at word value option got named valued =
-    ap (λ rest. saying tool before (parts_of tool at rest)) (drop_get words at word got) ∙
+    ap (λ rest. saying tool before (parts_of tool at rest)) (drop_given words at word got) ∙
     ap (saying tool before) (option_parts tool word at (drop (at + 1) words) option named) ∙
-    ap (λ rest. saying tool before (parts_from tool (Waits option at) (at + 1) rest)) (drop_get words (at + 1) value valued) ∙
+    ap (λ rest. saying tool before (parts_from tool (Waits option at) (at + 1) rest)) (drop_given words (at + 1) value valued) ∙
     (let e : at + 1 + 1 ≡ at + 2 = omega arith in rw e)
 
 -- an option that is the last word
@@ -61,7 +57,7 @@ pub unvalued_last : (tool : Tool) (before : Before) (words : List (List ℕ)) (a
     slice_get words at ≡ Some word → option_named tool word ≡ Some option → at + 1 ≡ length words →
     saying_from tool before words at ≡ said_by tool before (Unvalued option at) ∷ []
 unvalued_last tool before words at word option got named last =
-    ap (λ rest. saying tool before (parts_of tool at rest)) (drop_get words at word got) ∙
+    ap (λ rest. saying tool before (parts_of tool at rest)) (drop_given words at word got) ∙
     ap (saying tool before) (option_parts tool word at (drop (at + 1) words) option named) ∙
     ap (λ rest. saying tool before (parts_from tool (Waits option at) (at + 1) rest)) (drop_all (at + 1) words (omega arith))
 
@@ -142,10 +138,6 @@ held_with h said = record {
   why = h.why || is_why said;
 }
 
-or_none : {X : Type 0} (a : Option X) → option_or a None ≡ a
-or_none None = refl
-or_none (Some x) = refl
-
 or_twice : {X : Type 0} (a b c : Option X) → option_or (option_or a b) c ≡ option_or a (option_or b c)
 or_twice None b c = refl
 or_twice (Some x) b c = refl
@@ -154,13 +146,13 @@ none_more : (n : ℕ) → n + 0 ≡ n
 none_more n = omega arith
 
 absorbed_one : (h : Held) (said : Said) → absorbed h (Ok said) ≡ Ok (held_with h said)
-absorbed_one h SaysExact = rw (or_none h.operand, or-true h.exact, or-false h.why, none_more h.taken) refl
-absorbed_one h SaysWhy = rw (or_none h.operand, or-false h.exact, or-true h.why, none_more h.taken) refl
+absorbed_one h SaysExact = rw (option_or-none h.operand, or-true h.exact, or-false h.why, none_more h.taken) refl
+absorbed_one h SaysWhy = rw (option_or-none h.operand, or-false h.exact, or-true h.why, none_more h.taken) refl
 absorbed_one h (SaysEdges at edges) = rw (or-false h.exact, or-false h.why, none_more h.taken) refl
-absorbed_one h (SaysCount count) = rw (or_none h.operand, or-false h.exact, or-false h.why) refl
-absorbed_one h (SaysTest at) = rw (or_none h.operand, or-false h.exact, or-false h.why) refl
-absorbed_one h (SaysExecution at) = rw (or_none h.operand, or-false h.exact, or-false h.why) refl
-absorbed_one h said = rw (or_none h.operand, or-false h.exact, or-false h.why, none_more h.taken) refl
+absorbed_one h (SaysCount count) = rw (option_or-none h.operand, or-false h.exact, or-false h.why) refl
+absorbed_one h (SaysTest at) = rw (option_or-none h.operand, or-false h.exact, or-false h.why) refl
+absorbed_one h (SaysExecution at) = rw (option_or-none h.operand, or-false h.exact, or-false h.why) refl
+absorbed_one h said = rw (option_or-none h.operand, or-false h.exact, or-false h.why, none_more h.taken) refl
 
 ok_is : {X : Type 0} (x y : X) → (let left : Result X Usage = Ok x in left) ≡ Ok y → x ≡ y
 ok_is x y e = cc e
@@ -214,7 +206,7 @@ after_first h one said (Ok list) same = ap Ok (same list)
 after_first h one said (Err usage) same = refl
 
 all_held : (h : Held) (said : List (Result Said Usage)) → all_absorbed (Ok h) said ≡ held_or_fault h (said_all said)
-all_held h [] = rw (or_none h.operand, or-false h.exact, or-false h.why, none_more h.taken) refl
+all_held h [] = rw (option_or-none h.operand, or-false h.exact, or-false h.why, none_more h.taken) refl
 all_held h (Err usage ∷ rest) = fault_stays usage rest
 all_held h (Ok said ∷ rest) =
     ap (λ r. all_absorbed r rest) (absorbed_one h said) ∙ all_held (held_with h said) rest ∙ after_first h (held_with h said) said (said_all rest) (held_one h said)

@@ -1,5 +1,5 @@
 -- Numbers that are parsed.
-use Rattle.std.proofs.Common.{◌≡◌, ◌≤◌, ◌<◌, ◌^◌, ℕ, Bool, true, false, List, [], ◌∷◌, length, get_or, Some, None, Err, refl, arith, rules, nat_lt, nat_le}
+use Rattle.std.proofs.Common.{◌≡◌, ◌≤◌, ◌<◌, ◌^◌, ℕ, Bool, true, false, List, [], length, Some, None, Err, refl, arith, nat_lt, nat_le}
 use Rattle.std.specs.Prelude.{◌&&◌, if◌then◌else◌, Result}
 use Rattle.std.specs.Char.{is_ascii_digit}
 use Rattle.std.specs.List.{list_all}
@@ -7,27 +7,18 @@ use Rattle.std.specs.Result.{OkIff}
 use Rattle.std.specs.Str.Parse.{digits_value, ParsesUnsigned}
 use Rattle.std.proofs.lemmas.Bool.{and_parts}
 use Rattle.std.proofs.lemmas.Bool.Decides.{nat_tests}
-use Rattle.std.proofs.lemmas.Str.Parse.{IsNumeralModel, numerals_by_value, parse_plain, not_in_digits}
+use Rattle.std.proofs.lemmas.Str.Parse.{parse_plain}
+use Rattle.list_laws.proofs.Digits.{digits_model, digits_no_plus}
+use Rattle.list_laws.proofs.Cases.{by_test}
 use Rattle.diy_words.specs.Numbers.{is_number, number_to}
-
-own : IsNumeralModel (λ ds. list_all is_ascii_digit ds ≡ true) (digits_value 10)
-own = numerals_by_value _ (search rules)
-
-no_plus : (digits : List ℕ) → list_all is_ascii_digit digits ≡ true → get_or digits 0 0 ≡ 43 → ⊥
-no_plus [] h e = omega arith
-no_plus (byte ∷ digits) h e = not_in_digits own (byte ∷ digits) 43 h (λ r. omega (arith, r.0, r.1)) 0 (omega arith) e
 
 -- what isn't parsed is too large
 too_large : {E : Type 0} (digits : List ℕ) (e : E) → is_number digits ≡ true → ParsesUnsigned 32 10 digits (Err e) → 2 ^ 32 ≤ digits_value 10 digits
 too_large {E = E} digits e h parses =
     let outer = and_parts (nat_lt 0 (length digits) && nat_le (length digits) 7) (list_all is_ascii_digit digits) h in
     let inner = and_parts (nat_lt 0 (length digits)) (nat_le (length digits) 7) outer.0 in
-    let iff : OkIff (let r : Result ℕ E = Err e in r) ((list_all is_ascii_digit digits ≡ true) × (0 < length digits) × (digits_value 10 digits < 2 ^ 32)) (digits_value 10 digits) = parse_plain own 32 digits (Err e) parses (no_plus digits outer.1) in
+    let iff : OkIff (let r : Result ℕ E = Err e in r) ((list_all is_ascii_digit digits ≡ true) × (0 < length digits) × (digits_value 10 digits < 2 ^ 32)) (digits_value 10 digits) = parse_plain digits_model 32 digits (Err e) parses (digits_no_plus digits outer.1) in
     by_test (nat_lt (digits_value 10 digits) (2 ^ 32)) (λ t. absurd (iff (outer.1, grind (arith, nat_tests, inner.0), grind (arith, nat_tests, t)))) (λ t. grind (arith, nat_tests, t))
-  where
-    by_test : {G : Type 0} (b : Bool) → (b ≡ true → G) → (b ≡ false → G) → G
-    by_test true f g = f refl
-    by_test false f g = g refl
 
 -- and so it is no number up to one of 32 bits
 pub unparsed : {E : Type 0} (greatest : ℕ) (digits : List ℕ) (e : E) → greatest < 2 ^ 32 → is_number digits ≡ true → ParsesUnsigned 32 10 digits (Err e) → None ≡ number_to greatest digits

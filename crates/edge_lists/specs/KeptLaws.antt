@@ -1,6 +1,7 @@
 -- Laws of edges as they are kept.
-use Rattle.std.proofs.Common.{◌≡◌, ◌<◌, ◌≤◌, Bool, true, false, List, [], ◌∷◌, ◌++◌, length, refl, sym, ap, ◌∙◌, arith, nat_lt, nat_le, append_assoc, append-nil, length-append, le-leb}
+use Rattle.std.proofs.Common.{◌≡◌, ◌<◌, ◌≤◌, true, false, List, [], ◌∷◌, ◌++◌, length, refl, sym, ap, ◌∙◌, arith, nat_lt, nat_le, append_assoc, append-nil, length-append, le-leb}
 use Rattle.std.proofs.lemmas.Bool.Decides.{nat_tests}
+use Rattle.list_laws.proofs.Cases.{by_test}
 use Rattle.relax_edges.specs.declared.TheConstants.{MAX_EDGES}
 use Rattle.relax_edges.specs.declared.edge.Edge.{Edge}
 use Rattle.edge_lists.specs.declared.list.EdgeList.{EdgeList}
@@ -11,10 +12,6 @@ use Rattle.edge_lists.specs.Kept.{kept, pushed, added}
 pub added_more : (list : EdgeList) (es fs : List Edge) → added (added list es) fs ≡ added list (es ++ fs)
 added_more list [] fs = refl
 added_more list (e ∷ es) fs = added_more (pushed list e) es fs
-
-by_test : {G : Type 0} (b : Bool) → (b ≡ true → G) → (b ≡ false → G) → G
-by_test true f g = f refl
-by_test false f g = g refl
 
 kept_few : (list : List Edge) → length list ≤ MAX_EDGES → kept list ≡ Whole (record { items = list })
 kept_few list h = rw (le-leb (length list) MAX_EDGES h)

@@ -60,7 +60,3 @@ pub further_is : (v : Verdict) (b : Bool) → b ≡ true
     → answer_line (codes "coherent") v.coherent ++ (answer_line (codes "condition") v.condition ++ judged_lines v.edges.items) ≡ further_lines b v
 further_is v true e = refl
 further_is v false e = cc e
-
--- what is sent from a page that is empty, as it is sent from the empty page
-pub sends_of : (a b : SinkSeen) (held kept text : List ℕ) (result : Result (Unit {0}) Failed) → held ≡ [] → Sends a held b kept text result → Sends a [] b kept text result
-sends_of a b held kept text result e h = subst (λ p. Sends a p b kept text result) e h

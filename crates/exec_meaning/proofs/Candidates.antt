@@ -2,21 +2,18 @@
 use Rattle.std.proofs.Common.{◌≡◌, ℕ, zero, suc, ◌+◌, ◌≤◌, Bool, true, false, cond, ◌==◌, ◌&&◌, ◌||◌, not, List, [], ◌∷◌, length, get_or, take, drop, ◌-◌, Option, Some, None, slice_get, refl, sym, ap, subst, ◌∙◌, arith}
 use Rattle.std.specs.Prelude.{unwrap_or}
 use Rattle.std.proofs.lemmas.List.{drop_all, take_all, length-drop}
-use Rattle.std.proofs.lemmas.Option.{slice_get_within, slice_get-get_or}
+use Rattle.std.proofs.lemmas.Option.{slice_get_within, slice_get-get_or, same_Some}
 use Rattle.std.specs.List.{filter, list_all, list_any}
 use Rattle.std.proofs.lemmas.Bool.{and_parts, and_from, or_left, or_right, eqb-true, eq-eqb}
+use Rattle.list_laws.proofs.Elements.{drop_given}
+use Rattle.list_laws.proofs.Cases.{by_test, implied}
 use Rattle.relax_edges.specs.declared.kinds.Dir.{Dir}
 use Rattle.relax_edges.specs.declared.kinds.Dir.TheVariants as dirs
 use Rattle.program_meaning.specs.declared.WriteAt.{WriteAt}
 use Rattle.program_meaning.specs.Accesses.{Access, write, is_read, at_name}
 use Rattle.program_meaning.specs.Executions.{Execution, CanRead, AreReadsOf, IsOrderOf, IsExecutionOf, same_write}
 use Rattle.exec_meaning.specs.Deciding.{every, writes_by, writes_to, writes_there, writes_value, can_read, first_read, are_reads, are_distinct, is_covered, thread_covered, is_order, reads_of, reads_fit, orders_fit}
-use Rattle.exec_meaning.proofs.Every.{some_is, by_test, dropped, every_means, every_from, every_name, every_name_from}
-
--- an implication that passes its test, and its premise, give its conclusion
-pub implied : (a b : Bool) → (not a || b) ≡ true → a ≡ true → b ≡ true
-implied true b h e = h
-implied false b h e = cc e
+use Rattle.exec_meaning.proofs.Every.{every_means, every_from, every_name, every_name_from}
 
 -- an implication that holds passes its test
 pub implies : (a b : Bool) → (a ≡ true → b ≡ true) → (not a || b) ≡ true
@@ -112,7 +109,7 @@ any_means w (v ∷ order) h = by_test (same_write w v)
 
 any_from : (w : WriteAt) (order : List WriteAt) (k : ℕ) → slice_get order k ≡ Some w → list_any (same_write w) order ≡ true
 any_from w [] k h = cc h
-any_from w (v ∷ order) zero h = let e : v ≡ w = some_is v w h in
+any_from w (v ∷ order) zero h = let e : v ≡ w = same_Some v w h in
     or_left (same_write w v) (list_any (same_write w) order) (subst (λ u. same_write w u ≡ true) (sym e) (same_itself w))
 any_from w (v ∷ order) (suc k) h = or_right (same_write w v) (list_any (same_write w) order) (any_from w order k h)
 
@@ -129,10 +126,10 @@ distinct_means [] h j k w d e = cc d
 distinct_means (v ∷ order) h zero zero w d e = refl
 distinct_means (v ∷ order) h zero (suc k) w d e =
     let p = and_parts (not (list_any (same_write v) order)) (are_distinct order) h in
-    absurd (none_later v order k p.0 (e ∙ ap Some (sym (some_is v w d))))
+    absurd (none_later v order k p.0 (e ∙ ap Some (sym (same_Some v w d))))
 distinct_means (v ∷ order) h (suc j) zero w d e =
     let p = and_parts (not (list_any (same_write v) order)) (are_distinct order) h in
-    absurd (none_later v order j p.0 (d ∙ ap Some (sym (some_is v w e))))
+    absurd (none_later v order j p.0 (d ∙ ap Some (sym (same_Some v w e))))
 distinct_means (v ∷ order) h (suc j) (suc k) w d e =
     let p = and_parts (not (list_any (same_write v) order)) (are_distinct order) h in
     ap suc (distinct_means order p.1 j k w d e)
@@ -148,7 +145,7 @@ distinct_from (v ∷ order) h = and_from (not (list_any (same_write v) order)) (
 
 all_at : {X : Type 0} (p : X → Bool) (xs : List X) → list_all p xs ≡ true → (k : ℕ) (x : X) → slice_get xs k ≡ Some x → p x ≡ true
 all_at p [] h k x e = cc e
-all_at p (y ∷ ys) h zero x e = subst (λ v. p v ≡ true) (some_is y x e) (and_parts (p y) (list_all p ys) h).0
+all_at p (y ∷ ys) h zero x e = subst (λ v. p v ≡ true) (same_Some y x e) (and_parts (p y) (list_all p ys) h).0
 all_at p (y ∷ ys) h (suc k) x e = all_at p ys (and_parts (p y) (list_all p ys) h).1 k x e
 
 all_from : {X : Type 0} (p : X → Bool) (xs : List X) → ((k : ℕ) (x : X) → slice_get xs k ≡ Some x → p x ≡ true) → list_all p xs ≡ true
@@ -206,12 +203,12 @@ execution_from threads x n h = and_from (reads_fit threads x) (orders_fit thread
 -- in the loop over an order, a write that isn't listed again leaves the answer to those after it
 pub distinct_step : (order : List WriteAt) (i : ℕ) (w : WriteAt) → slice_get order i ≡ Some w → list_any (same_write w) (drop (i + 1) order) ≡ false → are_distinct (drop i order) ≡ are_distinct (drop (i + 1) order)
 unfolding are_distinct
-distinct_step order i w is h = rw (dropped order i w is) (rw h refl)
+distinct_step order i w is h = rw (drop_given order i w is) (rw h refl)
 
 -- in the loop over an order, a write that is listed again decides that the writes aren't distinct
 pub distinct_stops : (order : List WriteAt) (i : ℕ) (w : WriteAt) → slice_get order i ≡ Some w → list_any (same_write w) (drop (i + 1) order) ≡ true → are_distinct (drop i order) ≡ false
 unfolding are_distinct
-distinct_stops order i w is h = rw (dropped order i w is) (rw h refl)
+distinct_stops order i w is h = rw (drop_given order i w is) (rw h refl)
 
 -- at the end of an order the writes that are left are distinct
 pub distinct_ends : (order : List WriteAt) (i : ℕ) → length order ≤ i → are_distinct (drop i order) ≡ true

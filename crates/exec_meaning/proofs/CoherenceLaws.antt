@@ -2,6 +2,7 @@
 use Rattle.std.proofs.Common.{◌≡◌, ℕ, true, ◌==◌, ◌||◌, not, List, Some, slice_get, sym, subst, ◌∙◌, arith}
 use Rattle.std.specs.Prelude.{nat_lt}
 use Rattle.std.proofs.lemmas.Bool.{eqb-true, eq-eqb, lt-ltb, ltb-true, leb-true, le-leb}
+use Rattle.list_laws.proofs.Cases.{implied}
 use Rattle.relax_edges.specs.declared.kinds.Dir.{Dir}
 use Rattle.relax_edges.specs.declared.kinds.Dir.TheVariants as dirs
 use Rattle.program_meaning.specs.Accesses.{Access}
@@ -9,7 +10,7 @@ use Rattle.program_meaning.specs.Executions.{Execution}
 use Rattle.program_meaning.specs.Coherence.{MayFollow, IsCoherent, coherence_place}
 use Rattle.exec_meaning.specs.Deciding.{every, name, may_follow, agrees, agrees_later, thread_coheres}
 use Rattle.exec_meaning.proofs.Every.{in_thread, every_means, every_from, at_name_of}
-use Rattle.exec_meaning.proofs.Candidates.{implied, implies}
+use Rattle.exec_meaning.proofs.Candidates.{implies}
 
 follow_means : (d : Dir) (m n : ℕ) → may_follow d m n ≡ true → MayFollow d m n
 follow_means dirs.R m n h = leb-true m n h

@@ -6,6 +6,7 @@ use Rattle.std.proofs.lemmas.Nat.Bits.{bit_at_above}
 use Rattle.std.proofs.Math.Pow.{pow_mono}
 use Rattle.resolution_laws.specs.Resolution.{event_after}
 use Rattle.std.proofs.lemmas.Bool.{and_parts, and_from, eqb-true, eq-eqb, lt-ltb, ltb-true}
+use Rattle.std.proofs.lemmas.Option.{same_Some}
 use Rattle.relax_edges.specs.declared.kinds.Dir.{Dir}
 use Rattle.relax_edges.specs.declared.kinds.Dir.TheVariants as dirs
 use Rattle.relax_edges.specs.declared.kinds.Sd.{Sd}
@@ -34,7 +35,6 @@ use Rattle.program_meaning.specs.Executions.{Execution, same_write}
 use Rattle.program_meaning.specs.Coherence.{source_at}
 use Rattle.program_meaning.specs.Standing.{AccessAt, Named, access_at, AreAt, ComesBefore, Communicates, CommunicatesBy, Reaches, Joins, mask_of, is_in_mask, IsTied, BarriersWait, DependsBy, TiesBy, Stands}
 use Rattle.exec_meaning.specs.Edges.{same_mark, same_pick, same_fence, same_barrier, is_alone, is_none, are_at, is_source, comes_before, communicates, communicates_by, reaches, joins, same_answer, depends, barriers_wait, depends_by, ties_by, stands}
-use Rattle.exec_meaning.proofs.Every.{some_is}
 use Rattle.exec_meaning.proofs.Candidates.{same_means, same_itself}
 
 -- a test passes exactly where its statement holds
@@ -122,7 +122,7 @@ source_decides : (o : Option WriteAt) (e : WriteAt) → Decides (is_source o e) 
 source_decides None e = (λ h. cc h, λ h. cc h)
 source_decides (Some w) e = (
   λ h. ap Some (same_means w e h),
-  λ h. subst (λ v. same_write w v ≡ true) (some_is w e h) (same_itself w),
+  λ h. subst (λ v. same_write w v ≡ true) (same_Some w e h) (same_itself w),
 )
 
 before_decides : (threads : List (List Access)) (x : Execution) (e f : AccessAt) → Decides (comes_before threads x e f) (ComesBefore threads x e f)

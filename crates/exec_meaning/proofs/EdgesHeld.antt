@@ -2,7 +2,8 @@
 use Rattle.std.proofs.Common.{◌≡◌, ℕ, ◌+◌, ◌==◌, ◌<◌, ◌≤◌, arith, slice_get, Bool, true, false, List, length, Option, Some, None, sym, ap, subst, ◌∙◌}
 use Rattle.std.specs.Prelude.{◌↔◌, IsTrue}
 use Rattle.std.proofs.lemmas.Bool.Decides.{nat_tests}
-use Rattle.std.proofs.lemmas.Option.{get_or_from_slice_get}
+use Rattle.std.proofs.lemmas.Option.{get_or_from_slice_get, same_Some}
+use Rattle.list_laws.proofs.Cases.{by_test}
 use Rattle.relax_edges.specs.declared.kinds.Reach.TheVariants.{Internal}
 use Rattle.relax_edges.specs.declared.kinds.Com.TheVariants.{Rf}
 use Rattle.relax_edges.specs.declared.edge.Edge.{Edge}
@@ -15,14 +16,13 @@ use Rattle.program_meaning.specs.Executions.{Execution}
 use Rattle.program_meaning.specs.Programs.{Program, accesses_in, visits_in}
 use Rattle.program_meaning.specs.Standing.{Named, IsEvent, Stands, event_name}
 use Rattle.exec_meaning.specs.Edges.{EdgeStands, stands, stands_if}
-use Rattle.exec_meaning.proofs.Every.{some_is, by_test}
 use Rattle.exec_meaning.proofs.EdgeLaws.{stands_means, stands_from}
 
 -- an event is the access that was found under its name
 found_is : (es : List Edge) (vs : List (List Visit)) (j : ℕ) (n : WriteAt) (v : Visit) (e : Named) → n ≡ event_name es j → at_name vs n ≡ Some v → IsEvent es vs j e → e ≡ record { name = n; visit = v }
 found_is es vs j n v e is got h =
     let a : e.name ≡ n = h.name_is ∙ sym is in
-    let b : e.visit ≡ v = some_is e.visit v (sym h.visit_is ∙ ap (at_name vs) a ∙ got) in
+    let b : e.visit ≡ v = same_Some e.visit v (sym h.visit_is ∙ ap (at_name vs) a ∙ got) in
     λ i. record { name = a i; visit = b i }
 
 -- the test between the two accesses that were found decides whether the edge stands

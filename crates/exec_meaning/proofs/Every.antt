@@ -1,28 +1,19 @@
 -- What a test of each element means, and how a loop makes it.
-use Rattle.std.proofs.Common.{◌≡◌, ℕ, zero, suc, ◌+◌, ◌<◌, ◌≤◌, Bool, true, false, List, [], ◌∷◌, length, get_or, drop, Option, Some, None, slice_get, refl, sym, ap, subst, ◌∙◌, arith, add-one}
+use Rattle.std.proofs.Common.{◌≡◌, ℕ, zero, suc, ◌+◌, ◌<◌, ◌≤◌, Bool, true, false, List, [], ◌∷◌, length, get_or, drop, Option, Some, None, slice_get, refl, sym, ap, subst, ◌∙◌, arith}
 use Rattle.std.proofs.lemmas.Bool.{and_parts, and_from}
 use Rattle.std.proofs.lemmas.List.{drop_all}
-use Rattle.std.proofs.lemmas.Option.{get_or_from_slice_get, slice_get_within, slice_get-get_or}
-use Rattle.std.proofs.Math.Seq.{drop-cons}
+use Rattle.std.proofs.lemmas.Option.{slice_get-get_or, same_Some}
+use Rattle.list_laws.proofs.Elements.{drop_given}
 use Rattle.program_meaning.specs.declared.WriteAt.{WriteAt}
 use Rattle.program_meaning.specs.Accesses.{got_from, at_name}
 use Rattle.exec_meaning.specs.Deciding.{every, name}
-
--- elements that are there are equal where the options are
-pub some_is : {X : Type 0} (x y : X) → Some x ≡ Some y → x ≡ y
-some_is x y e = cc e
-
--- what follows from both answers of a test holds
-pub by_test : {G : Type 0} (b : Bool) → (b ≡ true → G) → (b ≡ false → G) → G
-by_test true t f = t refl
-by_test false t f = f refl
 
 -- where every element passes with its number, so does each one
 pub every_means : {X : Type 0} (p : ℕ → X → Bool) (n : ℕ) (xs : List X) → every p n xs ≡ true → (k j : ℕ) (x : X) → j ≡ n + k → slice_get xs k ≡ Some x → p j x ≡ true
 every_means p n [] h k j x q e = cc e
 every_means p n (y ∷ ys) h zero j x q e =
     let m : n ≡ j = omega (arith, q) in
-    subst (λ i. p i x ≡ true) m (subst (λ v. p n v ≡ true) (some_is y x e) (and_parts (p n y) (every p (n + 1) ys) h).0)
+    subst (λ i. p i x ≡ true) m (subst (λ v. p n v ≡ true) (same_Some y x e) (and_parts (p n y) (every p (n + 1) ys) h).0)
 every_means p n (y ∷ ys) h (suc k) j x q e =
     every_means p (n + 1) ys (and_parts (p n y) (every p (n + 1) ys) h).1 k j x (omega (arith, q)) e
 
@@ -33,19 +24,13 @@ every_from p n (y ∷ ys) h =
     and_from (p n y) (every p (n + 1) ys) (h zero n y (omega arith) refl)
     (every_from p (n + 1) ys (λ k j x q e. h (suc k) j x (omega (arith, q)) e))
 
--- what is left from an element on begins with it
-pub dropped : {X : Type 0} (xs : List X) (i : ℕ) (x : X) → slice_get xs i ≡ Some x → drop i xs ≡ x ∷ drop (i + 1) xs
-dropped xs i x h =
-    let g : get_or xs i x ≡ x = get_or_from_slice_get xs i x x h in
-    rw add-one (drop-cons xs i x (slice_get_within xs i x h) ∙ ap (λ y. y ∷ drop (suc i) xs) g)
-
 -- an element that passes leaves the answer to those after it
 pub every_step : {X : Type 0} (p : ℕ → X → Bool) (xs : List X) (i : ℕ) (x : X) → slice_get xs i ≡ Some x → p i x ≡ true → every p i (drop i xs) ≡ every p (i + 1) (drop (i + 1) xs)
-every_step p xs i x e h = rw (dropped xs i x e) (rw h refl)
+every_step p xs i x e h = rw (drop_given xs i x e) (rw h refl)
 
 -- an element that doesn't pass decides the answer
 pub every_stops : {X : Type 0} (p : ℕ → X → Bool) (xs : List X) (i : ℕ) (x : X) → slice_get xs i ≡ Some x → p i x ≡ false → every p i (drop i xs) ≡ false
-every_stops p xs i x e h = rw (dropped xs i x e) (rw h refl)
+every_stops p xs i x e h = rw (drop_given xs i x e) (rw h refl)
 
 -- at the end of a list every element that is left passes
 pub every_ends : {X : Type 0} (p : ℕ → X → Bool) (xs : List X) (i : ℕ) → length xs ≤ i → every p i (drop i xs) ≡ true

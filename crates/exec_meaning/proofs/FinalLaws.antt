@@ -6,6 +6,7 @@ use Rattle.std.specs.Str.{bytes_eq}
 use Rattle.std.proofs.lemmas.Bool.{eq-eqb}
 use Rattle.std.proofs.lemmas.Bool.Decides.{nat_tests}
 use Rattle.std.proofs.lemmas.List.{take_more, take_all, map_push, length-map, append-nil}
+use Rattle.list_laws.proofs.Cases.{by_test}
 use Rattle.relax_edges.specs.declared.kinds.Value.{Value}
 use Rattle.relax_edges.specs.declared.kinds.Value.TheVariants.{Num}
 use Rattle.final_cond.specs.Conditions.{LeftSeen, InRegister, AtPlace}
@@ -19,7 +20,6 @@ use Rattle.program_meaning.specs.Programs.{Program, runs_of, held_in, accesses_i
 use Rattle.test_laws.specs.FinalStates.{final_state}
 use Rattle.exec_meaning.specs.Runs.{ended_run}
 use Rattle.exec_meaning.specs.Finals.{registers_at, all_registers, places_at}
-use Rattle.exec_meaning.proofs.Every.{by_test}
 
 -- the first of two values, where it is there, and else the second
 abbrev or_else : Option Value → Option Value → Option Value

@@ -2,7 +2,7 @@
 use Rattle.std.proofs.Common.{◌≡◌, ℕ, zero, suc, ◌+◌, ◌≤◌, true, false, List, [], ◌∷◌, ◌++◌, length, map, take, Option, Some, None, slice_get, refl, sym, ap, subst, ◌∙◌, arith}
 use Rattle.std.specs.Prelude.{option_map}
 use Rattle.std.proofs.lemmas.List.{take_more, take_all, map_push, length-map}
-use Rattle.std.proofs.lemmas.Option.{get_or_from_slice_get, slice_get_within}
+use Rattle.std.proofs.lemmas.Option.{get_or_from_slice_get, slice_get_within, same_Some}
 use Rattle.std.proofs.Math.Bool.{and-false}
 use Rattle.relax_edges.specs.declared.kinds.Value.{Value}
 use Rattle.micro_ops.specs.declared.operation.Micro.{Micro}
@@ -17,7 +17,6 @@ use Rattle.program_meaning.specs.Accesses.{Access, visits_of, accesses_of}
 use Rattle.program_meaning.specs.Executions.{Execution, IsExecutionOf}
 use Rattle.program_meaning.specs.Programs.{Program, Thread, run_of, runs_of, made_in, HasEnded, IsCandidate, items_in, visits_in, accesses_in}
 use Rattle.exec_meaning.specs.Runs.{ended_run, has_ended, all_ended, IsRun, IsRunIn}
-use Rattle.exec_meaning.proofs.Every.{some_is}
 
 -- the run of a thread among those of all
 run_got : (threads : List ThreadRead) (reads : List (List (ℕ × Option WriteAt))) (k : ℕ) (t : ThreadRead) (rs : List (ℕ × Option WriteAt)) → slice_get threads k ≡ Some t → slice_get reads k ≡ Some rs
@@ -25,7 +24,7 @@ run_got : (threads : List ThreadRead) (reads : List (List (ℕ × Option WriteAt
 run_got [] reads k t rs h g = cc h
 run_got (u ∷ threads) [] k t rs h g = cc g
 run_got (u ∷ threads) (r ∷ reads) zero t rs h g =
-    let a : u ≡ t = some_is u t h in let b : r ≡ rs = some_is r rs g in
+    let a : u ≡ t = same_Some u t h in let b : r ≡ rs = same_Some r rs g in
     ap Some (ap (λ v. run_of (thread_read v) r) a ∙ ap (run_of (thread_read t)) b)
 run_got (u ∷ threads) (r ∷ reads) (suc k) t rs h g = run_got threads reads k t rs h g
 
@@ -38,7 +37,7 @@ record Known (threads : List ThreadRead) (k : ℕ) (code : List Micro) (init : L
 known_if : (threads : List ThreadRead) (k : ℕ) (code : List Micro) (init : List (ℕ × Value)) (o : Option ThreadRead) → slice_get threads k ≡ o
     → option_map (λ (t : ThreadRead). t.code) o ≡ Some code → option_map (λ (t : ThreadRead). t.init) o ≡ Some init → Known threads k code init
 known_if threads k code init None e c i = cc c
-known_if threads k code init (Some t) e c i = record { thread = t; got = e; code_is = some_is t.code code c; init_is = some_is t.init init i }
+known_if threads k code init (Some t) e c i = record { thread = t; got = e; code_is = same_Some t.code code c; init_is = same_Some t.init init i }
 
 -- the run of a thread among those of all is that of its code, initial registers and values
 pub run_is : (threads : List ThreadRead) (reads : List (List (ℕ × Option WriteAt))) (k : ℕ) (code : List Micro) (init : List (ℕ × Value)) (rs : List (ℕ × Option WriteAt)) (values : List ℕ)
@@ -108,7 +107,7 @@ ended_each traces all e k run h = of_map traces k (subst (λ l. slice_get l k �
   where
     of_map : (ts : List EndedRun) (k : ℕ) → slice_get (map ended_run ts) k ≡ Some run → HasEnded run
     of_map [] k h = cc h
-    of_map (t ∷ ts) zero h = subst HasEnded (some_is (ended_run t) run h) tt
+    of_map (t ∷ ts) zero h = subst HasEnded (same_Some (ended_run t) run h) tt
     of_map (t ∷ ts) (suc k) h = of_map ts k h
 
 ended_by : (run : Outcome) → HasEnded run → has_ended run ≡ true

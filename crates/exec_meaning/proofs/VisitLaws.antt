@@ -1,6 +1,7 @@
 -- The accesses among the items of a run, found one after another.
 use Rattle.std.proofs.Common.{◌≡◌, ℕ, suc, ◌+◌, ◌≤◌, List, [], ◌∷◌, ◌++◌, length, drop, Option, Some, None, slice_get, arith, refl, sym, ap, ◌∙◌, append_assoc}
 use Rattle.std.proofs.lemmas.List.{drop_all, append-nil}
+use Rattle.list_laws.proofs.Elements.{drop_given}
 use Rattle.relax_edges.specs.declared.kinds.Dir.{Dir}
 use Rattle.relax_edges.specs.declared.kinds.Mark.{Mark}
 use Rattle.micro_ops.specs.declared.operation.Barrier.{Barrier}
@@ -8,7 +9,6 @@ use Rattle.micro_ops.specs.declared.operation.Item.{Item}
 use Rattle.micro_ops.specs.declared.operation.Item.TheVariants as items
 use Rattle.program_meaning.specs.Accesses.{Access, Barred, Visit, visits_from, visits_of, accesses_of}
 use Rattle.exec_meaning.specs.Runs.{access_in}
-use Rattle.exec_meaning.proofs.Every.{dropped}
 
 -- barriers don't change the accesses
 same_accesses : (passed more : List Barred) (made : List Item) → accesses_of (visits_from passed made) ≡ accesses_of (visits_from more made)
@@ -39,7 +39,7 @@ after_items made i found all h e = sym (append-nil found) ∙ sym (ap (λ l. fou
 -- after an item, the accesses found have that of the item, if it is one
 pub after_item : (made : List Item) (i : ℕ) (item : Item) (found all : List Access) → slice_get made i ≡ Some item
     → found ++ accesses_of (visits_of (drop i made)) ≡ all → (found ++ access_in item) ++ accesses_of (visits_of (drop (i + 1) made)) ≡ all
-after_item made i item found all is h = of_item item (dropped made i item is)
+after_item made i item found all is h = of_item item (drop_given made i item is)
   where
     of_item : (item : Item) → ItemAt made i item → (found ++ access_in item) ++ accesses_of (visits_of (drop (i + 1) made)) ≡ all
     of_item (items.Access dir mark place value a d c) e = after_access made i dir mark place value a d c found all e h

@@ -5,11 +5,12 @@ use Rattle.std.specs.List.{All, AllByRecursion, enumerate_from, flat_map, list_a
 use Rattle.std.proofs.lemmas.List.{length-map}
 use Rattle.std.proofs.lemmas.List.Elements.{All-head, All-tail}
 use Rattle.std.proofs.lemmas.List.FromFn.{length-enumerate_from}
+use Rattle.std.proofs.lemmas.Bool.{and_parts}
+use Rattle.list_laws.proofs.Elements.{all_append}
 use Rattle.text_laws.specs.Names.{is_place_name}
 use Rattle.text_laws.specs.Words.{words}
 use Rattle.litmus_text.specs.TestText.{ended}
 use Rattle.litmus_text.specs.declared.limits.TheConstants.{MAX_TEXT}
-use Rattle.litmus_text.proofs.CutBack.{both}
 use Rattle.program_meaning.specs.declared.WriteAt.{WriteAt}
 use Rattle.program_meaning.specs.Executions.{Execution}
 use Rattle.execution_text.specs.declared.errors.ExecKind.TheVariants.{BadThread, BadRead, BadPlace, BadWrite}
@@ -28,10 +29,6 @@ each P Q f (x ∷ xs) h = (f x (All-head P x xs h), each P Q f xs (All-tail P x 
 each_word : {X : Type 0} (P : X → Type 0) (word : X → List ℕ) → ((x : X) → P x → IsWord (word x)) → (xs : List X) → All P xs → AllByRecursion IsWord (map word xs)
 each_word P word f [] h = tt
 each_word P word f (x ∷ xs) h = (f x (All-head P x xs h), each_word P word f xs (All-tail P x xs h))
-
-both_lists : {X : Type 0} (Q : X → Type 0) (xs ys : List X) → AllByRecursion Q xs → AllByRecursion Q ys → AllByRecursion Q (xs ++ ys)
-both_lists Q [] ys h k = k
-both_lists Q (x ∷ xs) ys h k = (h.0, both_lists Q xs ys h.1 k)
 
 -- the lines of threads from number k on
 threads_back : (threads n k : ℕ) (lists : List (List (ℕ × Option WriteAt))) (rest : List (List ℕ)) → threads ≤ MAX_TEXT → k + length lists ≤ MAX_TEXT → All (All (ReadFits threads)) lists
@@ -53,7 +50,7 @@ places_back threads n [] [] h e names f = refl
 places_back threads n [] (order ∷ orders) h e names f = absurd (omega (arith, e))
 places_back threads n (place ∷ places) [] h e names f = absurd (omega (arith, e))
 places_back threads n (place ∷ places) (order ∷ orders) h e names f =
-    let named = both (is_place_name place) (list_all is_place_name places) names in
+    let named = and_parts (is_place_name place) (list_all is_place_name places) names in
     let fits : All (AccessFits threads) order = All-head (All (AccessFits threads)) order orders f in
     let told : line_told BadPlace BadWrite (access_named threads) (place_head place) (words (place_line (place, order))) ≡ Ok order =
     line_back BadPlace BadWrite (access_named threads) access_word (place_head place) order (place_is_word place named.0)
@@ -75,7 +72,7 @@ places_printed : (threads : ℕ) (places : List (List ℕ)) (orders : List (List
 places_printed threads [] orders h names f = tt
 places_printed threads (place ∷ places) [] h names f = tt
 places_printed threads (place ∷ places) (order ∷ orders) h names f =
-    let named = both (is_place_name place) (list_all is_place_name places) names in (
+    let named = and_parts (is_place_name place) (list_all is_place_name places) names in (
       line_printed (place_head place) (map access_word order) (place_is_word place named.0)
           (each_word (AccessFits threads) access_word (access_is_word threads h) order (All-head (All (AccessFits threads)) order orders f)),
       places_printed threads places orders h named.1 (All-tail (All (AccessFits threads)) order orders f),
@@ -100,7 +97,7 @@ written_reads_back threads places x f =
     let lines : List (List ℕ) = map thread_line (enumerate_from 0 x.reads) in
     let others : List (List ℕ) = map place_line (zip places x.orders) in
     let many : 0 + length x.reads ≤ MAX_TEXT = omega (arith, h, f.thread_lists) in
-    let printed = both_lists (λ line. list_all is_printed line ≡ true) lines others (threads_printed threads 0 x.reads h many f.reads) (places_printed threads places x.orders h f.names f.orders) in
+    let printed = all_append (λ line. list_all is_printed line ≡ true) lines others (threads_printed threads 0 x.reads h many f.reads) (places_printed threads places x.orders h f.names f.orders) in
     let reads : threads_told threads (lines ++ others) ≡ Ok (x.reads, others) =
     ap (λ n. lines_told (line_told BadThread BadRead (read_named threads)) 1 (map thread_head (range_with_len 0 n)) (lines ++ others)) (sym f.thread_lists)
     ∙ threads_back threads 1 0 x.reads others h many f.reads in

@@ -1,20 +1,16 @@
 -- The first line of a text.
 use Rattle.std.proofs.Common.{◌≡◌, ◌==◌, ◌<◌, ℕ, List, [], ◌∷◌, true, false, get_or, length, refl, ap, ◌∙◌, arith}
-use Rattle.std.specs.Prelude.{Bool, not}
+use Rattle.std.specs.Prelude.{not}
 use Rattle.std.specs.List.{list_all, All, slice_split}
-use Rattle.std.proofs.lemmas.Bool.{eq-eqb}
+use Rattle.std.proofs.lemmas.Bool.{eq-eqb, not-true}
 use Rattle.std.proofs.lemmas.List.Sums.{AllPass-from_list_all}
 use Rattle.std.proofs.lemmas.List.Splits.{slice_split_none, slice_split_at, length-slice_split}
 use Rattle.text_laws.specs.Lines.{is_line_feed, without_return}
 use Rattle.text_laws.specs.Cuts.{CutParts}
 use Rattle.execution_text.specs.ExecutionText.{lines_in, lines_of}
 
-not_true : (b : Bool) → not b ≡ true → b ≡ false
-not_true true e = cc
-not_true false e = refl
-
 no_feed : (text : List ℕ) → list_all (λ byte. not (byte == 10)) text ≡ true → All (λ byte. is_line_feed byte ≡ false) text
-no_feed text h i d k = not_true (get_or text i d == 10) (AllPass-from_list_all (λ byte. not (byte == 10)) text h i d k)
+no_feed text h i d k = not-true (get_or text i d == 10) (AllPass-from_list_all (λ byte. not (byte == 10)) text h i d k)
 
 -- there is a piece before others
 before_others : (front : List ℕ) (pieces : List (List ℕ)) → 0 < length pieces → lines_in (front ∷ pieces) ≡ without_return front ∷ lines_in pieces

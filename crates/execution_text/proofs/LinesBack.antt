@@ -7,12 +7,14 @@ use Rattle.std.proofs.lemmas.Bool.Decides.{nat_tests}
 use Rattle.std.proofs.lemmas.List.{append-nil}
 use Rattle.std.proofs.lemmas.List.Splits.{slice_split_at, slice_split_none}
 use Rattle.std.proofs.lemmas.List.Sums.{AllPass-from_list_all}
+use Rattle.std.proofs.lemmas.Bool.{and_parts}
+use Rattle.list_laws.proofs.Elements.{list_all-weaker}
 use Rattle.text_laws.specs.Blanks.{is_blank}
 use Rattle.text_laws.specs.Words.{is_nil, words}
 use Rattle.text_laws.specs.Lines.{without_return}
 use Rattle.litmus_text.specs.TestText.{ended}
 use Rattle.text_laws.specs.Cuts.{CutParts}
-use Rattle.litmus_text.proofs.CutBack.{all_both, both, bytes_same, weaker, without_class}
+use Rattle.litmus_text.proofs.CutBack.{all_both, bytes_same, without_class}
 use Rattle.execution_text.specs.declared.errors.ExecKind.{ExecKind}
 use Rattle.execution_text.specs.ExecutionText.{all_named, line_told, lines_of}
 use Rattle.execution_text.specs.Written.{line_of}
@@ -52,11 +54,11 @@ words_back word (next ∷ others) w h =
 further_printed : (others : List (List ℕ)) → AllByRecursion IsWord others → list_all is_printed (further others) ≡ true
 further_printed [] h = refl
 further_printed (word ∷ others) h =
-    all_both is_printed (codes " " ++ word) (further others) (weaker is_graphic is_printed graphic_printed word h.0.bytes) (further_printed others h.1)
+    all_both is_printed (codes " " ++ word) (further others) (list_all-weaker is_graphic is_printed graphic_printed word h.0.bytes) (further_printed others h.1)
 
 -- a line of words has bytes of lines alone
 pub line_printed : (word : List ℕ) (others : List (List ℕ)) → IsWord word → AllByRecursion IsWord others → list_all is_printed (line_of (word ∷ others)) ≡ true
-line_printed word others w h = all_both is_printed word (further others) (weaker is_graphic is_printed graphic_printed word w.bytes) (further_printed others h)
+line_printed word others w h = all_both is_printed word (further others) (list_all-weaker is_graphic is_printed graphic_printed word w.bytes) (further_printed others h)
 
 -- words that were written of things name these
 named_back : {X : Type 0} (bad : ExecKind) (name : List ℕ → Option X) (word : X → List ℕ) (xs : List X) → AllByRecursion (λ x. name (word x) ≡ Some x) xs
@@ -78,9 +80,9 @@ no_return byte h = grind (arith, nat_tests)
 keeps_end : (line : List ℕ) → list_all is_printed line ≡ true → without_return line ≡ line
 unfolding without_return
 keeps_end [] h = refl
-keeps_end (byte ∷ []) h = let parts = both (is_printed byte) true h in rw (no_return byte parts.0) refl
+keeps_end (byte ∷ []) h = let parts = and_parts (is_printed byte) true h in rw (no_return byte parts.0) refl
 keeps_end (byte ∷ next ∷ line) h =
-    let parts = both (is_printed byte) (list_all is_printed (next ∷ line)) h in ap (λ rest. byte ∷ rest) (keeps_end (next ∷ line) parts.1)
+    let parts = and_parts (is_printed byte) (list_all is_printed (next ∷ line)) h in ap (λ rest. byte ∷ rest) (keeps_end (next ∷ line) parts.1)
 
 -- a text has the lines of which it is made
 pub lines_back : (lines : List (List ℕ)) → AllByRecursion (λ line. list_all is_printed line ≡ true) lines → lines_of (flat_map ended lines) ≡ lines

@@ -1,5 +1,5 @@
 -- The text that is written of an execution isn't too long, where it has no more threads, places, reads and writes than tests have.
-use Rattle.std.proofs.Common.{◌≡◌, ◌≤◌, ◌<◌, ◌^◌, ◌+◌, ◌*◌, ℕ, suc, List, [], ◌∷◌, ◌++◌, map, length, true, ap, arith, length-append}
+use Rattle.std.proofs.Common.{◌≡◌, ◌≤◌, ◌<◌, ◌^◌, ◌+◌, ◌*◌, ℕ, List, [], ◌∷◌, ◌++◌, map, length, true, ap, arith, length-append, suc-mul}
 use Rattle.std.specs.Prelude.{codes, Option, Some, None}
 use Rattle.std.specs.Fmt.{decimal}
 use Rattle.std.specs.List.{All, enumerate_from, flat_map, list_all, zip}
@@ -9,11 +9,11 @@ use Rattle.std.proofs.lemmas.List.Concat.{length-flat_map}
 use Rattle.std.proofs.lemmas.List.Elements.{All-head, All-map, All-tail}
 use Rattle.std.proofs.lemmas.List.{length-map}
 use Rattle.std.proofs.lemmas.List.Sums.{sum_by-le}
+use Rattle.std.proofs.lemmas.Bool.{and_parts}
 use Rattle.text_laws.specs.Names.{is_place_name}
 use Rattle.text_laws.proofs.NameLaws.{place_name_short}
 use Rattle.litmus_text.specs.TestText.{ended}
 use Rattle.litmus_text.specs.declared.limits.TheConstants.{MAX_TEXT, MAX_THREADS, MAX_ACCESSES}
-use Rattle.litmus_text.proofs.CutBack.{both}
 use Rattle.program_meaning.specs.declared.WriteAt.{WriteAt}
 use Rattle.program_meaning.specs.Executions.{Execution}
 use Rattle.execution_text.specs.ExecutionText.{place_head, thread_head}
@@ -69,9 +69,6 @@ line_short P word f head h xs few all =
     let words = further_short (map word xs) (All-map (λ w. length w ≤ 16) word xs (λ i d k. f _ (all i d k))) in
     omega (arith, h, few, words, length-map xs word, length-append head (further (map word xs)), length-append (line_of (head ∷ map word xs)) (codes "\n"))
 
-suc_times : (n c : ℕ) → suc n * c ≡ c + n * c
-suc_times n c = omega arith
-
 -- the lines of threads from number k on, with their line feeds
 threads_short : (threads k : ℕ) (lists : List (List (ℕ × Option WriteAt))) → threads ≤ MAX_THREADS → k + length lists ≤ MAX_THREADS
     → All (All (ReadFits threads)) lists → All (λ reads. length reads ≤ MAX_ACCESSES) lists
@@ -81,7 +78,7 @@ threads_short threads k (reads ∷ lists) h b f few =
     let fits : All (ReadFits threads) reads = All-head (All (ReadFits threads)) reads lists f in
     let line = line_short (ReadFits threads) read_word (read_short threads h) (thread_head k) (thread_head_short k (omega (arith, b))) reads (All-head (λ rs. length rs ≤ MAX_ACCESSES) reads lists few) fits in
     let rest = threads_short threads (k + 1) lists h (omega (arith, b)) (All-tail (All (ReadFits threads)) reads lists f) (All-tail (λ rs. length rs ≤ MAX_ACCESSES) reads lists few) in
-    omega (arith, line, rest, suc_times (length lists) 1200, length-append (ended (thread_line (k, reads))) (flat_map ended (map thread_line (enumerate_from (k + 1) lists))))
+    omega (arith, line, rest, suc-mul (length lists) 1200, length-append (ended (thread_line (k, reads))) (flat_map ended (map thread_line (enumerate_from (k + 1) lists))))
 
 -- the lines of places
 places_short : (threads : ℕ) (places : List (List ℕ)) (orders : List (List WriteAt)) → threads ≤ MAX_THREADS → list_all is_place_name places ≡ true
@@ -90,12 +87,12 @@ places_short : (threads : ℕ) (places : List (List ℕ)) (orders : List (List W
 places_short threads [] orders h names f few = omega arith
 places_short threads (place ∷ places) [] h names f few = omega arith
 places_short threads (place ∷ places) (order ∷ orders) h names f few =
-    let named = both (is_place_name place) (list_all is_place_name places) names in
+    let named = and_parts (is_place_name place) (list_all is_place_name places) names in
     let fits : All (AccessFits threads) order = All-head (All (AccessFits threads)) order orders f in
     let word : (w : WriteAt) → AccessFits threads w → length (access_word w) ≤ 16 = λ w g. omega (arith, access_short threads h w g) in
     let line = line_short (AccessFits threads) access_word word (place_head place) (place_head_short place named.0) order (All-head (λ ws. length ws ≤ MAX_ACCESSES) order orders few) fits in
     let rest = places_short threads places orders h named.1 (All-tail (All (AccessFits threads)) order orders f) (All-tail (λ ws. length ws ≤ MAX_ACCESSES) order orders few) in
-    omega (arith, line, rest, suc_times (length orders) 1200, length-append (ended (place_line (place, order))) (flat_map ended (map place_line (zip places orders))))
+    omega (arith, line, rest, suc-mul (length orders) 1200, length-append (ended (place_line (place, order))) (flat_map ended (map place_line (zip places orders))))
 
 -- An execution that has no more threads and places than a test, and no more reads in a thread and writes of a place than a
 -- thread has accesses. A text can name its places, reads and writes.

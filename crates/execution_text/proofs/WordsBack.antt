@@ -9,13 +9,16 @@ use Rattle.std.proofs.lemmas.Bool.{lt-ltb}
 use Rattle.std.proofs.lemmas.Bool.Decides.{nat_tests}
 use Rattle.std.proofs.lemmas.Fmt.{digits_decimal}
 use Rattle.std.proofs.lemmas.Slice.Eq.{bytes_eq-Decides}
+use Rattle.list_laws.proofs.Digits.{digits_model}
+use Rattle.list_laws.proofs.Elements.{list_all-weaker}
+use Rattle.list_laws.proofs.Cases.{by_test}
 use Rattle.text_laws.specs.Names.{begins_place, is_place_byte, is_place_name}
 use Rattle.text_laws.proofs.NameLaws.{place_shaped, shaped_all}
-use Rattle.text_laws.proofs.NumberLaws.{own, number_of-decimal}
+use Rattle.text_laws.proofs.NumberLaws.{number_of-decimal}
 use Rattle.text_laws.specs.Cuts.{cut_at}
 use Rattle.text_laws.specs.Words.{is_nil}
 use Rattle.litmus_text.specs.declared.limits.TheConstants.{MAX_TEXT, MAX_ACCESSES}
-use Rattle.litmus_text.proofs.CutBack.{all_both, by_test, weaker, without_class}
+use Rattle.litmus_text.proofs.CutBack.{all_both, without_class}
 use Rattle.text_laws.proofs.CutLaws.{cut_back, cut_none}
 use Rattle.program_meaning.specs.declared.WriteAt.{WriteAt}
 use Rattle.execution_text.specs.ExecutionText.{access_in, access_named, kept_below, number_below, place_head, read_in, read_named, source_named, thread_head}
@@ -46,10 +49,10 @@ some_text [] behind byte = refl
 some_text (b ∷ front) behind byte = refl
 
 digits_are : (n : ℕ) → n < 2 ^ 32 → list_all is_ascii_digit (decimal n) ≡ true
-digits_are n h = digits_decimal own n (omega (arith, h))
+digits_are n h = digits_decimal digits_model n (omega (arith, h))
 
 digits_graphic : (n : ℕ) → n < 2 ^ 32 → list_all is_graphic (decimal n) ≡ true
-digits_graphic n h = weaker is_ascii_digit is_graphic digit_graphic (decimal n) (digits_are n h)
+digits_graphic n h = list_all-weaker is_ascii_digit is_graphic digit_graphic (decimal n) (digits_are n h)
 
 -- a number below a bound
 number_back : (bound n : ℕ) → n < bound → n < 2 ^ 32 → number_below bound (decimal n) ≡ Some n

@@ -5,6 +5,7 @@ use Rattle.std.specs.Option.{option_map}
 use Rattle.std.proofs.lemmas.Bool.{and_parts, leb-true, le-ltb}
 use Rattle.std.proofs.lemmas.List.{length-map}
 use Rattle.std.proofs.lemmas.List.Sums.{count_by-le-length}
+use Rattle.list_laws.proofs.Elements.{all_append}
 use Rattle.relax_edges.specs.declared.kinds.ObsMode.TheVariants.{Accept}
 use Rattle.relax_edges.specs.declared.edge.Edge.{Edge}
 use Rattle.list_laws.specs.Numbers.{upto}
@@ -19,7 +20,6 @@ use Rattle.arch_trait.specs.Links.{is_addr}
 use Rattle.arch_trait.specs.Threads.{Puts, is_load_dir, is_store_dir, places_in, shape_of, visits}
 use Rattle.test_laws.specs.Steps.{cycle_steps, event_step, observing, observer_steps, thread_steps}
 use Rattle.test_laws.specs.TestOf.{plain}
-use Rattle.test_laws.proofs.Everywhere.{all_joined}
 use Rattle.test_maker.specs.declared.refusal.MakeRefusal.TheVariants.{TooManyRegisters}
 use Rattle.test_maker.specs.Refusals.{crowded_thread, is_crowded}
 
@@ -86,7 +86,7 @@ short_steps : (es : List Edge) → is_small es ≡ true → AllByRecursion IsSho
 unfolding cycle_steps
 short_steps es small =
     let p = and_parts (few_events (events_in es) (external_count es)) (few_writes (write_count es) (move_count es)) small in
-    all_joined IsShort (map (thread_steps es plain) (upto (external_count es))) (map (observer_steps es plain) (observed_locations es Accept))
+    all_append IsShort (map (thread_steps es plain) (upto (external_count es))) (map (observer_steps es plain) (observed_locations es Accept))
     (short_mapped (thread_steps es plain) (λ thread. length (events_in es thread)) (λ thread. length-map (events_in es thread) (event_step es plain)) (upto (external_count es)) p.0)
     (short_mapped (observer_steps es plain) (write_count es) (λ location. length-map-upto (observing (plain location)) (write_count es location)) (observed_locations es Accept)
     (kept_pass (λ location. nat_le (write_count es location) 2) (is_observed es Accept) (upto (move_count es)) p.1))

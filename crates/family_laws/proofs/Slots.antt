@@ -2,7 +2,7 @@
 use Rattle.std.proofs.Common.{◌≡◌, Bool, true, false, not, List, [], ◌∷◌, refl, sym, ◌∙◌, ap}
 use Rattle.std.specs.Prelude.{MatchBool}
 use Rattle.std.specs.List.{list_all}
-use Rattle.std.proofs.lemmas.Bool.{and_parts, and_from, not-true}
+use Rattle.std.proofs.lemmas.Bool.{and_parts, and_from, not-true, true≢false}
 use Rattle.relax_edges.specs.declared.kinds.ArchName.{ArchName}
 use Rattle.relax_edges.specs.declared.kinds.Dir.{Dir}
 use Rattle.relax_edges.specs.declared.kinds.Kind.{Kind}
@@ -29,24 +29,21 @@ same_dirs dirs.R dirs.W h = cc
 same_dirs dirs.W dirs.R h = cc
 same_dirs dirs.W dirs.W h = refl
 
-no_test : true ≡ false → ⊥
-no_test h = cc
-
 -- the bare edge of an edge that stays in its thread and leads to another location
 inner_bare : (edge : Edge) → is_external edge ≡ false → is_diff edge ≡ true → bare edge ≡ edges.Po Diff (source_of edge) (target_of edge)
 inner_bare edge inner moves = by (kind_of edge) refl inner moves
   where
     by : (kind : Kind) → kind_of edge ≡ kind → is_external edge ≡ false → is_diff edge ≡ true → bare edge ≡ edges.Po Diff (source_of edge) (target_of edge)
-    by (kinds.Com kind External) h inner moves = absurd (no_test (rw h at inner))
-    by (kinds.Com kind Internal) h inner moves = absurd (no_test (sym (rw h at moves)))
+    by (kinds.Com kind External) h inner moves = absurd (true≢false (rw h at inner))
+    by (kinds.Com kind Internal) h inner moves = absurd (true≢false (sym (rw h at moves)))
     by (kinds.Po Diff from to) h inner moves = rw h refl
-    by (kinds.Po Same from to) h inner moves = absurd (no_test (sym (rw h at moves)))
+    by (kinds.Po Same from to) h inner moves = absurd (true≢false (sym (rw h at moves)))
     by (kinds.Fenced kind Diff from to) h inner moves = rw h refl
-    by (kinds.Fenced kind Same from to) h inner moves = absurd (no_test (sym (rw h at moves)))
+    by (kinds.Fenced kind Same from to) h inner moves = absurd (true≢false (sym (rw h at moves)))
     by (kinds.Dep kind Diff to) h inner moves = rw h refl
-    by (kinds.Dep kind Same to) h inner moves = absurd (no_test (sym (rw h at moves)))
+    by (kinds.Dep kind Same to) h inner moves = absurd (true≢false (sym (rw h at moves)))
     by (kinds.Data Diff) h inner moves = rw h refl
-    by (kinds.Data Same) h inner moves = absurd (no_test (sym (rw h at moves)))
+    by (kinds.Data Same) h inner moves = absurd (true≢false (sym (rw h at moves)))
 
 -- an edge that replaces one of a family's
 record Stands (arch : ArchName) (slot edge : Edge) : Type 0 where

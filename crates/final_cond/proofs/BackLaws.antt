@@ -7,6 +7,7 @@ use Rattle.std.specs.List.{AllByRecursion, list_all}
 use Rattle.std.proofs.lemmas.Bool.{and_parts, ltb-true, not-true}
 use Rattle.std.proofs.lemmas.Bool.Decides.{nat_tests}
 use Rattle.std.proofs.lemmas.Fmt.{decimal_nonempty, digits_decimal}
+use Rattle.list_laws.proofs.Digits.{digits_model}
 use Rattle.final_cond.specs.declared.cond.Quantifier.{Quantifier}
 use Rattle.final_cond.specs.declared.cond.Quantifier.TheVariants.{Exists, NotExists, Forall}
 use Rattle.final_cond.specs.declared.cond.TheConstants.{MAX_TERMS}
@@ -20,7 +21,7 @@ use Rattle.text_laws.specs.Blanks.{is_blank, unblanked}
 use Rattle.final_cond.specs.ReadBack.{IsFormedTerm, IsFormed}
 use Rattle.final_cond.specs.Reading.{sign_read, opening_read, left_at_front, register_at_front, has_form, left_read, value_read, right_read, term_read, follow_read, terms_read, parts_read, cond_read}
 use Rattle.text_laws.proofs.NameLaws.{place_shaped, register_shaped, shaped_all}
-use Rattle.text_laws.proofs.NumberLaws.{own, number_of-decimal}
+use Rattle.text_laws.proofs.NumberLaws.{number_of-decimal}
 
 -- a text doesn't begin with a byte that passes
 abbrev pub stops : (ℕ → Bool) → List ℕ → Bool
@@ -67,7 +68,7 @@ pub record Digits (n : ℕ) : Type 0 where
 
 -- the digits of a number of 32 bits are digits, and at least one
 pub digits_of : (n : ℕ) → n < 2 ^ 32 → Digits n
-digits_of n h = record { all = digits_decimal own n (omega arith); some = decimal_nonempty n (omega arith) }
+digits_of n h = record { all = digits_decimal digits_model n (omega arith); some = decimal_nonempty n (omega arith) }
 
 register_text : (digits name rest : List ℕ) → ((digits ++ 58 ∷ []) ++ name) ++ rest ≡ digits ++ (58 ∷ (name ++ rest))
 register_text digits name rest = simp append_assoc

@@ -1,10 +1,10 @@
 -- Reading with a stricter test of left sides, as of the threads and registers of one test.
 use Rattle.std.proofs.Common.{◌≡◌, ℕ, List, refl}
 use Rattle.std.specs.Prelude.{Bool, true, cond, Option, Some, None, Ok}
+use Rattle.list_laws.proofs.Cases.{by_test}
 use Rattle.final_cond.specs.declared.errors.CondKind.TheVariants.{BadTerm}
 use Rattle.final_cond.specs.Conditions.{LeftSeen}
 use Rattle.final_cond.specs.Reading.{Read, ◌>>=◌, fault, found, only_known, left_at_front, left_read}
-use Rattle.text_laws.proofs.RunLaws.{by_test}
 
 -- a left side that was read, where it passes a stricter test too
 abbrev pub judged : (LeftSeen → Bool) → List ℕ → LeftSeen × List ℕ → Read LeftSeen

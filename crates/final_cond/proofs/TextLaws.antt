@@ -8,6 +8,7 @@ use Rattle.std.specs.List.{AllByRecursion, list_all, flat_map}
 use Rattle.std.proofs.lemmas.Bool.{and_from}
 use Rattle.std.proofs.lemmas.Bool.Decides.{nat_tests}
 use Rattle.std.proofs.lemmas.List.Folds.{list_all-append}
+use Rattle.list_laws.proofs.Elements.{list_all-weaker}
 use Rattle.final_cond.specs.declared.cond.Quantifier.{Quantifier}
 use Rattle.final_cond.specs.declared.cond.Quantifier.TheVariants.{Exists, NotExists, Forall}
 use Rattle.text_laws.specs.Names.{is_place_byte}
@@ -16,7 +17,6 @@ use Rattle.final_cond.specs.CondText.{quantifier_word, left_text, term_text, fur
 use Rattle.final_cond.specs.ReadBack.{IsFormedTerm, IsFormed}
 use Rattle.final_cond.specs.Reading.{has_form}
 use Rattle.final_cond.proofs.BackLaws.{Named, named, place_bytes, digits_of}
-use Rattle.text_laws.proofs.NameLaws.{all_weaker}
 
 -- a byte from the blank to `~`
 abbrev pub is_printable : ℕ → Bool
@@ -38,7 +38,7 @@ place_byte_printable : (byte : ℕ) → is_place_byte byte ≡ true → is_print
 place_byte_printable byte h = grind (arith, nat_tests)
 
 decimal_printable : (n : ℕ) → n < 2 ^ 32 → IsPrintable (decimal n)
-decimal_printable n h = all_weaker is_ascii_digit is_printable digit_printable (decimal n) (digits_of n h).all
+decimal_printable n h = list_all-weaker is_ascii_digit is_printable digit_printable (decimal n) (digits_of n h).all
 
 left_printable : (left : LeftSeen) → has_form left ≡ true → IsPrintable (left_text left)
 unfolding left_text
@@ -47,10 +47,10 @@ left_printable (InRegister thread name) h =
     let few : thread < 64 = n.few in
     both (decimal thread ++ codes ":") name
     (both (decimal thread) (codes ":") (decimal_printable thread (omega arith)) refl)
-    (all_weaker is_ascii_alphanumeric is_printable register_byte_printable name n.bytes)
+    (list_all-weaker is_ascii_alphanumeric is_printable register_byte_printable name n.bytes)
 left_printable (AtPlace name) h =
     both (codes "[" ++ name) (codes "]")
-    (both (codes "[") name refl (all_weaker is_place_byte is_printable place_byte_printable name (place_bytes name h))) refl
+    (both (codes "[") name refl (list_all-weaker is_place_byte is_printable place_byte_printable name (place_bytes name h))) refl
 
 term_printable : (term : TermSeen) → IsFormedTerm term → IsPrintable (term_text term)
 unfolding term_text

@@ -2,6 +2,7 @@
 use Rattle.std.proofs.Common.{◌≡◌, ℕ, zero, suc, ◌≤◌, List, [], ◌∷◌, length, subst, arith}
 use Rattle.std.specs.Prelude.{Bool, nat_eq, Option, Some, None, Result, Ok, Err, IfSome}
 use Rattle.std.specs.Char.{is_ascii_digit, is_ascii_alphanumeric}
+use Rattle.list_laws.proofs.Cases.{by_test}
 use Rattle.final_cond.specs.declared.cond.TheConstants.{MAX_TERMS}
 use Rattle.final_cond.specs.declared.errors.CondKind.{CondKind}
 use Rattle.final_cond.specs.declared.errors.CondKind.TheVariants.{BadQuantifier, BadTerm, BadValue}
@@ -14,7 +15,7 @@ use Rattle.text_laws.specs.Runs.{run_of, after_run}
 use Rattle.text_laws.specs.Blanks.{is_blank, unblanked}
 use Rattle.final_cond.specs.Reading.{Fault, Read, ◌>>=◌, sign_at_front, sign_read, found, before_text, quantifier_of, quantifier_at_front, opening_read, bracket_closed, bracketed_at_front, register_of_thread, register_at_front, left_at_front, known_left, only_known, left_read, value_at_front, value_read, right_read, term_read, and_at_front, follow_at_front, follow_read, and_further, terms_read, end_at_front, parts_read}
 use Rattle.text_laws.specs.Words.{is_word_byte}
-use Rattle.text_laws.proofs.RunLaws.{by_test, after_run-le}
+use Rattle.text_laws.proofs.RunLaws.{after_run-le}
 
 -- the text after what was read, or from the fault on, has at most so many bytes
 abbrev Stays : {A : Type 0} → (A → List ℕ) → ℕ → Result A Fault → Type 0

@@ -1,8 +1,9 @@
 -- Every barrier, and what a test of all of them says of each.
 -- Source: own.
-use Rattle.std.proofs.Common.{ℕ, zero, suc, ◌≡◌, refl, true, false, Bool, not, ◌||◌, List, [], ◌∷◌, Some, arith}
+use Rattle.std.proofs.Common.{ℕ, zero, suc, ◌≡◌, refl, true, Bool, not, ◌||◌, List, [], ◌∷◌, Some, arith}
 use Rattle.std.specs.List.{list_all, slice_get}
 use Rattle.std.proofs.lemmas.Bool.{and_parts}
+use Rattle.list_laws.proofs.Cases.{implied}
 use Rattle.relax_edges.specs.EdgeTable.{fence_is_of}
 use Rattle.relax_edges.specs.declared.kinds.ArchName.{ArchName}
 use Rattle.relax_edges.specs.declared.kinds.FenceKind.{FenceKind}
@@ -67,10 +68,6 @@ each_fence p h kind = each_barrier (on_fence p) h (barriers.Fence kind)
 -- a table has a fence, or it isn't one of the architecture's
 abbrev pub has_or_not : ArchName → TableText → FenceKind → Bool
 has_or_not name t kind = not (fence_is_of kind name) || table_has t (ops.Barrier (barriers.Fence kind))
-
-implied : (a b : Bool) → (not a || b) ≡ true → a ≡ true → b ≡ true
-implied true b h e = h
-implied false b h e = cc
 
 -- a table that has all fences of an architecture has each
 pub fences_had : (name : ArchName) (t : TableText) → list_all (on_fence (has_or_not name t)) all_barriers ≡ true →

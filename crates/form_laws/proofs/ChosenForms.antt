@@ -5,9 +5,9 @@ use Rattle.std.specs.List.{list_all, list_any}
 use Rattle.std.specs.Str.{bytes_eq}
 use Rattle.std.proofs.lemmas.Bool.{and_parts, not-true}
 use Rattle.std.proofs.lemmas.Slice.Eq.{bytes_eq-Decides}
+use Rattle.list_laws.proofs.Cases.{by_test}
 use Rattle.micro_ops.specs.declared.operation.Micro.{Micro}
 use Rattle.arch_trait.specs.Writing.{RawInstr}
-use Rattle.arch_trait.proofs.Taking.{by_test}
 use Rattle.form_laws.specs.declared.kind.Operand.{Operand}
 use Rattle.form_laws.specs.Kinds.{operands_of, raw_with}
 use Rattle.form_laws.specs.Tables.{PieceText, FormText, fits, fits_if, does, piece_texts, given, form_written, first_written, pieces_found, form_found, raw_or, first_read}

@@ -5,11 +5,12 @@ use Rattle.std.specs.Str.{bytes_eq}
 use Rattle.std.proofs.lemmas.Bool.{and_parts, and_from, leb-true, ltb-true}
 use Rattle.std.proofs.lemmas.Bool.Decides.{nat_tests}
 use Rattle.std.proofs.lemmas.Fmt.{length-decimal-le}
+use Rattle.list_laws.proofs.Elements.{list_all-weaker}
 use Rattle.text_laws.specs.Names.{is_place_name}
 use Rattle.text_laws.specs.Words.{is_word_byte}
 use Rattle.text_laws.specs.Blanks.{is_blank, unblanked}
 use Rattle.text_laws.specs.Runs.{run_of, after_run}
-use Rattle.text_laws.proofs.NameLaws.{all_weaker, place_name_short}
+use Rattle.text_laws.proofs.NameLaws.{place_name_short}
 use Rattle.micro_ops.specs.declared.operation.Micro.{Micro}
 use Rattle.micro_ops.specs.declared.operation.Micro.TheVariants as ops
 use Rattle.arch_trait.specs.Cells.{is_cell_byte, first_word, ends_rows, is_label_op, WritesCells}
@@ -36,7 +37,7 @@ fixed_cell_byte : (b : ℕ) → is_fixed_byte b ≡ true → is_cell_byte b ≡ 
 fixed_cell_byte b h = (and_parts (is_cell_byte b) (not (is_blank b) && not (b == 44)) h).0
 
 fixed_cell : (t : List ℕ) → list_all is_fixed_byte t ≡ true → list_all is_cell_byte t ≡ true
-fixed_cell t h = all_weaker is_fixed_byte is_cell_byte fixed_cell_byte t h
+fixed_cell t h = list_all-weaker is_fixed_byte is_cell_byte fixed_cell_byte t h
 
 -- what is in a hole has at most so many bytes
 filled_short : (names : ℕ → List ℕ) (h : Hole) (vs : List Operand) → is_hole_good h ≡ true → fits_first h vs ≡ true →

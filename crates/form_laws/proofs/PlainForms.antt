@@ -6,9 +6,10 @@ use Rattle.std.specs.Str.{bytes_eq}
 use Rattle.std.proofs.lemmas.Bool.{and_parts, and_from, and_right, leb-true, ltb-true}
 use Rattle.std.proofs.lemmas.List.Folds.{list_all-append}
 use Rattle.std.proofs.lemmas.Slice.Eq.{bytes_eq-Decides}
+use Rattle.list_laws.proofs.Elements.{list_all-weaker}
+use Rattle.list_laws.proofs.Cases.{by_test}
 use Rattle.text_laws.specs.Names.{is_place_name}
 use Rattle.final_cond.proofs.BackLaws.{digits_of}
-use Rattle.text_laws.proofs.NameLaws.{all_weaker}
 use Rattle.arch_trait.specs.Cells.{is_cell_byte}
 use Rattle.arch_trait.specs.Reading.{few}
 use Rattle.arch_trait.specs.Writing.{is_plain, all_plain, is_label_name, label_name, label_word}
@@ -16,7 +17,6 @@ use Rattle.arch_laws.proofs.CellTexts.{all_both}
 use Rattle.arch_laws.proofs.FormBacks.{label_plain}
 use Rattle.arch_trait.proofs.PlainTexts.{decimal_plain, place_name_plain}
 use Rattle.arch_trait.proofs.Spelling.{is_word_byte}
-use Rattle.arch_trait.proofs.Taking.{by_test}
 use Rattle.form_laws.specs.declared.form.Hole.{Hole}
 use Rattle.form_laws.specs.declared.form.Hole.TheVariants as holes
 use Rattle.form_laws.specs.declared.kind.Operand.{Operand}
@@ -36,7 +36,7 @@ fixed_word_byte : (b : ℕ) → is_fixed_byte b ≡ true → is_word_byte b ≡ 
 fixed_word_byte b h = (and_parts (is_cell_byte b) (is_word_byte b) h).1
 
 fixed_word : (t : List ℕ) → list_all is_fixed_byte t ≡ true → list_all is_word_byte t ≡ true
-fixed_word t h = all_weaker is_fixed_byte is_word_byte fixed_word_byte t h
+fixed_word t h = list_all-weaker is_fixed_byte is_word_byte fixed_word_byte t h
 
 -- the bytes of a first word are fixed bytes
 first_fixed : (b : ℕ) → is_first_byte b ≡ true → is_fixed_byte b ≡ true
@@ -44,7 +44,7 @@ first_fixed b h = (and_parts (is_fixed_byte b) (not (b == 40)) h).0
 
 -- the bytes of a first word may be in fixed texts
 pub first_word_fixed : (t : List ℕ) → list_all is_first_byte t ≡ true → list_all is_fixed_byte t ≡ true
-first_word_fixed t h = all_weaker is_first_byte is_fixed_byte first_fixed t h
+first_word_fixed t h = list_all-weaker is_first_byte is_fixed_byte first_fixed t h
 
 -- the word of a form is plain
 pub word_plain : (t : List ℕ) → nat_le 1 (length t) ≡ true → list_all is_first_byte t ≡ true → is_plain t ≡ true

@@ -6,12 +6,12 @@ use Rattle.std.specs.Prelude.{nat_le, nat_lt, ◌==◌, length, get_or, option_m
 use Rattle.std.specs.List.{list_any}
 use Rattle.std.specs.Str.{bytes_eq}
 use Rattle.std.proofs.lemmas.Bool.{and_from, or_left, or_right, eq-eqb}
+use Rattle.list_laws.proofs.Cases.{by_test}
 use Rattle.text_laws.specs.Numbers.{number_of}
 use Rattle.micro_ops.specs.declared.operation.Micro.{Micro}
 use Rattle.micro_ops.specs.declared.operation.Micro.TheVariants as ops
 use Rattle.arch_trait.specs.Writing.{OperandTexts, none, one, two, three, four, more, RawInstr, Written, immediate, at_most, register_at, label_raw}
 use Rattle.arch_trait.specs.Forms.{label_alone}
-use Rattle.arch_trait.proofs.Taking.{by_test}
 use Rattle.form_laws.specs.declared.form.Hole.{Hole}
 use Rattle.form_laws.specs.declared.form.Hole.TheVariants as holes
 use Rattle.form_laws.specs.declared.form.Labels.{Labels}

@@ -1,5 +1,5 @@
 -- Cases to split on, with the goal given first: a test is true or false, a number is below another or not.
-use Rattle.std.proofs.Common.{◌≡◌, ℕ, ◌<◌, ◌≤◌, Bool, true, false, Option, Some, None, refl, inl, inr}
+use Rattle.std.proofs.Common.{◌≡◌, ℕ, ◌<◌, ◌≤◌, Bool, true, false, Option, Some, None, refl, inl, inr, not, ◌||◌}
 use Rattle.std.specs.Prelude.{◌⊎◌}
 use Rattle.std.proofs.lemmas.Bool.{cases_lt, cases_eq}
 
@@ -7,6 +7,11 @@ use Rattle.std.proofs.lemmas.Bool.{cases_lt, cases_eq}
 pub by_test : {G : Type 0} (b : Bool) → (b ≡ true → G) → (b ≡ false → G) → G
 by_test true t f = t refl
 by_test false t f = f refl
+
+-- a test that implies another passes only where that one does
+pub implied : (p q : Bool) → (not p || q) ≡ true → p ≡ true → q ≡ true
+implied true q h e = h
+implied false q h e = cc
 
 -- a number is below another, or at least that one
 pub by_less : {G : Type 0} (m n : ℕ) → (m < n → G) → (n ≤ m → G) → G

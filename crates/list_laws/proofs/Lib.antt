@@ -6,3 +6,5 @@ pub mod Finds
 pub mod Prefixes
 pub mod Totals
 pub mod Parts
+pub mod Elements
+pub mod Digits

@@ -6,6 +6,7 @@ use Rattle.std.specs.List.{AllByRecursion, list_all}
 use Rattle.std.proofs.lemmas.Bool.{and_parts, and_from, ltb-true, ltb-false, lt-ltb, leb-true, le-leb}
 use Rattle.std.proofs.lemmas.List.{append-nil, take_all, take_more, take-append-drop}
 use Rattle.std.proofs.lemmas.List.Folds.{list_all-append}
+use Rattle.resolution_laws.proofs.Rotations.{outside_behind}
 use Rattle.relax_edges.specs.declared.kinds.Reach.TheVariants.{Internal}
 use Rattle.relax_edges.specs.declared.kinds.Com.TheVariants.{Rf}
 use Rattle.relax_edges.specs.declared.edge.Edge.{Edge}
@@ -68,11 +69,6 @@ run_outside c [] h = cc
 run_outside c (e ∷ []) h = next_out c e h
 run_outside c (e ∷ f ∷ u) h = run_outside (next_run c e) (f ∷ u) h
 
-ends_back : (u : List Edge) (x : Edge) (v : List Edge) → ends_outside (u ++ x ∷ v) ≡ ends_outside (x ∷ v)
-ends_back [] x v = refl
-ends_back (y ∷ []) x v = refl
-ends_back (y ∷ z ∷ u) x v = ends_back (z ∷ u) x v
-
 -- round a cycle, from any edge on
 round : (m : ℕ) (front back : List Edge) → ends_outside (back ++ front) ≡ true
     → (stays_below m (run_after 0 (front ++ back)) (front ++ back) ≡ true) ↔ (stays_below m 0 (back ++ front) ≡ true)
@@ -80,7 +76,7 @@ round m [] back h =
     let none : run_after 0 back ≡ 0 = run_outside 0 back (rw (append-nil back) at h) in
     (λ s. rw (append-nil back) (rw none at s), λ s. rw none (rw (append-nil back) at s))
 round m (x ∷ f) back h =
-    let out : ends_outside (x ∷ f) ≡ true = sym (ends_back back x f) ∙ h in
+    let out : ends_outside (x ∷ f) ≡ true = sym (outside_behind back x f) ∙ h in
     let run : run_after 0 ((x ∷ f) ++ back) ≡ run_after 0 back = run_append 0 (x ∷ f) back ∙ ap (λ c. run_after c back) (run_outside 0 (x ∷ f) out) in
     let past : run_after (run_after 0 back) (x ∷ f) ≡ 0 = run_outside (run_after 0 back) (x ∷ f) out in (
       λ s. let p = below_parts m (run_after 0 back) (x ∷ f) back (rw run at s) in below_whole m 0 back (x ∷ f) (rw past at p.1) p.0,

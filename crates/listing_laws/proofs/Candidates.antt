@@ -1,7 +1,7 @@
 -- The lists that a search for listed cycles goes through, and which edges it passes over.
 use Rattle.std.proofs.Common.{◌≡◌, ◌<◌, inl, inr, ℕ, Bool, true, false, List, [], ◌∷◌, ◌++◌, take, ◌&&◌, refl, sym, ap, arith, ◌∙◌, append_assoc}
 use Rattle.std.specs.List.{AllByRecursion}
-use Rattle.std.proofs.lemmas.Bool.{and_parts}
+use Rattle.std.proofs.lemmas.Bool.{and_parts, true≢false}
 use Rattle.std.proofs.lemmas.List.{append-nil}
 use Rattle.relax_edges.specs.declared.edge.Edge.{Edge}
 use Rattle.relax_edges.specs.Order.{rank_of}
@@ -87,9 +87,6 @@ module _ (relaxes : List (List Edge)) where
     normal = l.normal;
   }
 
-  true_false : true ≡ false → ⊥
-  true_false h = cc
-
   -- no candidate goes on with an edge that occurs in no relaxation
   pub unused_nowhere : (front : List Edge) (e : Edge) → (OccursIn relaxes e → ⊥) → LeadsNowhere (IsCandidate relaxes) (front ++ e ∷ [])
   unused_nowhere front e none r c = none (all_back front (e ∷ []) (all_front (front ++ e ∷ []) r c.occurs)).0
@@ -98,7 +95,7 @@ module _ (relaxes : List (List Edge)) where
   pub unjoined_next : (front : List Edge) (e : Edge) → last_joins front (e ∷ []) ≡ false → LeadsNowhere (IsCandidate relaxes) (front ++ e ∷ [])
   unjoined_next front e fails r c =
       let parts = and_parts (is_joined front) (last_joins front (e ∷ []) && true) (sym (joined_parts front (e ∷ [])) ∙ joined_front (front ++ e ∷ []) r c.joined) in
-      true_false (sym (and_parts (last_joins front (e ∷ [])) true parts.1).0 ∙ fails)
+      true≢false (sym (and_parts (last_joins front (e ∷ [])) true parts.1).0 ∙ fails)
 
   -- nor with one that is smaller than the first
   pub smaller_nowhere : (f : Edge) (u : List Edge) (e : Edge) → rank_of e < rank_of f → LeadsNowhere (IsCandidate relaxes) ((f ∷ u) ++ e ∷ [])

@@ -2,7 +2,7 @@
 use Rattle.std.proofs.Common.{◌≡◌, ◌<◌, ◌≤◌, ◌⊎◌, inl, inr, ℕ, zero, suc, ◌-◌, Bool, true, false, nat_eq, List, [], ◌∷◌, ◌++◌, length, take, drop, get_or, refl, sym, ◌∙◌, ap, arith, append_assoc, length-append}
 use Rattle.std.specs.List.{AllByRecursion, list_any}
 use Rattle.std.proofs.lemmas.List.{append-nil, take_all}
-use Rattle.std.proofs.lemmas.Bool.{or_cases, and_parts, and_from, or_left, or_right, eqb-true, eq-eqb}
+use Rattle.std.proofs.lemmas.Bool.{or_cases, and_parts, and_from, or_left, or_right, eqb-true, eq-eqb, true≢false}
 use Rattle.relax_edges.specs.declared.edge.Edge.{Edge}
 use Rattle.relax_edges.specs.Order.{rank_of}
 use Rattle.relax_edges.proofs.Ranks.{rank_injective}
@@ -122,11 +122,8 @@ module _ (relaxes : List (List Edge)) where
       by_relax : ((front back : List Edge) → u ≡ front ++ back → get_or (back_parts_read false relaxes u) (length back) false ≡ true → IsConcatenation relaxes back)
           → (r : List Edge) → IsOneOf relaxes r → leads false (e ∷ u) (back_parts_read false relaxes u) r ≡ true → IsConcatenation relaxes (e ∷ u)
       by_relax again [] o h =
-          absurd (true_false (sym (and_parts (fits false [] (e ∷ u)) (get_or (back_parts_read false relaxes u) (suc (length u) - 0) false) h).1
+          absurd (true≢false (sym (and_parts (fits false [] (e ∷ u)) (get_or (back_parts_read false relaxes u) (suc (length u) - 0) false) h).1
           ∙ get_or_past (back_parts_read false relaxes u) false (suc (length u) - 0) (omega (arith, length-read false u))))
-        where
-          true_false : true ≡ false → ⊥
-          true_false h = cc
       by_relax again (x ∷ r) o h =
           let both = and_parts (fits false (x ∷ r) (e ∷ u)) (get_or (back_parts_read false relaxes u) (suc (length u) - suc (length r)) false) h in
           let b = fits_whole (x ∷ r) (e ∷ u) both.0 in
@@ -245,11 +242,8 @@ module _ (relaxes : List (List Edge)) where
   stands_none e u r fails m =
       let twice : concatenated (m.made.parts ++ m.made.parts) ≡ m.rotation.back ++ ((e ∷ u) ++ (r ++ m.rotation.front)) =
       concatenated_both m.made.parts m.made.parts ∙ ap (λ w. w ++ w) (sym m.made.whole ∙ m.rotation.to) ∙ turned m.rotation.front m.rotation.back m.rotation.from in
-      true_false (sym (stands_in (m.made.parts ++ m.made.parts) e u m.rotation.back (r ++ m.rotation.front) (each_both m.made.parts m.made.parts m.made.each m.made.each) twice) ∙ fails)
+      true≢false (sym (stands_in (m.made.parts ++ m.made.parts) e u m.rotation.back (r ++ m.rotation.front) (each_both m.made.parts m.made.parts m.made.each m.made.each) twice) ∙ fails)
     where
-      true_false : true ≡ false → ⊥
-      true_false h = cc
-
       turned : (f b : List Edge) → (e ∷ u) ++ r ≡ f ++ b → (b ++ f) ++ (b ++ f) ≡ b ++ ((e ∷ u) ++ (r ++ f))
       turned f b from =
           append_assoc b f (b ++ f)

@@ -3,6 +3,8 @@ use Rattle.std.proofs.Common.{◌≡◌, ℕ, zero, suc, List, [], ◌∷◌, �
 use Rattle.std.specs.Prelude.{Bool}
 use Rattle.std.specs.List.{list_all}
 use Rattle.std.proofs.Math.ListN.{replicate}
+use Rattle.std.proofs.lemmas.Bool.{and_from}
+use Rattle.list_laws.proofs.Cases.{by_test}
 use Rattle.text_laws.specs.Blanks.{is_blank, unblanked, before_blanks, kept_before, trimmed, is_inked}
 use Rattle.text_laws.specs.Runs.{run_of, after_run}
 use Rattle.arch_trait.specs.Reading.{operands_in, operands_if, written_in, instr_read, number_raw}
@@ -11,7 +13,7 @@ use Rattle.arch_trait.specs.Cells.{is_cell_byte}
 use Rattle.text_laws.specs.Cuts.{cut_at}
 use Rattle.text_laws.specs.Words.{is_nil}
 use Rattle.litmus_text.specs.Table.{Column, Among, instr_put, instr_in, instr_or_nothing, cell_read}
-use Rattle.litmus_text.proofs.CutBack.{by_test, both_are, without_class, all_both}
+use Rattle.litmus_text.proofs.CutBack.{without_class, all_both}
 use Rattle.text_laws.proofs.CutLaws.{cut_back, cut_none}
 
 -- so many blanks
@@ -110,11 +112,11 @@ nothing_back w n k s = rw (nothing_left k) refl
 -- blanks all pass a test that a blank passes
 pub blanks_class : (p : ℕ → Bool) (k : ℕ) → p 32 ≡ true → list_all p (blanks k) ≡ true
 blanks_class p zero h = refl
-blanks_class p (suc k) h = both_are (p 32) (list_all p (blanks k)) h (blanks_class p k h)
+blanks_class p (suc k) h = and_from (p 32) (list_all p (blanks k)) h (blanks_class p k h)
 
 -- a text in its cell passes a test that it and a blank pass
 pub padded_class : (p : ℕ → Bool) (k : ℕ) (text : List ℕ) → p 32 ≡ true → list_all p text ≡ true → list_all p (padded k text) ≡ true
-padded_class p k text h t = both_are (p 32) (list_all p (text ++ blanks k)) h (all_both p text (blanks k) t (blanks_class p k h))
+padded_class p k text h t = and_from (p 32) (list_all p (text ++ blanks k)) h (all_both p text (blanks k) t (blanks_class p k h))
 
 -- an empty cell is read as nothing
 pub empty_back : (w : Writing) (n k : ℕ) (s : Among Column) → cell_read w n (padded k []) s ≡ Ok s
@@ -147,7 +149,7 @@ unfolding cell_read instr_in
 label_back w n k name text s t is h bytes put =
     let parts : cut_at 58 (padded k text) ≡ Some (32 ∷ name, blanks k) =
     ap (λ x. cut_at 58 (32 ∷ (x ++ blanks k))) is ∙ ap (λ x. cut_at 58 (32 ∷ x)) (append_assoc name (58 ∷ []) (blanks k))
-    ∙ cut_back 58 (32 ∷ name) (blanks k) (without_class is_cell_byte 58 (32 ∷ name) refl (both_are (is_cell_byte 32) (list_all is_cell_byte name) refl bytes)) in
+    ∙ cut_back 58 (32 ∷ name) (blanks k) (without_class is_cell_byte 58 (32 ∷ name) refl (and_from (is_cell_byte 32) (list_all is_cell_byte name) refl bytes)) in
     let whole : (32 ∷ name) ++ 58 ∷ [] ≡ padded 0 text = ap (λ x. 32 ∷ x) (sym is ∙ sym (append-nil text)) in
     let read : instr_put n s.value (instr_read w ((32 ∷ name) ++ 58 ∷ []) s.names s.value.labels) ≡ Ok t =
     ap (λ x. instr_put n s.value (instr_read w x s.names s.value.labels)) whole

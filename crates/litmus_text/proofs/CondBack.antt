@@ -5,6 +5,8 @@ use Rattle.std.specs.Char.{is_ascii_digit, is_ascii_alphanumeric}
 use Rattle.std.specs.Fmt.{decimal}
 use Rattle.std.specs.List.{list_all, flat_map, AllByRecursion}
 use Rattle.std.proofs.lemmas.Bool.Decides.{nat_tests}
+use Rattle.std.proofs.lemmas.Bool.{and_parts}
+use Rattle.list_laws.proofs.Elements.{list_all-weaker}
 use Rattle.final_cond.specs.declared.cond.TheConstants.{MAX_TERMS}
 use Rattle.final_cond.specs.declared.cond.Quantifier.{Quantifier}
 use Rattle.final_cond.specs.declared.cond.Quantifier.TheVariants.{Exists, NotExists, Forall}
@@ -24,7 +26,7 @@ use Rattle.litmus_text.specs.Joined.{no_text, with_text, all_joined}
 use Rattle.litmus_text.specs.Table.{after_locations}
 use Rattle.litmus_text.specs.Condition.{Setting, Mentioned, TermRead, at_begin, place_put, left_put, line_of_rest, term_here, terms_here, cond_here, condition_read}
 use Rattle.litmus_text.specs.Terms.{left_mention, terms_mention, is_known, TermFits}
-use Rattle.litmus_text.proofs.CutBack.{both, all_both, weaker}
+use Rattle.litmus_text.proofs.CutBack.{all_both}
 use Rattle.litmus_text.proofs.LineBack.{IsLine}
 use Rattle.litmus_text.proofs.HeadBack.{line_is}
 use Rattle.litmus_text.proofs.RowBack.{added_within}
@@ -39,7 +41,7 @@ not_blank_digit b h = grind (arith, nat_tests)
 digits_stay : (digits rest : List ℕ) → list_all is_ascii_digit digits ≡ true → 0 < length digits → unblanked (digits ++ rest) ≡ digits ++ rest
 unfolding after_run
 digits_stay [] rest h some = absurd (omega arith)
-digits_stay (b ∷ digits) rest h some = rw (not_blank_digit b (both (is_ascii_digit b) (list_all is_ascii_digit digits) h).0) refl
+digits_stay (b ∷ digits) rest h some = rw (not_blank_digit b (and_parts (is_ascii_digit b) (list_all is_ascii_digit digits) h).0) refl
 
 left_stays : (left : LeftSeen) (rest : List ℕ) → has_form left ≡ true → unblanked (left_text left ++ rest) ≡ left_text left ++ rest
 unfolding left_text after_run
@@ -199,9 +201,9 @@ left_bytes (InRegister thread name) h =
     let small = parts.few in
     let digits = digits_of thread (omega arith) in
     all_both is_line_byte (decimal thread ++ codes ":") name
-    (all_both is_line_byte (decimal thread) (codes ":") (weaker is_ascii_digit is_line_byte digit_on_line (decimal thread) digits.all) refl)
-    (weaker is_ascii_alphanumeric is_line_byte letter_on_line name parts.bytes)
-left_bytes (AtPlace name) h = all_both is_line_byte (codes "[" ++ name) (codes "]") (weaker is_place_byte is_line_byte place_on_line name (place_bytes name h)) refl
+    (all_both is_line_byte (decimal thread) (codes ":") (list_all-weaker is_ascii_digit is_line_byte digit_on_line (decimal thread) digits.all) refl)
+    (list_all-weaker is_ascii_alphanumeric is_line_byte letter_on_line name parts.bytes)
+left_bytes (AtPlace name) h = all_both is_line_byte (codes "[" ++ name) (codes "]") (list_all-weaker is_place_byte is_line_byte place_on_line name (place_bytes name h)) refl
 
 term_bytes : (term : TermSeen) → IsFormedTerm term → list_all is_line_byte (term_text term) ≡ true
 unfolding term_text
@@ -209,7 +211,7 @@ term_bytes term h =
     let digits = digits_of term.value h.value in
     all_both is_line_byte (left_text term.left ++ codes "=") (decimal term.value)
     (all_both is_line_byte (left_text term.left) (codes "=") (left_bytes term.left h.form) refl)
-    (weaker is_ascii_digit is_line_byte digit_on_line (decimal term.value) digits.all)
+    (list_all-weaker is_ascii_digit is_line_byte digit_on_line (decimal term.value) digits.all)
 
 further_bytes : (w : Writing) (threads : ℕ) (table : List (List ℕ)) (terms : List TermSeen) → AllByRecursion (TermFits w threads table) terms → list_all is_line_byte (flat_map further_term_text terms) ≡ true
 further_bytes w threads table [] h = refl

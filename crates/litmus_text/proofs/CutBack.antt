@@ -1,55 +1,32 @@
 -- Cuts and splits of printed texts.
 use Rattle.std.proofs.Common.{◌≡◌, ◌==◌, ℕ, List, [], ◌∷◌, ◌++◌, true, false, get_or, refl, sym, ap, ◌∙◌}
-use Rattle.std.specs.Prelude.{Bool, not, ◌&&◌}
+use Rattle.std.specs.Prelude.{Bool, not}
 use Rattle.std.specs.List.{list_all, All}
-use Rattle.std.proofs.lemmas.Bool.{eqb-true, eq-eqb}
+use Rattle.std.proofs.lemmas.Bool.{eqb-true, eq-eqb, not-true, and_parts, and_from}
 use Rattle.std.specs.Str.{bytes_eq}
 use Rattle.std.proofs.lemmas.Slice.Eq.{bytes_eq-Decides}
 use Rattle.std.proofs.lemmas.List.Sums.{AllPass-from_list_all}
 use Rattle.std.proofs.lemmas.List.Folds.{list_all-append}
 use Rattle.std.proofs.lemmas.List.Splits.{slice_split_none, slice_split_at}
+use Rattle.list_laws.proofs.Cases.{by_test}
 use Rattle.text_laws.specs.Cuts.{is_without}
 use Rattle.litmus_text.specs.Cuts.{pieces}
-
--- what follows both from a test that holds and from one that fails follows
-pub by_test : {G : Type 0} (b : Bool) → (b ≡ true → G) → (b ≡ false → G) → G
-by_test true so other = so refl
-by_test false so other = other refl
-
--- where two tests hold together, each holds
-pub both : (p q : Bool) → p && q ≡ true → (p ≡ true) × (q ≡ true)
-both true q h = (refl, h)
-both false q h = cc
-
--- where two tests hold, they hold together
-pub both_are : (p q : Bool) → p ≡ true → q ≡ true → p && q ≡ true
-both_are p q h k = rw (h, k) refl
 
 -- bytes that all pass a test are not one that fails it
 pub without_class : (p : ℕ → Bool) (sign : ℕ) (text : List ℕ) → p sign ≡ false → list_all p text ≡ true → is_without sign text ≡ true
 without_class p sign [] fails h = refl
 without_class p sign (byte ∷ text) fails h =
-    let parts = both (p byte) (list_all p text) h in
+    let parts = and_parts (p byte) (list_all p text) h in
     by_test (byte == sign)
     (λ e. let same : byte ≡ sign = eqb-true byte sign e in let clash : true ≡ false = sym parts.0 ∙ ap p same ∙ fails in absurd (cc))
     (λ e. rw e (without_class p sign text fails parts.1))
 
--- bytes that pass a test pass a weaker one
-pub weaker : (p q : ℕ → Bool) → ((b : ℕ) → p b ≡ true → q b ≡ true) → (text : List ℕ) → list_all p text ≡ true → list_all q text ≡ true
-weaker p q f [] h = refl
-weaker p q f (byte ∷ text) h =
-    let parts = both (p byte) (list_all p text) h in both_are (q byte) (list_all q text) (f byte parts.0) (weaker p q f text parts.1)
-
 -- bytes of two texts that pass a test pass it as one text
 pub all_both : (p : ℕ → Bool) (xs ys : List ℕ) → list_all p xs ≡ true → list_all p ys ≡ true → list_all p (xs ++ ys) ≡ true
-all_both p xs ys h k = list_all-append p xs ys ∙ both_are (list_all p xs) (list_all p ys) h k
-
-not_true : (b : Bool) → not b ≡ true → b ≡ false
-not_true true e = cc
-not_true false e = refl
+all_both p xs ys h k = list_all-append p xs ys ∙ and_from (list_all p xs) (list_all p ys) h k
 
 none_pass : (sign : ℕ) (text : List ℕ) → is_without sign text ≡ true → All (λ byte. (byte == sign) ≡ false) text
-none_pass sign text h i d k = not_true (get_or text i d == sign) (AllPass-from_list_all (λ byte. not (byte == sign)) text h i d k)
+none_pass sign text h i d k = not-true (get_or text i d == sign) (AllPass-from_list_all (λ byte. not (byte == sign)) text h i d k)
 
 -- the first piece of a text is what comes before its first sign
 pub piece_back : (sign : ℕ) (front behind : List ℕ) → is_without sign front ≡ true → pieces sign (front ++ sign ∷ behind) ≡ front ∷ pieces sign behind

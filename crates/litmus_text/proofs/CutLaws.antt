@@ -3,13 +3,14 @@ use Rattle.std.proofs.Common.{◌≡◌, ◌==◌, ◌-◌, ℕ, suc, List, [], 
 use Rattle.std.specs.Prelude.{◌||◌}
 use Rattle.std.specs.List.{list_all}
 use Rattle.std.proofs.lemmas.Bool.{eqb-true}
+use Rattle.list_laws.proofs.Cases.{by_test}
 use Rattle.text_laws.specs.Runs.{after_run}
 use Rattle.text_laws.specs.Blanks.{is_blank, before_blanks, kept_before, trimmed}
 use Rattle.text_laws.specs.Words.{is_nil}
 use Rattle.text_laws.specs.Cuts.{CutParts}
 use Rattle.litmus_text.specs.Cuts.{pieces}
 use Rattle.litmus_text.specs.Lines.{is_comment, is_passed}
-use Rattle.litmus_text.proofs.CutBack.{by_test, piece_back}
+use Rattle.litmus_text.proofs.CutBack.{piece_back}
 
 -- the pieces of a text that is cut are the first text and the pieces of the second
 pub pieces_cut : (sign : ℕ) (text front behind : List ℕ) → CutParts sign text front behind → pieces sign text ≡ front ∷ pieces sign behind

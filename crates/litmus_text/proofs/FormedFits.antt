@@ -2,8 +2,9 @@
 use Rattle.std.proofs.Common.{◌≡◌, ◌≢◌, ◌<◌, ◌≤◌, ◌+◌, ◌==◌, ℕ, zero, suc, List, [], ◌∷◌, ◌++◌, true, false, cond, length, map, refl, sym, ap, ◌∙◌, subst, arith, append_assoc, append-nil, zero-add}
 use Rattle.std.specs.Prelude.{Bool, not, ◌&&◌, ◌||◌, nat_lt, is_some, count_by}
 use Rattle.std.specs.List.{list_all, list_any, range_with_len, AllByRecursion}
-use Rattle.std.proofs.lemmas.Bool.{eqb-true, eq-eqb, lt-ltb, ltb-true}
+use Rattle.std.proofs.lemmas.Bool.{eqb-true, eq-eqb, lt-ltb, ltb-true, and_parts, and_from}
 use Rattle.std.proofs.lemmas.List.Sums.{sum_by-append, sum_by-cons}
+use Rattle.list_laws.proofs.Cases.{by_test}
 use Rattle.micro_ops.specs.declared.operation.Micro.{Micro}
 use Rattle.micro_ops.specs.declared.operation.Micro.TheVariants as ops
 use Rattle.micro_ops.specs.Running.{labels_of, lands, stands}
@@ -19,7 +20,6 @@ use Rattle.arch_trait.specs.Writing.{Writing}
 use Rattle.litmus_text.specs.Table.{is_label_of}
 use Rattle.litmus_text.specs.Progress.{is_placed, CodeFits, stands_once, code_lands}
 use Rattle.litmus_text.specs.Items.{Link, links_of, links_once, LinkFits}
-use Rattle.litmus_text.proofs.CutBack.{by_test, both, both_are}
 
 -- the place of each visit has a name of its form in a table
 abbrev pub HasPlaces : List (List ℕ) → (ℕ → List ℕ) → List Step → Type 0
@@ -43,9 +43,9 @@ pub code_fits : (a : Puts) (table : List (List ℕ)) (names : ℕ → List ℕ) 
     → list_all a.has code ≡ true → list_all (is_within ss) code ≡ true → labels_ordered labels code ≡ true → accesses + accesses_in code ≤ 64 → CodeFits a table names labels accesses code
 code_fits a table names ss labels accesses [] places has within ordered few = tt
 code_fits a table names ss labels accesses (op ∷ code) places has within ordered few =
-    let h = both (a.has op) (list_all a.has code) has in
-    let w = both (is_within ss op) (list_all (is_within ss) code) within in
-    let o = both (is_next labels op) (labels_ordered (labels_after labels op) code) ordered in
+    let h = and_parts (a.has op) (list_all a.has code) has in
+    let w = and_parts (is_within ss op) (list_all (is_within ss) code) within in
+    let o = and_parts (is_next labels op) (labels_ordered (labels_after labels op) code) ordered in
     let count : accesses_in (op ∷ code) ≡ cond (is_access op) 1 0 + accesses_in code = sum_by-cons (λ op. cond (is_access op) 1 0) op code in (
       record { has = h.0; placed = op_placed table names ss op places w.0; next = o.0; room = access_room op accesses (omega arith) },
       code_fits a table names ss (labels_after labels op) (accesses + cond (is_access op) 1 0) code places h.1 w.1 o.1 (omega arith),
@@ -98,7 +98,7 @@ stands_exactly : (label : ℕ) (front behind : List Micro) → count_by (is_labe
 stands_exactly label front behind few h =
     let some = stands_some label behind h in
     let split : count_by (is_label_of label) (front ++ behind) ≡ count_by (is_label_of label) front + count_by (is_label_of label) behind = sum_by-append (λ op. cond (is_label_of label op) 1 0) front behind in
-    both_are (count_by (is_label_of label) (front ++ behind) == 1) (count_by (is_label_of label) behind == 1)
+    and_from (count_by (is_label_of label) (front ++ behind) == 1) (count_by (is_label_of label) behind == 1)
     (eq-eqb (count_by (is_label_of label) (front ++ behind)) 1 (omega arith)) (eq-eqb (count_by (is_label_of label) behind) 1 (omega arith))
 
 shifted : (front : List Micro) (op : Micro) (code : List Micro) → (front ++ op ∷ []) ++ code ≡ front ++ op ∷ code
@@ -113,12 +113,12 @@ once front op label code few h =
 lands_front : (front code : List Micro) → ((label : ℕ) → count_by (is_label_of label) (front ++ code) ≤ 1) → lands code ≡ true → code_lands (front ++ code) code ≡ true
 lands_front front [] few h = refl
 lands_front front (ops.BranchEq label ∷ code) few h =
-    let parts = both (stands label code) (lands code) h in
-    both_are (stands_once label (front ++ ops.BranchEq label ∷ code) code) (code_lands (front ++ ops.BranchEq label ∷ code) code)
+    let parts = and_parts (stands label code) (lands code) h in
+    and_from (stands_once label (front ++ ops.BranchEq label ∷ code) code) (code_lands (front ++ ops.BranchEq label ∷ code) code)
     (once front (ops.BranchEq label) label code few parts.0) (subst (λ all. code_lands all code ≡ true) (shifted front (ops.BranchEq label) code) (lands_front (front ++ ops.BranchEq label ∷ []) code (λ l. subst (λ all. count_by (is_label_of l) all ≤ 1) (sym (shifted front (ops.BranchEq label) code)) (few l)) parts.1))
 lands_front front (ops.BranchNz a label ∷ code) few h =
-    let parts = both (stands label code) (lands code) h in
-    both_are (stands_once label (front ++ ops.BranchNz a label ∷ code) code) (code_lands (front ++ ops.BranchNz a label ∷ code) code)
+    let parts = and_parts (stands label code) (lands code) h in
+    and_from (stands_once label (front ++ ops.BranchNz a label ∷ code) code) (code_lands (front ++ ops.BranchNz a label ∷ code) code)
     (once front (ops.BranchNz a label) label code few parts.0) (subst (λ all. code_lands all code ≡ true) (shifted front (ops.BranchNz a label) code) (lands_front (front ++ ops.BranchNz a label ∷ []) code (λ l. subst (λ all. count_by (is_label_of l) all ≤ 1) (sym (shifted front (ops.BranchNz a label) code)) (few l)) parts.1))
 lands_front front (op ∷ code) few h = subst (λ all. code_lands all code ≡ true) (shifted front op code) (lands_front (front ++ op ∷ []) code (λ l. subst (λ all. count_by (is_label_of l) all ≤ 1) (sym (shifted front op code)) (few l)) h)
 
@@ -132,8 +132,8 @@ pub links_fit : (w : Writing) (table : List (List ℕ)) (names : ℕ → List �
     → InOrder low links (length w.registers) → list_all (λ (link : ℕ × ℕ). visits link.1 ss) links ≡ true → AllByRecursion (LinkFits w table names) (map (λ link. (thread, link)) links)
 links_fit w table names ss thread low [] places small order visited = tt
 links_fit w table names ss thread low (link ∷ links) places small order visited =
-    let v = both (visits link.1 ss) (list_all (λ (l : ℕ × ℕ). visits l.1 ss) links) visited in
-    let p = both (is_place_name (names link.1)) (is_some (number_in table (names link.1))) (places link.1 v.0) in
+    let v = and_parts (visits link.1 ss) (list_all (λ (l : ℕ × ℕ). visits l.1 ss) links) visited in
+    let p = and_parts (is_place_name (names link.1)) (is_some (number_in table (names link.1))) (places link.1 v.0) in
     let high = order_below (link.0 + 1) links (length w.registers) order.1 in
     (record { thread = small; register = omega arith; formed = p.0; inside = p.1 }, links_fit w table names ss thread (link.0 + 1) links places small order.1 v.1)
   where
@@ -148,7 +148,7 @@ are_before thread low done = list_all (λ (d : Link). nat_lt d.0 thread || nat_l
 none_same : (thread low register : ℕ) (done : List Link) → low ≤ register → are_before thread low done ≡ true → list_any (λ d. (d.0 == thread) && (d.1.0 == register)) done ≡ false
 none_same thread low register [] h all = refl
 none_same thread low register (d ∷ done) h all =
-    let parts = both (nat_lt d.0 thread || nat_lt d.1.0 low) (are_before thread low done) all in
+    let parts = and_parts (nat_lt d.0 thread || nat_lt d.1.0 low) (are_before thread low done) all in
     rw (apart d.0 d.1.0 parts.0, none_same thread low register done h parts.1) refl
   where
     apart : (t r : ℕ) → (nat_lt t thread || nat_lt r low) ≡ true → ((t == thread) && (r == register)) ≡ false
@@ -165,14 +165,14 @@ none_same thread low register (d ∷ done) h all =
             (λ f. ltb-true r low (sym (ap (λ b. b || nat_lt r low) f) ∙ e))
 
 before_more : (thread low register place : ℕ) (done : List Link) → low ≤ register → are_before thread low done ≡ true → are_before thread (register + 1) (done ++ (thread, (register, place)) ∷ []) ≡ true
-before_more thread low register place [] h all = both_are (nat_lt thread thread || nat_lt register (register + 1)) true (or_right (nat_lt thread thread) (lt-ltb register (register + 1) (omega arith))) refl
+before_more thread low register place [] h all = and_from (nat_lt thread thread || nat_lt register (register + 1)) true (or_right (nat_lt thread thread) (lt-ltb register (register + 1) (omega arith))) refl
   where
     or_right : (b : Bool) {c : Bool} → c ≡ true → (b || c) ≡ true
     or_right true e = refl
     or_right false e = e
 before_more thread low register place (d ∷ done) h all =
-    let parts = both (nat_lt d.0 thread || nat_lt d.1.0 low) (are_before thread low done) all in
-    both_are (nat_lt d.0 thread || nat_lt d.1.0 (register + 1)) (are_before thread (register + 1) (done ++ (thread, (register, place)) ∷ [])) (wider parts.0) (before_more thread low register place done h parts.1)
+    let parts = and_parts (nat_lt d.0 thread || nat_lt d.1.0 low) (are_before thread low done) all in
+    and_from (nat_lt d.0 thread || nat_lt d.1.0 (register + 1)) (are_before thread (register + 1) (done ++ (thread, (register, place)) ∷ [])) (wider parts.0) (before_more thread low register place done h parts.1)
   where
     wider : (nat_lt d.0 thread || nat_lt d.1.0 low) ≡ true → (nat_lt d.0 thread || nat_lt d.1.0 (register + 1)) ≡ true
     wider e = by_test (nat_lt d.0 thread)
@@ -182,15 +182,15 @@ before_more thread low register place (d ∷ done) h all =
 before_next : (thread low : ℕ) (done : List Link) → list_all (λ (d : Link). nat_lt d.0 (thread + 1)) done ≡ true → are_before (thread + 1) low done ≡ true
 before_next thread low [] h = refl
 before_next thread low (d ∷ done) h =
-    let parts = both (nat_lt d.0 (thread + 1)) (list_all (λ (d : Link). nat_lt d.0 (thread + 1)) done) h in
-    both_are (nat_lt d.0 (thread + 1) || nat_lt d.1.0 low) (are_before (thread + 1) low done) (rw parts.0 refl) (before_next thread low done parts.1)
+    let parts = and_parts (nat_lt d.0 (thread + 1)) (list_all (λ (d : Link). nat_lt d.0 (thread + 1)) done) h in
+    and_from (nat_lt d.0 (thread + 1) || nat_lt d.1.0 low) (are_before (thread + 1) low done) (rw parts.0 refl) (before_next thread low done parts.1)
 
 -- the address registers of a thread, and then others
 thread_single : (thread low high : ℕ) (links : List (ℕ × ℕ)) (done rest : List Link) → InOrder low links high → are_before thread low done ≡ true
     → links_once (done ++ map (λ link. (thread, link)) links) rest ≡ true → links_once done (map (λ link. (thread, link)) links ++ rest) ≡ true
 thread_single thread low high [] done rest order all h = subst (λ d. links_once d rest ≡ true) (append-nil done) h
 thread_single thread low high (link ∷ links) done rest order all h =
-    both_are (not (list_any (λ d. (d.0 == thread) && (d.1.0 == link.0)) done)) (links_once (done ++ (thread, link) ∷ []) (map (λ link. (thread, link)) links ++ rest))
+    and_from (not (list_any (λ d. (d.0 == thread) && (d.1.0 == link.0)) done)) (links_once (done ++ (thread, link) ∷ []) (map (λ link. (thread, link)) links ++ rest))
     (ap not (none_same thread low link.0 done order.0 all))
     (thread_single thread (link.0 + 1) high links (done ++ (thread, link) ∷ []) rest order.1 (before_more thread low link.0 link.1 done order.0 all)
     (subst (λ d. links_once d rest ≡ true) (sym (append_assoc done ((thread, link) ∷ []) (map (λ link. (thread, link)) links))) h))
@@ -200,17 +200,17 @@ below_append thread links [] h = own links
   where
     own : (links : List (ℕ × ℕ)) → list_all (λ (d : Link). nat_lt d.0 (thread + 1)) (map (λ link. (thread, link)) links) ≡ true
     own [] = refl
-    own (link ∷ links) = both_are (nat_lt thread (thread + 1)) (list_all (λ (d : Link). nat_lt d.0 (thread + 1)) (map (λ link. (thread, link)) links)) (lt-ltb thread (thread + 1) (omega arith)) (own links)
+    own (link ∷ links) = and_from (nat_lt thread (thread + 1)) (list_all (λ (d : Link). nat_lt d.0 (thread + 1)) (map (λ link. (thread, link)) links)) (lt-ltb thread (thread + 1) (omega arith)) (own links)
 below_append thread links (d ∷ done) h =
-    let parts = both (nat_lt d.0 thread) (list_all (λ (d : Link). nat_lt d.0 thread) done) h in
+    let parts = and_parts (nat_lt d.0 thread) (list_all (λ (d : Link). nat_lt d.0 thread) done) h in
     let below = ltb-true d.0 thread parts.0 in
-    both_are (nat_lt d.0 (thread + 1)) (list_all (λ (d : Link). nat_lt d.0 (thread + 1)) (done ++ map (λ link. (thread, link)) links)) (lt-ltb d.0 (thread + 1) (omega arith)) (below_append thread links done parts.1)
+    and_from (nat_lt d.0 (thread + 1)) (list_all (λ (d : Link). nat_lt d.0 (thread + 1)) (done ++ map (λ link. (thread, link)) links)) (lt-ltb d.0 (thread + 1) (omega arith)) (below_append thread links done parts.1)
 
 before_zero : (thread : ℕ) (done : List Link) → list_all (λ (d : Link). nat_lt d.0 thread) done ≡ true → are_before thread 0 done ≡ true
 before_zero thread [] h = refl
 before_zero thread (d ∷ done) h =
-    let parts = both (nat_lt d.0 thread) (list_all (λ (d : Link). nat_lt d.0 thread) done) h in
-    both_are (nat_lt d.0 thread || nat_lt d.1.0 0) (are_before thread 0 done) (rw parts.0 refl) (before_zero thread done parts.1)
+    let parts = and_parts (nat_lt d.0 thread) (list_all (λ (d : Link). nat_lt d.0 thread) done) h in
+    and_from (nat_lt d.0 thread || nat_lt d.1.0 0) (are_before thread 0 done) (rw parts.0 refl) (before_zero thread done parts.1)
 
 all_single : (thread high : ℕ) (threads : List ThreadCode) (done : List Link) → AllByRecursion (λ t. InOrder 0 t.links high) threads → list_all (λ (d : Link). nat_lt d.0 thread) done ≡ true
     → links_once done (links_of thread threads) ≡ true

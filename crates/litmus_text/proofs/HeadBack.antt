@@ -3,10 +3,12 @@ use Rattle.std.proofs.Common.{◌≡◌, ◌==◌, ℕ, List, [], ◌∷◌, ◌
 use Rattle.std.specs.Prelude.{Bool, not, ◌&&◌, codes}
 use Rattle.std.specs.List.{list_all, All, filter, flat_map, join_by}
 use Rattle.std.specs.Str.{bytes_eq}
-use Rattle.std.proofs.lemmas.Bool.{eqb-true}
+use Rattle.std.proofs.lemmas.Bool.{eqb-true, not-true, and_parts, and_from}
 use Rattle.std.proofs.lemmas.Bool.Decides.{nat_tests}
 use Rattle.std.proofs.lemmas.List.Sums.{AllPass-from_list_all}
 use Rattle.std.proofs.lemmas.List.Splits.{slice_split_none, slice_split_at}
+use Rattle.list_laws.proofs.Elements.{list_all-weaker}
+use Rattle.list_laws.proofs.Cases.{by_test}
 use Rattle.relax_edges.specs.declared.kinds.ArchName.{ArchName}
 use Rattle.relax_edges.specs.declared.kinds.ArchName.TheVariants.{X86, PPC, AArch64, RISCV}
 use Rattle.relax_edges.specs.declared.edge.Edge.{Edge}
@@ -22,7 +24,7 @@ use Rattle.text_laws.specs.Words.{is_nil, words}
 use Rattle.litmus_text.specs.Header.{header_read, quote_read, is_setting, after_settings, name_in_header, two_words, quote_cut}
 use Rattle.litmus_text.specs.Printable.{is_name_byte, IsTestName}
 use Rattle.litmus_text.specs.TestText.{header_line, edges_line}
-use Rattle.litmus_text.proofs.CutBack.{by_test, both, both_are, weaker, all_both, without_class, bytes_same}
+use Rattle.litmus_text.proofs.CutBack.{all_both, without_class, bytes_same}
 use Rattle.text_laws.proofs.CutLaws.{cut_back}
 use Rattle.litmus_text.proofs.LineBack.{IsLine}
 
@@ -37,12 +39,8 @@ name_inked b h = grind (arith, nat_tests)
 abbrev pub is_inked_word : List ℕ → Bool
 is_inked_word text = list_all (λ b. not (is_blank b)) text
 
-not_blank : (b : Bool) → not b ≡ true → b ≡ false
-not_blank true e = cc
-not_blank false e = refl
-
 none_blank : (text : List ℕ) → is_inked_word text ≡ true → All (λ b. is_blank b ≡ false) text
-none_blank text h i d k = not_blank (is_blank (get_or text i d)) (AllPass-from_list_all (λ b. not (is_blank b)) text h i d k)
+none_blank text h i d k = not-true (is_blank (get_or text i d)) (AllPass-from_list_all (λ b. not (is_blank b)) text h i d k)
 
 -- two words with a blank between are read as two words
 pub two_back : (a : ℕ) (front : List ℕ) (b : ℕ) (behind : List ℕ) → is_inked_word (a ∷ front) ≡ true → is_inked_word (b ∷ behind) ≡ true
@@ -65,7 +63,7 @@ pub header_back : (arch : ArchName) (name : List ℕ) (n : ℕ) (rest : Lines) �
 unfolding header_read header_line
 header_back arch [] n rest h = let clash : false ≡ true = h.some in absurd (cc)
 header_back arch (b ∷ name) n rest h =
-    ap (λ ws. name_in_header arch n rest (two_words ws)) (arch_two arch b name (weaker is_name_byte (λ b. not (is_blank b)) name_inked (b ∷ name) h.bytes))
+    ap (λ ws. name_in_header arch n rest (two_words ws)) (arch_two arch b name (list_all-weaker is_name_byte (λ b. not (is_blank b)) name_inked (b ∷ name) h.bytes))
     ∙ rw (bytes_same (arch_word arch), h.short) refl
 
 -- the bytes of edges: those of a line, and no double quote
@@ -85,7 +83,7 @@ edges_quoted [] = refl
 edges_quoted (edge ∷ edges) = all_both is_quoted_byte (word_of edge) (flat_map (λ e. codes " " ++ word_of e) edges) (edge_quoted edge) (more_quoted edges)
 
 quoted_on_line : (b : ℕ) → is_quoted_byte b ≡ true → is_line_byte b ≡ true
-quoted_on_line b h = (both (is_line_byte b) (not (b == 34)) h).0
+quoted_on_line b h = (and_parts (is_line_byte b) (not (b == 34)) h).0
 
 -- the printed edges are read as the quoted text
 pub quote_back : (edges : List Edge) (n : ℕ) (rest : Lines) → quote_read (line n (edges_line edges) rest) ≡ Ok (Some (join_by word_of (codes " ") edges), rest)
@@ -104,18 +102,18 @@ unfolding after_run
 trim_class p [] h = refl
 trim_class p (b ∷ text) h =
     by_test (is_blank b)
-    (λ e. rw e (trim_class p text (both (p b) (list_all p text) h).1))
+    (λ e. rw e (trim_class p text (and_parts (p b) (list_all p text) h).1))
     (λ e. rw e h)
 
 kept_class : (p : ℕ → Bool) (b : ℕ) (text : List ℕ) → p b ≡ true → list_all p text ≡ true → list_all p (kept_before b text) ≡ true
-kept_class p b [] h k = by_test (is_blank b) (λ e. rw e refl) (λ e. rw e (both_are (p b) true h refl))
-kept_class p b (c ∷ text) h k = both_are (p b) (list_all p (c ∷ text)) h k
+kept_class p b [] h k = by_test (is_blank b) (λ e. rw e refl) (λ e. rw e (and_from (p b) true h refl))
+kept_class p b (c ∷ text) h k = and_from (p b) (list_all p (c ∷ text)) h k
 
 before_class : (p : ℕ → Bool) (text : List ℕ) → list_all p text ≡ true → list_all p (before_blanks text) ≡ true
 unfolding before_blanks
 before_class p [] h = refl
 before_class p (b ∷ text) h =
-    let parts = both (p b) (list_all p text) h in kept_class p b (before_blanks text) parts.0 (before_class p text parts.1)
+    let parts = and_parts (p b) (list_all p text) h in kept_class p b (before_blanks text) parts.0 (before_class p text parts.1)
 
 -- a trimmed text passes a test that the text passes
 pub trimmed_class : (p : ℕ → Bool) (text : List ℕ) → list_all p text ≡ true → list_all p (trimmed text) ≡ true
@@ -127,8 +125,8 @@ no_comment (a ∷ []) h = by_test (a == 40) (λ e. rw e refl) (λ e. rw e refl)
 no_comment (a ∷ b ∷ text) h =
     by_test (b == 42)
     (λ e. let same : b ≡ 42 = eqb-true b 42 e in
-    let parts = both (is_line_byte a) (list_all is_line_byte (b ∷ text)) h in
-    let second = both (is_line_byte b) (list_all is_line_byte text) parts.1 in
+    let parts = and_parts (is_line_byte a) (list_all is_line_byte (b ∷ text)) h in
+    let second = and_parts (is_line_byte b) (list_all is_line_byte text) parts.1 in
     let clash : true ≡ false = sym second.0 ∙ ap is_line_byte same in absurd (cc))
     (λ e. by_test (a == 40) (λ f. rw (f, e) refl) (λ f. rw f refl))
 
@@ -154,12 +152,12 @@ arch_on_line RISCV rest h = line_is _ h refl
 -- a printed header is a line that isn't passed over
 pub header_line_is : (arch : ArchName) (name : List ℕ) → IsTestName name → IsLine (header_line arch name)
 unfolding header_line
-header_line_is arch name h = arch_on_line arch (32 ∷ name) (weaker is_name_byte is_line_byte name_on_line name h.bytes)
+header_line_is arch name h = arch_on_line arch (32 ∷ name) (list_all-weaker is_name_byte is_line_byte name_on_line name h.bytes)
 
 -- the printed edges are a line that isn't passed over
 pub edges_line_is : (edges : List Edge) → IsLine (edges_line edges)
 unfolding edges_line
 edges_line_is edges =
     line_is (34 ∷ (join_by word_of (codes " ") edges ++ 34 ∷ []))
-    (all_both is_line_byte (join_by word_of (codes " ") edges) (34 ∷ []) (weaker is_quoted_byte is_line_byte quoted_on_line (join_by word_of (codes " ") edges) (edges_quoted edges)) refl)
+    (all_both is_line_byte (join_by word_of (codes " ") edges) (34 ∷ []) (list_all-weaker is_quoted_byte is_line_byte quoted_on_line (join_by word_of (codes " ") edges) (edges_quoted edges)) refl)
     refl

@@ -1,14 +1,15 @@
 -- The printed header of the table is read back.
-use Rattle.std.proofs.Common.{◌≡◌, ◌<◌, ◌≤◌, ◌+◌, ◌-◌, ◌^◌, ℕ, List, [], ◌∷◌, ◌++◌, Ok, true, false, length, map, refl, sym, ap, ◌∙◌, arith, append_assoc, add-zero, zero-add}
-use Rattle.std.specs.Prelude.{Bool, not, nat_lt}
+use Rattle.std.proofs.Common.{◌≡◌, ◌<◌, ◌≤◌, ◌+◌, ◌-◌, ◌^◌, ℕ, List, [], ◌∷◌, ◌++◌, Ok, true, length, map, refl, sym, ap, ◌∙◌, arith, append_assoc, add-zero, zero-add}
+use Rattle.std.specs.Prelude.{not, nat_lt}
 use Rattle.std.specs.Char.{is_ascii_digit}
 use Rattle.std.specs.Fmt.{decimal}
 use Rattle.std.specs.List.{list_all, AllByRecursion, enumerate_from}
 use Rattle.std.specs.Str.{bytes_eq}
 use Rattle.std.proofs.Math.ListN.{replicate}
-use Rattle.std.proofs.lemmas.Bool.{lt-ltb}
+use Rattle.std.proofs.lemmas.Bool.{lt-ltb, not-true, and_parts, and_from}
 use Rattle.std.proofs.lemmas.Bool.Decides.{nat_tests}
 use Rattle.std.proofs.lemmas.List.{replicate_more}
+use Rattle.list_laws.proofs.Elements.{list_all-weaker}
 use Rattle.text_laws.specs.Blanks.{is_blank, before_blanks, kept_before, trimmed}
 use Rattle.text_laws.specs.Runs.{after_run}
 use Rattle.final_cond.proofs.BackLaws.{digits_of}
@@ -19,7 +20,7 @@ use Rattle.litmus_text.specs.InitialState.{Begun}
 use Rattle.litmus_text.specs.Table.{Cells, is_head, heads_read, head_read}
 use Rattle.litmus_text.specs.TestText.{column_of, columns_of, width_of, cell_text, row_line}
 use Rattle.litmus_text.specs.Printable.{is_row_byte}
-use Rattle.litmus_text.proofs.CutBack.{both, both_are, all_both, weaker, bytes_same}
+use Rattle.litmus_text.proofs.CutBack.{all_both, bytes_same}
 use Rattle.litmus_text.proofs.CellBack.{padded, blanks_class, before_padded}
 use Rattle.litmus_text.proofs.LineBack.{IsLine}
 use Rattle.litmus_text.proofs.TableBack.{spaced, row_cells, cells_without, row_line_is}
@@ -30,16 +31,12 @@ digit_on_row b h = grind (arith, nat_tests)
 digit_inked : (b : ℕ) → is_ascii_digit b ≡ true → not (is_blank b) ≡ true
 digit_inked b h = grind (arith, nat_tests)
 
-not_true : (b : Bool) → not b ≡ true → b ≡ false
-not_true true e = cc
-not_true false e = refl
-
 -- a text without blanks has none at its end
 pub inked_ends : (text : List ℕ) → list_all (λ b. not (is_blank b)) text ≡ true → before_blanks text ≡ text
 unfolding before_blanks
 inked_ends [] h = refl
-inked_ends (b ∷ []) h = rw (not_true (is_blank b) (both (not (is_blank b)) true h).0) refl
-inked_ends (b ∷ c ∷ text) h = ap (kept_before b) (inked_ends (c ∷ text) (both (not (is_blank b)) (list_all (λ b. not (is_blank b)) (c ∷ text)) h).1)
+inked_ends (b ∷ []) h = rw (not-true (is_blank b) (and_parts (not (is_blank b)) true h).0) refl
+inked_ends (b ∷ c ∷ text) h = ap (kept_before b) (inked_ends (c ∷ text) (and_parts (not (is_blank b)) (list_all (λ b. not (is_blank b)) (c ∷ text)) h).1)
 
 head_text : ℕ → List ℕ
 head_text n = 80 ∷ decimal n
@@ -48,7 +45,7 @@ head_trimmed : (n k : ℕ) → n < 2 ^ 32 → trimmed (padded k (80 ∷ decimal 
 unfolding after_run
 head_trimmed n k h =
     let digits = digits_of n h in
-    before_padded (80 ∷ decimal n) k ∙ inked_ends (80 ∷ decimal n) (both_are true (list_all (λ b. not (is_blank b)) (decimal n)) refl (weaker is_ascii_digit (λ b. not (is_blank b)) digit_inked (decimal n) digits.all))
+    before_padded (80 ∷ decimal n) k ∙ inked_ends (80 ∷ decimal n) (and_from true (list_all (λ b. not (is_blank b)) (decimal n)) refl (list_all-weaker is_ascii_digit (λ b. not (is_blank b)) digit_inked (decimal n) digits.all))
 
 head_cell : (w : Writing) (places : List (List ℕ)) (n : ℕ) (t : ThreadCode) → n < 2 ^ 32 → is_head n (spaced (cell_text 0) (column_of w places (n, t))) ≡ true
 unfolding cell_text column_of
@@ -75,7 +72,7 @@ head_bytes w places n [] h = tt
 head_bytes w places n (t ∷ threads) h =
     let digits = digits_of n (omega arith) in (
       all_both is_row_byte (80 ∷ decimal n) (replicate (width_of (column_of w places (n, t)) - length (80 ∷ decimal n)) 32)
-          (both_are true (list_all is_row_byte (decimal n)) refl (weaker is_ascii_digit is_row_byte digit_on_row (decimal n) digits.all))
+          (and_from true (list_all is_row_byte (decimal n)) refl (list_all-weaker is_ascii_digit is_row_byte digit_on_row (decimal n) digits.all))
           (blanks_class is_row_byte (width_of (column_of w places (n, t)) - length (80 ∷ decimal n)) refl),
       head_bytes w places (n + 1) threads (omega arith),
     )

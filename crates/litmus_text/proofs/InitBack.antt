@@ -2,13 +2,14 @@
 use Rattle.std.proofs.Common.{◌≡◌, ◌≤◌, ◌+◌, ◌==◌, ℕ, List, [], ◌∷◌, ◌++◌, Ok, true, false, length, length-append, map, refl, sym, ap, ◌∙◌, arith, append_assoc, append-nil}
 use Rattle.std.specs.Prelude.{Bool, not, ◌&&◌, nat_lt, codes}
 use Rattle.std.specs.List.{list_all, flat_map, join_by, AllByRecursion, enumerate_from}
-use Rattle.std.proofs.lemmas.Bool.{lt-ltb}
+use Rattle.std.proofs.lemmas.Bool.{lt-ltb, and_parts, and_from}
 use Rattle.std.proofs.lemmas.Bool.Decides.{nat_tests}
 use Rattle.relax_edges.specs.declared.kinds.Value.TheVariants as values
 use Rattle.arch_trait.specs.Cells.{is_line_byte}
 use Rattle.litmus_text.specs.Placing.{place_in}
 use Rattle.std.proofs.lemmas.List.Concat.{flat_map-append}
 use Rattle.std.proofs.lemmas.List.Folds.{list_all-append}
+use Rattle.list_laws.proofs.Elements.{list_all-weaker, all_append, all_parts}
 use Rattle.text_laws.specs.Blanks.{is_blank}
 use Rattle.arch_trait.specs.Threads.{Puts, ThreadCode}
 use Rattle.arch_trait.specs.Writing.{Writing, WritesBack, name_in}
@@ -17,7 +18,7 @@ use Rattle.litmus_text.specs.Joined.{Joined, no_text, with_text}
 use Rattle.litmus_text.specs.InitialState.{closed, braced_if, braced, brace_ends, braced_read, initial_read}
 use Rattle.litmus_text.specs.TestText.{item_text, items_lines, initial_lines}
 use Rattle.litmus_text.specs.Items.{Link, links_of, links_mention, link_values, links_once, LinkFits}
-use Rattle.litmus_text.proofs.CutBack.{both, both_are, without_class, all_both, weaker}
+use Rattle.litmus_text.proofs.CutBack.{without_class, all_both}
 use Rattle.text_laws.specs.Cuts.{is_without}
 use Rattle.text_laws.proofs.CutLaws.{cut_back, cut_none}
 use Rattle.litmus_text.proofs.LineBack.{IsLine, before}
@@ -110,13 +111,13 @@ item_in_line b h = grind (arith, nat_tests)
 
 items_on_line : (b : ℕ) → is_items_byte b ≡ true → is_line_byte b ≡ true
 unfolding is_items_byte
-items_on_line b h = (both (is_line_byte b) (not (b == 125)) h).0
+items_on_line b h = (and_parts (is_line_byte b) (not (b == 125)) h).0
 
 item_bytes : (a : Puts) (w : Writing) (table places : List (List ℕ)) (link : Link) → WritesBack a w → LinkFits w table (name_in places) link → list_all is_items_byte (item_text w places link.0 link.1) ≡ true
 unfolding is_items_byte
 item_bytes a w table places link laws fits =
     ap (list_all is_items_byte) (core_is w places link)
-    ∙ all_both is_items_byte (core w (name_in places) link) (59 ∷ []) (weaker is_item_byte is_items_byte item_in_line (core w (name_in places) link) (core_bytes a w table (name_in places) link laws fits)) refl
+    ∙ all_both is_items_byte (core w (name_in places) link) (59 ∷ []) (list_all-weaker is_item_byte is_items_byte item_in_line (core w (name_in places) link) (core_bytes a w table (name_in places) link laws fits)) refl
 
 further_bytes : (a : Puts) (w : Writing) (table places : List (List ℕ)) (n : ℕ) (links : List (ℕ × ℕ)) → WritesBack a w → AllByRecursion (LinkFits w table (name_in places)) (map (λ link. (n, link)) links)
     → list_all is_items_byte (flat_map (λ y. codes " " ++ item_text w places n y) links) ≡ true
@@ -143,15 +144,6 @@ item_line_is a w table places n (link ∷ links) laws fits =
       tt,
     )
 
--- what holds of all elements of two lists holds of all elements of both together
-pub all_join : {X : Type 0} (P : X → Type 0) (xs ys : List X) → AllByRecursion P xs → AllByRecursion P ys → AllByRecursion P (xs ++ ys)
-all_join P [] ys h k = k
-all_join P (x ∷ xs) ys h k = (h.0, all_join P xs ys h.1 k)
-
-all_split : {X : Type 0} (P : X → Type 0) (xs ys : List X) → AllByRecursion P (xs ++ ys) → AllByRecursion P xs × AllByRecursion P ys
-all_split P [] ys h = (tt, h)
-all_split P (x ∷ xs) ys h = let rest = all_split P xs ys h.1 in ((h.0, rest.0), rest.1)
-
 all_map : {X : Type 0} (P Q : X → Type 0) → ((x : X) → P x → Q x) → (xs : List X) → AllByRecursion P xs → AllByRecursion Q xs
 all_map P Q f [] h = tt
 all_map P Q f (x ∷ xs) h = (f x h.0, all_map P Q f xs h.1)
@@ -160,8 +152,8 @@ item_lines_are : (a : Puts) (w : Writing) (table places : List (List ℕ)) (n : 
     → AllByRecursion ItemLine (item_lines w places n threads)
 item_lines_are a w table places n [] laws fits = tt
 item_lines_are a w table places n (t ∷ threads) laws fits =
-    let parts = all_split (LinkFits w table (name_in places)) (map (λ link. (n, link)) t.links) (links_of (n + 1) threads) fits in
-    all_join ItemLine (items_lines w places n t.links) (item_lines w places (n + 1) threads)
+    let parts = all_parts (LinkFits w table (name_in places)) (map (λ link. (n, link)) t.links) (links_of (n + 1) threads) fits in
+    all_append ItemLine (items_lines w places n t.links) (item_lines w places (n + 1) threads)
     (item_line_is a w table places n t.links laws parts.0) (item_lines_are a w table places (n + 1) threads laws parts.1)
 
 no_brace_in : (text : List ℕ) → ItemLine text → is_without 125 text ≡ true
@@ -174,8 +166,8 @@ pub initial_lines_are : (a : Puts) (w : Writing) (table places : List (List ℕ)
 unfolding initial_lines
 initial_lines_are a w table places threads laws fits = (
   line_is (123 ∷ []) refl refl,
-  all_join IsLine (item_lines w places 0 threads) ((125 ∷ []) ∷ [])
-      (all_map ItemLine IsLine (λ l h. line_is l (weaker is_items_byte is_line_byte items_on_line l h.bytes) h.inked) (item_lines w places 0 threads) (item_lines_are a w table places 0 threads laws fits))
+  all_append IsLine (item_lines w places 0 threads) ((125 ∷ []) ∷ [])
+      (all_map ItemLine IsLine (λ l h. line_is l (list_all-weaker is_items_byte is_line_byte items_on_line l h.bytes) h.inked) (item_lines w places 0 threads) (item_lines_are a w table places 0 threads laws fits))
       (line_is (125 ∷ []) refl refl, tt),
 )
 
@@ -204,7 +196,7 @@ links_there table names n m [] h = refl
 links_there table names n m (t ∷ threads) h =
     ap (list_all (λ v. nat_lt v.0 m)) (values_split table names (map (λ link. (n, link)) t.links) (links_of (n + 1) threads))
     ∙ list_all-append (λ v. nat_lt v.0 m) (link_values table names (map (λ link. (n, link)) t.links)) (link_values table names (links_of (n + 1) threads))
-    ∙ both_are (list_all (λ v. nat_lt v.0 m) (link_values table names (map (λ link. (n, link)) t.links))) (list_all (λ v. nat_lt v.0 m) (link_values table names (links_of (n + 1) threads)))
+    ∙ and_from (list_all (λ v. nat_lt v.0 m) (link_values table names (map (λ link. (n, link)) t.links))) (list_all (λ v. nat_lt v.0 m) (link_values table names (links_of (n + 1) threads)))
     (here t.links) (links_there table names (n + 1) m threads (omega arith))
   where
     values_split : (table : List (List ℕ)) (names : ℕ → List ℕ) (xs ys : List Link) → link_values table names (xs ++ ys) ≡ link_values table names xs ++ link_values table names ys
@@ -213,4 +205,4 @@ links_there table names n m (t ∷ threads) h =
 
     here : (links : List (ℕ × ℕ)) → list_all (λ v. nat_lt v.0 m) (link_values table names (map (λ link. (n, link)) links)) ≡ true
     here [] = refl
-    here (link ∷ links) = both_are (nat_lt n m) (list_all (λ v. nat_lt v.0 m) (link_values table names (map (λ link. (n, link)) links))) (lt-ltb n m (omega arith)) (here links)
+    here (link ∷ links) = and_from (nat_lt n m) (list_all (λ v. nat_lt v.0 m) (link_values table names (map (λ link. (n, link)) links))) (lt-ltb n m (omega arith)) (here links)

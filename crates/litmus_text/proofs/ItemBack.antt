@@ -5,9 +5,10 @@ use Rattle.std.specs.Char.{is_ascii_digit, is_ascii_alphanumeric}
 use Rattle.std.specs.Fmt.{decimal}
 use Rattle.std.specs.List.{list_all, list_any, flat_map, position_from, IsDistinct, AllByRecursion}
 use Rattle.std.specs.Str.{bytes_eq}
-use Rattle.std.proofs.lemmas.Bool.{lt-ltb}
+use Rattle.std.proofs.lemmas.Bool.{lt-ltb, not-true, and_parts, and_from}
 use Rattle.std.proofs.lemmas.Bool.Decides.{nat_tests}
 use Rattle.std.proofs.lemmas.List.Sums.{AllPass-from_list_all}
+use Rattle.list_laws.proofs.Elements.{list_all-weaker}
 use Rattle.relax_edges.specs.declared.kinds.Value.TheVariants as values
 use Rattle.final_cond.specs.declared.errors.CondKind.TheVariants.{BadTerm}
 use Rattle.text_laws.specs.Names.{is_place_name, is_register_name, is_place_byte, begins_place}
@@ -30,7 +31,7 @@ use Rattle.litmus_text.specs.InitialState.{gives, a_place, worth_of, worth_if, i
 use Rattle.litmus_text.specs.TestText.{item_text}
 use Rattle.litmus_text.specs.Placing.{or_zero, place_in}
 use Rattle.litmus_text.specs.Items.{Link, links_mention, link_values, links_once, LinkFits}
-use Rattle.litmus_text.proofs.CutBack.{both, both_are, without_class, piece_back, piece_last, all_both, weaker, bytes_same}
+use Rattle.litmus_text.proofs.CutBack.{without_class, piece_back, piece_last, all_both, bytes_same}
 use Rattle.text_laws.proofs.CutLaws.{cut_back}
 use Rattle.litmus_text.proofs.NamesBack.{Within, within_self, within_trans, within_number, IsAmong, place_added}
 use Rattle.litmus_text.proofs.RowBack.{added_within}
@@ -50,24 +51,20 @@ place_in_item : (b : ℕ) → is_place_byte b ≡ true → is_item_byte b ≡ tr
 place_in_item b h = grind (arith, nat_tests)
 
 item_inked : (b : ℕ) → is_item_byte b ≡ true → not (is_blank b) ≡ true
-item_inked b h = (both (not (is_blank b)) (not (b == 59 || b == 125)) (both (is_line_byte b) (not (is_blank b) && not (b == 59 || b == 125)) h).1).0
+item_inked b h = (and_parts (not (is_blank b)) (not (b == 59 || b == 125)) (and_parts (is_line_byte b) (not (is_blank b) && not (b == 59 || b == 125)) h).1).0
 
 -- a byte of an item is one of a line
 pub item_on_line : (b : ℕ) → is_item_byte b ≡ true → is_line_byte b ≡ true
-item_on_line b h = (both (is_line_byte b) (not (is_blank b) && not (b == 59 || b == 125)) h).0
-
-not_true : (b : Bool) → not b ≡ true → b ≡ false
-not_true true e = cc
-not_true false e = refl
+item_on_line b h = (and_parts (is_line_byte b) (not (is_blank b) && not (b == 59 || b == 125)) h).0
 
 -- a text of item bytes is its own trimming, a blank before it or not
 inked_front : (text : List ℕ) → list_all is_item_byte text ≡ true → unblanked text ≡ text
 unfolding after_run
 inked_front [] h = refl
-inked_front (b ∷ text) h = rw (not_true (is_blank b) (item_inked b (both (is_item_byte b) (list_all is_item_byte text) h).0)) refl
+inked_front (b ∷ text) h = rw (not-true (is_blank b) (item_inked b (and_parts (is_item_byte b) (list_all is_item_byte text) h).0)) refl
 
 trimmed_item : (text : List ℕ) → list_all is_item_byte text ≡ true → trimmed text ≡ text
-trimmed_item text h = ap before_blanks (inked_front text h) ∙ inked_ends text (weaker is_item_byte (λ b. not (is_blank b)) item_inked text h)
+trimmed_item text h = ap before_blanks (inked_front text h) ∙ inked_ends text (list_all-weaker is_item_byte (λ b. not (is_blank b)) item_inked text h)
 
 behind_blank : (text : List ℕ) → list_all is_item_byte text ≡ true → trimmed (32 ∷ text) ≡ text
 unfolding after_run
@@ -111,7 +108,7 @@ register_formed a w r laws h = AllPass-from_list_all is_register_name w.register
 
 -- a side has the form of a left side
 side_formed : (a : Puts) (w : Writing) (link : Link) → WritesBack a w → link.0 < 64 → link.1.0 < length w.registers → has_form (InRegister link.0 (name_in w.registers link.1.0)) ≡ true
-side_formed a w link laws small h = both_are (nat_lt link.0 64) (is_register_name (name_in w.registers link.1.0)) (lt-ltb link.0 64 small) (register_formed a w link.1.0 laws h)
+side_formed a w link laws small h = and_from (nat_lt link.0 64) (is_register_name (name_in w.registers link.1.0)) (lt-ltb link.0 64 small) (register_formed a w link.1.0 laws h)
 
 ok_same : (l x : LeftSeen × List ℕ) → (◌≡◌ {A = Result (LeftSeen × List ℕ) Fault} (Ok l) (Ok x)) → l ≡ x
 ok_same l x e = cc
@@ -134,17 +131,17 @@ side_bytes a w link laws small h =
     let digits = digits_of link.0 (omega arith) in
     let parts = named link.0 (name_in w.registers link.1.0) (side_formed a w link laws small h) in
     all_both is_item_byte (decimal link.0 ++ codes ":") (name_in w.registers link.1.0)
-    (all_both is_item_byte (decimal link.0) (codes ":") (weaker is_ascii_digit is_item_byte digit_in_item (decimal link.0) digits.all) refl)
-    (weaker is_ascii_alphanumeric is_item_byte letter_in_item (name_in w.registers link.1.0) parts.bytes)
+    (all_both is_item_byte (decimal link.0) (codes ":") (list_all-weaker is_ascii_digit is_item_byte digit_in_item (decimal link.0) digits.all) refl)
+    (list_all-weaker is_ascii_alphanumeric is_item_byte letter_in_item (name_in w.registers link.1.0) parts.bytes)
 
 name_bytes : (name : List ℕ) → is_place_name name ≡ true → list_all is_item_byte name ≡ true
-name_bytes name h = weaker is_place_byte is_item_byte place_in_item name (place_bytes name h)
+name_bytes name h = list_all-weaker is_place_byte is_item_byte place_in_item name (place_bytes name h)
 
 -- the bytes of an item without its semicolon are those of an item
 pub core_bytes : (a : Puts) (w : Writing) (table : List (List ℕ)) (names : ℕ → List ℕ) (link : Link) → WritesBack a w → LinkFits w table names link → list_all is_item_byte (core w names link) ≡ true
 core_bytes a w table names link laws fits =
     all_both is_item_byte (side_text w link) (61 ∷ names link.1.1) (side_bytes a w link laws fits.thread fits.register)
-    (both_are true (list_all is_item_byte (names link.1.1)) refl (name_bytes (names link.1.1) fits.formed))
+    (and_from true (list_all is_item_byte (names link.1.1)) refl (name_bytes (names link.1.1) fits.formed))
 
 side_equal : (a : Puts) (w : Writing) (link : Link) → WritesBack a w → link.0 < 64 → link.1.0 < length w.registers → is_without 61 (side_text w link) ≡ true
 unfolding side_text left_text
@@ -163,8 +160,8 @@ name_no_number : (name : List ℕ) → is_place_name name ≡ true → number_of
 unfolding is_place_name
 name_no_number [] h = absurd (cc)
 name_no_number (b ∷ name) h =
-    let front = both (begins_place b && list_all is_place_byte name) (nat_le (length (b ∷ name)) 16) h in
-    let first = both (begins_place b) (list_all is_place_byte name) front.0 in
+    let front = and_parts (begins_place b && list_all is_place_byte name) (nat_le (length (b ∷ name)) 16) h in
+    let first = and_parts (begins_place b) (list_all is_place_byte name) front.0 in
     not_digits (b ∷ name) (rw (begins_no_digit b first.0) refl)
 
 worth_back : (name : List ℕ) → is_place_name name ≡ true → worth_of name ≡ Some (a_place name)
@@ -247,11 +244,11 @@ unfolding items_read
 items_back a w table final s names done [] joined place laws fits among_table short within once =
     rw (nothing_item w joined place (begun_at s final names done)) (ap (λ d. Ok (begun_at s final names d)) (sym (append-nil done)))
 items_back a w table final s names done (link ∷ links) joined place laws fits among_table short within once =
-    let parts = both (not (list_any (λ d. (d.0 == link.0) && (d.1.0 == link.1.0)) done)) (links_once (done ++ link ∷ []) links) once in
+    let parts = and_parts (not (list_any (λ d. (d.0 == link.0) && (d.1.0 == link.1.0)) done)) (links_once (done ++ link ∷ []) links) once in
     let added = place_added s table (names link.1.1) among_table short fits.0.inside in
     let further = links_within names (names_added s (names link.1.1)) links in
     let step = item_step a w table final s names done link joined place laws fits.0 among_table short
-    (within_trans (names_added s (names link.1.1)) (links_mention names s (link ∷ links)) final further within) (not_true (list_any (λ d. (d.0 == link.0) && (d.1.0 == link.1.0)) done) parts.0) in
+    (within_trans (names_added s (names link.1.1)) (links_mention names s (link ∷ links)) final further within) (not-true (list_any (λ d. (d.0 == link.0) && (d.1.0 == link.1.0)) done) parts.0) in
     rw step
     (items_back a w table final (names_added s (names link.1.1)) names (done ++ link ∷ []) links joined (place + (length (32 ∷ core w names link) + 1)) laws fits.1 added.among short within parts.1
     ∙ ap (λ d. Ok (begun_at (links_mention names s (link ∷ links)) final names d)) (append_assoc done (link ∷ []) links))
@@ -266,7 +263,7 @@ item_pieces a w table names (link ∷ links) laws fits =
     let shape : (32 ∷ (text ++ 59 ∷ []) ++ flat_map (λ link. 32 ∷ (core w names link ++ 59 ∷ [])) links) ++ 32 ∷ [] ≡ (32 ∷ text) ++ 59 ∷ rest =
     append_assoc (32 ∷ (text ++ 59 ∷ [])) (flat_map (λ link. 32 ∷ (core w names link ++ 59 ∷ [])) links) (32 ∷ []) ∙ append_assoc (32 ∷ text) (59 ∷ []) rest in
     ap (pieces 59) shape
-    ∙ piece_back 59 (32 ∷ text) rest (both_are true (is_without 59 text) refl (without_class is_item_byte 59 text refl (core_bytes a w table names link laws fits.0)))
+    ∙ piece_back 59 (32 ∷ text) rest (and_from true (is_without 59 text) refl (without_class is_item_byte 59 text refl (core_bytes a w table names link laws fits.0)))
     ∙ ap (λ ps. (32 ∷ text) ∷ ps) (item_pieces a w table names links laws fits.1)
 
 -- the text of all items is read as the values of the address registers

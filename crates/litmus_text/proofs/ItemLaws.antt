@@ -3,8 +3,9 @@ use Rattle.std.proofs.Common.{◌≡◌, ◌==◌, ◌+◌, ◌≤◌, ℕ, suc,
 use Rattle.std.specs.Prelude.{nat_lt, cond}
 use Rattle.std.specs.List.{list_all, position_from}
 use Rattle.std.specs.Str.{bytes_eq}
-use Rattle.std.proofs.lemmas.Bool.{eqb-true}
+use Rattle.std.proofs.lemmas.Bool.{eqb-true, and_parts}
 use Rattle.std.proofs.lemmas.Slice.Eq.{bytes_eq-Decides}
+use Rattle.list_laws.proofs.Cases.{by_test}
 use Rattle.final_cond.specs.declared.errors.CondKind.TheVariants.{BadTerm}
 use Rattle.text_laws.specs.Blanks.{is_blank, unblanked, before_blanks, kept_before, trimmed}
 use Rattle.text_laws.specs.Runs.{after_run}
@@ -14,7 +15,6 @@ use Rattle.final_cond.specs.Reading.{Fault, found, left_at_front, left_read, onl
 use Rattle.arch_trait.specs.Writing.{Writing}
 use Rattle.text_laws.specs.Words.{is_nil}
 use Rattle.litmus_text.specs.InitialState.{item_with, whole_left, item_if}
-use Rattle.litmus_text.proofs.CutBack.{by_test, both}
 
 -- a text without blanks at its ends has none at its beginning
 inked_front : (b : ℕ) (t : List ℕ) → is_blank b ≡ false → unblanked (kept_before b t) ≡ kept_before b t
@@ -41,7 +41,7 @@ before_blanks-le (b ∷ t) = let k : length (before_blanks t) ≤ length t = bef
 no_register : (names : List (List ℕ)) (name : List ℕ) (i : ℕ) → list_all is_register_name names ≡ true → is_register_name name ≡ false → position_from (λ x. bytes_eq x name) i names ≡ None
 no_register [] name i h f = refl
 no_register (known ∷ names) name i h f =
-    let parts = both (is_register_name known) (list_all is_register_name names) h in
+    let parts = and_parts (is_register_name known) (list_all is_register_name names) h in
     by_test (bytes_eq known name)
     (λ e. let same : known ≡ name = (bytes_eq-Decides known name).0 e in let clash : true ≡ false = sym parts.0 ∙ ap is_register_name same ∙ f in absurd (cc))
     (λ e. rw e (no_register names name (i + 1) parts.1 f))

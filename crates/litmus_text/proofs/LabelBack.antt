@@ -3,13 +3,13 @@ use Rattle.std.proofs.Common.{◌≡◌, ◌+◌, ℕ, List, [], ◌∷◌, Ok, 
 use Rattle.std.specs.Prelude.{count_by}
 use Rattle.std.specs.List.{AllByRecursion}
 use Rattle.std.proofs.lemmas.List.Sums.{sum_by-cons}
+use Rattle.std.proofs.lemmas.Bool.{and_parts}
 use Rattle.micro_ops.specs.declared.operation.Micro.{Micro}
 use Rattle.micro_ops.specs.declared.operation.Micro.TheVariants as ops
 use Rattle.litmus_text.specs.Table.{is_label_of, is_label, lands_once, is_landing, labels_judged, all_labels_judged}
 use Rattle.litmus_text.specs.Placing.{renumbered}
 use Rattle.litmus_text.specs.TablePlan.{placed_from, column_so_far}
 use Rattle.litmus_text.specs.Progress.{stands_once, op_lands, code_lands}
-use Rattle.litmus_text.proofs.CutBack.{both}
 
 label_kept : (label : ℕ) (table : List (List ℕ)) (names : ℕ → List ℕ) (op : Micro) → is_label_of label (renumbered table names op) ≡ is_label_of label op
 label_kept label table names (ops.LoadAt dst place) = refl
@@ -38,7 +38,7 @@ judged_back : (table : List (List ℕ)) (names : ℕ → List ℕ) (n m : ℕ) (
 unfolding labels_judged
 judged_back table names n m all [] h = refl
 judged_back table names n m all (op ∷ code) h =
-    let parts = both (op_lands op all code) (code_lands all code) h in
+    let parts = and_parts (op_lands op all code) (code_lands all code) h in
     rw (landing_kept op table names n (m + 1) all code, parts.0) (judged_back table names n (m + 1) all code parts.1)
 
 -- the labels of printed threads are judged to be right

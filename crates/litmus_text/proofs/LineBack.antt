@@ -1,12 +1,13 @@
 -- Printed lines are the lines of their text.
 use Rattle.std.proofs.Common.{◌≡◌, ◌+◌, ◌==◌, ℕ, List, [], ◌∷◌, ◌++◌, true, false, refl, sym, ap, ◌∙◌, append_assoc}
 use Rattle.std.specs.List.{list_all, flat_map, slice_split, AllByRecursion}
-use Rattle.std.proofs.lemmas.Bool.{eqb-true}
+use Rattle.std.proofs.lemmas.Bool.{eqb-true, and_parts}
+use Rattle.list_laws.proofs.Cases.{by_test}
 use Rattle.arch_trait.specs.Cells.{is_line_byte}
 use Rattle.litmus_text.specs.Lines.{Lines, ends, line, is_passed, lines_in, lines_from}
 use Rattle.text_laws.specs.Lines.{without_return, is_line_feed}
 use Rattle.litmus_text.specs.TestText.{ended}
-use Rattle.litmus_text.proofs.CutBack.{both, by_test, without_class, piece_back}
+use Rattle.litmus_text.proofs.CutBack.{without_class, piece_back}
 use Rattle.text_laws.proofs.PieceLaws.{first_piece}
 
 -- a line of printed bytes that isn't passed over
@@ -28,9 +29,9 @@ no_return byte h =
 keeps_end : (text : List ℕ) → list_all is_line_byte text ≡ true → without_return text ≡ text
 unfolding without_return
 keeps_end [] h = refl
-keeps_end (byte ∷ []) h = let parts = both (is_line_byte byte) true h in rw (no_return byte parts.0) refl
+keeps_end (byte ∷ []) h = let parts = and_parts (is_line_byte byte) true h in rw (no_return byte parts.0) refl
 keeps_end (byte ∷ next ∷ text) h =
-    let parts = both (is_line_byte byte) (list_all is_line_byte (next ∷ text)) h in ap (λ rest. byte ∷ rest) (keeps_end (next ∷ text) parts.1)
+    let parts = and_parts (is_line_byte byte) (list_all is_line_byte (next ∷ text)) h in ap (λ rest. byte ∷ rest) (keeps_end (next ∷ text) parts.1)
 
 one_line : (n : ℕ) (text : List ℕ) (pieces : List (List ℕ)) (piece : List ℕ) → IsLine text
     → lines_in n (text ∷ piece ∷ pieces) ≡ line n text (lines_in (n + 1) (piece ∷ pieces))

@@ -4,6 +4,7 @@ use Rattle.std.specs.Prelude.{Option, is_some}
 use Rattle.std.specs.List.{AllByRecursion, range_with_len}
 use Rattle.std.proofs.lemmas.List.{length-map}
 use Rattle.std.proofs.lemmas.List.FromFn.{length-range_with_len}
+use Rattle.std.proofs.lemmas.Bool.{and_parts}
 use Rattle.relax_edges.specs.declared.kinds.ArchName.{ArchName}
 use Rattle.micro_ops.specs.declared.operation.Micro.{Micro}
 use Rattle.micro_ops.specs.declared.operation.Micro.TheVariants as ops
@@ -20,7 +21,6 @@ use Rattle.litmus_text.specs.Items.{Link, links_of, links_mention, LinkFits}
 use Rattle.litmus_text.specs.Terms.{left_mention, terms_mention, is_known, TermFits}
 use Rattle.litmus_text.specs.Reread.{IsReadable}
 use Rattle.litmus_text.specs.Mentioned.{is_in, op_is_in, left_is_in, ReadsBack}
-use Rattle.litmus_text.proofs.CutBack.{both}
 use Rattle.litmus_text.proofs.NamesBack.{Within, within_self, within_trans, within_number, numbered_in, IsAmong, place_added, none_among}
 use Rattle.litmus_text.proofs.ItemBack.{links_within, links_among}
 use Rattle.litmus_text.proofs.RowBack.{IsReady, row_within, rows_mention, rows_within, all_advance, row_among, mention_among, rows_among}
@@ -42,8 +42,8 @@ op_larger s S names op h e = refl
 
 -- an operation that was mentioned
 op_mentioned : (table s : List (List ℕ)) (names : ℕ → List ℕ) (op : Micro) → IsAmong s table → length table ≤ 64 → is_placed table names op ≡ true → op_is_in (mentioned names s op) names op ≡ true
-op_mentioned table s names (ops.LoadAt dst place) h few placed = ap is_some (place_added s table (names place) h few (both _ (is_some (number_in table (names place))) placed).1).after
-op_mentioned table s names (ops.StoreAt place n) h few placed = ap is_some (place_added s table (names place) h few (both _ (is_some (number_in table (names place))) placed).1).after
+op_mentioned table s names (ops.LoadAt dst place) h few placed = ap is_some (place_added s table (names place) h few (and_parts _ (is_some (number_in table (names place))) placed).1).after
+op_mentioned table s names (ops.StoreAt place n) h few placed = ap is_some (place_added s table (names place) h few (and_parts _ (is_some (number_in table (names place))) placed).1).after
 op_mentioned table s names op h few placed = refl
 
 abbrev OpsIn : List (List ℕ) → (ℕ → List ℕ) → List Micro → Type 0

@@ -3,9 +3,10 @@ use Rattle.std.proofs.Common.{◌≡◌, ◌<◌, ◌≤◌, ◌+◌, ◌==◌, 
 use Rattle.std.specs.Prelude.{Bool, not, ◌&&◌, nat_lt, nat_le, is_some, Err}
 use Rattle.std.specs.List.{list_all, position_from, range_with_len}
 use Rattle.std.specs.Str.{bytes_eq}
-use Rattle.std.proofs.lemmas.Bool.{eqb-true, eqb-false, lt-ltb, cases_lt, leb-true, ltb-true}
+use Rattle.std.proofs.lemmas.Bool.{eqb-true, eqb-false, lt-ltb, cases_lt, leb-true, ltb-true, and_parts}
 use Rattle.std.proofs.lemmas.List.Sums.{AllPass-from_list_all}
 use Rattle.std.proofs.lemmas.List.FromFn.{get_or-range_with_len, map-range_with_len_more, length-map-range_with_len}
+use Rattle.list_laws.proofs.Cases.{by_test}
 use Rattle.text_laws.specs.Names.{is_place_name, is_register_name}
 use Rattle.micro_ops.specs.declared.operation.Micro.{Micro}
 use Rattle.micro_ops.specs.declared.operation.Micro.TheVariants as ops
@@ -17,7 +18,6 @@ use Rattle.arch_trait.specs.LabelOrder.{is_next, labels_after}
 use Rattle.litmus_text.specs.Placing.{or_zero, place_in, renumbered, mentioned}
 use Rattle.litmus_text.specs.Progress.{is_placed}
 use Rattle.litmus_text.specs.TablePlan.{label_table}
-use Rattle.litmus_text.proofs.CutBack.{by_test, both}
 use Rattle.litmus_text.proofs.NamesBack.{Within, within_number, IsAmong, place_added}
 
 same_bool : Bool → Bool → Bool
@@ -121,7 +121,7 @@ label_step : (op : Micro) (s : List (List ℕ)) (count label : ℕ) → (nat_le 
     → cond (is_register_name (label_name label)) (with_label op (number_added (label_table count) (label_name label)) s (names_added (label_table count) (label_name label))) (Err errors.BadInstruction)
     ≡ Ok (record { op = with_number op label; places = s; labels = label_table (max count (label + 1)) })
 label_step op s count label next small =
-    let parts = both (nat_le label count) (nat_lt label 64) next in
+    let parts = and_parts (nat_le label count) (nat_lt label 64) next in
     let low = leb-true label count parts.0 in
     let high = ltb-true label 64 parts.1 in
     let added = label_added count label low high small in
@@ -133,10 +133,10 @@ pub numbers_back : (op : Micro) (names : ℕ → List ℕ) (s table final : List
     → numbered (with_number op 0) (name_of names op) s (label_table count)
     ≡ Ok (record { op = renumbered final names op; places = mentioned names s op; labels = label_table (labels_after count op) })
 numbers_back (ops.LoadAt dst place) names s table final count among few placed next small within =
-    let parts = both (is_place_name (names place)) (is_some (number_in table (names place))) placed in
+    let parts = and_parts (is_place_name (names place)) (is_some (number_in table (names place))) placed in
     place_step (ops.LoadAt dst 0) s table final (label_table count) (names place) among few parts.0 parts.1 within
 numbers_back (ops.StoreAt place n) names s table final count among few placed next small within =
-    let parts = both (is_place_name (names place)) (is_some (number_in table (names place))) placed in
+    let parts = and_parts (is_place_name (names place)) (is_some (number_in table (names place))) placed in
     place_step (ops.StoreAt 0 n) s table final (label_table count) (names place) among few parts.0 parts.1 within
 numbers_back (ops.BranchEq label) names s table final count among few placed next small within = label_step (ops.BranchEq 0) s count label next small
 numbers_back (ops.BranchNz a label) names s table final count among few placed next small within = label_step (ops.BranchNz a 0) s count label next small

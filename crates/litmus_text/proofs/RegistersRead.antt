@@ -3,6 +3,7 @@ use Rattle.std.proofs.Common.{◌≡◌, ◌+◌, ◌<◌, ◌≤◌, ◌==◌, 
 use Rattle.std.specs.Prelude.{nat_lt, codes}
 use Rattle.std.specs.List.{position_from}
 use Rattle.std.specs.Str.{bytes_eq}
+use Rattle.list_laws.proofs.Cases.{by_test}
 use Rattle.relax_edges.specs.declared.kinds.Value.{Value}
 use Rattle.relax_edges.specs.declared.kinds.Value.TheVariants as values
 use Rattle.text_laws.specs.Names.{is_place_name}
@@ -18,7 +19,6 @@ use Rattle.litmus_text.specs.Joined.{Joined, no_text}
 use Rattle.litmus_text.specs.Lines.{Lines, ends, line}
 use Rattle.litmus_text.specs.InitialState.{Worth, a_number, a_place, Item, empty, gives, zero_at, worth_of, given, item_with, whole_left, item_if, item_parts, some_item, item_of, Begun, nothing_begun, is_given, with_value, with_address, with_worth, with_named, item_put, item_read, items_read, but_last, Braced, closed, open_to, braced, brace_ends, braced_read, initial_line, initial_read}
 use Rattle.litmus_text.specs.Runnable.{AllNameRegisters}
-use Rattle.litmus_text.proofs.CutBack.{by_test}
 use Rattle.litmus_text.proofs.RunnableRead.{Gives, then_gives, all_push}
 
 -- a position is within the list

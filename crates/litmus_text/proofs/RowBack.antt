@@ -1,10 +1,11 @@
 -- The rows of a printed table are read back.
 use Rattle.std.proofs.Common.{◌≡◌, ◌<◌, ◌≤◌, ◌+◌, ◌==◌, ℕ, List, [], ◌∷◌, ◌++◌, Some, None, Ok, true, false, cond, length, map, length-append, refl, sym, ap, ◌∙◌, subst, arith, add-zero, zero-add}
-use Rattle.std.specs.Prelude.{Bool, not, ◌&&◌, ◌||◌, Option, nat_lt, nat_le, is_some, count_by}
+use Rattle.std.specs.Prelude.{not, ◌&&◌, ◌||◌, Option, nat_lt, nat_le, is_some, count_by}
 use Rattle.std.specs.List.{list_all, AllByRecursion, range_with_len}
-use Rattle.std.proofs.lemmas.Bool.{lt-ltb, ltb-true}
+use Rattle.std.proofs.lemmas.Bool.{lt-ltb, ltb-true, not-true, and_parts}
 use Rattle.std.proofs.lemmas.List.Sums.{sum_by-append, sum_by-cons, AllPass-from_list_all}
 use Rattle.std.proofs.lemmas.List.FromFn.{get_or-range_with_len}
+use Rattle.list_laws.proofs.Cases.{by_test}
 use Rattle.text_laws.specs.Blanks.{is_blank}
 use Rattle.text_laws.specs.Names.{is_place_name}
 use Rattle.micro_ops.specs.declared.operation.Micro.{Micro}
@@ -21,7 +22,6 @@ use Rattle.litmus_text.specs.Table.{Column, Among, among, has_room, instr_put, c
 use Rattle.litmus_text.specs.Placing.{renumbered, mentioned}
 use Rattle.litmus_text.specs.TablePlan.{placed_from, label_table, column_so_far}
 use Rattle.litmus_text.specs.Progress.{Progress, progress, moved, advanced, column_at, mentioned_first, row_mentions, is_placed, OpFits, CodeFits}
-use Rattle.litmus_text.proofs.CutBack.{by_test, both}
 use Rattle.litmus_text.proofs.LineBack.{before}
 use Rattle.litmus_text.proofs.NamesBack.{Within, within_self, within_trans, IsAmong, place_added}
 use Rattle.litmus_text.proofs.CellBack.{padded, Begins, empty_back, plain_back, label_back}
@@ -29,18 +29,18 @@ use Rattle.litmus_text.proofs.OpBack.{numbers_back, label_formed}
 
 -- what an operation names has its form
 pub named_op : (op : Micro) (table : List (List ℕ)) (names : ℕ → List ℕ) (count : ℕ) → is_placed table names op ≡ true → is_next count op ≡ true → is_named (name_of names op) ≡ true
-named_op (ops.LoadAt dst place) table names count placed next = (both (is_place_name (names place)) (is_some (number_in table (names place))) placed).0
-named_op (ops.StoreAt place n) table names count placed next = (both (is_place_name (names place)) (is_some (number_in table (names place))) placed).0
-named_op (ops.BranchEq label) table names count placed next = label_formed label (ltb-true label 64 (both (nat_le label count) (nat_lt label 64) next).1)
-named_op (ops.BranchNz a label) table names count placed next = label_formed label (ltb-true label 64 (both (nat_le label count) (nat_lt label 64) next).1)
-named_op (ops.Label label) table names count placed next = label_formed label (ltb-true label 64 (both (nat_le label count) (nat_lt label 64) next).1)
+named_op (ops.LoadAt dst place) table names count placed next = (and_parts (is_place_name (names place)) (is_some (number_in table (names place))) placed).0
+named_op (ops.StoreAt place n) table names count placed next = (and_parts (is_place_name (names place)) (is_some (number_in table (names place))) placed).0
+named_op (ops.BranchEq label) table names count placed next = label_formed label (ltb-true label 64 (and_parts (nat_le label count) (nat_lt label 64) next).1)
+named_op (ops.BranchNz a label) table names count placed next = label_formed label (ltb-true label 64 (and_parts (nat_le label count) (nat_lt label 64) next).1)
+named_op (ops.Label label) table names count placed next = label_formed label (ltb-true label 64 (and_parts (nat_le label count) (nat_lt label 64) next).1)
 named_op op table names count placed next = refl
 
 -- after an operation at most 64 labels have numbers
 pub few_labels : (op : Micro) (count : ℕ) → is_next count op ≡ true → count ≤ 64 → labels_after count op ≤ 64
-few_labels (ops.BranchEq label) count next h = let small = ltb-true label 64 (both (nat_le label count) (nat_lt label 64) next).1 in omega arith
-few_labels (ops.BranchNz a label) count next h = let small = ltb-true label 64 (both (nat_le label count) (nat_lt label 64) next).1 in omega arith
-few_labels (ops.Label label) count next h = let small = ltb-true label 64 (both (nat_le label count) (nat_lt label 64) next).1 in omega arith
+few_labels (ops.BranchEq label) count next h = let small = ltb-true label 64 (and_parts (nat_le label count) (nat_lt label 64) next).1 in omega arith
+few_labels (ops.BranchNz a label) count next h = let small = ltb-true label 64 (and_parts (nat_le label count) (nat_lt label 64) next).1 in omega arith
+few_labels (ops.Label label) count next h = let small = ltb-true label 64 (and_parts (nat_le label count) (nat_lt label 64) next).1 in omega arith
 few_labels op count next h = h
 
 -- a table goes on to the one to which a name is added
@@ -63,8 +63,8 @@ mention_within names s op = within_self s
 -- the names of places stay among those of a table after an operation was mentioned
 pub mention_among : (table : List (List ℕ)) (names : ℕ → List ℕ) (s : List (List ℕ)) (op : Micro) → IsAmong s table → length table ≤ 64 → is_placed table names op ≡ true
     → IsAmong (mentioned names s op) table
-mention_among table names s (ops.LoadAt dst place) h few placed = (place_added s table (names place) h few (both (is_place_name (names place)) (is_some (number_in table (names place))) placed).1).among
-mention_among table names s (ops.StoreAt place n) h few placed = (place_added s table (names place) h few (both (is_place_name (names place)) (is_some (number_in table (names place))) placed).1).among
+mention_among table names s (ops.LoadAt dst place) h few placed = (place_added s table (names place) h few (and_parts (is_place_name (names place)) (is_some (number_in table (names place))) placed).1).among
+mention_among table names s (ops.StoreAt place n) h few placed = (place_added s table (names place) h few (and_parts (is_place_name (names place)) (is_some (number_in table (names place))) placed).1).among
 mention_among table names s op h few placed = h
 
 access_same : (table : List (List ℕ)) (names : ℕ → List ℕ) (op : Micro) → is_access (renumbered table names op) ≡ is_access op
@@ -102,16 +102,12 @@ labels_more : (count : ℕ) (code : List Micro) (op : Micro) → labels_in count
 labels_more count [] op = refl
 labels_more count (x ∷ code) op = labels_more (labels_after count x) code op
 
-not_true : (b : Bool) → not b ≡ true → b ≡ false
-not_true true e = cc
-not_true false e = refl
-
 word_begins : (b : ℕ) (rest behind word : List ℕ) → word ≡ b ∷ rest → list_all (λ x. not (is_blank x) && not (x == 44)) word ≡ true → Begins (word ++ behind)
 word_begins b rest behind word e h =
     let all : list_all (λ x. not (is_blank x) && not (x == 44)) (b ∷ rest) ≡ true = ap (list_all (λ x. not (is_blank x) && not (x == 44))) (sym e) ∙ h in
-    let first = both (not (is_blank b) && not (b == 44)) (list_all (λ x. not (is_blank x) && not (x == 44)) rest) all in
-    let inked = both (not (is_blank b)) (not (b == 44)) first.0 in
-    record { first = b; rest = rest ++ behind; is = ap (λ x. x ++ behind) e; inked = not_true (is_blank b) inked.0 }
+    let first = and_parts (not (is_blank b) && not (b == 44)) (list_all (λ x. not (is_blank x) && not (x == 44)) rest) all in
+    let inked = and_parts (not (is_blank b)) (not (b == 44)) first.0 in
+    record { first = b; rest = rest ++ behind; is = ap (λ x. x ++ behind) e; inked = not-true (is_blank b) inked.0 }
 
 -- the text of an operation begins with no blank
 pub text_begins : (a : Puts) (w : Writing) (names : ℕ → List ℕ) (op : Micro) → WritesBack a w → a.has op ≡ true → is_named (name_of names op) ≡ true → Begins (op_text w names op)
@@ -162,7 +158,7 @@ labelled : (op : Micro) (a : Puts) (w : Writing) (names : ℕ → List ℕ) (cou
     → cell_read w n (padded k (op_text w names op)) s ≡ Ok t
 labelled (ops.Label label) a w names count n k s t e cells has next begins put =
     label_back w n k (label_name label) (op_text w names (ops.Label label)) s t (cells.labels names label has) begins
-    (label_bytes label (ltb-true label 64 (both (nat_le label count) (nat_lt label 64) next).1)) put
+    (label_bytes label (ltb-true label 64 (and_parts (nat_le label count) (nat_lt label 64) next).1)) put
 labelled op a w names count n k s t e cells has next begins put = absurd (cc)
 
 op_cell : (a : Puts) (w : Writing) (names : ℕ → List ℕ) (op : Micro) (count n k : ℕ) (s t : Among Column) → WritesCells a w → a.has op ≡ true → is_named (name_of names op) ≡ true

@@ -7,6 +7,7 @@ use Rattle.std.proofs.lemmas.List.{length-map}
 use Rattle.std.proofs.Math.ListN.{get_or-map}
 use Rattle.std.proofs.lemmas.List.Sums.{sum_by-cons, sum_by_push}
 use Rattle.std.proofs.lemmas.List.Elements.{All-from_recursion, recursion_from_All, All-replicate, All-map, All-filter, All-get_or}
+use Rattle.list_laws.proofs.Cases.{by_test}
 use Rattle.relax_edges.specs.declared.kinds.Value.{Value}
 use Rattle.micro_ops.specs.declared.operation.Micro.{Micro}
 use Rattle.micro_ops.specs.declared.operation.Micro.TheVariants as ops
@@ -32,7 +33,6 @@ use Rattle.litmus_text.specs.Runnable.{IsRunnable, NamesRegisters, AllNameRegist
 use Rattle.litmus_text.specs.TestReading.{values_of}
 use Rattle.litmus_text.specs.declared.reading.table.Column.{Column as ThreadColumn}
 use Rattle.litmus_text.specs.Views.{column_seen}
-use Rattle.litmus_text.proofs.CutBack.{by_test}
 
 -- what is read raw names registers of the machine
 abbrev pub RawInRange : Writing → Type 0

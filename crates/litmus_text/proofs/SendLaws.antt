@@ -17,10 +17,6 @@ use Rattle.litmus_text.specs.TextParts.{text_from, PutsPart}
 abbrev Answer : Type 0
 Answer = Result (Unit {0}) Failed
 
--- what is sent by way of a page that holds nothing is sent by way of an empty page
-pub from_nothing : (a b : SinkSeen) (held kept text : List ℕ) (result : Answer) → held ≡ [] → Sends a held b kept text result → Sends a [] b kept text result
-from_nothing a b held kept text result e h = subst (λ p. Sends a p b kept text result) e h
-
 -- the text of a test after its header is sent up to a part, from where it goes on
 pub record SentTo (w : Writing) (test : TestSeen) (old new : SinkSeen) (held kept : List ℕ) (next : Option TextPart) : Type 0 where
   pub done : List ℕ

@@ -5,8 +5,10 @@ use Rattle.std.specs.List.{list_all, list_any, flat_map, join_by, AllByRecursion
 use Rattle.std.specs.Str.{bytes_eq}
 use Rattle.std.proofs.Math.ListN.{replicate}
 use Rattle.std.proofs.lemmas.List.{replicate_more}
-use Rattle.std.proofs.lemmas.Bool.{ltb-true}
+use Rattle.std.proofs.lemmas.Bool.{ltb-true, and_parts, and_from}
 use Rattle.std.proofs.lemmas.Bool.Decides.{nat_tests}
+use Rattle.list_laws.proofs.Elements.{list_all-weaker}
+use Rattle.list_laws.proofs.Cases.{by_test}
 use Rattle.text_laws.specs.Blanks.{is_blank, unblanked}
 use Rattle.text_laws.specs.Runs.{run_of, after_run}
 use Rattle.text_laws.specs.Words.{is_word_byte}
@@ -25,7 +27,7 @@ use Rattle.litmus_text.specs.Printable.{is_row_byte}
 use Rattle.litmus_text.specs.Progress.{CodeFits, OpFits}
 use Rattle.litmus_text.proofs.LineBack.{IsLine}
 use Rattle.litmus_text.proofs.HeadBack.{line_is, not_all_blank}
-use Rattle.litmus_text.proofs.CutBack.{by_test, both, both_are, without_class, piece_back, piece_last, all_both, weaker}
+use Rattle.litmus_text.proofs.CutBack.{without_class, piece_back, piece_last, all_both}
 use Rattle.text_laws.proofs.CutLaws.{cut_back}
 use Rattle.litmus_text.proofs.CellBack.{padded, Begins, blanks_class}
 use Rattle.litmus_text.proofs.RowBack.{next_text, AreCells, IsRow, AreRows, after_rows, named_op, text_begins, label_bytes}
@@ -45,7 +47,7 @@ bars : (f : List (List ℕ) → List ℕ) (x : List (List ℕ)) (xs : List (List
     → pieces 124 (32 ∷ ((f x ++ flat_map (λ y. codes " | " ++ f y) xs) ++ 32 ∷ [])) ≡ map (spaced f) (x ∷ xs)
 bars f x [] h =
     ap (λ t. pieces 124 (32 ∷ (t ++ 32 ∷ []))) (append-nil (f x))
-    ∙ piece_last 124 (spaced f x) (both_are true (is_without 124 (f x ++ 32 ∷ [])) refl (all_both (λ b. not (b == 124)) (f x) (32 ∷ []) h.0 refl))
+    ∙ piece_last 124 (spaced f x) (and_from true (is_without 124 (f x ++ 32 ∷ [])) refl (all_both (λ b. not (b == 124)) (f x) (32 ∷ []) h.0 refl))
 bars f x (y ∷ ys) h =
     let more = flat_map (λ y. codes " | " ++ f y) ys in
     let rest : List ℕ = 32 ∷ ((f y ++ more) ++ 32 ∷ []) in
@@ -54,7 +56,7 @@ bars f x (y ∷ ys) h =
     (append_assoc (f x) ((codes " | " ++ f y) ++ more) (32 ∷ [])
     ∙ sym (append_assoc (f x) (32 ∷ []) (124 ∷ rest))) in
     ap (pieces 124) shape
-    ∙ piece_back 124 (spaced f x) rest (both_are true (is_without 124 (f x ++ 32 ∷ [])) refl (all_both (λ b. not (b == 124)) (f x) (32 ∷ []) h.0 refl))
+    ∙ piece_back 124 (spaced f x) rest (and_from true (is_without 124 (f x ++ 32 ∷ [])) refl (all_both (λ b. not (b == 124)) (f x) (32 ∷ []) h.0 refl))
     ∙ ap (λ t. spaced f x ∷ t) (bars f y ys h.1)
 
 each_without : (f : List (List ℕ) → List ℕ) (xs : List (List (List ℕ))) → AreWithout 59 f xs → is_without 59 (flat_map (λ y. codes " | " ++ f y) xs) ≡ true
@@ -71,7 +73,7 @@ row_cells f x xs no_bar no_end =
     let shape : 32 ∷ (cells ++ codes " ;") ≡ front ++ 59 ∷ [] = ap (λ t. 32 ∷ t) (sym (append_assoc cells (32 ∷ []) (59 ∷ []))) in
     let clear : is_without 59 cells ≡ true = all_both (λ b. not (b == 59)) (f x) (flat_map (λ y. codes " | " ++ f y) xs) no_end.0 (each_without f xs no_end.1) in
     let cut : cut_at 59 (32 ∷ (cells ++ codes " ;")) ≡ Some (front, []) =
-    ap (cut_at 59) shape ∙ cut_back 59 front [] (both_are true (is_without 59 (cells ++ 32 ∷ [])) refl (all_both (λ b. not (b == 59)) cells (32 ∷ []) clear refl)) in
+    ap (cut_at 59) shape ∙ cut_back 59 front [] (and_from true (is_without 59 (cells ++ 32 ∷ [])) refl (all_both (λ b. not (b == 59)) cells (32 ∷ []) clear refl)) in
     ap (cells_if (32 ∷ (cells ++ codes " ;"))) cut ∙ ap (λ texts. record { texts = texts; whole = true }) (bars f x xs no_bar)
 
 -- the threads before a row of operations
@@ -125,9 +127,9 @@ cell_on_row b h = grind (arith, nat_tests)
 label_text : (op : Micro) (a : Puts) (w : Writing) (names : ℕ → List ℕ) (count : ℕ) → is_label_op op ≡ true → WritesCells a w → a.has op ≡ true → is_next count op ≡ true
     → list_all is_row_byte (op_text w names op) ≡ true
 label_text (ops.Label label) a w names count e cells has next =
-    let small = ltb-true label 64 (both (nat_le label count) (nat_lt label 64) next).1 in
+    let small = ltb-true label 64 (and_parts (nat_le label count) (nat_lt label 64) next).1 in
     ap (list_all is_row_byte) (cells.labels names label has)
-    ∙ all_both is_row_byte (label_name label) (58 ∷ []) (weaker is_cell_byte is_row_byte cell_on_row (label_name label) (label_bytes label small)) refl
+    ∙ all_both is_row_byte (label_name label) (58 ∷ []) (list_all-weaker is_cell_byte is_row_byte cell_on_row (label_name label) (label_bytes label small)) refl
 label_text op a w names count e cells has next = absurd (cc)
 
 op_text_is : (a : Puts) (w : Writing) (table : List (List ℕ)) (names : ℕ → List ℕ) (count accesses : ℕ) (op : Micro) → WritesBack a w → WritesCells a w
@@ -137,7 +139,7 @@ op_text_is a w table names count accesses op laws cells fits =
     record {
       bytes = by_test (is_label_op op)
           (λ e. label_text op a w names count e cells fits.has fits.next)
-          (λ e. weaker is_cell_byte is_row_byte cell_on_row (op_text w names op) (cells.cells names op fits.has named e));
+          (λ e. list_all-weaker is_cell_byte is_row_byte cell_on_row (op_text w names op) (cells.cells names op fits.has named e));
       begins = text_begins a w names op laws fits.has named;
       row = cells.rows names op fits.has named;
     }
@@ -243,12 +245,12 @@ cells_without sign f [] e h = tt
 cells_without sign f (c ∷ columns) e h = (without_class is_row_byte sign (f c) e h.0, cells_without sign f columns e h.1)
 
 row_on_line : (b : ℕ) → is_row_byte b ≡ true → is_line_byte b ≡ true
-row_on_line b h = (both (is_line_byte b) (not (b == 124 || b == 59)) h).0
+row_on_line b h = (and_parts (is_line_byte b) (not (b == 124 || b == 59)) h).0
 
 more_on_line : (f : List (List ℕ) → List ℕ) (xs : List (List (List ℕ))) → AllByRecursion (λ c. list_all is_row_byte (f c) ≡ true) xs → list_all is_line_byte (flat_map (λ y. codes " | " ++ f y) xs) ≡ true
 more_on_line f [] h = refl
 more_on_line f (y ∷ ys) h =
-    all_both is_line_byte (f y) (flat_map (λ y. codes " | " ++ f y) ys) (weaker is_row_byte is_line_byte row_on_line (f y) h.0) (more_on_line f ys h.1)
+    all_both is_line_byte (f y) (flat_map (λ y. codes " | " ++ f y) ys) (list_all-weaker is_row_byte is_line_byte row_on_line (f y) h.0) (more_on_line f ys h.1)
 
 -- a row of such cells is a line that isn't passed over
 pub row_line_is : (row : ℕ) (x : List (List ℕ)) (xs : List (List (List ℕ))) → AllByRecursion (λ c. list_all is_row_byte (cell_text row c) ≡ true) (x ∷ xs) → IsLine (row_line (x ∷ xs) row)
@@ -257,7 +259,7 @@ row_line_is row x xs h =
     let f = cell_text row in
     let cells = f x ++ flat_map (λ y. codes " | " ++ f y) xs in
     let bytes : list_all is_line_byte cells ≡ true =
-    all_both is_line_byte (f x) (flat_map (λ y. codes " | " ++ f y) xs) (weaker is_row_byte is_line_byte row_on_line (f x) h.0) (more_on_line f xs h.1) in
+    all_both is_line_byte (f x) (flat_map (λ y. codes " | " ++ f y) xs) (list_all-weaker is_row_byte is_line_byte row_on_line (f x) h.0) (more_on_line f xs h.1) in
     line_is (32 ∷ (cells ++ codes " ;")) (all_both is_line_byte cells (codes " ;") bytes refl)
     (ap (λ t. list_all is_blank (32 ∷ t)) (sym (append_assoc cells (32 ∷ []) (59 ∷ []))) ∙ not_all_blank (32 ∷ (cells ++ 32 ∷ [])) 59 [] refl)
 

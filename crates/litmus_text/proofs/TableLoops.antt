@@ -8,6 +8,7 @@ use Rattle.text_laws.specs.Cuts.{cut_at, CutParts}
 use Rattle.litmus_text.specs.Views.{column_seen}
 use Rattle.litmus_text.specs.declared.reading.table.Column.{Column as ThreadColumn}
 use Rattle.std.proofs.lemmas.List.{take_more_set, drop-set-lt, append-nil, map-set, length-map}
+use Rattle.list_laws.proofs.Cases.{by_test}
 use Rattle.arch_trait.specs.Cells.{ends_rows}
 use Rattle.arch_trait.specs.Writing.{Writing}
 use Rattle.litmus_text.specs.declared.errors.TextError.{TextError}
@@ -15,7 +16,6 @@ use Rattle.litmus_text.specs.declared.errors.TestKind.TheVariants.{BadTable, Too
 use Rattle.litmus_text.specs.declared.limits.TheConstants.{MAX_THREADS, MAX_ROWS}
 use Rattle.litmus_text.specs.Lines.{Lines, ends, line, ◌>>=◌, bad}
 use Rattle.litmus_text.specs.Table.{Cells, cells_of, is_head, heads_read, Column, Among, among, cell_read, instr_in, instr_or_nothing, before_columns, row_read, rows_read}
-use Rattle.litmus_text.proofs.CutBack.{by_test}
 
 -- where no cell of the header is left, the threads are counted
 pub heads_end : (n k : ℕ) (whole : Bool) (ps : List (List ℕ)) → ps ≡ [] → heads_read n whole k ps ≡ cond whole (Ok k) (bad BadTable n)

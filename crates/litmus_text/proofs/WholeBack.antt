@@ -5,6 +5,8 @@ use Rattle.std.specs.List.{flat_map, join_by, AllByRecursion, enumerate_from, ra
 use Rattle.std.proofs.lemmas.Bool.{eqb-true, eq-eqb, ltb-true}
 use Rattle.std.proofs.lemmas.List.{length-map, take_all}
 use Rattle.std.proofs.lemmas.List.FromFn.{length-range_with_len}
+use Rattle.list_laws.proofs.Elements.{all_append}
+use Rattle.list_laws.proofs.Cases.{by_test}
 use Rattle.relax_edges.specs.declared.kinds.ArchName.{ArchName}
 use Rattle.relax_edges.specs.declared.kinds.Value.{Value}
 use Rattle.relax_edges.specs.declared.kinds.Value.TheVariants as values
@@ -30,11 +32,10 @@ use Rattle.litmus_text.specs.Progress.{progress, CodeFits, code_lands, column_at
 use Rattle.litmus_text.specs.Items.{Link, links_of, links_mention, link_values}
 use Rattle.litmus_text.specs.Terms.{terms_mention}
 use Rattle.litmus_text.specs.Reread.{thread_reread, reread, IsReadable}
-use Rattle.litmus_text.proofs.CutBack.{by_test}
 use Rattle.litmus_text.proofs.LineBack.{IsLine, before, lines_back}
 use Rattle.litmus_text.proofs.HeadBack.{header_back, quote_back, settings_back, header_line_is, edges_line_is}
 use Rattle.litmus_text.proofs.NamesBack.{within_trans, none_among}
-use Rattle.litmus_text.proofs.InitBack.{initial_back, initial_lines_are, links_there, all_join}
+use Rattle.litmus_text.proofs.InitBack.{initial_back, initial_lines_are, links_there}
 use Rattle.litmus_text.proofs.ItemBack.{links_among}
 use Rattle.litmus_text.proofs.HeadRowBack.{head_back, head_line_is}
 use Rattle.litmus_text.proofs.RowBack.{IsReady, after_rows, rows_mention, rows_within, rows_among, rows_back}
@@ -207,11 +208,11 @@ lines_are a arch w name edges places t threads condition laws cells h =
       header_line_is arch name h.named,
       (
         edges_line_is edges,
-        all_join IsLine (initial_lines w places (t ∷ threads)) (table_lines (columns_of w places (t ∷ threads)) ++ cond_text condition ∷ [])
+        all_append IsLine (initial_lines w places (t ∷ threads)) (table_lines (columns_of w places (t ∷ threads)) ++ cond_text condition ∷ [])
             (initial_lines_are a w places places (t ∷ threads) laws h.links)
             (subst (λ table. AllByRecursion IsLine (table ++ cond_text condition ∷ [])) (sym (table_is w places t threads)) (
               head_line_is w places t threads h.threads_few,
-              all_join IsLine rows (cond_text condition ∷ []) (rows_are_lines w places 0 (longest 0 (t ∷ threads)) t threads texts)
+              all_append IsLine rows (cond_text condition ∷ []) (rows_are_lines w places 0 (longest 0 (t ∷ threads)) t threads texts)
                   (cond_line_is w (length (t ∷ threads)) places condition h.terms, tt),
             )),
       ),

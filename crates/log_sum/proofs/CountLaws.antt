@@ -1,46 +1,36 @@
 -- Counts and the digits that write them.
-use Rattle.std.proofs.Common.{◌≡◌, ℕ, ◌^◌, ◌<◌, List, [], ◌∷◌, length, get_or, refl, sym, ap, ◌∙◌, arith, rules}
-use Rattle.std.specs.Prelude.{true, false, Bool, cond, nat_le, nat_lt, Option, Some, None, Result, Ok, Err}
+use Rattle.std.proofs.Common.{◌≡◌, ℕ, ◌^◌, ◌<◌, List, [], ◌∷◌, length, refl, sym, ap, ◌∙◌, arith}
+use Rattle.std.specs.Prelude.{true, false, cond, nat_le, nat_lt, Option, Some, None, Result, Ok, Err}
 use Rattle.std.specs.Char.{is_ascii, is_ascii_digit}
 use Rattle.std.specs.List.{list_all}
 use Rattle.std.specs.Result.{result_ok, OkIff}
 use Rattle.std.specs.Str.{IsAscii, IsUtf8}
 use Rattle.std.specs.Str.Parse.{digits_value, ParsesUnsigned}
-use Rattle.std.proofs.lemmas.Bool.{ltb-true, lt-ltb, and_parts, and_from}
+use Rattle.std.proofs.lemmas.Bool.{ltb-true, lt-ltb, and_parts}
 use Rattle.std.proofs.lemmas.Str.Ascii.{IsAscii-nil, IsAscii-cons}
 use Rattle.std.proofs.lemmas.Str.{IsUtf8-from_ascii}
 use Rattle.std.proofs.lemmas.Bool.Decides.{nat_tests}
-use Rattle.std.proofs.lemmas.Str.Parse.{IsNumeralModel, numerals_by_value, parse_plain, not_in_digits}
+use Rattle.std.proofs.lemmas.Str.Parse.{parse_plain}
+use Rattle.list_laws.proofs.Digits.{digits_model, digits_no_plus}
+use Rattle.list_laws.proofs.Elements.{list_all-weaker}
+use Rattle.list_laws.proofs.Cases.{by_test}
 use Rattle.log_sum.specs.declared.errors.LogKind.{LogKind}
 use Rattle.log_sum.specs.declared.errors.LogKind.TheVariants.{BadState, BadCount}
 use Rattle.text_laws.specs.Runs.{run_of, after_run}
 use Rattle.text_laws.specs.Words.{is_nil}
 use Rattle.log_sum.specs.Counts.{count_read, count_of_digits, last_count}
-use Rattle.text_laws.proofs.RunLaws.{by_test, run_passes}
-
-own : IsNumeralModel (λ ds. list_all is_ascii_digit ds ≡ true) (digits_value 10)
-own = numerals_by_value _ (search rules)
-
-no_plus : (digits : List ℕ) → list_all is_ascii_digit digits ≡ true → get_or digits 0 0 ≡ 43 → ⊥
-no_plus [] h e = omega arith
-no_plus (byte ∷ digits) h e = not_in_digits own (byte ∷ digits) 43 h (λ r. omega (arith, r.0, r.1)) 0 (omega arith) e
+use Rattle.text_laws.proofs.RunLaws.{run_passes}
 
 -- what is parsed is the digits' value, if it is small
 pub parsed : {E : Type 0} (digits : List ℕ) (r : Result ℕ E) → list_all is_ascii_digit digits ≡ true → 0 < length digits → ParsesUnsigned 64 10 digits r
     → result_ok r ≡ cond (nat_lt (digits_value 10 digits) (2 ^ 64)) (Some (digits_value 10 digits)) None
-parsed digits r all some parses = by_answer r (parse_plain own 64 digits r parses (no_plus digits all))
+parsed digits r all some parses = by_answer r (parse_plain digits_model 64 digits r parses (digits_no_plus digits all))
   where
     by_answer : {E : Type 0} (r : Result ℕ E) → OkIff r ((list_all is_ascii_digit digits ≡ true) × (0 < length digits) × (digits_value 10 digits < 2 ^ 64)) (digits_value 10 digits)
         → result_ok r ≡ cond (nat_lt (digits_value 10 digits) (2 ^ 64)) (Some (digits_value 10 digits)) None
     by_answer (Ok x) h = rw (lt-ltb (digits_value 10 digits) (2 ^ 64) h.0.2) (ap Some h.1)
     by_answer (Err e) h =
         by_test (nat_lt (digits_value 10 digits) (2 ^ 64)) (λ t. absurd (h (all, some, ltb-true (digits_value 10 digits) (2 ^ 64) t))) (λ t. rw t refl)
-
-all_weaker : (p q : ℕ → Bool) → ((byte : ℕ) → p byte ≡ true → q byte ≡ true) → (bytes : List ℕ) → list_all p bytes ≡ true → list_all q bytes ≡ true
-all_weaker p q weaker [] h = refl
-all_weaker p q weaker (byte ∷ bytes) h =
-    let k : (p byte ≡ true) × (list_all p bytes ≡ true) = and_parts (p byte) (list_all p bytes) h in
-    and_from (q byte) (list_all q bytes) (weaker byte k.0) (all_weaker p q weaker bytes k.1)
 
 all_ascii : (bytes : List ℕ) → list_all is_ascii bytes ≡ true → IsAscii bytes
 all_ascii [] h = IsAscii-nil
@@ -51,7 +41,7 @@ all_ascii (byte ∷ bytes) h =
 -- digits are UTF-8
 pub digits_ascii : (digits : List ℕ) → list_all is_ascii_digit digits ≡ true → IsUtf8 digits
 digits_ascii digits h =
-    IsUtf8-from_ascii digits (all_ascii digits (all_weaker is_ascii_digit is_ascii (λ byte p. grind (arith, nat_tests)) digits h))
+    IsUtf8-from_ascii digits (all_ascii digits (list_all-weaker is_ascii_digit is_ascii (λ byte p. grind (arith, nat_tests)) digits h))
 
 -- the digits at the start of a text are digits
 pub front_digits : (text digits : List ℕ) → digits ≡ run_of is_ascii_digit text → list_all is_ascii_digit digits ≡ true

@@ -13,6 +13,7 @@ use Rattle.std.specs.declared.vec.Vec.{Vec}
 use Rattle.std.specs.declared.alloc.Global.{Global}
 use Rattle.std.proofs.lemmas.Map.Text.{is_eq-slice_cmp}
 use Rattle.std.proofs.lemmas.Slice.Eq.{bytes_eq-Decides}
+use Rattle.list_laws.proofs.Cases.{by_test}
 use Rattle.indexmap.specs.Layout.{set_value_at}
 use Rattle.indexmap.specs.IndexMap as indexed
 use Rattle.indexmap.proofs.MapLemmas.{Found-position, insert_entry-absent, absent_from_lookup}
@@ -23,7 +24,6 @@ use Rattle.log_sum.specs.States.{form_read}
 use Rattle.log_sum.specs.Counts.{last_count}
 use Rattle.log_sum.specs.Steps.{known_state}
 use Rattle.log_sum.specs.StateEntries.{sum_view, state_view, state_at, states_view, AreInOrder, AreWritten, written_as, HasState}
-use Rattle.text_laws.proofs.RunLaws.{by_test}
 use Rattle.log_sum.proofs.OrderLaws.{ordered_known, ordered_put, ordered_is}
 
 abbrev Entries : Type 0

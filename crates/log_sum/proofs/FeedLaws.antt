@@ -2,6 +2,7 @@
 use Rattle.std.proofs.Common.{◌≡◌, ◌<◌, ◌≤◌, ℕ, ◌+◌, List, [], ◌∷◌, ◌++◌, Some, None, true, false, length, refl, sym, ap, ◌∙◌, arith, append_assoc, length-append, subst}
 use Rattle.std.specs.Prelude.{Option, Result, Ok, Err, OnOk, nat_lt, ◌==◌}
 use Rattle.std.proofs.lemmas.Bool.Decides.{nat_tests}
+use Rattle.list_laws.proofs.Cases.{by_test}
 use Rattle.log_sum.specs.declared.errors.Fault.{Fault}
 use Rattle.log_sum.specs.declared.errors.Fault.TheVariants.{Wrong, NoMemory}
 use Rattle.log_sum.specs.declared.errors.LogError.{LogError}
@@ -16,7 +17,6 @@ use Rattle.log_sum.specs.Reading.{Seen, ◌>>=◌, fault_at, is_too_long, nothin
 use Rattle.text_laws.specs.Lines.{without_return}
 use Rattle.log_sum.specs.Standing.{Progress, Kept, StandsFor, FedTo, EndedTo}
 use Rattle.log_sum.specs.Feeding.{AreMarked, Follows, ReadOn, ReadTo, PieceTo, EndTo, refusal_of}
-use Rattle.text_laws.proofs.RunLaws.{by_test}
 use Rattle.log_sum.proofs.ReadingLaws.{is_one_line, so_far, so_far_more, so_far_ended, input_by_lines, rest_more, rest_ended, read_on}
 use Rattle.log_sum.proofs.SumLaws.{none_marked}
 use Rattle.log_sum.proofs.FollowLaws.{entry_marked}

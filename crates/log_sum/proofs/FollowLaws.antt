@@ -3,6 +3,7 @@ use Rattle.std.proofs.Common.{◌≡◌, ℕ, List, [], ◌∷◌, ◌++◌, Som
 use Rattle.std.specs.Prelude.{Bool, cond, Option, Result, Ok, Err, nat_lt, ◌+◌}
 use Rattle.std.specs.Str.{bytes_eq}
 use Rattle.std.proofs.lemmas.Slice.Eq.{bytes_eq-Decides}
+use Rattle.list_laws.proofs.Cases.{by_test}
 use Rattle.log_sum.specs.declared.errors.LogError.{LogError}
 use Rattle.log_sum.specs.declared.errors.LogKind.{LogKind}
 use Rattle.log_sum.specs.declared.errors.LogKind.TheVariants.{MarkDiffers, SumTooLarge}
@@ -21,7 +22,6 @@ use Rattle.log_sum.specs.Standing.{Progress, IsRunning, name_at}
 use Rattle.log_sum.specs.Summed.{Summed}
 use Rattle.text_laws.specs.Words.{words}
 use Rattle.log_sum.specs.Feeding.{Marked, AreMarked, entry_of, FactPut, RowPut, Follows, ReadOn, ReadTo}
-use Rattle.text_laws.proofs.RunLaws.{by_test}
 use Rattle.log_sum.proofs.SumLaws.{rows_more, marked_put}
 use Rattle.log_sum.proofs.ReadingLaws.{facts_here, facts_elsewhere}
 

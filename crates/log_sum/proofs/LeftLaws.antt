@@ -14,11 +14,11 @@ use Rattle.std.proofs.lemmas.Bool.Decides.{Decides-eqb, nat_tests}
 use Rattle.std.proofs.lemmas.List.Elements.{All-head, All-tail}
 use Rattle.std.proofs.lemmas.List.Folds.{list_any-append}
 use Rattle.std.proofs.lemmas.Slice.Eq.{bytes_eq-Decides, starts_is}
+use Rattle.list_laws.proofs.Cases.{by_test}
 use Rattle.log_sum.specs.Texts.{begins_with}
 use Rattle.text_laws.specs.Cuts.{before_cut, cut_at}
 use Rattle.log_sum.specs.States.{is_bracketed, left_kept, is_side, sides_read}
 use Rattle.log_sum.specs.Equalities.{equality_of, before_sign, left_side, HasSign, same_left, has_left_twice}
-use Rattle.text_laws.proofs.RunLaws.{by_test}
 use Rattle.log_sum.proofs.OrderLaws.{order, apart_less}
 use Rattle.log_sum.proofs.StateLaws.{text_at, shown_at}
 

@@ -1,5 +1,4 @@
 mod ReadingRows
-pub mod ListLaws
 pub mod TextLaws
 pub mod CountLaws
 pub mod StateLaws

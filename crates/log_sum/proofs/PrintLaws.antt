@@ -5,6 +5,7 @@ use Rattle.std.specs.Fmt.{decimal}
 use Rattle.std.specs.List.{flat_map}
 use Rattle.std.specs.Result.{IsErrAnd}
 use Rattle.std.proofs.lemmas.List.Concat.{flat_map-append}
+use Rattle.std.proofs.lemmas.List.{map_push}
 use Rattle.diy_io.specs.declared.errors.Failed.{Failed}
 use Rattle.diy_io.specs.Wrote.{SinkSeen, WrotePart}
 use Rattle.diy_io.specs.Page.{SentAll, Sends}
@@ -16,12 +17,6 @@ use Rattle.log_sum.specs.Standing.{Kept, StandsFor, kept_text}
 use Rattle.log_sum.specs.Reading.{Seen}
 use Rattle.log_sum.specs.Facts.{facts_of, tests_of}
 use Rattle.log_sum.specs.SumText.{test_text, sum_text, line_end, filling, mark_sign, state_line, kind_word, verdict_word, how_often, head_text, verdict_text, observation_text}
-use Rattle.log_sum.proofs.ListLaws.{map_more}
-
--- a list that is mapped keeps its length
-pub length_map : {A B : Type 0} (f : A → B) (xs : List A) → length (map f xs) ≡ length xs
-length_map f [] = refl
-length_map f (x ∷ xs) = ap (λ n. suc n) (length_map f xs)
 
 -- the rest of six blanks and a sign, from a place on
 pub blanks_and_sign : (k a b : ℕ) → k ≤ 6 → take (8 - k) (drop k (32 ∷ 32 ∷ 32 ∷ 32 ∷ 32 ∷ 32 ∷ a ∷ b ∷ [])) ≡ replicate (6 - k) 32 ++ a ∷ b ∷ []
@@ -115,7 +110,7 @@ pub lines_go : {A T : Type 0} (f : A → T) (line : T → List ℕ) (a b c : Sin
     → SentAll a held c kept (flat_map line (map f (ys ++ x ∷ [])))
 lines_go f line a b c held mid kept ys x text p q e =
     let parts : flat_map line (map f ys) ++ text ≡ flat_map line (map f (ys ++ x ∷ [])) =
-    ap (λ t. flat_map line (map f ys) ++ t) e ∙ sym (ap (flat_map line) (map_more f ys x) ∙ lines_more line (map f ys) (f x)) in
+    ap (λ t. flat_map line (map f ys) ++ t) e ∙ sym (ap (flat_map line) (map_push f ys x) ∙ lines_more line (map f ys) (f x)) in
     subst (SentAll a held c kept) parts (sent_both a b c held mid kept (flat_map line (map f ys)) text p q)
 
 -- where the text of an element is sent in part, so are the texts of all elements as one
@@ -139,7 +134,7 @@ lines_stop Q f line a b c held mid kept ys x rest all text (Err _) p q e covers 
 pub covers_next : {A B T : Type 0} (f : A → T) (g : B → T) (ys : List A) (it rest : List B) (x : A) (y : B) (all : List T) → f x ≡ g y → it ≡ y ∷ rest → map f ys ++ map g it ≡ all
     → map f (ys ++ x ∷ []) ++ map g rest ≡ all
 covers_next f g ys it rest x y all e h k =
-    ap (λ t. t ++ map g rest) (map_more f ys x) ∙ append_assoc (map f ys) (f x ∷ []) (map g rest) ∙ ap (λ t. map f ys ++ t ∷ map g rest) e ∙ ap (λ t. map f ys ++ map g t) (sym h) ∙ k
+    ap (λ t. t ++ map g rest) (map_push f ys x) ∙ append_assoc (map f ys) (f x ∷ []) (map g rest) ∙ ap (λ t. map f ys ++ t ∷ map g rest) e ∙ ap (λ t. map f ys ++ map g t) (sym h) ∙ k
 
 -- the elements so far, this one, and those after it are all elements
 pub covers_this : {A B T : Type 0} (f : A → T) (g : B → T) (ys : List A) (it rest : List B) (x : A) (y : B) (all : List T) → f x ≡ g y → it ≡ y ∷ rest → map f ys ++ map g it ≡ all

@@ -6,6 +6,8 @@ use Rattle.std.specs.Str.{bytes_eq}
 use Rattle.std.proofs.lemmas.List.Elements.{filter-append}
 use Rattle.std.proofs.lemmas.List.Sums.{fold-append}
 use Rattle.std.proofs.lemmas.Slice.Eq.{bytes_eq-Decides}
+use Rattle.std.proofs.lemmas.List.{map_push}
+use Rattle.list_laws.proofs.Cases.{by_test}
 use Rattle.log_sum.specs.declared.errors.LogError.{LogError}
 use Rattle.log_sum.specs.Facts.{Fact, Entry, facts_of, tests_of, with_name}
 use Rattle.log_sum.specs.Summed.{Summed, summed}
@@ -13,8 +15,6 @@ use Rattle.log_sum.specs.Standing.{table_of}
 use Rattle.log_sum.specs.Reading.{Seen, ◌>>=◌, lines_judged, line_judged, lines_of, rest_of, bytes_judged, rest_judged, file_judged, files_judged, input_judged, nothing_seen}
 use Rattle.text_laws.specs.Lines.{but_last, last_of}
 use Rattle.log_sum.specs.Feeding.{entry_of}
-use Rattle.text_laws.proofs.RunLaws.{by_test}
-use Rattle.log_sum.proofs.ListLaws.{map_more}
 
 abbrev is_feed : ℕ → Bool
 is_feed byte = byte == 10
@@ -180,7 +180,7 @@ bytes_same t = (bytes_eq-Decides t t).1 refl
 -- a fact of this test comes after the others
 pub facts_here : (test : List ℕ) (entries : List Entry) (fact : Fact) → facts_of test (entries ++ entry_of test fact ∷ []) ≡ facts_of test entries ++ fact ∷ []
 facts_here test entries fact =
-    ap (map (λ e. e.fact)) (filter-append (λ e. bytes_eq e.test test) entries (entry_of test fact ∷ [])) ∙ rw (bytes_same test) (map_more (λ e. e.fact) (filter (λ e. bytes_eq e.test test) entries) (entry_of test fact))
+    ap (map (λ e. e.fact)) (filter-append (λ e. bytes_eq e.test test) entries (entry_of test fact ∷ [])) ∙ rw (bytes_same test) (map_push (λ e. e.fact) (filter (λ e. bytes_eq e.test test) entries) (entry_of test fact))
 
 -- a fact of one test isn't among those of another
 pub facts_elsewhere : (name test : List ℕ) (entries : List Entry) (fact : Fact) → bytes_eq test name ≡ false → facts_of name (entries ++ entry_of test fact ∷ []) ≡ facts_of name entries
@@ -190,7 +190,7 @@ facts_elsewhere name test entries fact h =
 -- the test of a new entry comes last, unless it is among the tests
 pub tests_then : (entries : List Entry) (test : List ℕ) (fact : Fact) → tests_of (entries ++ entry_of test fact ∷ []) ≡ with_name (tests_of entries) test
 tests_then entries test fact =
-    ap (fold with_name []) (map_more (λ e. e.test) entries (entry_of test fact)) ∙ fold-append with_name [] (map (λ e. e.test) entries) (test ∷ [])
+    ap (fold with_name []) (map_push (λ e. e.test) entries (entry_of test fact)) ∙ fold-append with_name [] (map (λ e. e.test) entries) (test ∷ [])
 
 -- names that differ
 abbrev pub Without : List ℕ → List (List ℕ) → Type 0

@@ -19,10 +19,10 @@ use Rattle.log_sum.specs.Texts.{begins_with}
 use Rattle.text_laws.specs.Cuts.{cut_at}
 use Rattle.log_sum.specs.States.{has_left, sides_read, with_equality, and_then, state_read, or_bad}
 use Rattle.std.proofs.Math.Bool.{or-false}
+use Rattle.std.proofs.lemmas.List.{map_push}
+use Rattle.list_laws.proofs.Cases.{by_test}
 use Rattle.log_sum.specs.declared.errors.LogKind.{LogKind}
 use Rattle.log_sum.specs.Equalities.{equality_of, and_equality, with_piece, left_side, HasSign, same_left, has_left_twice, with_one, with_all}
-use Rattle.text_laws.proofs.RunLaws.{by_test}
-use Rattle.log_sum.proofs.ListLaws.{map_more}
 use Rattle.log_sum.proofs.OrderLaws.{order, is_text}
 use Rattle.log_sum.proofs.StateLaws.{rest_read, rest_goes, rest_whole, set_begins}
 use Rattle.log_sum.proofs.LeftLaws.{read_left, read_sign, begins_left, ascend_apart, twice_not_apart, sorted_ascends}
@@ -253,7 +253,7 @@ pub equality_collected : {K : Type 0} (show : K → List ℕ) (old before after 
 equality_collected show old before after key sides read e f g h =
     ap (and_equality (map show old)) (sym e)
     ∙ ap (λ (text : List ℕ). Ok (map show old ++ text ∷ [])) (sym h)
-    ∙ ap Ok (sym (map_more show old key) ∙ ap (λ keys. map show (keys ++ key ∷ [])) (sym f) ∙ ap (map show) (sym g))
+    ∙ ap Ok (sym (map_push show old key) ∙ ap (λ keys. map show (keys ++ key ∷ [])) (sym f) ∙ ap (map show) (sym g))
 
 -- one equality more was collected
 pub read_further : (texts more : List (List ℕ)) (rest next : List ℕ) (parts : List ℕ × List ℕ) (read : Option (List (List ℕ))) → All HasSign texts → cut_at 59 rest ≡ Some parts

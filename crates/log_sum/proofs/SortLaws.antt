@@ -4,7 +4,7 @@ use Rattle.std.specs.Prelude.{Bool, ◌&&◌, map, option_map, T, Ok, slice_inde
 use Rattle.std.specs.Ordering.{nat_cmp, is_eq, is_lt}
 use Rattle.std.specs.declared.cmp.Ordering.{Ordering}
 use Rattle.std.specs.declared.cmp.Ordering.TheVariants.{Less, Equal, Greater}
-use Rattle.std.specs.Cmp.{IsEquivalence}
+use Rattle.std.specs.Cmp.{IsEquivalence, both_ways}
 use Rattle.std.specs.Cmp.Lexicographic.{slice_cmp}
 use Rattle.std.specs.FinMap.Entries.{is_sorted, below_all}
 use Rattle.std.specs.List.{IsDistinct}
@@ -16,11 +16,11 @@ use Rattle.std.specs.declared.alloc.Global.{Global}
 use Rattle.std.proofs.lemmas.Map.Entries.{place_from_lookup, lookup_from_place}
 use Rattle.std.proofs.lemmas.Map.Text.{is_eq-slice_cmp}
 use Rattle.std.proofs.lemmas.Slice.Eq.{bytes_eq-Decides}
+use Rattle.list_laws.proofs.Cases.{by_test}
 use Rattle.log_sum.specs.declared.state_table.StateSum.{StateSum}
 use Rattle.log_sum.specs.States.{form_read}
 use Rattle.log_sum.specs.Steps.{known_state}
 use Rattle.log_sum.specs.StateEntries.{sum_view, state_view, states_view, AreInOrder, AreWritten, written_as}
-use Rattle.text_laws.proofs.RunLaws.{by_test}
 use Rattle.log_sum.proofs.OrderLaws.{order, apart_less, ordered_same}
 use Rattle.log_sum.proofs.EntryLaws.{entries_known}
 
@@ -36,11 +36,6 @@ by_bytes = record {
       (λ h. (bytes_eq-Decides x.items y.items).1 (sym ((bytes_eq-Decides y.items x.items).0 h)));
   congr = λ x y z h. ap (λ t. bytes_eq t z.items) ((bytes_eq-Decides x.items y.items).0 h);
 }
-  where
-    both_ways : (a b : Bool) → (a ≡ true → b ≡ true) → (b ≡ true → a ≡ true) → a ≡ b
-    both_ways true b f g = sym (f refl)
-    both_ways false true f g = absurd (let h : false ≡ true = g refl in cc)
-    both_ways false false f g = refl
 
 -- what is known of a text is the same where each key has the same sum
 record KeyOf (es : List (Vec ℕ Global × StateSum)) (q : List ℕ) : Type 0 where

@@ -3,6 +3,8 @@ use Rattle.std.proofs.Common.{◌≡◌, ◌==◌, ℕ, zero, suc, ◌<◌, ◌�
 use Rattle.std.specs.Prelude.{cond, Option, map, Result, Err, get_or, take, slice_index_or}
 use Rattle.std.specs.List.{slice_split, onto_first}
 use Rattle.std.proofs.lemmas.Bool.{eqb-true}
+use Rattle.std.proofs.lemmas.List.{map_push}
+use Rattle.list_laws.proofs.Cases.{by_test}
 use Rattle.text_laws.specs.Blanks.{is_blank, unblanked}
 use Rattle.text_laws.specs.Words.{is_nil}
 use Rattle.text_laws.specs.Runs.{after_run}
@@ -12,8 +14,6 @@ use Rattle.log_sum.specs.declared.errors.LogKind.{LogKind}
 use Rattle.log_sum.specs.declared.errors.Fault.{Fault}
 use Rattle.log_sum.specs.declared.errors.Fault.TheVariants.{Wrong, NoMemory}
 use Rattle.log_sum.specs.Classes.{IsFault}
-use Rattle.text_laws.proofs.RunLaws.{by_test}
-use Rattle.log_sum.proofs.ListLaws.{map_more}
 
 -- the pieces of a text, cut at its first semicolon
 pub pieces_cut : (sign : ℕ) (text : List ℕ) (parts : List ℕ × List ℕ) → cut_at sign text ≡ Some parts
@@ -137,7 +137,7 @@ separated_none (b ∷ form) h = absurd (omega arith)
 -- a form with an equality more is the form of the equalities with this one more
 pub form_goes : {A : Type 0} (show : A → List ℕ) (xs : List A) (x : A) (form next : List ℕ) → form ≡ state_form (map show xs) → next ≡ form_with form (show x) → next ≡ state_form (map show (xs ++ x ∷ []))
 form_goes show xs x form next e f =
-    f ∙ ap (λ t. form_with t (show x)) e ∙ form_more (map show xs) (show x) ∙ ap state_form (sym (map_more show xs x))
+    f ∙ ap (λ t. form_with t (show x)) e ∙ form_more (map show xs) (show x) ∙ ap state_form (sym (map_push show xs x))
 
 -- a fault that is passed on
 pub fault_on : {Y Z : Type 0} (fault : Fault) (read : Result Y LogKind) (other : Result Z LogKind) → ((kind : LogKind) → read ≡ Err kind → other ≡ Err kind) → IsFault fault read → IsFault fault other

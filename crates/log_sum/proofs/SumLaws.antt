@@ -14,12 +14,14 @@ use Rattle.std.specs.Str.{bytes_eq}
 use Rattle.std.proofs.lemmas.List.Elements.{filter-append}
 use Rattle.std.proofs.lemmas.List.Sums.{fold-append, sum_by-append}
 use Rattle.std.proofs.lemmas.List.Folds.{list_all-append}
-use Rattle.std.proofs.lemmas.Bool.{and_parts}
+use Rattle.std.proofs.lemmas.Bool.{and_parts, not-false}
 use Rattle.std.proofs.lemmas.Slice.Eq.{bytes_eq-Decides}
 use Rattle.log_sum.specs.declared.errors.LogKind.{LogKind}
 use Rattle.log_sum.specs.declared.errors.LogKind.TheVariants.{KindDiffers, ConditionDiffers, HashDiffers}
 use Rattle.std.proofs.lemmas.Bool.Decides.{nat_tests}
 use Rattle.std.proofs.Math.Bool.{or-false, or_assoc, or_comm}
+use Rattle.std.proofs.lemmas.List.{map_push}
+use Rattle.list_laws.proofs.Cases.{by_test}
 use Rattle.log_sum.specs.declared.kinds.Mark.{Mark}
 use Rattle.log_sum.specs.declared.kinds.Mark.TheVariants.{Starred, Plain}
 use Rattle.log_sum.specs.declared.kinds.Kind.{Kind}
@@ -29,8 +31,6 @@ use Rattle.log_sum.specs.Facts.{Row, Fact, a_kind, a_row, a_condition, a_hash, k
 use Rattle.log_sum.specs.Summed.{Summed, StateSummed, or_else, state_by, summed}
 use Rattle.log_sum.specs.Steps.{or_this, marked, with_marked, known_state, count_known, with_row, fact_to}
 use Rattle.log_sum.specs.Feeding.{Marked}
-use Rattle.text_laws.proofs.RunLaws.{by_test}
-use Rattle.log_sum.proofs.ListLaws.{map_more}
 use Rattle.log_sum.proofs.OrderLaws.{order, is_text}
 use Rattle.log_sum.proofs.SetLaws.{any_insert}
 
@@ -97,14 +97,14 @@ state_more state rs row =
 
 states_more : (rs : List Row) (row : Row) → states_of (rs ++ row ∷ []) ≡ insert_key (slice_cmp nat_cmp) (states_of rs) row.state
 unfolding states_of
-states_more rs row = ap (fold (insert_key (slice_cmp nat_cmp)) []) (map_more (λ r. r.state) rs row) ∙ fold-append (insert_key (slice_cmp nat_cmp)) [] (map (λ r. r.state) rs) (row.state ∷ [])
+states_more rs row = ap (fold (insert_key (slice_cmp nat_cmp)) []) (map_push (λ r. r.state) rs row) ∙ fold-append (insert_key (slice_cmp nat_cmp)) [] (map (λ r. r.state) rs) (row.state ∷ [])
 
 mark_more : (state : List ℕ) (rs : List Row) (row : Row) → mark_in state (rs ++ row ∷ []) ≡ cond (bytes_eq row.state state) (or_this (mark_in state rs) row.mark) (mark_in state rs)
 unfolding mark_in
 mark_more state rs row =
     ap (λ t. first_of (map (λ r. r.mark) t)) (filter-append (λ r. bytes_eq r.state state) rs (row ∷ []))
     ∙ by_test (bytes_eq row.state state)
-    (λ e. rw e (ap first_of (map_more (λ r. r.mark) (filter (λ r. bytes_eq r.state state) rs) row) ∙ first_more (map (λ r. r.mark) (filter (λ r. bytes_eq r.state state) rs)) row.mark))
+    (λ e. rw e (ap first_of (map_push (λ r. r.mark) (filter (λ r. bytes_eq r.state state) rs) row) ∙ first_more (map (λ r. r.mark) (filter (λ r. bytes_eq r.state state) rs)) row.mark))
     (λ e. rw e (ap (λ t. first_of (map (λ r. r.mark) t)) (append-nil (filter (λ r. bytes_eq r.state state) rs))))
 
 -- a key inserted in order
@@ -238,10 +238,6 @@ mark_same : (m : Mark) → same_mark m m ≡ true
 mark_same Starred = refl
 mark_same Plain = refl
 
-not_false : (b : Bool) → not b ≡ false → b ≡ true
-not_false true h = refl
-not_false false h = cc
-
 no_state : (k : List ℕ) (m : Mark) (rs : List Row) → mark_in k rs ≡ None → list_all (λ r. not (bytes_eq r.state k) || same_mark r.mark m) rs ≡ true
 unfolding mark_in
 no_state k m [] e = refl
@@ -268,7 +264,7 @@ marked_put rs row agrees h = record {
         let n : row.mark ≡ m = cc in rw (no_state k m rs e, n, mark_same m) refl
     by_known k m (Some l) e f g =
         let n : l ≡ m = cc in
-        let w : same_mark l row.mark ≡ true = not_false (same_mark l row.mark) f in
+        let w : same_mark l row.mark ≡ true = not-false (same_mark l row.mark) f in
         let o : row.mark ≡ m = sym (same_mark_is l row.mark w) ∙ n in
         rw (h.same k m (e ∙ ap Some n), o, mark_same m) refl
 
@@ -333,7 +329,7 @@ condition_to facts text verdict =
       no_more (hashes facts),
       first_more (conditions facts) (text, verdict),
       first_mapped (λ (c : List ℕ × Verdict). c.0) (first_of (conditions facts)) (text, verdict),
-      map_more (λ (c : List ℕ × Verdict). says_validated c.1) (conditions facts) (text, verdict),
+      map_push (λ (c : List ℕ × Verdict). says_validated c.1) (conditions facts) (text, verdict),
       any_more (verdicts facts) (says_validated verdict),
       all_more (verdicts facts) (says_validated verdict),
     ) refl
@@ -357,7 +353,7 @@ min_small a b h = omega arith
 count_fits : (rs : List Row) (row : Row) (o : Option Mark) → mark_in row.state rs ≡ o → is_other same_mark o row.mark ≡ false → Marked rs → marked_sum row.mark rs + row.count ≤ last_count → state_sum row.state rs + row.count ≤ last_count
 count_fits rs row None e agrees h fits = let z = state_none row.state rs e in omega arith
 count_fits rs row (Some m) e agrees h fits =
-    let n : m ≡ row.mark = same_mark_is m row.mark (not_false (same_mark m row.mark) agrees) in
+    let n : m ≡ row.mark = same_mark_is m row.mark (not-false (same_mark m row.mark) agrees) in
     let below : state_sum row.state rs ≤ marked_sum row.mark rs = state_below row.state row.mark rs (h.same row.state row.mark (e ∙ ap Some n)) in
     omega arith
 
@@ -367,7 +363,7 @@ known_count rs k (Some m) e = refl
 
 mark_stays : (o : Option Mark) (mark : Mark) → is_other same_mark o mark ≡ false → or_else Plain (or_this o mark) ≡ mark
 mark_stays None mark h = refl
-mark_stays (Some m) mark h = same_mark_is m mark (not_false (same_mark m mark) h)
+mark_stays (Some m) mark h = same_mark_is m mark (not-false (same_mark m mark) h)
 
 value_put : (rs : List Row) (row : Row) → is_other same_mark (mark_in row.state rs) row.mark ≡ false → state_sum row.state rs + row.count ≤ last_count
     → ◌≡◌ {A = Mark × ℕ} (row.mark, min (count_known (known_state (map (state_by rs) (states_of rs)) row.state) + row.count) last_count)

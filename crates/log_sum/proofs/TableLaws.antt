@@ -10,6 +10,7 @@ use Rattle.std.proofs.lemmas.Bool.{and_parts}
 use Rattle.std.proofs.lemmas.Bool.Decides.{nat_tests}
 use Rattle.std.proofs.lemmas.List.Quantifiers.{position-Some}
 use Rattle.std.proofs.lemmas.Slice.Eq.{bytes_eq-Decides}
+use Rattle.list_laws.proofs.Cases.{by_test}
 use Rattle.indexmap.specs.IndexMap.{insert_entry}
 use Rattle.indexmap.specs.Layout.{set_value_at}
 use Rattle.log_sum.specs.declared.errors.LogKind.{LogKind}
@@ -26,7 +27,6 @@ use Rattle.log_sum.specs.Steps.{fact_to, row_to, of_kind}
 use Rattle.log_sum.specs.StateEntries.{states_view}
 use Rattle.log_sum.specs.Standing.{table_of, name_at}
 use Rattle.log_sum.specs.Feeding.{AreMarked, WithFact, FactPut, RowPut}
-use Rattle.text_laws.proofs.RunLaws.{by_test}
 use Rattle.log_sum.proofs.SumLaws.{by_fault, fact_put_is}
 use Rattle.log_sum.proofs.ReadingLaws.{Differ, more, put_at, table_put, tests_differ}
 

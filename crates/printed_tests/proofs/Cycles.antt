@@ -3,6 +3,7 @@ use Rattle.std.proofs.Common.{◌≡◌, ◌≤◌, ℕ, Bool, true, false, List
 use Rattle.std.specs.Char.{is_ascii_alphanumeric}
 use Rattle.std.specs.Prelude.{◌==◌, ◌||◌}
 use Rattle.std.proofs.lemmas.Bool.Decides.{nat_tests}
+use Rattle.list_laws.proofs.Elements.{list_all-weaker}
 use Rattle.relax_edges.specs.declared.kinds.ObsMode.{ObsMode}
 use Rattle.relax_edges.specs.declared.edge.Edge.{Edge}
 use Rattle.walk_laws.specs.Composable.{IsCycle}
@@ -17,7 +18,6 @@ use Rattle.arch_trait.specs.Writing.{Writing, WritesBack}
 use Rattle.litmus_text.specs.declared.limits.TheConstants.{MAX_TEXT}
 use Rattle.litmus_text.specs.Printable as printable
 use Rattle.litmus_text.specs.Printable.{IsTestName}
-use Rattle.litmus_text.proofs.CutBack.{weaker}
 use Rattle.test_maker.specs.CycleText.{cycle_text}
 use Rattle.test_maker.specs.Refusals.{refusal_of}
 use Rattle.test_maker.proofs.HavingTests.{accepted_has_test}
@@ -38,7 +38,7 @@ name_byte b h = regrouped (is_ascii_alphanumeric b) (b == 43) (b == 45) (b == 46
 pub cycle_named : (cycle : List Edge) → IsCycle cycle → IsTestName (name_of cycle)
 cycle_named cycle whole =
     let name = names_of_cycles cycle whole in
-    record { some = grind (arith, nat_tests, name.some); short = grind (arith, nat_tests, name.short); bytes = weaker cycles.is_name_byte printable.is_name_byte name_byte (name_of cycle) name.bytes }
+    record { some = grind (arith, nat_tests, name.some); short = grind (arith, nat_tests, name.short); bytes = list_all-weaker cycles.is_name_byte printable.is_name_byte name_byte (name_of cycle) name.bytes }
 
 -- the text of the test of a cycle that isn't refused is short
 pub cycle_text_short : (a : Puts) (w : Writing) (mode : ObsMode) (cycle : List Edge) → IsArch a → WritesBack a w → WritesCells a w → MakesOneAccess a → IsCycle cycle → refusal_of a cycle mode ≡ None

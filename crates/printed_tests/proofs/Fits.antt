@@ -8,6 +8,7 @@ use Rattle.std.proofs.lemmas.List.{length-map}
 use Rattle.std.proofs.lemmas.List.Sums.{count_by-le-length}
 use Rattle.std.proofs.lemmas.Option.{slice_get_within, slice_get-get_or}
 use Rattle.std.proofs.lemmas.Slice.Eq.{bytes_eq-Decides}
+use Rattle.list_laws.proofs.Elements.{all_append}
 use Rattle.list_laws.proofs.Cases.{by_test}
 use Rattle.list_laws.specs.Numbers.{upto}
 use Rattle.list_laws.proofs.Numbers.{length-upto, slice_get-upto}
@@ -41,7 +42,7 @@ use Rattle.communication.proofs.Lists.{image_of}
 use Rattle.test_laws.specs.Headline.{HasCode}
 use Rattle.test_laws.specs.Steps.{cycle_steps, numbers_read}
 use Rattle.test_laws.specs.TestOf.{plain, is_named, last_term, last_terms, load_term, thread_terms, load_terms}
-use Rattle.test_laws.proofs.Everywhere.{all_from, all_joined}
+use Rattle.test_laws.proofs.Everywhere.{all_from}
 use Rattle.test_laws.proofs.PlaceNames.{letter_at, locations_few}
 use Rattle.test_laws.proofs.StepsFit.{IsThread, all_at, steps_fit, steps_placed}
 use Rattle.printed_tests.proofs.Rereading.{got_is}
@@ -124,7 +125,7 @@ thread_lands a es mode k ss laws t g =
 all_links : (P : Link → Type 0) (n : ℕ) (threads : List ThreadCode) → ((k : ℕ) (t : ThreadCode) → slice_get threads k ≡ Some t → AllByRecursion P (map (λ link. (n + k, link)) t.links)) → AllByRecursion P (links_of n threads)
 all_links P n [] h = tt
 all_links P n (t ∷ threads) h =
-    all_joined P (map (λ link. (n, link)) t.links) (links_of (n + 1) threads)
+    all_append P (map (λ link. (n, link)) t.links) (links_of (n + 1) threads)
     (subst (λ m. AllByRecursion P (map (λ link. (m, link)) t.links)) (omega arith) (h 0 t refl))
     (all_links P (n + 1) threads (λ k u g. subst (λ m. AllByRecursion P (map (λ link. (m, link)) u.links)) (omega arith) (h (suc k) u g)))
 
@@ -172,7 +173,7 @@ all_read_terms : (a : Puts) (w : Writing) (table : List (List ℕ)) (threads thr
 all_read_terms a w table threads thread [] back h few each = tt
 all_read_terms a w table threads thread (ss ∷ all) back h few each =
     let here = each 0 ss refl in
-    all_joined (TermFits w threads table) (thread_terms a (name_in w.registers) thread ss) (load_terms a (name_in w.registers) (thread + 1) all)
+    all_append (TermFits w threads table) (thread_terms a (name_in w.registers) thread ss) (load_terms a (name_in w.registers) (thread + 1) all)
     (read_terms a w table threads thread (compiled a ss).loads (numbers_read ss) back (omega arith) few here.0 here.1)
     (all_read_terms a w table threads (thread + 1) all back (omega arith) few (λ k u g. each (suc k) u g))
 
@@ -208,7 +209,7 @@ pub terms_fit : (a : Puts) (w : Writing) (es : List Edge) (mode : ObsMode) → I
 terms_fit a w es mode laws back t few =
     let threads = length (map (compiled a) (cycle_steps es mode plain)) in
     let size = length-map (cycle_steps es mode plain) (compiled a) in
-    all_joined (TermFits w threads (letters (move_count es))) (last_terms es mode) (load_terms a (name_in w.registers) 0 (cycle_steps es mode plain))
+    all_append (TermFits w threads (letters (move_count es))) (last_terms es mode) (load_terms a (name_in w.registers) 0 (cycle_steps es mode plain))
     (ends_fit w es threads (filter (is_named es mode) (upto (move_count es))) t.resolved (filter_below (is_named es mode) (move_count es) (upto (move_count es)) (upto_below (move_count es))))
     (all_read_terms a w (letters (move_count es)) threads 0 (cycle_steps es mode plain) back (omega arith) (omega arith) (λ k ss g.
     let c = thread_is a es mode k ss laws t g in (c.formed.loads, numbers_small a.name false ss c.thread.fit)))

@@ -1,5 +1,5 @@
 -- The text of a cycle's test isn't too long.
-use Rattle.std.proofs.Common.{◌≡◌, ℕ, zero, suc, ◌+◌, ◌-◌, ◌*◌, ◌<◌, ◌≤◌, true, List, [], ◌∷◌, ◌++◌, length, get_or, map, max, fold, refl, ap, arith, length-append}
+use Rattle.std.proofs.Common.{◌≡◌, ℕ, zero, suc, ◌+◌, ◌-◌, ◌*◌, ◌<◌, ◌≤◌, true, List, [], ◌∷◌, ◌++◌, length, get_or, map, max, fold, refl, ap, arith, length-append, suc-mul}
 use Rattle.std.specs.Prelude.{codes, nat_lt}
 use Rattle.std.specs.List.{AllByRecursion, join_by, flat_map, enumerate_from, range_with_len}
 use Rattle.std.specs.Fmt.{decimal}
@@ -32,9 +32,6 @@ use Rattle.litmus_text.specs.declared.limits.TheConstants.{MAX_TEXT}
 use Rattle.litmus_text.proofs.InitialLaws.{flat_map-flat_map}
 use Rattle.litmus_text.specs.TestText.{TestSeen, header_line, edges_line, item_text, items_lines, initial_lines, column_of, width_of, cell_text, row_line, row_count, table_lines, test_lines, ended, test_text}
 
-suc_times : (n c : ℕ) → suc n * c ≡ c + n * c
-suc_times n c = omega arith
-
 -- pieces of at most c bytes each
 pieces_short : {X : Type 0} (f : X → List ℕ) (c : ℕ) (xs : List X) → AllByRecursion (λ x. length (f x) ≤ c) xs → length (flat_map f xs) ≤ length xs * c
 pieces_short f c [] h = omega arith
@@ -42,7 +39,7 @@ pieces_short f c (x ∷ xs) h =
     let here = h.0 in
     let rest = pieces_short f c xs h.1 in
     let size = length-append (f x) (flat_map f xs) in
-    omega (arith, here, rest, size, suc_times (length xs) c)
+    omega (arith, here, rest, size, suc-mul (length xs) c)
 
 -- the same with a separator between
 joined_short : {X : Type 0} (f : X → List ℕ) (sep : List ℕ) (c e : ℕ) (xs : List X) → c + length sep ≤ e → AllByRecursion (λ x. length (f x) ≤ c) xs → length (join_by f sep xs) ≤ length xs * e
@@ -51,7 +48,7 @@ joined_short {X} f sep c e (x ∷ xs) h all =
     let here = all.0 in
     let rest = pieces_short (λ y. sep ++ f y) e xs (wider xs all.1) in
     let size = length-append (f x) (flat_map (λ y. sep ++ f y) xs) in
-    omega (arith, here, rest, size, suc_times (length xs) e)
+    omega (arith, here, rest, size, suc-mul (length xs) e)
   where
     wider : (ys : List X) → AllByRecursion (λ x. length (f x) ≤ c) ys → AllByRecursion (λ x. length (sep ++ f x) ≤ e) ys
     wider [] all = tt

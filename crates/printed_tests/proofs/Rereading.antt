@@ -4,6 +4,7 @@ use Rattle.std.specs.Prelude.{unwrap_or}
 use Rattle.std.specs.List.{AllByRecursion, find}
 use Rattle.std.proofs.lemmas.List.Folds.{find-append}
 use Rattle.std.proofs.lemmas.Option.{slice_get_within, slice_get-get_or}
+use Rattle.list_laws.proofs.Elements.{all_parts}
 use Rattle.relax_edges.specs.declared.TheConstants.{MAX_EDGES}
 use Rattle.relax_edges.specs.declared.kinds.ObsMode.{ObsMode}
 use Rattle.relax_edges.specs.declared.kinds.Value.{Value}
@@ -40,7 +41,7 @@ use Rattle.test_laws.specs.Headline.{HasCode, IsRenumbered}
 use Rattle.test_laws.specs.Programs.{thread_from}
 use Rattle.test_laws.specs.Steps.{event_step, thread_steps, cycle_steps}
 use Rattle.test_laws.specs.TestOf.{TestSeen, plain, test_of}
-use Rattle.test_laws.proofs.Everywhere.{all_gets, all_parts}
+use Rattle.test_laws.proofs.Everywhere.{all_gets}
 use Rattle.test_laws.proofs.PlaceNames.{letter_at, locations_few}
 use Rattle.test_laws.proofs.StepsAt.{thread_steps_at}
 use Rattle.test_laws.proofs.StepsFit.{steps_fit}

@@ -2,17 +2,17 @@
 use Rattle.std.specs.Prelude.{ℕ, ◌≡◌, ◌<◌, ◌≤◌, ◌+◌, ◌==◌, ◌||◌, Bool, true, false, not, Some, None, Ok, Err, List, [], ◌∷◌, length, take, drop}
 use Rattle.std.specs.List.{before_first, position_or_len}
 use Rattle.std.proofs.Common.{suc, get_or, refl, arith, ap, subst, sym, ◌∙◌}
-use Rattle.std.proofs.lemmas.Bool.{eqb-true}
+use Rattle.std.proofs.lemmas.Bool.{eqb-true, false≢true}
 use Rattle.std.proofs.lemmas.List.{length-take}
 use Rattle.std.proofs.lemmas.List.Folds.{length-prefix_len}
 use Rattle.std.proofs.Math.ListN.{get_or-eq_default}
+use Rattle.list_laws.proofs.Cases.{by_test}
 use Rattle.relax_edges.specs.RelaxText.{is_separator, is_bracket, ends_word, words_of, inside, is_closed, some_words, bracket_words, words_from, bytes_behind}
 use Rattle.relax_edges.specs.declared.edge.Edge.{Edge}
 use Rattle.relax_edges.specs.declared.relax_error.RelaxKind.TheVariants.{BadBracket}
 use Rattle.relax_edges.specs.Relaxations.{kept_words, kept_item}
 use Rattle.relax_edges.specs.RelaxFront.{kept_front, front_words, front_len, ends_here, IsInside, IsFrontWord}
 use Rattle.relax_edges.proofs.RelaxWords.{words_of_run, before_first-no}
-use Rattle.relax_edges.proofs.Cases.{by_test, no_true}
 
 before_first-length : (test : ℕ → Bool) (text : List ℕ) → length (before_first test text) ≡ position_or_len test text
 before_first-length test text = length-prefix_len (λ x. not (test x)) text
@@ -65,11 +65,11 @@ bracket_good behind n at_n within closed word words some =
     closed_words behind closed = rw closed refl
 
 first_false : (a b : Bool) → (a || b) ≡ false → a ≡ false
-first_false true b f = absurd (no_true (sym f))
+first_false true b f = absurd (false≢true (sym f))
 first_false false b f = refl
 
 second_false : (a b : Bool) → (a || b) ≡ false → b ≡ false
-second_false true b f = absurd (no_true (sym f))
+second_false true b f = absurd (false≢true (sym f))
 second_false false b f = f
 
 -- what is read of a text that begins with a word
@@ -84,7 +84,7 @@ run_len byte behind n a b = rw (n, b, a) refl
 -- the word that a text begins with
 pub front_word : (text : List ℕ) (n : ℕ) → ends_here text ≡ false → n ≡ position_or_len ends_word text → IsFrontWord text (take n text)
 unfolding ends_here front_words front_len
-front_word [] n here at_n = absurd (no_true (sym here))
+front_word [] n here at_n = absurd (false≢true (sym here))
 front_word (byte ∷ behind) n here at_n =
     let sep : is_separator byte ≡ false = first_false (is_separator byte) (is_bracket byte) here in
     let brackets : is_bracket byte ≡ false = second_false (is_separator byte) (is_bracket byte) here in
@@ -118,7 +118,7 @@ bracket_len behind words inside = rw (← inside.len) (omega arith)
 -- the relaxations of a text's first word are kept
 pub kept_run : (kept : List (List Edge)) (text word : List ℕ) → ends_here text ≡ false → IsFrontWord text word → kept_front kept text ≡ kept_words kept (words_of word)
 unfolding ends_here kept_front front_words kept_item
-kept_run kept [] word here front = absurd (no_true (sym here))
+kept_run kept [] word here front = absurd (false≢true (sym here))
 kept_run kept (byte ∷ behind) word here front =
     rw (first_false (is_separator byte) (is_bracket byte) here) (rw (front.words, kept_item) refl)
 

@@ -6,6 +6,7 @@ use Rattle.std.proofs.Math.ListN.{drop_of_length-le}
 use Rattle.std.proofs.lemmas.List.{drop-drop, length-drop}
 use Rattle.std.proofs.Math.Seq.{take-length}
 use Rattle.std.proofs.lemmas.Bool.{lt-ltb, le-ltb}
+use Rattle.list_laws.proofs.Cases.{by_test}
 use Rattle.relax_edges.specs.declared.edge.Edge.{Edge}
 use Rattle.relax_edges.specs.declared.relax_error.RelaxKind.{RelaxKind}
 use Rattle.relax_edges.specs.declared.relax_error.RelaxKind.TheVariants.{UnknownEdge, RelaxTooLong, DoesNotJoin}
@@ -14,7 +15,6 @@ use Rattle.relax_edges.specs.Relaxations.{word_edges, paths_of, keep_all, at_mos
 use Rattle.relax_edges.specs.RelaxSearch.{paths_behind, KeepsPaths}
 use Rattle.relax_edges.specs.RelaxFront.{front_len, kept_front}
 use Rattle.relax_edges.proofs.Paths.{paths_behind-nil, at_most_64-ok}
-use Rattle.relax_edges.proofs.Cases.{by_test}
 
 abbrev Answer : Type 0
 Answer = Result (List (List Edge)) RelaxKind

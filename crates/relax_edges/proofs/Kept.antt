@@ -2,14 +2,15 @@
 use Rattle.std.specs.Prelude.{ℕ, ◌≡◌, ◌<◌, ◌≤◌, ◌==◌, ◌&&◌, Bool, true, false, nat_lt, Ok, Err, List, [], ◌∷◌, ◌++◌, length}
 use Rattle.std.specs.List.{list_any}
 use Rattle.std.proofs.Common.{refl, arith, ap, sym, ◌∙◌}
-use Rattle.std.proofs.lemmas.Bool.{lt-ltb, eq-eqb, eqb-true}
+use Rattle.std.proofs.lemmas.Bool.{lt-ltb, eq-eqb, eqb-true, false≢true}
 use Rattle.std.proofs.lemmas.List.{length-append}
+use Rattle.std.specs.Cmp.{both_ways}
+use Rattle.list_laws.proofs.Cases.{by_test}
 use Rattle.relax_edges.specs.declared.edge.Edge.{Edge}
 use Rattle.relax_edges.specs.declared.relax_error.RelaxKind.TheVariants.{TooManyRelaxes}
 use Rattle.relax_edges.specs.Order.{rank_of}
 use Rattle.relax_edges.specs.Relaxations.{is_same, are_distinct, IsRelaxes, keep, at_most_64}
 use Rattle.relax_edges.proofs.Paths.{at_most_64-ok}
-use Rattle.relax_edges.proofs.Cases.{by_test, no_true}
 
 -- a relaxation that is in the list already leaves it as it is
 pub keep_there : (kept : List (List Edge)) (path : List Edge) → IsRelaxes kept → list_any (is_same path) kept ≡ true → at_most_64 (keep kept path) ≡ Ok kept
@@ -26,13 +27,8 @@ pub keep_room : (kept : List (List Edge)) (path : List Edge) → list_any (is_sa
 keep_room kept path new room =
     rw new (at_most_64-ok (kept ++ path ∷ []) (omega (arith, length-append kept (path ∷ []))))
 
-both_true : (a b : Bool) → (a ≡ true → b ≡ true) → (b ≡ true → a ≡ true) → a ≡ b
-both_true true b p q = sym (p refl)
-both_true false true p q = q refl
-both_true false false p q = refl
-
 rank_turned : (m n : ℕ) → (m == n) ≡ (n == m)
-rank_turned m n = both_true (m == n) (n == m) (λ t. eq-eqb n m (sym (eqb-true m n t))) (λ t. eq-eqb m n (sym (eqb-true n m t)))
+rank_turned m n = both_ways (m == n) (n == m) (λ t. eq-eqb n m (sym (eqb-true m n t))) (λ t. eq-eqb m n (sym (eqb-true n m t)))
 
 -- whether two lists of edges are the same doesn't depend on their order
 same_turned : (a b : List Edge) → is_same a b ≡ is_same b a
@@ -44,16 +40,16 @@ same_turned (x ∷ a) (y ∷ b) = rw (rank_turned (rank_of x) (rank_of y)) (ap (
 any_end : (test : List Edge → Bool) (paths : List (List Edge)) (path : List Edge) → list_any test paths ≡ false → test path ≡ false → list_any test (paths ++ path ∷ []) ≡ false
 any_end test [] path none f = rw f refl
 any_end test (first ∷ paths) path none f =
-    by_test (test first) (λ t. absurd (no_true (sym (rw t at none)))) (λ n. rw n (any_end test paths path (rw n at none) f))
+    by_test (test first) (λ t. absurd (false≢true (sym (rw t at none)))) (λ n. rw n (any_end test paths path (rw n at none) f))
 
 distinct_end : (kept : List (List Edge)) (path : List Edge) → are_distinct kept ≡ true → list_any (is_same path) kept ≡ false → are_distinct (kept ++ path ∷ []) ≡ true
 distinct_end [] path distinct new = refl
 distinct_end (first ∷ kept) path distinct new =
     by_test (is_same path first)
-    (λ t. absurd (no_true (sym (rw t at new))))
+    (λ t. absurd (false≢true (sym (rw t at new))))
     (λ n.
     by_test (list_any (is_same first) kept)
-    (λ t. absurd (no_true (rw t at distinct)))
+    (λ t. absurd (false≢true (rw t at distinct)))
     (λ f.
     rw (any_end (is_same first) kept path f (same_turned first path ∙ n)) (distinct_end kept path (rw f at distinct) (rw n at new))))
 

@@ -7,6 +7,7 @@ use Rattle.std.proofs.Common.{refl, arith, ap, subst, sym, ◌∙◌, inl, inr, 
 use Rattle.std.proofs.lemmas.Grind.{reverse_onto}
 use Rattle.std.proofs.lemmas.List.{reverse-reverse, reverse-append}
 use Rattle.std.proofs.lemmas.Slice.Eq.{bytes_eq-Decides}
+use Rattle.list_laws.proofs.Cases.{by_test}
 use Rattle.relax_edges.specs.declared.kinds.Dir.{Dir}
 use Rattle.relax_edges.specs.declared.kinds.Dir.TheVariants as dirs
 use Rattle.relax_edges.specs.declared.kinds.Sd.{Sd}
@@ -24,7 +25,6 @@ use Rattle.relax_edges.specs.AllEdges.{edges_in_order}
 use Rattle.relax_edges.specs.Spelling.{kind_spellings}
 use Rattle.relax_edges.specs.Reading.{named, dirs_read, places_read, reaches_read, communications_read, dependencies_read, plain_fences_read, riscv_fences_read, dir_named, sd_named, reach_named, com_named, dependency_named, plain_fence_named, riscv_fence_named, fence_named, communication, communication_of, two_sided, two_sided_of, one_sided, one_sided_of, read_as_communication, read_back_two_sided, read_back_one_sided, kind_read}
 use Rattle.relax_edges.proofs.Ranks.{each_edge}
-use Rattle.relax_edges.proofs.Cases.{by_test, no_true}
 
 -- what `find` finds passes the test
 pub find_passes : {A : Type 0} (test : A → Bool) (xs : List A) (x : A) → find test xs ≡ Some x → test x ≡ true

@@ -1,4 +1,3 @@
-pub mod Cases
 pub mod Ranks
 pub mod Spellings
 pub mod Architectures

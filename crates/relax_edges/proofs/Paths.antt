@@ -1,24 +1,21 @@
 -- How paths grow edge by edge, and how relaxations are kept one after another.
-use Rattle.std.specs.Prelude.{◌≡◌, ◌≤◌, ◌&&◌, Bool, true, false, nat_lt, Result, Ok, Err, List, [], ◌∷◌, ◌++◌, length, filter, map}
+use Rattle.std.specs.Prelude.{◌≡◌, ◌≤◌, true, false, nat_lt, Result, Ok, Err, List, [], ◌∷◌, ◌++◌, length, filter, map}
 use Rattle.std.specs.List.{flat_map, list_any}
 use Rattle.std.proofs.Common.{refl, arith, ap, append_assoc}
-use Rattle.std.proofs.lemmas.Bool.{ltb-true, ltb-false, lt-ltb}
+use Rattle.std.proofs.lemmas.Bool.{ltb-true, ltb-false, lt-ltb, false≢true}
 use Rattle.std.proofs.lemmas.List.{map-append, append-nil, length-append}
 use Rattle.std.proofs.lemmas.List.Elements.{filter-append}
+use Rattle.std.proofs.Math.Bool.{and-true}
+use Rattle.list_laws.proofs.Cases.{by_test}
 use Rattle.relax_edges.specs.declared.edge.Edge.{Edge}
 use Rattle.relax_edges.specs.declared.relax_error.RelaxKind.{RelaxKind}
 use Rattle.relax_edges.specs.declared.relax_error.RelaxKind.TheVariants.{TooManyRelaxes}
 use Rattle.relax_edges.specs.EdgeTable.{joins_to}
 use Rattle.relax_edges.specs.Relaxations.{joins_on, is_path, choices, is_same, keep, keep_all, at_most_64}
 use Rattle.relax_edges.specs.RelaxSearch.{paths_behind}
-use Rattle.relax_edges.proofs.Cases.{by_test, no_true}
 
 abbrev Answer : Type 0
 Answer = Result (List (List Edge)) RelaxKind
-
-and_true : (b : Bool) → (b && true) ≡ b
-and_true true = refl
-and_true false = refl
 
 -- to go on with an edge and then others is to go on after one edge more
 moved : (front : List Edge) (edge : Edge) (paths : List (List Edge))
@@ -74,13 +71,13 @@ paths_behind-none front lists none = all_fail (choices lists)
 
 joins_on-end : (first : Edge) (front : List Edge) (last edge : Edge) → joins_on first (front ++ last ∷ []) ≡ true
     → joins_on first ((front ++ last ∷ []) ++ edge ∷ []) ≡ joins_to last edge
-joins_on-end first [] last edge path = by_test (joins_to first last) (λ t. rw t (and_true (joins_to last edge))) (λ f. absurd (no_true (rw f at path)))
+joins_on-end first [] last edge path = by_test (joins_to first last) (λ t. rw t (and-true (joins_to last edge))) (λ f. absurd (false≢true (rw f at path)))
 joins_on-end first (next ∷ front) last edge path =
-    by_test (joins_to first next) (λ t. rw t (joins_on-end next front last edge (rw t at path))) (λ f. absurd (no_true (rw f at path)))
+    by_test (joins_to first next) (λ t. rw t (joins_on-end next front last edge (rw t at path))) (λ f. absurd (false≢true (rw f at path)))
 
 -- a path goes on with an edge that its last edge joins
 pub is_path-end : (front : List Edge) (last edge : Edge) → is_path (front ++ last ∷ []) ≡ true → is_path ((front ++ last ∷ []) ++ edge ∷ []) ≡ joins_to last edge
-is_path-end [] last edge path = and_true (joins_to last edge)
+is_path-end [] last edge path = and-true (joins_to last edge)
 is_path-end (first ∷ front) last edge path = joins_on-end first front last edge path
 
 -- keeping one after another

@@ -2,11 +2,11 @@
 use Rattle.std.specs.Prelude.{ℕ, ◌≡◌, ◌<◌, ◌+◌, ◌||◌, Bool, true, false, not, List, [], ◌∷◌, length, filter, drop}
 use Rattle.std.specs.List.{before_first, position, position_or_len, slice_split, onto_first, list_all}
 use Rattle.std.specs.Option.{unwrap_or}
-use Rattle.std.proofs.lemmas.Bool.{ltb-false}
+use Rattle.std.proofs.lemmas.Bool.{ltb-false, false≢true}
 use Rattle.std.proofs.lemmas.List.Sums.{prefix_len-le-length}
 use Rattle.std.proofs.Common.{suc, nat_lt, refl, arith, ap, sym, ◌∙◌}
+use Rattle.list_laws.proofs.Cases.{by_test}
 use Rattle.relax_edges.specs.RelaxText.{is_separator, is_bracket, ends_word, is_empty, words_of}
-use Rattle.relax_edges.proofs.Cases.{by_test, no_true}
 
 one_more : (n : ℕ) → 1 + n ≡ suc n
 one_more n = omega arith
@@ -92,13 +92,13 @@ none_before test (byte ∷ behind) fails =
 one_part : (test : ℕ → Bool) (text : List ℕ) → list_all (λ byte. not (test byte)) text ≡ true → slice_split test text ≡ text ∷ []
 one_part test [] none = refl
 one_part test (byte ∷ behind) none =
-    by_test (test byte) (λ s. absurd (no_true (rw s at none))) (λ n. rw n (ap (onto_first byte) (one_part test behind (rw n at none))))
+    by_test (test byte) (λ s. absurd (false≢true (rw s at none))) (λ n. rw n (ap (onto_first byte) (one_part test behind (rw n at none))))
 
 not_separator : (byte : ℕ) → ends_word byte ≡ false → is_separator byte ≡ false
 not_separator byte n = first_false (is_separator byte) (is_bracket byte) n
   where
     first_false : (a b : Bool) → (a || b) ≡ false → a ≡ false
-    first_false true b f = absurd (no_true (sym f))
+    first_false true b f = absurd (false≢true (sym f))
     first_false false b f = refl
 
 -- a word that ends where a word ends is the one word of its text

@@ -4,10 +4,11 @@ use Rattle.std.specs.List.{list_all, list_any, find}
 use Rattle.std.specs.Option.{option_map}
 use Rattle.std.specs.Str.{bytes_eq}
 use Rattle.std.proofs.Common.{refl, arith, ap, subst, sym, ◌∙◌}
-use Rattle.std.proofs.lemmas.Bool.{eqb-true}
+use Rattle.std.proofs.lemmas.Bool.{eqb-true, false≢true}
 use Rattle.std.proofs.lemmas.Grind.{reverse_onto}
 use Rattle.std.proofs.lemmas.List.{reverse-reverse, reverse-append}
 use Rattle.std.proofs.lemmas.Slice.Eq.{bytes_eq-Decides}
+use Rattle.list_laws.proofs.Cases.{by_test}
 use Rattle.relax_edges.specs.declared.kinds.Kind.{Kind}
 use Rattle.relax_edges.specs.declared.kinds.Mark.{Mark}
 use Rattle.relax_edges.specs.declared.kinds.Mark.TheVariants.{Plain, Acquire, Release}
@@ -20,7 +21,6 @@ use Rattle.relax_edges.specs.Spelling.{kind_spellings, spellings_of, is_spelling
 use Rattle.relax_edges.specs.Reading.{marks_read, mark_named, communication_of, two_sided_of, one_sided_of, kind_read, edge_spelled, spelled_by, read_by_marks, read_back, read_of}
 use Rattle.relax_edges.proofs.Ranks.{each_edge, rank_injective}
 use Rattle.relax_edges.proofs.KindSpellings.{find_passes, named_is, each_kind, is_kind_spelling, kind_sound}
-use Rattle.relax_edges.proofs.Cases.{by_test, no_true}
 
 -- where `find` finds none, all fail the test
 all_fail : {A : Type 0} (test : A → Bool) (xs : List A) → find test xs ≡ None → list_all (λ x. not (test x)) xs ≡ true
@@ -33,7 +33,7 @@ all_fail {A} test (x ∷ xs) none =
 find_none : (test : Edge → Bool) (edge : Edge) → find test edges_in_order ≡ None → test edge ≡ false
 find_none test edge none =
     by_test (test edge)
-    (λ t. absurd (no_true (rw t at (each_edge (λ x. not (test x)) (all_fail test edges_in_order none) edge))))
+    (λ t. absurd (false≢true (rw t at (each_edge (λ x. not (test x)) (all_fail test edges_in_order none) edge))))
     (λ f. f)
 
 -- whether an edge was read
@@ -69,7 +69,7 @@ chosen first second (x ∷ xs) all any =
     (λ f. by_test (second x)
     (λ s. record { one = x; passes_first = f; passes_second = s })
     (λ s. chosen first second xs (rw f at all) (rw s at any)))
-    (λ f. absurd (no_true (rw f at all)))
+    (λ f. absurd (false≢true (rw f at all)))
 
 -- a spelling of an edge is read as that edge
 pub read_spelling : (edge : Edge) (text : List ℕ) → is_spelling edge text ≡ true → read_of text ≡ Some edge
@@ -206,7 +206,7 @@ spelling_unique a b text p q =
 -- what spells an edge is found among all edges
 found_among : (edge : Edge) (text : List ℕ) (found : Option Edge) → edge_of text ≡ found → is_spelling edge text ≡ true → edge_of text ≡ Some edge
 unfolding edge_of
-found_among edge text None e p = absurd (no_true (sym (find_none (λ x. is_spelling x text) edge e) ∙ p))
+found_among edge text None e p = absurd (false≢true (sym (find_none (λ x. is_spelling x text) edge e) ∙ p))
 found_among edge text (Some x) e p = e ∙ ap Some (spelling_unique x edge text (find_passes (λ y. is_spelling y text) edges_in_order x e) p)
 
 -- a spelling of an edge is found as that edge

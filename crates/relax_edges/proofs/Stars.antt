@@ -8,32 +8,25 @@ use Rattle.std.proofs.lemmas.List.{take-append-drop, map-append, length-append, 
 use Rattle.std.proofs.Math.Seq.{drop-cons}
 use Rattle.std.proofs.Math.ListN.{drop_of_length-le}
 use Rattle.std.proofs.lemmas.List.Elements.{filter_map-append}
+use Rattle.std.proofs.Math.Bool.{and-false, and-true}
+use Rattle.list_laws.proofs.Cases.{by_test}
 use Rattle.relax_edges.specs.declared.edge.Edge.{Edge}
 use Rattle.relax_edges.specs.Spelling.{edge_of}
 use Rattle.relax_edges.specs.Relaxations.{byte_choices, expansions, word_edges}
 use Rattle.relax_edges.specs.Stars.{star_choices, edges_by_last, edges_by_end}
 use Rattle.relax_edges.proofs.Spellings.{edge_of_short}
-use Rattle.relax_edges.proofs.Cases.{by_test}
 
 -- the words with a given beginning, by their last two bytes
 abbrev ends : List ℕ → ℕ → ℕ → List (List ℕ)
 ends front before last = flat_map (λ a. map (λ b. front ++ a ∷ b ∷ []) (star_choices last)) (star_choices before)
 
-and_false : (b : Bool) → (b && false) ≡ false
-and_false true = refl
-and_false false = refl
-
 -- a byte before the last two has itself as its one choice
 plain_choice : (byte behind : ℕ) → 2 ≤ behind → byte_choices byte behind ≡ byte ∷ []
-plain_choice byte behind far = rw (le-ltb behind 2 far, and_false (byte == 42)) refl
+plain_choice byte behind far = rw (le-ltb behind 2 far, and-false (byte == 42)) refl
 
 -- a byte among the last two has the choices of a star
-and_true : (b : Bool) → (b && true) ≡ b
-and_true true = refl
-and_true false = refl
-
 near_choice : (byte : ℕ) → cond (byte == 42 && true) (codes "RW") (byte ∷ []) ≡ star_choices byte
-near_choice byte = rw (and_true (byte == 42)) refl
+near_choice byte = rw (and-true (byte == 42)) refl
 
 flat_map-same : {A B : Type 0} (f g : A → List B) (xs : List A) → ((x : A) → f x ≡ g x) → flat_map f xs ≡ flat_map g xs
 flat_map-same f g [] same = refl

@@ -1,15 +1,15 @@
 -- Two lists of edges joined: the events of the threads of the first, and then those of the second.
 use Rattle.std.proofs.Common.{◌≡◌, ℕ, zero, suc, ◌+◌, ◌-◌, ◌<◌, ◌≤◌, Bool, false, ◌==◌, cond, List, [], ◌∷◌, ◌++◌, length, map, refl, sym, ◌∙◌, ap, arith, length-append, append_assoc}
 use Rattle.std.specs.List.{AllByRecursion, filter}
-use Rattle.std.proofs.lemmas.List.{append-nil}
+use Rattle.std.proofs.lemmas.List.{append-nil, map_push}
 use Rattle.std.proofs.lemmas.List.Elements.{filter-append}
 use Rattle.std.proofs.lemmas.Bool.{ne_eqb, cond-false}
+use Rattle.list_laws.proofs.Elements.{all_append}
 use Rattle.relax_edges.specs.declared.edge.Edge.{Edge}
 use Rattle.list_laws.specs.Numbers.{upto}
 use Rattle.list_laws.proofs.Cases.{by_test}
 use Rattle.resolution_laws.specs.Resolution.{external_count, thread_of, events_in}
 use Rattle.resolution_laws.proofs.Rotations.{Ended, thread_first, thread_second, same_shifted}
-use Rattle.test_laws.proofs.Everywhere.{all_joined}
 
 -- an event of a list whose threads have ended is in one of its threads
 pub ended_below : (a : List Edge) (i : ℕ) → Ended a → i < length a → thread_of a i < external_count a
@@ -39,11 +39,7 @@ upto-add m (suc n) =
     ap upto e
     ∙ ap (λ l. l ++ (m + n) ∷ []) (upto-add m n)
     ∙ append_assoc (upto m) (map (λ i. m + i) (upto n)) ((m + n) ∷ [])
-    ∙ ap (λ l. upto m ++ l) (sym (map-push (λ i. m + i) (upto n) n))
-  where
-    map-push : (f : ℕ → ℕ) (xs : List ℕ) (x : ℕ) → map f (xs ++ x ∷ []) ≡ map f xs ++ f x ∷ []
-    map-push f [] x = refl
-    map-push f (y ∷ xs) x = ap (λ l. f y ∷ l) (map-push f xs x)
+    ∙ ap (λ l. upto m ++ l) (sym (map_push (λ i. m + i) (upto n) n))
 
 filter_shifted : (p : ℕ → Bool) (m : ℕ) (xs : List ℕ) → filter p (map (λ i. m + i) xs) ≡ map (λ i. m + i) (filter (λ i. p (m + i)) xs)
 filter_shifted p m [] = refl
@@ -87,7 +83,7 @@ filter_upto_below : (p : ℕ → Bool) (n m : ℕ) → n ≤ m → AllByRecursio
 filter_upto_below p zero m h = tt
 filter_upto_below p (suc n) m h =
     rw (filter-append p (upto n) (n ∷ []))
-    (all_joined (λ i. i < m) (filter p (upto n)) (filter p (n ∷ [])) (filter_upto_below p n m (omega arith))
+    (all_append (λ i. i < m) (filter p (upto n)) (filter p (n ∷ [])) (filter_upto_below p n m (omega arith))
     (by_test (p n) (λ t. rw t (omega arith, tt)) (λ f. rw f tt)))
 
 -- the events of a thread are numbers below the length

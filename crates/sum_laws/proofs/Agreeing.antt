@@ -8,14 +8,15 @@ use Rattle.std.proofs.lemmas.List.Elements.{filter-append}
 use Rattle.std.proofs.lemmas.List.Sums.{sum_by-append}
 use Rattle.std.proofs.lemmas.Slice.Eq.{bytes_eq-Decides}
 use Rattle.std.proofs.lemmas.Bool.Decides.{nat_tests}
+use Rattle.std.proofs.lemmas.Bool.{not-false}
+use Rattle.list_laws.proofs.Cases.{by_test}
 use Rattle.log_sum.specs.declared.errors.LogKind.{LogKind}
 use Rattle.log_sum.specs.declared.errors.LogKind.TheVariants.{HashDiffers, ConditionDiffers, SumTooLarge, KindDiffers}
 use Rattle.log_sum.specs.Counts.{last_count}
 use Rattle.log_sum.specs.Facts.{Row, Fact, Entry, a_kind, a_row, a_condition, a_hash, kinds, rows, conditions, hashes, first_of, same_kind, same_mark, marked_sum, state_sum, mark_in, is_other, fault_if, fault_of, facts_of}
 use Rattle.log_sum.specs.Summed.{or_else}
 use Rattle.sum_laws.proofs.Cases.{Kind, Mark, Verdict, allowed, plain, kind_cases, mark_cases}
-use Rattle.text_laws.proofs.RunLaws.{by_test}
-use Rattle.sum_laws.proofs.Texts.{bytes_same, not_false}
+use Rattle.sum_laws.proofs.Texts.{bytes_same}
 use Rattle.sum_laws.proofs.Blocks.{Clean}
 use Rattle.sum_laws.proofs.Printed.{AllOf}
 
@@ -205,7 +206,7 @@ profile_of facts = record {
 
 pub no_other : {A : Type 0} (same : A → A → Bool) → ((x y : A) → same x y ≡ true → x ≡ y) → (o more : Option A) (d x : A) → is_other same o x ≡ false → x ≡ or_else d (or_first o (or_first (Some x) more))
 no_other same law None more d x h = refl
-no_other same law (Some y) more d x h = sym (law y x (not_false (same y x) h))
+no_other same law (Some y) more d x h = sym (law y x (not-false (same y x) h))
 
 -- where there is no fault, its condition is false
 pub none_if : (b : Bool) (kind : LogKind) → fault_if b kind ≡ None → b ≡ false

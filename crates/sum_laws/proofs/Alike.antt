@@ -10,11 +10,11 @@ use Rattle.std.specs.Str.{bytes_eq}
 use Rattle.std.proofs.lemmas.List.{map-append}
 use Rattle.std.proofs.lemmas.List.Sums.{fold-append}
 use Rattle.std.proofs.lemmas.List.Folds.{list_any-append, list_all-append}
+use Rattle.list_laws.proofs.Cases.{by_test}
 use Rattle.log_sum.specs.Facts.{Row, Fact, a_kind, a_row, a_condition, a_hash, kinds, rows, conditions, hashes, first_of, marked_sum, state_sum, states_of, mark_in, verdicts, says_validated}
 use Rattle.log_sum.specs.Summed.{Summed, or_else, state_by, summed, validated_by, is_validated}
 use Rattle.log_sum.specs.SumText.{test_text, head_text, verdict_text, claim_text, condition_text, observation_text}
 use Rattle.sum_laws.proofs.Cases.{Kind, Mark, Verdict, allowed, plain, starred, kind_cases}
-use Rattle.text_laws.proofs.RunLaws.{by_test}
 use Rattle.sum_laws.proofs.Texts.{bytes_same}
 use Rattle.sum_laws.proofs.Lines.{said_as}
 use Rattle.sum_laws.proofs.Printed.{AllOf, kind_of_test, IsCondition}

@@ -4,7 +4,8 @@ use Rattle.std.specs.Prelude.{not, Option, Ok, decimal}
 use Rattle.std.specs.Char.{is_ascii_digit}
 use Rattle.std.specs.List.{slice_split, list_all}
 use Rattle.std.proofs.lemmas.Bool.Decides.{nat_tests}
-use Rattle.std.proofs.lemmas.Bool.{and_parts}
+use Rattle.std.proofs.lemmas.Bool.{and_parts, not-true}
+use Rattle.list_laws.proofs.Elements.{list_all-weaker}
 use Rattle.text_laws.specs.Words.{is_nil}
 use Rattle.log_sum.specs.Counts.{last_count}
 use Rattle.log_sum.specs.Facts.{Fact, Entry, facts_of, fault_of}
@@ -12,7 +13,7 @@ use Rattle.log_sum.specs.Lines.{Said, line_said, place_after, fact_said, test_af
 use Rattle.log_sum.specs.Reading.{Seen, ◌>>=◌, is_too_long, next_line, fact_put, at_next_line, text_judged, line_judged, lines_judged, lines_of, rest_of}
 use Rattle.text_laws.specs.Lines.{without_return, but_last, last_of}
 use Rattle.sum_laws.proofs.Cases.{Place}
-use Rattle.sum_laws.proofs.Texts.{not_true, all_both, all_weaker, no_feed, split_both, split_whole}
+use Rattle.sum_laws.proofs.Texts.{all_both, no_feed, split_both, split_whole}
 use Rattle.text_laws.proofs.PieceLaws.{first_piece}
 use Rattle.sum_laws.proofs.Lines.{digits_all}
 
@@ -94,7 +95,7 @@ step before test place line text rest said l e f c =
     let cut : lines_of (text ++ 10 ∷ rest) ≡ text ∷ lines_of rest = line_off text rest l.one in
     let fit : list_all (λ line. not (is_too_long line)) (text ∷ lines_of rest) ≡ true = ap (list_all (λ line. not (is_too_long line))) (sym cut) ∙ f in
     let both : (not (is_too_long text) ≡ true) × (list_all (λ line. not (is_too_long line)) (lines_of rest) ≡ true) = and_parts (not (is_too_long text)) (list_all (λ line. not (is_too_long line)) (lines_of rest)) fit in
-    let short : is_too_long text ≡ false = not_true (is_too_long text) both.0 in
+    let short : is_too_long text ≡ false = not-true (is_too_long text) both.0 in
     record {
       lines = rw (cut, short, l.kept, e) (ap (λ r. r >>= (λ next. lines_judged next (lines_of rest))) (fact_goes before (test_after test said) (place_after place said) line (fact_said said) c));
       last = last_off text rest l.one;
@@ -112,7 +113,7 @@ return_front (c ∷ d ∷ front) b text h = ap (λ t. c ∷ t) (return_front (d 
 pub no_return : (text : List ℕ) → list_all (λ b. not (b == 13)) text ≡ true → without_return text ≡ text
 unfolding without_return
 no_return [] h = refl
-no_return (b ∷ []) h = rw (not_true (b == 13) (and_parts (not (b == 13)) true h).0) refl
+no_return (b ∷ []) h = rw (not-true (b == 13) (and_parts (not (b == 13)) true h).0) refl
 no_return (b ∷ c ∷ text) h = ap (λ t. b ∷ t) (no_return (c ∷ text) (and_parts (not (b == 13)) (list_all (λ x. not (x == 13)) (c ∷ text)) h).1)
 
 -- a printed line may begin with any text without line feeds
@@ -132,4 +133,4 @@ digit_return b h = grind (arith, nat_tests)
 -- a count can be a printed line
 pub decimal_line : (n : ℕ) → n ≤ last_count → IsLine (decimal n)
 decimal_line n h =
-    plain_feed (decimal n) (all_weaker is_ascii_digit no_feed digit_feed (decimal n) (digits_all n h)) (all_weaker is_ascii_digit (λ b. not (b == 13)) digit_return (decimal n) (digits_all n h))
+    plain_feed (decimal n) (list_all-weaker is_ascii_digit no_feed digit_feed (decimal n) (digits_all n h)) (list_all-weaker is_ascii_digit (λ b. not (b == 13)) digit_return (decimal n) (digits_all n h))

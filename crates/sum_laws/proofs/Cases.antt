@@ -1,6 +1,7 @@
 -- Cases of kinds, marks, verdicts and places, whose variants log_sum keeps to itself.
 use Rattle.std.proofs.Common.{◌≡◌, ℕ, List, [], true, false, sym, arith, subst, Some, None}
 use Rattle.std.specs.Prelude.{codes, Option, Bool, Result, Ok, Err}
+use Rattle.list_laws.proofs.Cases.{by_test}
 use Rattle.text_laws.specs.Words.{words}
 use Rattle.text_laws.specs.Runs.{after_run, run_of}
 use Rattle.text_laws.specs.Blanks.{before_blanks}
@@ -8,7 +9,6 @@ use Rattle.log_sum.specs.Counts.{count_read}
 use Rattle.log_sum.specs.Lines.{begins, judged, conditioned, kind_of, mark_of, kind_at, states_left, verdict_cut, row_said, line_said, place_after, test_line, histogram_line, row_line, condition_line, hash_line}
 use Rattle.log_sum.specs.Reading.{nothing_seen, end_at}
 use Rattle.log_sum.specs.Facts.{same_mark, same_kind, says_validated}
-use Rattle.text_laws.proofs.RunLaws.{by_test}
 
 -- the type of a value
 abbrev pub TypeOf : {A : Type 0} → A → Type 0

@@ -5,11 +5,11 @@ use Rattle.std.proofs.lemmas.Slice.Eq.{bytes_eq-Decides}
 use Rattle.log_sum.specs.Facts.{Fact, Entry, a_kind, a_row, a_condition, a_hash, row_with, facts_of, marked_sum, state_sum, states_of, mark_in, fault_of}
 use Rattle.sum_laws.specs.Laws.{IsSum}
 use Rattle.sum_laws.proofs.Cases.{forbidden, plain, not_validated, outside}
-use Rattle.text_laws.proofs.RunLaws.{by_test}
 use Rattle.sum_laws.proofs.Blocks.{entry}
 use Rattle.sum_laws.proofs.Agreeing.{fact_elsewhere}
 use Rattle.std.specs.Prelude.{codes, Result, Ok, Err}
 use Rattle.std.specs.Fmt.{digits}
+use Rattle.list_laws.proofs.Cases.{by_test}
 use Rattle.log_sum.specs.declared.errors.LogKind.TheVariants.{HashDiffers}
 use Rattle.log_sum.specs.declared.errors.LogError.{LogError}
 use Rattle.text_laws.specs.Runs.{run_of, after_run}

@@ -9,7 +9,7 @@ use Rattle.std.specs.declared.cmp.Ordering.TheVariants.{Less, Equal, Greater}
 use Rattle.std.specs.Cmp.Lexicographic.{slice_cmp}
 use Rattle.std.specs.BTreeSet.{insert_key}
 use Rattle.std.specs.Str.{bytes_eq}
-use Rattle.std.proofs.lemmas.Bool.{and_parts, and_from, eqb-true}
+use Rattle.std.proofs.lemmas.Bool.{and_parts, and_from, eqb-true, not-true}
 use Rattle.std.proofs.lemmas.List.{take_at, take-append-drop}
 use Rattle.std.proofs.lemmas.Slice.Eq.{bytes_eq-Decides}
 use Rattle.text_laws.specs.Blanks.{is_blank, is_inked, before_blanks, unblanked}
@@ -19,9 +19,10 @@ use Rattle.log_sum.specs.Texts.{begins_with}
 use Rattle.text_laws.specs.Cuts.{before_cut, cut_at}
 use Rattle.log_sum.specs.States.{is_bracketed, left_kept, is_side, sides_read, has_left, with_equality, and_then, with_pieces, later_unblanked, state_read, later_forms, state_form, or_bad, form_read}
 use Rattle.text_laws.specs.Lines.{without_return}
-use Rattle.text_laws.proofs.RunLaws.{by_test}
-use Rattle.sum_laws.proofs.Texts.{not_true, all_both, all_parts, all_weaker, all_and, all_after, bytes_same, no_feed, split_both, split_whole, end_stays, ink_stays}
+use Rattle.sum_laws.proofs.Texts.{all_both, all_parts, all_and, all_after, bytes_same, no_feed, split_both, split_whole, end_stays, ink_stays}
 use Rattle.std.proofs.Math.Bool.{or-true}
+use Rattle.list_laws.proofs.Elements.{list_all-weaker}
+use Rattle.list_laws.proofs.Cases.{by_test}
 use Rattle.sum_laws.proofs.Blocks.{IsLine, append_line}
 use Rattle.sum_laws.proofs.Printed.{AllOf, IsForm}
 use Rattle.sum_laws.proofs.Agreeing.{all_of_both}
@@ -42,13 +43,13 @@ part_of : (text : List ℕ) → list_all is_inked text ≡ true → list_all no_
 part_of text a b c = all_and is_inked (λ b. no_semi b && no_feed b) text a (all_and no_semi no_feed text b c)
 
 semis_of : (text : List ℕ) → list_all is_part text ≡ true → list_all no_semi text ≡ true
-semis_of text h = all_weaker is_part no_semi (λ b p. (and_parts (not (b == 59)) (no_feed b) (and_parts (is_inked b) (not (b == 59) && no_feed b) p).1).0) text h
+semis_of text h = list_all-weaker is_part no_semi (λ b p. (and_parts (not (b == 59)) (no_feed b) (and_parts (is_inked b) (not (b == 59) && no_feed b) p).1).0) text h
 
 feeds_of : (text : List ℕ) → list_all is_part text ≡ true → list_all no_feed text ≡ true
-feeds_of text h = all_weaker is_part no_feed (λ b p. (and_parts (not (b == 59)) (no_feed b) (and_parts (is_inked b) (not (b == 59) && no_feed b) p).1).1) text h
+feeds_of text h = list_all-weaker is_part no_feed (λ b p. (and_parts (not (b == 59)) (no_feed b) (and_parts (is_inked b) (not (b == 59) && no_feed b) p).1).1) text h
 
 inked_of : (text : List ℕ) → list_all is_part text ≡ true → list_all is_inked text ≡ true
-inked_of text h = all_weaker is_part is_inked (λ b p. (and_parts (is_inked b) (not (b == 59) && no_feed b) p).0) text h
+inked_of text h = list_all-weaker is_part is_inked (λ b p. (and_parts (is_inked b) (not (b == 59) && no_feed b) p).0) text h
 
 -- cuts
 pub record Cut (sign : ℕ) (text left right : List ℕ) : Type 0 where
@@ -85,7 +86,7 @@ unfolding cut_at
 cut_again sign [] right h s = rw s refl
 cut_again sign (b ∷ left) right h s =
     let k : (not (b == sign) ≡ true) × (list_all (λ c. not (c == sign)) left ≡ true) = and_parts (not (b == sign)) (list_all (λ c. not (c == sign)) left) h in
-    rw (not_true (b == sign) k.0, cut_again sign left right k.1 s) refl
+    rw (not-true (b == sign) k.0, cut_again sign left right k.1 s) refl
 
 -- an equality as it is kept
 pub record IsEquality (e : List ℕ) : Type 0 where
@@ -202,7 +203,7 @@ kept_some : (left : List ℕ) → is_nil left ≡ false → is_nil (left_kept le
 kept_some left h = by_test (list_any (λ byte. byte == 58) left || is_bracketed left) (λ e. rw e h) (λ e. rw e refl)
 
 side_parts : (text : List ℕ) → is_side text ≡ true → (is_nil text ≡ false) × (list_all is_inked text ≡ true)
-side_parts text h = let k = and_parts (not (is_nil text)) (list_all is_inked text) h in (not_true (is_nil text) k.0, k.1)
+side_parts text h = let k = and_parts (not (is_nil text)) (list_all is_inked text) h in (not-true (is_nil text) k.0, k.1)
 
 side_from : (text : List ℕ) → is_nil text ≡ false → list_all is_inked text ≡ true → is_side text ≡ true
 side_from text h k = and_from (not (is_nil text)) (list_all is_inked text) (rw h refl) k
@@ -273,7 +274,7 @@ equality_semis x i = ap (list_all no_semi) i.is ∙ all_both no_semi i.left (61 
 first_stays : (left rest : List ℕ) → is_nil left ≡ false → list_all is_inked left ≡ true → unblanked (left ++ rest) ≡ left ++ rest
 unfolding after_run
 first_stays [] rest h k = absurd (cc)
-first_stays (b ∷ left) rest h k = let n : is_blank b ≡ false = not_true (is_blank b) (and_parts (is_inked b) (list_all is_inked left) k).0 in rw n refl
+first_stays (b ∷ left) rest h k = let n : is_blank b ≡ false = not-true (is_blank b) (and_parts (is_inked b) (list_all is_inked left) k).0 in rw n refl
 
 equality_first : (x : List ℕ) → IsEquality x → unblanked (32 ∷ x) ≡ x
 unfolding after_run

@@ -3,6 +3,7 @@ use Rattle.std.proofs.Common.{◌≡◌, ℕ, ◌+◌, ◌≤◌, List, [], ◌�
 use Rattle.std.specs.Prelude.{Bool, cond, Option, Result, Ok, Err, map, codes}
 use Rattle.std.specs.List.{list_any, flat_map}
 use Rattle.std.specs.Str.{bytes_eq}
+use Rattle.list_laws.proofs.Cases.{by_test}
 use Rattle.log_sum.specs.declared.errors.LogError.{LogError}
 use Rattle.log_sum.specs.Counts.{last_count}
 use Rattle.log_sum.specs.Facts.{Row, Fact, Entry, a_kind, a_row, a_condition, a_hash, rows, hashes, first_of, same_mark, marked_sum, state_sum, states_of, facts_of, tests_of}
@@ -13,7 +14,6 @@ use Rattle.log_sum.specs.SumText.{test_text, sum_text}
 use Rattle.log_sum.specs.Standing.{logs_text}
 use Rattle.sum_laws.specs.Laws.{KeepsLimits, NoFault, IsSum, StandFor, none, a_log, a_sum, SumsAreLogs, SumOfSums}
 use Rattle.sum_laws.proofs.Cases.{Mark, outside, is_outside, starred, plain}
-use Rattle.text_laws.proofs.RunLaws.{by_test}
 use Rattle.sum_laws.proofs.Texts.{bytes_same, is_word}
 use Rattle.sum_laws.proofs.Lines.{told_hash}
 use Rattle.sum_laws.proofs.Blocks.{seen_at, Clean, clean_parts, return_front}

@@ -1,15 +1,17 @@
 -- What the printed lines say where they are read.
-use Rattle.std.proofs.Common.{◌≡◌, ◌==◌, ℕ, zero, suc, ◌+◌, ◌-◌, ◌^◌, ◌<◌, ◌≤◌, List, [], ◌∷◌, ◌++◌, length, true, false, refl, sym, ap, ◌∙◌, arith, rules, length-append, append_assoc, append-nil, Some, None}
+use Rattle.std.proofs.Common.{◌≡◌, ◌==◌, ℕ, zero, suc, ◌+◌, ◌-◌, ◌^◌, ◌<◌, ◌≤◌, List, [], ◌∷◌, ◌++◌, length, true, false, refl, sym, ap, ◌∙◌, arith, length-append, append_assoc, append-nil, Some, None}
 use Rattle.std.specs.Prelude.{Bool, not, Ok, codes, decimal, replicate, nat_le}
 use Rattle.std.specs.Char.{is_ascii_digit}
 use Rattle.std.specs.List.{filter, list_all}
 use Rattle.std.specs.Str.{bytes_eq}
 use Rattle.std.specs.Str.Parse.{digits_value}
 use Rattle.std.proofs.lemmas.Bool.Decides.{nat_tests}
-use Rattle.std.proofs.lemmas.Bool.{and_parts}
+use Rattle.std.proofs.lemmas.Bool.{and_parts, not-true}
 use Rattle.std.proofs.lemmas.List.{drop_at, drop-drop}
-use Rattle.std.proofs.lemmas.Str.Parse.{IsNumeralModel, numerals_by_value}
 use Rattle.std.proofs.lemmas.Fmt.{digits_decimal, digits_value-decimal, decimal_nonempty}
+use Rattle.list_laws.proofs.Digits.{digits_model}
+use Rattle.list_laws.proofs.Elements.{list_all-weaker}
+use Rattle.list_laws.proofs.Cases.{by_test}
 use Rattle.text_laws.specs.Blanks.{is_blank, is_inked, before_blanks, kept_before, unblanked, trimmed}
 use Rattle.text_laws.specs.Words.{is_nil, words}
 use Rattle.text_laws.specs.Runs.{run_of, after_run}
@@ -20,27 +22,23 @@ use Rattle.log_sum.specs.Facts.{row_with}
 use Rattle.log_sum.specs.Lines.{passed_over, begins, counts, a_state, judged, conditioned, hashed, ends, test_line, histogram_line, row_line, row_marked, mark_read, condition_line, verdict_cut, hash_line, quantifier, line_said, place_after, states_left}
 use Rattle.log_sum.specs.SumText.{kind_word, mark_sign, filling, verdict_word, verdict_end}
 use Rattle.sum_laws.proofs.Cases.{Kind, Mark, Verdict, validated, not_validated, starred, plain, outside, histogram, judgement, in_rest, conditioned_at, kind_cases, mark_cases}
-use Rattle.text_laws.proofs.RunLaws.{by_test}
-use Rattle.sum_laws.proofs.Texts.{not_true, all_weaker, is_plain, is_word, word_is, words_both, one_word, end_stays, ink_stays, ends_so, before_so, joined_both}
+use Rattle.sum_laws.proofs.Texts.{is_plain, is_word, word_is, words_both, one_word, end_stays, ink_stays, ends_so, before_so, joined_both}
 use Rattle.text_laws.proofs.PieceLaws.{first_piece}
 
 -- counts
-own : IsNumeralModel (λ ds. list_all is_ascii_digit ds ≡ true) (digits_value 10)
-own = numerals_by_value _ (search rules)
-
 below : (n : ℕ) → n ≤ last_count → n < 2 ^ 64
 below n h = omega arith
 
 -- a printed count is made of digits
 pub digits_all : (n : ℕ) → n ≤ last_count → list_all is_ascii_digit (decimal n) ≡ true
-digits_all n h = digits_decimal own n (below n h)
+digits_all n h = digits_decimal digits_model n (below n h)
 
 digit_plain : (b : ℕ) → is_ascii_digit b ≡ true → is_plain b ≡ true
 digit_plain b h = grind (arith, nat_tests)
 
 -- a printed count has no blank and no line feed
 pub decimal_plain : (n : ℕ) → n ≤ last_count → list_all is_plain (decimal n) ≡ true
-decimal_plain n h = all_weaker is_ascii_digit is_plain digit_plain (decimal n) (digits_all n h)
+decimal_plain n h = list_all-weaker is_ascii_digit is_plain digit_plain (decimal n) (digits_all n h)
 
 some_bytes : (text : List ℕ) → 0 < length text → is_nil text ≡ false
 some_bytes [] h = absurd (omega arith)
@@ -93,7 +91,7 @@ pub count_is : (n : ℕ) (rest : List ℕ) → n ≤ last_count → Stops is_asc
 unfolding count_read
 count_is n rest h s =
     rw (run_front is_ascii_digit (decimal n) rest (digits_all n h) s, after_front is_ascii_digit (decimal n) rest (digits_all n h) s)
-    (counted_digits (decimal n) rest n (decimal_some n h) (digits_value-decimal own n (below n h)) (small_so n h))
+    (counted_digits (decimal n) rest n (decimal_some n h) (digits_value-decimal digits_model n (below n h)) (small_so n h))
 
 -- a printed count alone is read back
 pub count_alone : (n : ℕ) → n ≤ last_count → count_read (decimal n) ≡ Ok (n, [])
@@ -161,7 +159,7 @@ unfolding words
 states_words = refl
 
 inked_of : (word : List ℕ) → list_all is_plain word ≡ true → list_all is_inked word ≡ true
-inked_of word h = all_weaker is_plain is_inked (λ b p. (and_parts (is_inked b) (not (b == 10)) p).0) word h
+inked_of word h = list_all-weaker is_plain is_inked (λ b p. (and_parts (is_inked b) (not (b == 10)) p).0) word h
 
 number_words : (n : ℕ) → n ≤ last_count → words (number_line n) ≡ codes "Histogram" ∷ (40 ∷ decimal n) ∷ codes "states)" ∷ []
 number_words n h =
@@ -204,7 +202,7 @@ unfolding after_run
 first_digit [] rest h some = cc
 first_digit (b ∷ digits) rest h some =
     let k : (is_plain b ≡ true) × (list_all is_plain digits ≡ true) = and_parts (is_plain b) (list_all is_plain digits) h in
-    let n : is_blank b ≡ false = not_true (is_blank b) (and_parts (is_inked b) (not (b == 10)) k.0).0 in
+    let n : is_blank b ≡ false = not-true (is_blank b) (and_parts (is_inked b) (not (b == 10)) k.0).0 in
     rw n refl
 
 line_end_stays : (front : List ℕ) (mark : Mark) (form : List ℕ) → before_blanks form ≡ form → before_blanks (front ++ (mark_sign mark ++ form)) ≡ front ++ (mark_sign mark ++ form)

@@ -7,9 +7,9 @@ use Rattle.std.proofs.lemmas.List.{map-append}
 use Rattle.std.proofs.lemmas.List.Sums.{fold-append}
 use Rattle.std.proofs.lemmas.List.Folds.{list_any-append}
 use Rattle.std.proofs.Math.Bool.{or-false, or_assoc}
+use Rattle.list_laws.proofs.Cases.{by_test}
 use Rattle.log_sum.specs.Facts.{Entry, a_condition, facts_of, with_name, tests_of}
 use Rattle.log_sum.specs.Summed.{Summed, StateSummed, or_else, is_validated}
-use Rattle.text_laws.proofs.RunLaws.{by_test}
 use Rattle.sum_laws.proofs.Texts.{bytes_same}
 use Rattle.log_sum.proofs.SumLaws.{eq_swap}
 use Rattle.sum_laws.proofs.Lines.{said_as}

@@ -9,7 +9,7 @@ use Rattle.std.specs.declared.cmp.Ordering.TheVariants.{Less, Equal, Greater}
 use Rattle.std.specs.BTreeSet.{insert_key}
 use Rattle.std.specs.Str.{bytes_eq}
 use Rattle.std.proofs.lemmas.Slice.Eq.{bytes_eq-Decides}
-use Rattle.text_laws.proofs.RunLaws.{by_test}
+use Rattle.list_laws.proofs.Cases.{by_test}
 use Rattle.sum_laws.proofs.Texts.{bytes_same}
 use Rattle.log_sum.proofs.OrderLaws.{order, is_text}
 use Rattle.log_sum.proofs.SumLaws.{compare, Above, Ascends, above_all, reversed, fold_ascends, not_equal, any_fold}

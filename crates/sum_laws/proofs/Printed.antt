@@ -2,6 +2,7 @@
 use Rattle.std.proofs.Common.{◌≡◌, ◌==◌, ℕ, zero, suc, ◌-◌, ◌≤◌, List, [], ◌∷◌, ◌++◌, length, true, false, refl, sym, ◌∙◌, append_assoc, append-nil, subst, Some, None}
 use Rattle.std.specs.Prelude.{Bool, Option, Ok, codes, decimal, replicate}
 use Rattle.std.specs.List.{list_all, flat_map}
+use Rattle.list_laws.proofs.Cases.{by_test}
 use Rattle.text_laws.specs.Words.{is_nil, words}
 use Rattle.text_laws.specs.Blanks.{before_blanks}
 use Rattle.log_sum.specs.Texts.{joined_words, begins_with}
@@ -14,7 +15,6 @@ use Rattle.text_laws.specs.Lines.{without_return}
 use Rattle.log_sum.specs.Summed.{Summed, StateSummed, or_else, is_validated}
 use Rattle.log_sum.specs.SumText.{kind_word, mark_sign, filling, state_line, verdict_word, verdict_end, how_often, hash_text, head_text, verdict_text, claim_text, condition_text, observation_text, test_text}
 use Rattle.sum_laws.proofs.Cases.{Kind, Mark, Place, allowed, outside, histogram, judgement, in_rest, conditioned_at, kind_cases, mark_cases}
-use Rattle.text_laws.proofs.RunLaws.{by_test}
 use Rattle.sum_laws.proofs.Texts.{no_feed, is_word, word_parts}
 use Rattle.sum_laws.proofs.Lines.{decimal_some, head_line, number_line, counted_line, totals_line, claim_line, told_hash, end_line, said_as, head_said, number_said, state_said, verdict_said, empty_said, outside_said, witnesses_said, totals_said, claim_said, hash_said, end_said}
 use Rattle.sum_laws.proofs.Blocks.{seen_at, entry, put_fact, Clean, clean_parts, Goes, goes_on, IsLine, Fits, step, append_line, decimal_line}

@@ -8,6 +8,7 @@ use Rattle.std.specs.Str.Parse.{digits_value}
 use Rattle.std.proofs.lemmas.Bool.{and_parts}
 use Rattle.std.proofs.lemmas.List.{take-append-drop, append_cancel_right}
 use Rattle.std.proofs.lemmas.Slice.Eq.{bytes_eq-Decides}
+use Rattle.list_laws.proofs.Cases.{by_test}
 use Rattle.log_sum.specs.declared.errors.LogKind.{LogKind}
 use Rattle.text_laws.specs.Blanks.{is_blank, before_blanks, unblanked, trimmed}
 use Rattle.text_laws.specs.Words.{is_nil, words}
@@ -18,7 +19,6 @@ use Rattle.log_sum.specs.States.{form_read}
 use Rattle.log_sum.specs.Facts.{Row}
 use Rattle.log_sum.specs.Lines.{Said, passed_over, begins, counts, a_state, judged, conditioned, hashed, ends, kind_of, test_named, test_line, outside_said, histogram_line, counts_said, mark_before, mark_of, mark_read, row_of, row_marked, row_counted, row_line, row_said, is_judgement, verdict_cut, condition_line, quantifier, hash_line, is_observation, hash_said, condition_said, no_test, rest_said, line_said, place_after, kind_at}
 use Rattle.sum_laws.proofs.Cases.{Kind, Mark, Verdict, Place, validated, not_validated, outside, histogram, judgement, in_rest, conditioned_at, IsStates, is_ok, is_outside, outside_is, kind_cases, place_cases}
-use Rattle.text_laws.proofs.RunLaws.{by_test}
 use Rattle.sum_laws.proofs.Texts.{no_feed, is_word, words_plain, words_both, joined_is, joined_both, joined_no_feed, all_take, all_drop, all_after, all_trimmed, before_twice}
 use Rattle.sum_laws.proofs.Lines.{told_hash}
 use Rattle.sum_laws.proofs.Printed.{IsForm, IsCondition}

@@ -1,6 +1,7 @@
 -- What logs say is the same after any entries, where it has no fault there.
 use Rattle.std.proofs.Common.{◌≡◌, ℕ, List, [], ◌∷◌, ◌++◌, false, refl, sym, ap, ◌∙◌, arith, subst, append_assoc, append-nil, Some, None}
 use Rattle.std.specs.Prelude.{Option, Result, Ok, Err}
+use Rattle.list_laws.proofs.Cases.{by_test}
 use Rattle.log_sum.specs.declared.errors.LogError.{LogError}
 use Rattle.log_sum.specs.declared.errors.LogKind.{LogKind}
 use Rattle.log_sum.specs.Facts.{Fact, Entry, facts_of, fault_of}
@@ -8,7 +9,6 @@ use Rattle.log_sum.specs.Lines.{Said, line_said, place_after, fact_said, test_af
 use Rattle.log_sum.specs.Reading.{Seen, ◌>>=◌, is_too_long, next_line, fact_put, fact_judged, at_next_line, said_put, text_judged, line_judged, lines_judged, lines_of, rest_of, last_judged, end_at, end_judged, file_judged, files_judged}
 use Rattle.text_laws.specs.Lines.{without_return}
 use Rattle.sum_laws.proofs.Cases.{Place, outside, is_outside, outside_is}
-use Rattle.text_laws.proofs.RunLaws.{by_test}
 use Rattle.sum_laws.proofs.Blocks.{seen_at, entry, Clean, clean_parts}
 
 -- entries without a fault, and others without a fault after them, have none together

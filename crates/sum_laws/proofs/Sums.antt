@@ -3,10 +3,10 @@ use Rattle.std.proofs.Common.{◌≡◌, ℕ, ◌+◌, List, [], ◌∷◌, ◌+
 use Rattle.std.specs.Prelude.{Bool, ◌||◌, cond, Option, map}
 use Rattle.std.specs.List.{list_any}
 use Rattle.std.specs.Str.{bytes_eq}
+use Rattle.list_laws.proofs.Cases.{by_test}
 use Rattle.log_sum.specs.Facts.{Row, Fact, a_kind, a_row, a_condition, a_hash, row_with, rows, conditions, hashes, first_of, same_mark, marked_sum, state_sum, states_of, mark_in, facts_of}
 use Rattle.log_sum.specs.Summed.{Summed, StateSummed, or_else, state_by, is_validated}
 use Rattle.sum_laws.proofs.Cases.{Mark, plain}
-use Rattle.text_laws.proofs.RunLaws.{by_test}
 use Rattle.sum_laws.proofs.Texts.{bytes_same}
 use Rattle.sum_laws.proofs.Lines.{said_as}
 use Rattle.sum_laws.proofs.Blocks.{entry}

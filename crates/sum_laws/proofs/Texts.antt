@@ -5,25 +5,16 @@ use Rattle.std.specs.List.{slice_split, onto_first, filter, list_all}
 use Rattle.std.proofs.lemmas.List.{drop_at, take_at}
 use Rattle.std.proofs.lemmas.List.Elements.{filter-append}
 use Rattle.std.proofs.lemmas.List.Folds.{list_all-append}
-use Rattle.std.proofs.lemmas.Bool.{and_parts, and_from}
+use Rattle.std.proofs.lemmas.Bool.{and_parts, and_from, not-true}
 use Rattle.std.specs.Str.{bytes_eq}
 use Rattle.std.proofs.lemmas.Slice.Eq.{bytes_eq-Decides}
+use Rattle.list_laws.proofs.Elements.{list_all-weaker}
+use Rattle.list_laws.proofs.Cases.{by_test}
 use Rattle.text_laws.specs.Blanks.{is_blank, is_inked, before_blanks, kept_before, unblanked, trimmed}
 use Rattle.text_laws.specs.Words.{is_nil, words}
 use Rattle.text_laws.specs.Runs.{after_run}
 use Rattle.log_sum.specs.Texts.{later_words, joined_words, ends_with, before_end}
-use Rattle.text_laws.proofs.RunLaws.{by_test}
 use Rattle.text_laws.proofs.PieceLaws.{first_piece}
-
--- what isn't true is false
-pub not_true : (b : Bool) → not b ≡ true → b ≡ false
-not_true true h = cc
-not_true false h = refl
-
--- what isn't false is true
-pub not_false : (b : Bool) → not b ≡ false → b ≡ true
-not_false true h = refl
-not_false false h = cc
 
 -- a text is equal to itself
 pub bytes_same : (t : List ℕ) → bytes_eq t t ≡ true
@@ -36,13 +27,6 @@ all_both p xs ys h k = list_all-append p xs ys ∙ and_from (list_all p xs) (lis
 -- what holds of all elements of two lists together holds of all elements of each
 pub all_parts : {A : Type 0} (p : A → Bool) (xs ys : List A) → list_all p (xs ++ ys) ≡ true → (list_all p xs ≡ true) × (list_all p ys ≡ true)
 all_parts p xs ys h = and_parts (list_all p xs) (list_all p ys) (sym (list_all-append p xs ys) ∙ h)
-
--- what holds of all elements holds of them when it is weakened
-pub all_weaker : {A : Type 0} (p q : A → Bool) → ((x : A) → p x ≡ true → q x ≡ true) → (xs : List A) → list_all p xs ≡ true → list_all q xs ≡ true
-all_weaker p q weaker [] h = refl
-all_weaker p q weaker (x ∷ xs) h =
-    let k : (p x ≡ true) × (list_all p xs ≡ true) = and_parts (p x) (list_all p xs) h in
-    and_from (q x) (list_all q xs) (weaker x k.0) (all_weaker p q weaker xs k.1)
 
 -- two things that hold of all elements hold of them together
 pub all_and : {A : Type 0} (p q : A → Bool) (xs : List A) → list_all p xs ≡ true → list_all q xs ≡ true → list_all (λ x. p x && q x) xs ≡ true
@@ -137,7 +121,7 @@ pub split_whole : (p : ℕ → Bool) (text : List ℕ) → list_all (λ b. not (
 split_whole p [] h = refl
 split_whole p (b ∷ text) h =
     let k : (not (p b) ≡ true) × (list_all (λ c. not (p c)) text ≡ true) = and_parts (not (p b)) (list_all (λ c. not (p c)) text) h in
-    let n : p b ≡ false = not_true (p b) k.0 in
+    let n : p b ≡ false = not-true (p b) k.0 in
     rw n (ap (onto_first b) (split_whole p text k.1))
 
 -- the words of two texts with a blank between them are those of both
@@ -196,9 +180,9 @@ words_plain text h = some_plain (slice_split is_blank text) (pieces_plain text h
 pub word_parts : (word : List ℕ) → is_word word ≡ true → (is_nil word ≡ false) × (list_all is_inked word ≡ true) × (list_all no_feed word ≡ true)
 word_parts word h =
     let k : (not (is_nil word) ≡ true) × (list_all is_plain word ≡ true) = and_parts (not (is_nil word)) (list_all is_plain word) h in (
-      not_true (is_nil word) k.0,
-      all_weaker is_plain is_inked (λ b p. (and_parts (is_inked b) (not (b == 10)) p).0) word k.1,
-      all_weaker is_plain no_feed (λ b p. (and_parts (is_inked b) (not (b == 10)) p).1) word k.1,
+      not-true (is_nil word) k.0,
+      list_all-weaker is_plain is_inked (λ b p. (and_parts (is_inked b) (not (b == 10)) p).0) word k.1,
+      list_all-weaker is_plain no_feed (λ b p. (and_parts (is_inked b) (not (b == 10)) p).1) word k.1,
     )
 
 -- the words of a word are the word

@@ -4,8 +4,9 @@ use Rattle.std.specs.Prelude.{Bool, ◌||◌, Option, Result, Ok, Err}
 use Rattle.std.specs.List.{list_any, list_all, slice_split}
 use Rattle.std.specs.Option.{option_map}
 use Rattle.std.specs.Str.{bytes_eq}
-use Rattle.std.proofs.lemmas.Bool.{and_parts, and_from}
+use Rattle.std.proofs.lemmas.Bool.{and_parts, and_from, not-false}
 use Rattle.std.proofs.lemmas.List.Folds.{list_any-append}
+use Rattle.list_laws.proofs.Cases.{by_test}
 use Rattle.log_sum.specs.declared.errors.LogError.{LogError}
 use Rattle.log_sum.specs.declared.errors.LogKind.{LogKind}
 use Rattle.log_sum.specs.declared.errors.LogKind.TheVariants.{ConditionDiffers, KindDiffers}
@@ -18,8 +19,7 @@ use Rattle.log_sum.specs.Lines.{Said, passed_over, begins, counts, a_state, judg
 use Rattle.log_sum.specs.Reading.{Seen, nothing_seen, ◌>>=◌, is_too_long, next_line, fact_put, fact_judged, at_next_line, said_put, said_to, text_judged, line_judged, lines_judged, lines_of, rest_of, last_judged, end_judged, file_judged, files_judged}
 use Rattle.text_laws.specs.Lines.{without_return, but_last, last_of}
 use Rattle.sum_laws.proofs.Cases.{Kind, Verdict, Place, outside, histogram, in_rest, conditioned_at, is_outside}
-use Rattle.text_laws.proofs.RunLaws.{by_test}
-use Rattle.sum_laws.proofs.Texts.{not_false, no_feed, is_word, bytes_same}
+use Rattle.sum_laws.proofs.Texts.{no_feed, is_word, bytes_same}
 use Rattle.sum_laws.proofs.Blocks.{seen_at, entry}
 use Rattle.sum_laws.proofs.Printed.{AllOf, IsForm, IsCondition}
 use Rattle.sum_laws.proofs.Forms.{split_lacks}
@@ -191,7 +191,7 @@ kind_begun facts k h =
   where
     by_first : (o : Option Kind) → is_other same_kind o k ≡ false → or_first o (Some k) ≡ Some k
     by_first None e = refl
-    by_first (Some known) e = ap Some (kind_is known k (not_false (same_kind known k) e))
+    by_first (Some known) e = ap Some (kind_is known k (not-false (same_kind known k) e))
 
 begun : (s : Seen) (name : List ℕ) (k : Kind) (line : ℕ) → Keeps s → is_outside s.place ≡ true → is_word name ≡ true → fault_of (facts_of name s.entries) (a_kind k) ≡ None
     → Keeps (record { entries = s.entries ++ entry name (a_kind k) ∷ []; test = name; place = histogram k; line = line })
@@ -231,7 +231,7 @@ condition_told facts k text verdict e i h =
       text = c.0;
       verdict = c.1;
       is_text = ap first_of (conditions_both facts (a_condition text verdict ∷ [])) ∙ first_both (conditions facts) ((text, verdict) ∷ []) ∙ ap (λ o. or_first o (Some (text, verdict))) f;
-      condition = subst (IsCondition k) (sym (bytes_is c.0 text (not_false (bytes_eq c.0 text) g))) i;
+      condition = subst (IsCondition k) (sym (bytes_is c.0 text (not-false (bytes_eq c.0 text) g))) i;
     }
 
 -- what a line says keeps it

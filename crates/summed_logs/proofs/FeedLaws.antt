@@ -1,13 +1,10 @@
 -- The line feeds of a text, up to one and after it.
-use Rattle.std.proofs.Common.{◌≡◌, ◌==◌, ◌<◌, ◌≤◌, ◌+◌, ℕ, zero, suc, Bool, true, false, List, [], ◌∷◌, ◌-◌, length, take, drop, get_or, Some, None, cond, refl, sym, ap, ◌∙◌, arith, zero-add, add-zero, add_assoc, length-drop}
+use Rattle.std.proofs.Common.{◌≡◌, ◌==◌, ◌<◌, ◌≤◌, ◌+◌, ℕ, zero, suc, true, false, List, [], ◌∷◌, ◌-◌, length, take, drop, get_or, Some, None, cond, refl, sym, ap, ◌∙◌, arith, zero-add, add-zero, add_assoc, length-drop}
 use Rattle.std.proofs.lemmas.List.{take_all}
 use Rattle.std.proofs.lemmas.List.Sums.{sum_by-append}
+use Rattle.std.proofs.lemmas.Bool.{false_from_ne_true}
 use Rattle.memchr.specs.Find.{IsFirstByte, is_byte}
 use Rattle.diy_io.specs.Sink.{line_feed_count}
-
-not_so : (b : Bool) → (b ≡ true → ⊥) → b ≡ false
-not_so true h = absurd (h refl)
-not_so false h = refl
 
 -- one byte more at the start
 feeds_cons : (b : ℕ) (text : List ℕ) → line_feed_count (b ∷ text) ≡ cond (b == 10) 1 0 + line_feed_count text
@@ -17,7 +14,7 @@ feeds_cons b text = sum_by-append (λ byte. cond (byte == 10) 1 0) (b ∷ []) te
 feeds_missing : (text : List ℕ) → ((i : ℕ) → i < length text → get_or text i 0 == 10 ≡ true → ⊥) → line_feed_count text ≡ 0
 feeds_missing [] h = refl
 feeds_missing (b ∷ text) h =
-    let e : b == 10 ≡ false = not_so (b == 10) (h 0 (omega arith)) in
+    let e : b == 10 ≡ false = false_from_ne_true (b == 10) (h 0 (omega arith)) in
     let rest : line_feed_count text ≡ 0 = feeds_missing text (λ i l. h (suc i) (omega arith)) in
     feeds_cons b text ∙ ap (λ t. cond t 1 0 + line_feed_count text) e ∙ ap (λ n. 0 + n) rest
 
@@ -27,7 +24,7 @@ feeds_at : (text : List ℕ) (k : ℕ) → k < length text → ((i : ℕ) → i 
 feeds_at [] k w h hit = absurd (omega arith)
 feeds_at (b ∷ text) zero w h hit = feeds_cons b text ∙ ap (λ t. cond t 1 0 + line_feed_count text) hit
 feeds_at (b ∷ text) (suc k) w h hit =
-    let e : b == 10 ≡ false = not_so (b == 10) (h 0 (omega arith)) in
+    let e : b == 10 ≡ false = false_from_ne_true (b == 10) (h 0 (omega arith)) in
     let n : suc (k + 1) ≡ suc k + 1 = omega arith in
     let rest : line_feed_count text ≡ 1 + line_feed_count (drop (k + 1) text) = feeds_at text k (omega arith) (λ i l. h (suc i) (omega arith)) hit in
     feeds_cons b text ∙ ap (λ t. cond t 1 0 + line_feed_count text) e ∙ zero-add (line_feed_count text) ∙ rest

@@ -5,6 +5,7 @@ use Rattle.std.specs.List.{position_from}
 use Rattle.std.proofs.lemmas.Bool.{ltb-false}
 use Rattle.std.proofs.lemmas.Option.{slice_get_within}
 use Rattle.std.proofs.lemmas.Slice.Eq.{bytes_eq-Decides}
+use Rattle.list_laws.proofs.Elements.{all_append, all_parts}
 use Rattle.relax_edges.specs.declared.TheConstants.{MAX_EDGES}
 use Rattle.relax_edges.specs.declared.kinds.ObsMode.{ObsMode}
 use Rattle.relax_edges.specs.declared.edge.Edge.{Edge}
@@ -30,7 +31,7 @@ use Rattle.test_laws.specs.TestOf.{TestSeen, plain, last_terms, load_terms, test
 use Rattle.test_laws.specs.Programs.{thread_from, test_program}
 use Rattle.test_laws.specs.FinalStates.{final_state, IsAskedFor}
 use Rattle.test_laws.specs.Headline.{HasCode, HasTest, FindsRegisters, IsRenumbered, TestsForce, RenumberedForce, TestsAsk}
-use Rattle.test_laws.proofs.Everywhere.{all_parts, all_joined, position_none}
+use Rattle.test_laws.proofs.Everywhere.{position_none}
 use Rattle.test_laws.proofs.PlaceNames.{AreNamed, letter_at, names_differ, locations_few}
 use Rattle.test_laws.proofs.TestCodes.{cycle_codes, cycle_program, are_codes}
 use Rattle.test_laws.proofs.Making.{makes, makes_enough, intended_enough, intended_ends}
@@ -60,7 +61,7 @@ pub outcome_asked : (a : Puts) (register_name : ℕ → List ℕ) (es : List Edg
 outcome_asked a register_name es mode number names register_number x laws finds t n named o = record {
   candidate = o.candidate;
   coherent = o.coherent;
-  meets = all_joined (IsMet (final_state (cycle_program a es mode number) names register_number x)) (last_terms es mode) (load_terms a register_name 0 (cycle_steps es mode plain))
+  meets = all_append (IsMet (final_state (cycle_program a es mode number) names register_number x)) (last_terms es mode) (load_terms a register_name 0 (cycle_steps es mode plain))
       (asked_ends a es mode number names register_number x t n named o.ends)
       (asked_met a es mode number names register_name register_number x laws t finds o.candidate o.reads);
 }

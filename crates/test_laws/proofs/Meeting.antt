@@ -2,6 +2,7 @@
 -- that aren't observed end with their last values.
 use Rattle.std.proofs.Common.{◌≡◌, ℕ, zero, suc, ◌+◌, ◌<◌, List, [], ◌∷◌, length, map, Option, Some, slice_get, refl, sym, ◌∙◌, ap, subst, arith}
 use Rattle.std.specs.List.{AllByRecursion, zip}
+use Rattle.list_laws.proofs.Elements.{all_append, all_parts}
 use Rattle.relax_edges.specs.declared.kinds.Value.{Value}
 use Rattle.relax_edges.specs.declared.kinds.Value.TheVariants.{Num}
 use Rattle.final_cond.specs.Conditions.{LeftSeen, TermSeen, InRegister}
@@ -11,7 +12,6 @@ use Rattle.arch_trait.specs.Codes.{AllBelow}
 use Rattle.test_laws.specs.Steps.{numbers_read}
 use Rattle.test_laws.specs.TestOf.{load_term, thread_terms, load_terms}
 use Rattle.test_laws.proofs.Terms.{loads-count}
-use Rattle.test_laws.proofs.Everywhere.{all_parts, all_joined}
 
 -- a term is met in a final state
 abbrev pub IsMet : (LeftSeen → Option Value) → TermSeen → Type 0
@@ -31,7 +31,7 @@ terms_of_thread P a name n (t ∷ threads) (suc k) m steps e h g =
 pub terms_from_threads : (P : TermSeen → Type 0) (a : Puts) (name : ℕ → List ℕ) (n : ℕ) (threads : List (List Step)) → ((k m : ℕ) (steps : List Step) → n + k ≡ m → slice_get threads k ≡ Some steps → AllByRecursion P (thread_terms a name m steps)) → AllByRecursion P (load_terms a name n threads)
 terms_from_threads P a name n [] h = tt
 terms_from_threads P a name n (t ∷ threads) h =
-    all_joined P (thread_terms a name n t) (load_terms a name (n + 1) threads) (h 0 n t (omega arith) refl)
+    all_append P (thread_terms a name n t) (load_terms a name (n + 1) threads) (h 0 n t (omega arith) refl)
     (terms_from_threads P a name (n + 1) threads (λ k m steps e g. h (suc k) m steps (omega (arith, e)) g))
 
 -- registers of a thread that are found by their names hold what they hold at its end

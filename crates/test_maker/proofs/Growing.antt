@@ -5,6 +5,7 @@ use Rattle.std.specs.List.{position_from, refill}
 use Rattle.std.specs.Option.{option_map}
 use Rattle.std.proofs.lemmas.Option.{get_or_from_slice_get}
 use Rattle.std.proofs.lemmas.List.{drop_all, length-map, length-set, map-append, take_all, take_more, take_more_set}
+use Rattle.list_laws.proofs.Elements.{drop_given}
 use Rattle.arrayvec.specs.ArrayVec.{ArrayVec, with_items}
 use Rattle.relax_edges.specs.declared.TheConstants.{MAX_EDGES}
 use Rattle.relax_edges.specs.declared.kinds.ObsMode.{ObsMode}
@@ -36,11 +37,6 @@ pub record Grown (a : Puts) (name : ℕ → List ℕ) (es : List Edge) (mode : O
   pub codes : map thread_of (take k threads.items) ≡ map (compiled a) (take k (cycle_steps es mode plain))
   pub quantifier : cond'.quantifier ≡ cond.quantifier
   pub terms : map term_view cond'.terms.items ≡ map term_view cond.terms.items ++ load_terms a name 0 (take k (cycle_steps es mode plain))
-
-drop_got : {X : Type 0} (xs : List X) (i : ℕ) (x : X) → slice_get xs i ≡ Some x → drop i xs ≡ x ∷ drop (i + 1) xs
-drop_got [] i x h = cc h
-drop_got (y ∷ ys) zero x h = ap (λ z. z ∷ ys) (cc h)
-drop_got (y ∷ ys) (suc i) x h = drop_got ys i x h ∙ (let e : suc i + 1 ≡ suc (i + 1) = omega arith in rw e)
 
 got_within : {X : Type 0} (xs : List X) (i : ℕ) (x : X) → slice_get xs i ≡ Some x → i < length xs
 got_within [] i x h = cc h
@@ -89,7 +85,7 @@ pub grown_more : (a : Puts) (name : ℕ → List ℕ) (es : List Edge) (mode : O
 grown_more a name es mode k steps threads threads' cond0 cond1 cond2 g got put = record {
   fitting =
       sym (ap (λ b. cond b (Some k) (position_from (is_crowded a) (k + 1) (drop (k + 1) (cycle_steps es mode plain)))) put.0) ∙
-      sym (ap (position_from (is_crowded a) k) (drop_got (cycle_steps es mode plain) k steps got)) ∙ g.fitting;
+      sym (ap (position_from (is_crowded a) k) (drop_given (cycle_steps es mode plain) k steps got)) ∙ g.fitting;
   codes =
       put.1 ∙ ap (λ codes. codes ++ compiled a steps ∷ []) g.codes ∙ sym (map-append (compiled a) (take k (cycle_steps es mode plain)) (steps ∷ [])) ∙
       ap (map (compiled a)) (sym (take_got (cycle_steps es mode plain) k steps got));
@@ -112,7 +108,7 @@ pub grown_refused : (a : Puts) (name : ℕ → List ℕ) (es : List Edge) (mode 
     PutsThread a name k steps threads threads' cond1 cond2 (Err refusal) → crowded_thread a es mode ≡ Some refusal
 grown_refused a name es mode k steps threads threads' cond0 cond1 cond2 refusal g got put =
     let here : position_from (is_crowded a) k (drop k (cycle_steps es mode plain)) ≡ Some k =
-    ap (position_from (is_crowded a) k) (drop_got (cycle_steps es mode plain) k steps got) ∙
+    ap (position_from (is_crowded a) k) (drop_given (cycle_steps es mode plain) k steps got) ∙
     ap (λ b. cond b (Some k) (position_from (is_crowded a) (k + 1) (drop (k + 1) (cycle_steps es mode plain)))) put.0 in
     ap (option_map (λ thread. TooManyRegisters thread)) (sym g.fitting ∙ here) ∙ ap Some (sym put.1)
 
@@ -159,7 +155,7 @@ pub crowded_here : (a : Puts) (es : List Edge) (mode : ObsMode) (k : ℕ) (steps
     → slice_get (cycle_steps es mode plain) k ≡ Some steps → is_crowded a steps ≡ true → crowded_thread a es mode ≡ Some (TooManyRegisters k)
 crowded_here a es mode k steps before got h =
     ap (option_map (λ thread. TooManyRegisters thread))
-    (sym before ∙ ap (position_from (is_crowded a) k) (drop_got (cycle_steps es mode plain) k steps got)
+    (sym before ∙ ap (position_from (is_crowded a) k) (drop_given (cycle_steps es mode plain) k steps got)
     ∙ ap (λ b. cond b (Some k) (position_from (is_crowded a) (k + 1) (drop (k + 1) (cycle_steps es mode plain)))) h)
 
 -- the next thread has registers enough
@@ -169,4 +165,4 @@ pub calm_here : (a : Puts) (es : List Edge) (mode : ObsMode) (k : ℕ) (steps : 
     → position_from (is_crowded a) (k + 1) (drop (k + 1) (cycle_steps es mode plain)) ≡ crowded a es mode
 calm_here a es mode k steps before got h =
     sym (ap (λ b. cond b (Some k) (position_from (is_crowded a) (k + 1) (drop (k + 1) (cycle_steps es mode plain)))) h)
-    ∙ sym (ap (position_from (is_crowded a) k) (drop_got (cycle_steps es mode plain) k steps got)) ∙ before
+    ∙ sym (ap (position_from (is_crowded a) k) (drop_given (cycle_steps es mode plain) k steps got)) ∙ before

@@ -3,6 +3,7 @@ use Rattle.std.proofs.Common.{◌≡◌, ℕ, zero, suc, ◌<◌, ◌≤◌, Lis
 use Rattle.std.specs.Prelude.{Result, IfErr}
 use Rattle.std.specs.List.{AllByRecursion, position_from}
 use Rattle.std.specs.Option.{option_map, option_or}
+use Rattle.std.proofs.lemmas.Option.{same_Some}
 use Rattle.relax_edges.specs.declared.TheConstants.{MAX_EDGES}
 use Rattle.relax_edges.specs.declared.edge.Edge.{Edge}
 use Rattle.relax_edges.specs.declared.kinds.ObsMode.{ObsMode}
@@ -68,8 +69,5 @@ crowded_located a es mode test register_name (Ok _) h = tt
 crowded_located a es mode test register_name (Err refusal) h = thread_named (position_from (is_crowded a) 0 (cycle_steps es mode plain)) refusal h
   where
     thread_named : (o : Option ℕ) (refusal : MakeRefusal) → option_map (λ thread. TooManyRegisters thread) o ≡ Some refusal → NamesLocation refusal
-    thread_named (Some at) refusal e = subst (λ (r : MakeRefusal). NamesLocation r) (some_is (TooManyRegisters at) refusal e) tt
-      where
-        some_is : (a b : MakeRefusal) → Some a ≡ Some b → a ≡ b
-        some_is a b e = cc e
+    thread_named (Some at) refusal e = subst (λ (r : MakeRefusal). NamesLocation r) (same_Some (TooManyRegisters at) refusal e) tt
     thread_named None refusal e = cc e

@@ -1,10 +1,11 @@
 -- The edges of a cycle that are of an architecture stay so where it is turned.
-use Rattle.std.proofs.Common.{◌≡◌, ℕ, ◌+◌, ◌<◌, Bool, true, false, not, cond, ◌&&◌, List, [], ◌∷◌, ◌++◌, take, drop, Some, None, Result, Ok, Err, refl, sym, ap, ◌∙◌, arith, nat_lt, subst}
+use Rattle.std.proofs.Common.{◌≡◌, ℕ, ◌+◌, ◌<◌, Bool, true, false, not, cond, List, [], ◌∷◌, ◌++◌, take, drop, Some, None, Result, Ok, Err, refl, sym, ap, ◌∙◌, arith, nat_lt, subst}
 use Rattle.std.specs.List.{list_all, position_from}
 use Rattle.std.specs.Prelude.{if◌then◌else◌}
 use Rattle.std.proofs.lemmas.List.{take-append-drop}
 use Rattle.std.proofs.lemmas.List.Folds.{list_all-append}
 use Rattle.std.proofs.lemmas.Bool.Decides.{nat_tests}
+use Rattle.std.proofs.Math.Bool.{and_comm}
 use Rattle.resolution_laws.specs.declared.errors.ResolveError.TheVariants.{TooFewThreads, CoherenceOnly}
 use Rattle.resolution_laws.proofs.Turning.{turn_of}
 use Rattle.relax_edges.specs.declared.edge.Edge.{Edge}
@@ -16,13 +17,7 @@ use Rattle.arch_trait.specs.Threads.{Puts}
 use Rattle.test_maker.specs.Made.{AreOfArch}
 
 list_all_both : {X : Type 0} (p : X → Bool) (xs ys : List X) → list_all p (xs ++ ys) ≡ list_all p (ys ++ xs)
-list_all_both p xs ys = list_all-append p xs ys ∙ and_turned (list_all p xs) (list_all p ys) ∙ sym (list_all-append p ys xs)
-  where
-    and_turned : (a b : Bool) → (a && b) ≡ (b && a)
-    and_turned true true = refl
-    and_turned true false = refl
-    and_turned false true = refl
-    and_turned false false = refl
+list_all_both p xs ys = list_all-append p xs ys ∙ and_comm (list_all p xs) (list_all p ys) ∙ sym (list_all-append p ys xs)
 
 -- there is no first that fails where all pass
 pub none_foreign : {X : Type 0} (p : X → Bool) (xs : List X) (k : ℕ) → position_from (λ x. not (p x)) k xs ≡ None → list_all p xs ≡ true

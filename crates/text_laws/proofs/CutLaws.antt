@@ -1,15 +1,11 @@
 -- A cut at the first place of a byte.
-use Rattle.std.proofs.Common.{◌≡◌, ◌==◌, ◌+◌, ◌-◌, ◌<◌, ◌≤◌, ℕ, zero, suc, List, [], ◌∷◌, ◌++◌, Some, None, true, false, get_or, take, drop, length, length-drop, length-append, refl, sym, ap, ◌∙◌, arith, add-one}
-use Rattle.std.specs.Prelude.{Bool, not}
-use Rattle.std.proofs.lemmas.Bool.{eqb-true, eq-eqb, and_parts}
+use Rattle.std.proofs.Common.{◌≡◌, ◌==◌, ◌+◌, ◌-◌, ◌<◌, ◌≤◌, ℕ, zero, suc, List, [], ◌∷◌, ◌++◌, Some, None, true, get_or, take, drop, length, length-drop, length-append, refl, sym, ap, ◌∙◌, arith, add-one}
+use Rattle.std.specs.Prelude.{not}
+use Rattle.std.proofs.lemmas.Bool.{eqb-true, eq-eqb, and_parts, not-true}
 use Rattle.std.proofs.lemmas.List.{take-append-drop}
 use Rattle.std.proofs.Math.Seq.{drop-cons, take-length}
+use Rattle.list_laws.proofs.Cases.{by_test}
 use Rattle.text_laws.specs.Cuts.{before_cut, cut_at, is_without, CutParts}
-use Rattle.text_laws.proofs.RunLaws.{by_test}
-
-not_true : (b : Bool) → not b ≡ true → b ≡ false
-not_true true e = cc
-not_true false e = refl
 
 -- the text before a sign and the text behind it
 pub cut_back : (sign : ℕ) (front behind : List ℕ) → is_without sign front ≡ true → cut_at sign (front ++ sign ∷ behind) ≡ Some (front, behind)
@@ -17,14 +13,14 @@ unfolding cut_at
 cut_back sign [] behind h = rw (eq-eqb sign sign refl) refl
 cut_back sign (byte ∷ front) behind h =
     let parts = and_parts (not (byte == sign)) (is_without sign front) h in
-    rw (not_true (byte == sign) parts.0) (ap (before_cut byte) (cut_back sign front behind parts.1))
+    rw (not-true (byte == sign) parts.0) (ap (before_cut byte) (cut_back sign front behind parts.1))
 
 pub cut_none : (sign : ℕ) (text : List ℕ) → is_without sign text ≡ true → cut_at sign text ≡ None
 unfolding cut_at
 cut_none sign [] h = refl
 cut_none sign (byte ∷ text) h =
     let parts = and_parts (not (byte == sign)) (is_without sign text) h in
-    rw (not_true (byte == sign) parts.0) (ap (before_cut byte) (cut_none sign text parts.1))
+    rw (not-true (byte == sign) parts.0) (ap (before_cut byte) (cut_none sign text parts.1))
 
 -- the bytes before a place are without a sign that stands at none of them
 pub without_take : (sign : ℕ) (text : List ℕ) (k : ℕ) → ((j : ℕ) → j < k → j < length text → get_or text j 0 == sign ≡ true → ⊥) → is_without sign (take k text) ≡ true

@@ -9,6 +9,7 @@ use Rattle.std.proofs.lemmas.Bool.{and_parts, and_from, leb-true, ltb-true}
 use Rattle.std.proofs.lemmas.Bool.Decides.{nat_tests}
 use Rattle.std.proofs.lemmas.Str.{IsUtf8-from_ascii}
 use Rattle.std.proofs.lemmas.Str.Ascii.{IsAscii-nil, IsAscii-cons}
+use Rattle.list_laws.proofs.Elements.{list_all-weaker}
 use Rattle.text_laws.specs.Names.{begins_place, is_place_byte, is_place_name, is_register_name}
 
 -- without its first byte a text is the others
@@ -38,13 +39,6 @@ all_ascii (byte ∷ bytes) h =
 -- ASCII bytes are UTF-8
 pub utf8_from_ascii : (bytes : List ℕ) → list_all is_ascii bytes ≡ true → IsUtf8 bytes
 utf8_from_ascii bytes h = IsUtf8-from_ascii bytes (all_ascii bytes h)
-
--- bytes that all pass a test all pass a weaker one
-pub all_weaker : (p q : ℕ → Bool) → ((byte : ℕ) → p byte ≡ true → q byte ≡ true) → (bytes : List ℕ) → list_all p bytes ≡ true → list_all q bytes ≡ true
-all_weaker p q weaker [] h = refl
-all_weaker p q weaker (byte ∷ bytes) h =
-    let k : (p byte ≡ true) × (list_all p bytes ≡ true) = and_parts (p byte) (list_all p bytes) h in
-    and_from (q byte) (list_all q bytes) (weaker byte k.0) (all_weaker p q weaker bytes k.1)
 
 place_byte_ascii : (byte : ℕ) → is_place_byte byte ≡ true → is_ascii byte ≡ true
 place_byte_ascii byte h = grind (arith, nat_tests)
@@ -87,7 +81,7 @@ register_shaped (byte ∷ bytes) h = shaped is_ascii_alphabetic is_ascii_alphanu
 
 -- a test that the first byte and the others pass is passed by all bytes of the name
 pub shaped_all : (first others q : ℕ → Bool) → ((byte : ℕ) → first byte ≡ true → q byte ≡ true) → ((byte : ℕ) → others byte ≡ true → q byte ≡ true) → (name : List ℕ) → Shaped first others name → list_all q name ≡ true
-shaped_all first others q f g name s = rw s.is (and_from (q s.byte) (list_all q s.bytes) (f s.byte s.begins) (all_weaker others q g s.bytes s.goes_on))
+shaped_all first others q f g name s = rw s.is (and_from (q s.byte) (list_all q s.bytes) (f s.byte s.begins) (list_all-weaker others q g s.bytes s.goes_on))
 
 -- the name of a place has at most 16 bytes
 pub place_name_short : (name : List ℕ) → is_place_name name ≡ true → length name ≤ 16

@@ -1,5 +1,5 @@
 -- Numbers and the digits that write them.
-use Rattle.std.proofs.Common.{◌≡◌, ℕ, zero, suc, ◌^◌, ◌<◌, ◌≤◌, List, [], ◌∷◌, length, get_or, refl, sym, ap, subst, ◌∙◌, arith, rules}
+use Rattle.std.proofs.Common.{◌≡◌, ℕ, zero, suc, ◌^◌, ◌<◌, ◌≤◌, List, [], length, get_or, refl, sym, ap, subst, ◌∙◌, arith}
 use Rattle.std.specs.Prelude.{true, false, ◌&&◌, nat_lt, Option, Some, None, Result, Ok, Err}
 use Rattle.std.specs.Char.{is_ascii, is_ascii_digit}
 use Rattle.std.specs.Fmt.{decimal}
@@ -12,20 +12,18 @@ use Rattle.std.proofs.lemmas.Bool.Decides.{nat_tests}
 use Rattle.std.proofs.lemmas.Fmt.{digits_decimal, digits_value-decimal, decimal-digits_value, first_decimal, decimal_digit, decimal_nonempty}
 use Rattle.std.proofs.lemmas.Option.{cond_some}
 use Rattle.std.proofs.lemmas.Slice.Eq.{bytes_eq-Decides}
-use Rattle.std.proofs.lemmas.Str.Parse.{IsNumeralModel, numerals_by_value, parse_plain, not_in_digits}
+use Rattle.std.proofs.lemmas.Str.Parse.{parse_plain}
+use Rattle.list_laws.proofs.Digits.{digits_model, digits_no_plus}
+use Rattle.list_laws.proofs.Elements.{list_all-weaker}
 use Rattle.text_laws.specs.Numbers.{number_of}
-use Rattle.text_laws.proofs.NameLaws.{all_weaker, utf8_from_ascii}
-
--- decimal digits, without a sign, are numerals of base 10
-pub own : IsNumeralModel (λ ds. list_all is_ascii_digit ds ≡ true) (digits_value 10)
-own = numerals_by_value _ (search rules)
+use Rattle.text_laws.proofs.NameLaws.{utf8_from_ascii}
 
 -- a number is read from its decimal
 pub number_of-decimal : (n : ℕ) → n < 2 ^ 32 → number_of (decimal n) ≡ Some n
 unfolding number_of
 number_of-decimal n h =
     let small : n < 2 ^ 64 = omega arith in
-    let v : digits_value 10 (decimal n) ≡ n = digits_value-decimal own n small in
+    let v : digits_value 10 (decimal n) ≡ n = digits_value-decimal digits_model n small in
     rw v (rw (lt-ltb n (2 ^ 32) h, (bytes_eq-Decides (decimal n) (decimal n)).1 refl) refl)
 
 -- what is read is the decimal of the number
@@ -53,7 +51,7 @@ none_from (Some n) h = absurd (h n refl)
 pub not_digits : (digits : List ℕ) → list_all is_ascii_digit digits ≡ false → number_of digits ≡ None
 not_digits digits h = none_from (number_of digits) (λ n e.
     let w : Writes digits n = number_of_some digits n e in
-    both_ways (list_all is_ascii_digit digits) h (ap (list_all is_ascii_digit) w.is ∙ digits_decimal own n (let s : n < 2 ^ 32 = w.small in omega arith)))
+    both_ways (list_all is_ascii_digit digits) h (ap (list_all is_ascii_digit) w.is ∙ digits_decimal digits_model n (let s : n < 2 ^ 32 = w.small in omega arith)))
 
 zero_written : (n : ℕ) → n < 2 ^ 32 → get_or (decimal n) 0 0 ≡ 48 → length (decimal n) ≡ 1
 zero_written zero h e = ap length (decimal_digit 0 (omega arith))
@@ -69,31 +67,27 @@ leading_zero digits first more = none_from (number_of digits) (λ n e.
 
 -- digits are UTF-8
 pub digits_ascii : (digits : List ℕ) → list_all is_ascii_digit digits ≡ true → IsUtf8 digits
-digits_ascii digits h = utf8_from_ascii digits (all_weaker is_ascii_digit is_ascii (λ byte p. grind (arith, nat_tests)) digits h)
-
-no_plus : (digits : List ℕ) → list_all is_ascii_digit digits ≡ true → get_or digits 0 0 ≡ 43 → ⊥
-no_plus [] h e = omega arith
-no_plus (byte ∷ digits) h e = not_in_digits own (byte ∷ digits) 43 h (λ r. omega (arith, r.0, r.1)) 0 (omega arith) e
+digits_ascii digits h = utf8_from_ascii digits (list_all-weaker is_ascii_digit is_ascii (λ byte p. grind (arith, nat_tests)) digits h)
 
 -- digits of which there is one or more, without a leading zero, write their value
 pub value_written : (digits : List ℕ) → list_all is_ascii_digit digits ≡ true → 0 < length digits → (get_or digits 0 0 ≡ 48 → length digits < 2) → digits_value 10 digits < 2 ^ 32 → number_of digits ≡ Some (digits_value 10 digits)
 value_written digits all some plain small =
     let v : ℕ = digits_value 10 digits in
-    let e : decimal v ≡ digits = decimal-digits_value own digits all some (λ z. let k : length digits < 2 = plain z in omega arith) (omega (arith, small)) in
+    let e : decimal v ≡ digits = decimal-digits_value digits_model digits all some (λ z. let k : length digits < 2 = plain z in omega arith) (omega (arith, small)) in
     ap number_of (sym e) ∙ number_of-decimal v small
 
 none_written : (digits : List ℕ) → (((list_all is_ascii_digit digits ≡ true) × (0 < length digits) × (digits_value 10 digits < 2 ^ 32)) → ⊥) → list_all is_ascii_digit digits ≡ true → number_of digits ≡ None
 none_written digits never all = none_from (number_of digits) (λ n e.
     let w : Writes digits n = number_of_some digits n e in
     let s : n < 2 ^ 64 = let t : n < 2 ^ 32 = w.small in omega arith in
-    let v : digits_value 10 digits ≡ n = ap (digits_value 10) w.is ∙ digits_value-decimal own n s in
+    let v : digits_value 10 digits ≡ n = ap (digits_value 10) w.is ∙ digits_value-decimal digits_model n s in
     let k : length digits ≡ length (decimal n) = ap length w.is in
     let some : 0 < length (decimal n) = decimal_nonempty n s in
     never (all, omega arith, subst (λ (m : ℕ). m < 2 ^ 32) (sym v) w.small))
 
 -- the library's parser gives the number that digits write
 pub parsed : {E : Type 0} (digits : List ℕ) (r : Result ℕ E) → list_all is_ascii_digit digits ≡ true → (get_or digits 0 0 ≡ 48 → length digits < 2) → ParsesUnsigned 32 10 digits r → result_ok r ≡ number_of digits
-parsed digits r all plain parses = by_answer r (parse_plain own 32 digits r parses (no_plus digits all))
+parsed digits r all plain parses = by_answer r (parse_plain digits_model 32 digits r parses (digits_no_plus digits all))
   where
     by_answer : {E : Type 0} (r : Result ℕ E) → OkIff r ((list_all is_ascii_digit digits ≡ true) × (0 < length digits) × (digits_value 10 digits < 2 ^ 32)) (digits_value 10 digits) → result_ok r ≡ number_of digits
     by_answer (Ok x) h = ap Some h.1 ∙ sym (value_written digits all h.0.1 plain h.0.2)

@@ -2,7 +2,7 @@
 use Rattle.std.proofs.Common.{◌≡◌, ℕ, List, [], ◌∷◌, refl}
 use Rattle.std.specs.Prelude.{Bool}
 use Rattle.std.specs.List.{slice_split}
-use Rattle.text_laws.proofs.RunLaws.{by_test}
+use Rattle.list_laws.proofs.Cases.{by_test}
 
 -- a split has a first piece
 pub record FirstPiece (p : ℕ → Bool) (text : List ℕ) : Type 0 where

@@ -4,12 +4,8 @@ use Rattle.std.specs.Prelude.{Bool, true, false}
 use Rattle.std.specs.List.{list_all}
 use Rattle.std.proofs.Math.Seq.{drop-cons, drop-length, take-length}
 use Rattle.std.proofs.lemmas.List.{take_more}
+use Rattle.list_laws.proofs.Cases.{by_test}
 use Rattle.text_laws.specs.Runs.{run_of, after_run}
-
--- what follows both from a test that holds and from one that fails follows
-pub by_test : {G : Type 0} (b : Bool) → (b ≡ true → G) → (b ≡ false → G) → G
-by_test true p q = p refl
-by_test false p q = q refl
 
 run_goes : (passes : ℕ → Bool) (byte : ℕ) (text : List ℕ) → passes byte ≡ true → run_of passes (byte ∷ text) ≡ byte ∷ run_of passes text
 unfolding run_of

@@ -1,12 +1,12 @@
 -- The first word of a text, by a walk over blanks and then over a word.
 use Rattle.std.proofs.Common.{◌≡◌, ◌==◌, ℕ, ◌<◌, List, [], ◌∷◌, true, false, length, refl, sym, ap, ◌∙◌, arith}
-use Rattle.std.specs.Prelude.{Bool, not}
+use Rattle.std.specs.Prelude.{not}
 use Rattle.std.specs.List.{slice_split, filter}
-use Rattle.std.proofs.lemmas.Bool.{eqb-true}
+use Rattle.std.proofs.lemmas.Bool.{eqb-true, false_from_ne_true}
+use Rattle.list_laws.proofs.Cases.{by_test}
 use Rattle.text_laws.specs.Runs.{run_of, after_run}
 use Rattle.text_laws.specs.Blanks.{is_blank, is_inked, unblanked}
 use Rattle.text_laws.specs.Words.{is_nil, words}
-use Rattle.text_laws.proofs.RunLaws.{by_test}
 
 -- the pieces between blanks, by the first of them
 abbrev further : List ℕ → List (List ℕ)
@@ -57,14 +57,10 @@ pub no_word_found : (text front word : List ℕ) → front ≡ unblanked text �
 no_word_found text front word e f h =
     words_none text (ap (λ t. is_nil (run_of is_inked t)) (sym e) ∙ ap is_nil (sym f) ∙ h)
 
-not_so : (b : Bool) → (b ≡ true → ⊥) → b ≡ false
-not_so true h = absurd (h refl)
-not_so false h = refl
-
 -- a test whether a text is empty
 pub empty_is_nil : (text : List ℕ) → is_nil text ≡ (length text == 0)
 empty_is_nil [] = refl
-empty_is_nil (x ∷ text) = sym (not_so (length (x ∷ text) == 0) (λ h. let e : length (x ∷ text) ≡ 0 = eqb-true (length (x ∷ text)) 0 h in omega arith))
+empty_is_nil (x ∷ text) = sym (false_from_ne_true (length (x ∷ text) == 0) (λ h. let e : length (x ∷ text) ≡ 0 = eqb-true (length (x ∷ text)) 0 h in omega arith))
 
 pub some_if : (text : List ℕ) → is_nil text ≡ false → 0 < length text
 some_if [] h = cc

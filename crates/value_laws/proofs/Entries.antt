@@ -7,6 +7,7 @@ use Rattle.std.proofs.lemmas.List.Elements.{filter_map-append}
 use Rattle.std.proofs.lemmas.List.Folds.{find-append}
 use Rattle.std.proofs.lemmas.Bool.{and_parts, and_right, lt-ltb, le-ltb, ltb-true}
 use Rattle.std.proofs.Math.Bool.{and-true}
+use Rattle.list_laws.proofs.Elements.{option_or-none}
 use Rattle.relax_edges.specs.declared.edge.Edge.{Edge}
 use Rattle.relax_edges.specs.EdgeTable.{is_external}
 use Rattle.list_laws.specs.Numbers.{upto}
@@ -19,10 +20,6 @@ use Rattle.resolution_laws.specs.Resolution.{move_count}
 use Rattle.value_laws.specs.declared.needs.NeedsObserver.{NeedsObserver}
 use Rattle.value_laws.specs.Entries.{is_later_entry, first_entry, inner_entry}
 use Rattle.value_laws.proofs.Writes.{Write, write_of, is_write_number}
-
-or_none : (o : Option ℕ) → option_or o None ≡ o
-or_none None = refl
-or_none (Some x) = refl
 
 -- what is found among one number more
 pub find_more : (p : ℕ → Bool) (w : ℕ → Option ℕ) (n : ℕ) → find p (filter_map w (upto (suc n))) ≡ option_or (find p (filter_map w (upto n))) (find p (filter_map w (n ∷ [])))
@@ -85,7 +82,7 @@ found_all es l (suc m) h =
     let less : suc m - 1 ≡ m = omega arith in
     find_more (is_inner_entry es l) (write_at es l) m
     ∙ ap (option_or (find (is_inner_entry es l) (filter_map (write_at es l) (upto m)))) (found_last es l m (write_at es l m) refl (omega (arith, h)))
-    ∙ or_none (find (is_inner_entry es l) (filter_map (write_at es l) (upto m)))
+    ∙ option_or-none (find (is_inner_entry es l) (filter_map (write_at es l) (upto m)))
     ∙ found_below es l m (omega (arith, h))
     ∙ ap (first_entry es l) (ap upto (sym less))
 

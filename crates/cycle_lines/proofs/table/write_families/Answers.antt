@@ -1,6 +1,6 @@
 -- That `write_families` writes the text of a table, or a prefix of it where the sink fails.
-use Rattle.diy_io.specs.PageLaws.{sent_wrote, unsent_wrote}
-use Rattle.cycle_lines.proofs.TableLaws.{sent_of, sends_of}
+use Rattle.diy_io.specs.PageLaws.{sent_wrote, unsent_wrote, sends_of}
+use Rattle.cycle_lines.proofs.TableLaws.{sent_of}
 use Rattle.cycle_lines.proofs.table.write_families.Goals as goal
 
 pub returns-in_err-send_families : goal.returns-in_err-send_families

@@ -1,7 +1,8 @@
 -- That `add` adds a file of the name without bytes, for which it takes no memory.
 use Rattle.std.proofs.Common.{◌≡◌, ◌-◌, ◌<◌, [], sym, ap, ◌∙◌, arith, vec_len, get_or}
+use Rattle.std.proofs.lemmas.Option.{same_Some}
 use Rattle.diy_io.specs.MemEntries.{IsSpare}
-use Rattle.diy_io.proofs.EntriesLaws.{same_state, entry_added, last_spare, if_ok, from_nothing, some_same, one_less}
+use Rattle.diy_io.proofs.EntriesLaws.{same_state, entry_added, last_spare, if_ok, from_nothing, one_less}
 use Rattle.diy_io.proofs.mem_files.MemFiles.add.Goals as goal
 
 pub returns-clause-added : goal.returns-clause-added
@@ -9,7 +10,7 @@ returns-clause-added c =
     let names : vec_len c.self.inside.spare ≡ c.args.self.now.names = ap (λ m. m.names) c.self.view_is in
     let some : 0 < vec_len c.self.inside.spare = omega arith in
     let last : c.unwrap-entry.result ≡ get_or c.self.inside.spare.items (vec_len c.self.inside.spare - 1) c.unwrap-entry.result =
-    some_same _ _ (sym c.unwrap-entry.ensures ∙ c.pop.ensures.value c.unwrap-entry.result some) in
+    same_Some _ _ (sym c.unwrap-entry.ensures ∙ c.pop.ensures.value c.unwrap-entry.result some) in
     let spare : IsSpare c.self.inside.room c.unwrap-entry.result =
     last_spare _ c.self.inside.spare.items _ _ _ c.self.invariant.to_come (omega arith) last in
     let left : vec_len c.pop.new.self ≡ c.args.self.now.names - 1 =
